@@ -1,0 +1,10 @@
+-- What is claimed of a member.
+use Rattle.std.specs.Prelude.{ℕ, List, Option, Some, None}
+use Rattle.lg_rules.specs.declared.claim.Status.{Status}
+use Rattle.lg_rules.specs.declared.claim.Status.TheVariants.{Alive, Suspect, Failed}
+
+-- who accuses, where a status is Suspect
+abbrev pub accuser_of : Status → Option (List ℕ)
+accuser_of Alive = None
+accuser_of (Suspect accuser) = Some accuser
+accuser_of Failed = None

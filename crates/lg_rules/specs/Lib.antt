@@ -1,0 +1,3 @@
+pub mod Claim
+pub mod Name
+pub mod Padding

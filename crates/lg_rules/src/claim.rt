@@ -1,0 +1,75 @@
+//! Claims about members.
+ghost use Rattle.std.specs.Prelude.{◌≡◌};
+ghost use Rattle.lg_rules.specs.Claim.{accuser_of};
+
+use crate::addr::Addr;
+use crate::incarnation::Incarnation;
+use crate::name::Name;
+
+/// What is claimed of a member (SWIM, section 4.2, whose Confirm is called Failed here).
+#[derive(Clone, Copy, Debug, Default, PartialEq, Eq)]
+pub enum Status {
+    /// It is there.
+    #[default]
+    Alive,
+    /// It didn't answer a probe of this member, its accuser.
+    Suspect(Name),
+    /// It was suspected until the suspicion ran out.
+    Failed,
+}
+
+/// What is said of a member: that it has a status at an incarnation, and where it is reached.
+#[derive(Clone, Copy, Debug, Default, PartialEq, Eq)]
+pub struct Claim {
+    /// The member.
+    pub name: Name,
+    /// Where it is reached.
+    pub addr: Addr,
+    /// Its status, with the accuser where it is Suspect.
+    pub status: Status,
+    /// Its incarnation.
+    pub incarnation: Incarnation,
+}
+
+/// The claim about a member that stands.
+pub type Record = Claim;
+
+impl Claim {
+    /// The member.
+    pub fn name(&self) -> Name
+        ensures { result ≡ self.now.name }
+    {
+        self.name
+    }
+
+    /// Where it is reached.
+    pub fn addr(&self) -> Addr
+        ensures { result ≡ self.now.addr }
+    {
+        self.addr
+    }
+
+    /// Its status.
+    pub fn status(&self) -> Status
+        ensures { result ≡ self.now.status }
+    {
+        self.status
+    }
+
+    /// Its incarnation.
+    pub fn incarnation(&self) -> Incarnation
+        ensures { result ≡ self.now.incarnation }
+    {
+        self.incarnation
+    }
+
+    /// Who accuses it, exactly where it is Suspect.
+    pub fn accuser(&self) -> Option<Name>
+        ensures { result ≡ accuser_of self.now.status }
+    {
+        match self.status {
+            Status::Suspect(accuser) => Some(accuser),
+            Status::Alive | Status::Failed => None,
+        }
+    }
+}

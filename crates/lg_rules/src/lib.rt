@@ -1,0 +1,13 @@
+//! What members are called, where they are, and what is claimed of them.
+#![tactic(auto)]
+
+mod addr;
+mod claim;
+mod incarnation;
+mod name;
+
+pub use addr::Addr;
+pub use claim::{Claim, Record, Status};
+pub use incarnation::Incarnation;
+pub use name::{MAX_NAME, Name, NameFault, is_name_byte};
+

@@ -1,0 +1,178 @@
+//! Names of members.
+ghost use Rattle.std.specs.Prelude.{◌≡◌, nat_eq};
+ghost use Rattle.std.specs.Cmp.Lexicographic.{slice_cmp, pointwise};
+ghost use Rattle.std.specs.Ordering.{nat_cmp};
+ghost use Rattle.lg_rules.specs.Name.{is_name_byte, bad_byte};
+
+use std::alloc::AllocError;
+use std::cmp::Ordering;
+use std::marker::Model;
+
+/// The most bytes of a name: 32 (this project's choice).
+pub const MAX_NAME: usize = 32;
+
+/// Why some bytes are no name. A text that is too long is not judged byte by byte.
+#[derive(Clone, Copy, Debug, PartialEq, Eq)]
+pub enum NameFault {
+    /// There are no bytes.
+    Empty,
+    /// There are more than 32 bytes.
+    TooLong,
+    /// A byte is none of `A-Z a-z 0-9 . _ -`: the first such byte.
+    BadByte(u8),
+}
+
+/// The name of a member: 1 to 32 bytes of `A-Z a-z 0-9 . _ -` (this project's choice).
+///
+/// Names are ordered by their bytes, a name before those that it begins. A contract sees a name
+/// as the list of its bytes.
+#[derive(Debug)]
+pub struct Name {
+    // The bytes of the name, and zeros behind them.
+    bytes: [u8; MAX_NAME],
+    len: u8,
+}
+
+impl Model for Name {
+    ghost use Rattle.std.specs.Prelude.{ℕ, List, length, take};
+    ghost use Rattle.lg_rules.specs.Padding.{HoldsName, padded, unpadded};
+
+    ghost Value = { List ℕ };
+
+    ghost view = { λ n. take n.len n.bytes };
+
+    ghost invariant = { λ n. HoldsName n.bytes n.len };
+
+    ghost inverse = { λ text. record { bytes = padded text; len = length text } };
+
+    ghost inverse_ok = { λ fields holds. unpadded fields holds };
+}
+
+impl Clone for Name {
+    fn clone(&self) -> Result<Self, AllocError> {
+        Ok(*self)
+    }
+}
+
+impl Copy for Name {}
+
+/// The name `a`, which fills the rows of fixed capacity where no name is kept.
+impl Default for Name {
+    ghost use Rattle.std.specs.Prelude.{◌≡◌, ◌∷◌, []};
+
+    ghost is_default = { λ n. n ≡ 97 ∷ [] };
+
+    fn default() -> Self {
+        let mut bytes = [0; MAX_NAME];
+        bytes[0] = b'a';
+        Name { bytes, len: 1 }
+    }
+}
+
+impl PartialEq for Name {
+    ghost use Rattle.std.proofs.Common.{rules};
+    ghost use Rattle.std.specs.Cmp.Rules.{comparing};
+
+    ghost eq = { pointwise nat_eq };
+
+    ghost laws = { Prim.search (comparing, rules) };
+
+    fn eq(&self, other: &Name) -> bool {
+        self.as_bytes() == other.as_bytes()
+    }
+}
+
+impl Eq for Name {
+    ghost use Rattle.std.proofs.Common.{rules};
+    ghost use Rattle.std.specs.Cmp.Rules.{comparing};
+
+    ghost laws = { Prim.search (comparing, rules) };
+}
+
+impl PartialOrd for Name {
+    ghost use Rattle.std.proofs.Common.{rules};
+    ghost use Rattle.std.specs.Cmp.{partial_order_from_own_ties};
+    ghost use Rattle.std.specs.Cmp.Rules.{comparing};
+    ghost use Rattle.std.specs.Ordering.{as_partial_cmp};
+
+    ghost partial_cmp = { as_partial_cmp (slice_cmp nat_cmp) };
+
+    ghost laws = { partial_order_from_own_ties (Prim.search (comparing, rules)) (Prim.search (comparing, rules)) };
+
+    fn partial_cmp(&self, other: &Name) -> Option<Ordering> {
+        Some(self.cmp(other))
+    }
+}
+
+impl Ord for Name {
+    ghost use Rattle.std.proofs.Common.{rules};
+    ghost use Rattle.std.specs.Cmp.Rules.{comparing};
+
+    ghost cmp = { slice_cmp nat_cmp };
+
+    ghost total = { Prim.search (comparing, rules) };
+
+    ghost matches_partial_cmp = { Prim.search (comparing, rules) };
+
+    ghost matches_eq = { Prim.search (comparing, rules) };
+
+    fn cmp(&self, other: &Name) -> Ordering {
+        self.as_bytes().cmp(&other.as_bytes())
+    }
+}
+
+/// Whether a byte may stand in a name.
+pub fn is_name_byte(byte: u8) -> bool
+    ensures { result ≡ is_name_byte byte }
+{
+    matches!(byte, b'A'..=b'Z' | b'a'..=b'z' | b'0'..=b'9' | b'.' | b'_' | b'-')
+}
+
+/// The first byte that may not stand in a name.
+fn first_bad_byte(text: &[u8]) -> Option<u8>
+    ensures { result ≡ bad_byte text.now }
+{
+    text.iter().copied().find(|byte| !is_name_byte(*byte))
+}
+
+impl Name {
+    ghost use Rattle.std.specs.Prelude.{◌≡◌, IsTrue};
+    ghost use Rattle.lg_rules.specs.Name.{is_name, name_of_text};
+
+    /// The name that some bytes spell, or the first fault in the order of [`NameFault`].
+    pub fn new(text: &[u8]) -> Result<Name, NameFault>
+        ensures { result ≡ name_of_text text.now }
+    {
+        if text.is_empty() {
+            return Err(NameFault::Empty);
+        }
+        if text.len() > MAX_NAME {
+            return Err(NameFault::TooLong);
+        }
+        if let Some(byte) = first_bad_byte(text) {
+            return Err(NameFault::BadByte(byte));
+        }
+        Ok(Name::from_good(text))
+    }
+
+    /// The name of a text that is one.
+    fn from_good(text: &[u8]) -> Name
+        requires { IsTrue (is_name text.now) }
+        ensures { result ≡ text.now }
+    {
+        let mut bytes = [0; MAX_NAME];
+        bytes[..text.len()].copy_from_slice(text);
+        Name {
+            bytes,
+            len: text.len() as u8,
+        }
+    }
+
+    /// The bytes of the name, 1 to 32 of them.
+    pub fn as_bytes(&self) -> &[u8]
+        ensures bytes { result.now ≡ self.now }
+        ensures name { IsTrue (is_name self.now) }
+    {
+        &self.bytes[..usize::from(self.len)]
+    }
+}
