@@ -1,0 +1,7 @@
+use Rattle.std.proofs.Common.{ap, ◌∙◌}
+use Rattle.lg_detector.specs.State.{accepts_of}
+use Rattle.lg_detector.proofs.Accepting.{accepts-after}
+use Rattle.lg_detector.proofs.detector.Detector.accepts.Goals as goal
+
+pub returns-clause-list : goal.returns-clause-list
+returns-clause-list c = λ f accepted is. c.can_come.ensures ∙ ap (λ s. accepts_of s c.args.event.now) is ∙ accepts-after f c.args.event.now accepted

@@ -1,0 +1,6 @@
+-- The state that is kept in the parts of a detector.
+use Rattle.lg_detector.specs.declared.parts.Parts.{Parts}
+use Rattle.lg_detector.specs.State.{State}
+
+abbrev pub state_in : Parts → State
+state_in parts = record { events = parts.events; moment = parts.moment; own = parts.own; round_start = parts.round_start }

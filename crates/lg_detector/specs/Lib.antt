@@ -1,0 +1,5 @@
+pub mod Marks
+pub mod State
+pub mod Kept
+pub mod Reached
+pub mod Examples
