@@ -1,1 +1,4 @@
+pub mod Answering
 pub mod Input
+pub mod Lines
+pub mod Said

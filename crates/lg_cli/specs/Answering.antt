@@ -1,0 +1,71 @@
+-- What the command `answer` writes for an input, by the lists of its lines and of the events before each.
+use Rattle.std.specs.Prelude.{ℕ, Bool, true, false, List, [], ◌∷◌, ◌++◌, Option, Some, None, Result, Ok, Err, if◌then◌else◌}
+use Rattle.std.specs.List.{flat_map, filter_map, list_any}
+use Rattle.hex.specs.Hex.{encode_lower}
+use Rattle.lg_rules.specs.declared.addr.Addr.{Addr}
+use Rattle.lg_packet.specs.Spelling.{spelling}
+use Rattle.lg_packet.specs.declared.packet.Packet.{Packet}
+use Rattle.lg_detector.specs.State.{answer_after}
+use Rattle.lg_detector.specs.declared.event.Event.{Event}
+use Rattle.lg_detector.specs.declared.event.Event.TheVariants.{Open, Heard}
+use Rattle.lg_detector.specs.declared.reply.Outgoing.{Outgoing}
+use Rattle.lg_cli.specs.Lines.{lines_of}
+use Rattle.lg_cli.specs.Said.{packet_in, fault_text}
+use Rattle.lg_cli.specs.declared.line.LineFault.{LineFault}
+use Rattle.lg_cli.specs.declared.answer.End.{End}
+use Rattle.lg_cli.specs.declared.answer.End.TheVariants.{Done, Faulty}
+
+abbrev pub local : ℕ → Addr
+local port = record { octets = 127 ∷ 0 ∷ 0 ∷ 1 ∷ []; port = port }
+
+-- the detector is opened at 127.0.0.1:7000
+abbrev pub opening : List ℕ → Event
+opening name = Open 0 record { name = name; addr = local 7000 }
+
+-- a packet comes from 127.0.0.1:1
+abbrev pub hearing : Packet → Event
+hearing packet = Heard 0 (local 1) packet
+
+abbrev pub heard : Result Packet LineFault → Option Event
+heard (Ok packet) = Some (hearing packet)
+heard (Err fault) = None
+
+-- the events of some lines: the opening, and what each line that spells a packet lets the detector hear
+unfoldable pub events_of : List ℕ → List (List ℕ) → List Event
+events_of name lines = opening name ∷ filter_map (λ line. heard (packet_in line)) lines
+
+abbrev pub newline : List ℕ
+newline = 10 ∷ []
+
+-- a packet that is sent, as a line of lower-case hex
+abbrev pub sent_line : Outgoing → List ℕ
+sent_line outgoing = encode_lower (spelling outgoing.packet) ++ newline
+
+abbrev pub told : List Event → Result Packet LineFault → List ℕ
+told earlier (Ok packet) = flat_map sent_line (answer_after earlier (hearing packet)).sends.items
+told earlier (Err fault) = fault_text fault ++ newline
+
+-- what a line gives after the earlier events: a line for each packet of the answer to it, or one for its fault
+abbrev pub line_text : List Event → List ℕ → List ℕ
+line_text earlier line = told earlier (packet_in line)
+
+-- what lines give, each after the events of those before it
+abbrev pub text_from : List ℕ → List (List ℕ) → List (List ℕ) → List ℕ
+text_from name before [] = []
+text_from name before (line ∷ lines) = line_text (events_of name before) line ++ text_from name (before ++ line ∷ []) lines
+
+-- what is written for an input
+unfoldable pub answer_text : List ℕ → List ℕ → List ℕ
+answer_text name input = text_from name [] (lines_of input)
+
+abbrev pub is_refused : Result Packet LineFault → Bool
+is_refused (Ok packet) = false
+is_refused (Err fault) = true
+
+-- whether a line spells no packet
+abbrev pub is_faulty : List ℕ → Bool
+is_faulty line = is_refused (packet_in line)
+
+-- how the run ends: faulty exactly where some line is
+unfoldable pub answer_end : List ℕ → End
+answer_end input = if list_any is_faulty (lines_of input) then Faulty else Done
