@@ -1,11 +1,12 @@
 -- What the command `answer` writes for an input, by the lists of its lines and of the events before each.
-use Rattle.std.specs.Prelude.{ℕ, Bool, true, false, List, [], ◌∷◌, ◌++◌, Option, Some, None, Result, Ok, Err, if◌then◌else◌}
+use Rattle.std.specs.Prelude.{ℕ, Bool, IsTrue, List, [], ◌∷◌, ◌++◌, Option, Some, None, Result, Ok, Err, if◌then◌else◌}
 use Rattle.std.specs.List.{flat_map, filter_map, list_any}
+use Rattle.std.specs.Result.{is_err}
 use Rattle.hex.specs.Hex.{encode_lower}
 use Rattle.lg_rules.specs.declared.addr.Addr.{Addr}
 use Rattle.lg_packet.specs.Spelling.{spelling}
 use Rattle.lg_packet.specs.declared.packet.Packet.{Packet}
-use Rattle.lg_detector.specs.State.{answer_after}
+use Rattle.lg_detector.specs.State.{State, accepts_of, answer_after}
 use Rattle.lg_detector.specs.declared.event.Event.{Event}
 use Rattle.lg_detector.specs.declared.event.Event.TheVariants.{Open, Heard}
 use Rattle.lg_detector.specs.declared.reply.Outgoing.{Outgoing}
@@ -30,6 +31,15 @@ abbrev pub heard : Result Packet LineFault → Option Event
 heard (Ok packet) = Some (hearing packet)
 heard (Err fault) = None
 
+-- what a line lets the detector hear, after some events
+abbrev pub with_heard : List Event → Result Packet LineFault → List Event
+with_heard earlier (Ok packet) = earlier ++ hearing packet ∷ []
+with_heard earlier (Err fault) = earlier
+
+-- Packets can be heard.
+pub record AcceptsHeard (s : State) : Type 0 where
+  pub accepts : (packet : Packet) → IsTrue (accepts_of s (hearing packet))
+
 -- the events of some lines: the opening, and what each line that spells a packet lets the detector hear
 unfoldable pub events_of : List ℕ → List (List ℕ) → List Event
 events_of name lines = opening name ∷ filter_map (λ line. heard (packet_in line)) lines
@@ -38,8 +48,11 @@ abbrev pub newline : List ℕ
 newline = 10 ∷ []
 
 -- a packet that is sent, as a line of lower-case hex
+abbrev pub sent_text : Packet → List ℕ
+sent_text packet = encode_lower (spelling packet) ++ newline
+
 abbrev pub sent_line : Outgoing → List ℕ
-sent_line outgoing = encode_lower (spelling outgoing.packet) ++ newline
+sent_line outgoing = sent_text outgoing.packet
 
 abbrev pub told : List Event → Result Packet LineFault → List ℕ
 told earlier (Ok packet) = flat_map sent_line (answer_after earlier (hearing packet)).sends.items
@@ -58,13 +71,9 @@ text_from name before (line ∷ lines) = line_text (events_of name before) line 
 unfoldable pub answer_text : List ℕ → List ℕ → List ℕ
 answer_text name input = text_from name [] (lines_of input)
 
-abbrev pub is_refused : Result Packet LineFault → Bool
-is_refused (Ok packet) = false
-is_refused (Err fault) = true
-
 -- whether a line spells no packet
 abbrev pub is_faulty : List ℕ → Bool
-is_faulty line = is_refused (packet_in line)
+is_faulty line = is_err (packet_in line)
 
 -- how the run ends: faulty exactly where some line is
 unfoldable pub answer_end : List ℕ → End

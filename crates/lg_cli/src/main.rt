@@ -6,5 +6,6 @@ mod fault;
 mod input;
 mod line;
 mod lines;
+mod run;
 
 fn main() {}
