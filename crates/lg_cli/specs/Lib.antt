@@ -1,4 +1,6 @@
 pub mod Answering
+pub mod Commands
+pub mod Faults
 pub mod Input
 pub mod Lines
 pub mod Running

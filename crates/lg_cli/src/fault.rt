@@ -1,5 +1,6 @@
 //! Why a run of a command over an input failed.
 ghost use Rattle.std.specs.Prelude.{◌≡◌};
+ghost use Rattle.lg_cli.specs.Faults.{run_fault_text};
 ghost use Rattle.lg_cli.specs.declared.fault.RunFault.TheVariants.{Memory};
 
 use std::alloc::AllocError;
@@ -13,6 +14,19 @@ pub enum RunFault {
     Read = 2,
     /// The answer couldn't be written; a beginning of it may have been.
     Write = 3,
+}
+
+impl RunFault {
+    /// The line that tells the fault.
+    pub fn text(self) -> &'static str
+        ensures { result.now ≡ run_fault_text self }
+    {
+        match self {
+            RunFault::Memory => "lg: memory",
+            RunFault::Read => "lg: read",
+            RunFault::Write => "lg: write",
+        }
+    }
 }
 
 impl From<AllocError> for RunFault {

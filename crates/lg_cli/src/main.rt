@@ -2,10 +2,12 @@
 #![tactic(auto)]
 
 mod answer;
+mod command;
 mod fault;
 mod input;
 mod line;
 mod lines;
+mod program;
 mod run;
 
 fn main() {}

@@ -1,0 +1,97 @@
+//! The program over any reader and writers: its commands, its statuses, and what it says of faults.
+ghost use Rattle.std.specs.Prelude.{◌≡◌, ◌≢◌, ◌⊎◌, IfErr, IfOk, List, [], Ok, map, Bool, true};
+ghost use Rattle.std.specs.Io.KnownBytes.{Keeps};
+ghost use Rattle.std.specs.Result.{is_err};
+ghost use Rattle.clap.specs.Values.{kind_of};
+ghost use Rattle.lg_rules.specs.Name.{name_of_text};
+ghost use Rattle.lg_cli.specs.Commands.{asked_name, line_faults};
+
+use clap::{Error, ErrorKind};
+use lg_rules::Name;
+use std::alloc::Global;
+use std::convert::AsStr;
+use std::io::{Read, Write};
+
+use crate::command::{Asked, read_words};
+use crate::fault::RunFault;
+use crate::run::answer_run;
+
+/// The status of a run that memory, a read or a write failed.
+const FAILED: u8 = 1;
+
+/// The status of a command line that is refused.
+const USAGE: u8 = 2;
+
+/// The status of bad input.
+const BAD_INPUT: u8 = 3;
+
+/// Runs the program on the words of a command line, of which the first is the program's name, and
+/// gives its exit status.
+///
+/// `reader`, `writer` and `faults` stand for the standard input, output and error. The statuses
+/// are 0 where all was done, also where help was asked for, which is written; 1 where memory, a
+/// read or a write failed, told as `lg: memory`, `lg: read` or `lg: write`; 2 where the command
+/// line is refused, told by a text of the command line's own; 3 for bad input: `lg: bad names`
+/// where the text of `--name` is no name, and nothing is then read, or a faulty line of the input
+/// of `answer`, of which nothing is told. A line that `faults` doesn't take is dropped.
+pub fn run_words<S: AsStr, R: Read, W: Write, F: Write>(
+    alloc: Global,
+    words: &[S],
+    reader: &mut R,
+    writer: &mut W,
+    faults: &mut F,
+) -> u8
+{
+    match read_words(alloc, words) {
+        Ok(Asked::Answer { name }) => answer_named(alloc, name, reader, writer, faults),
+        Err(error) => tell_refusal(&error, writer, faults),
+    }
+}
+
+/// Carries `answer` for a text that should be a name.
+fn answer_named<R: Read, W: Write, F: Write>(
+    alloc: Global,
+    name: &str,
+    reader: &mut R,
+    writer: &mut W,
+    faults: &mut F,
+) -> u8
+{
+    let name = match Name::new(name.as_bytes()) {
+        Ok(name) => name,
+        Err(_) => {
+            tell(faults, "lg: bad names");
+            return BAD_INPUT;
+        }
+    };
+    match answer_run(alloc, reader, writer, &name) {
+        Ok(end) => end as u8,
+        Err(fault) => {
+            tell(faults, fault.text());
+            FAILED
+        }
+    }
+}
+
+/// Tells why a command line isn't run, or writes the help that it asks for, and gives the status.
+fn tell_refusal<W: Write, F: Write>(error: &Error, writer: &mut W, faults: &mut F) -> u8
+{
+    if error.kind() == ErrorKind::OutOfMemory {
+        tell(faults, RunFault::Memory.text());
+        return FAILED;
+    }
+    if error.use_stderr() {
+        let _ = write!(faults, "{error}");
+        return USAGE;
+    }
+    if write!(writer, "{error}").is_err() || writer.flush().is_err() {
+        tell(faults, RunFault::Write.text());
+        return FAILED;
+    }
+    0
+}
+
+/// Writes a line, or drops it where that fails.
+fn tell<F: Write>(faults: &mut F, line: &str) {
+    let _ = writeln!(faults, "{line}");
+}
