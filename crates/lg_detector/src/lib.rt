@@ -13,3 +13,6 @@ pub use detector::{Detector, MAX_EVENTS, NoMemory, states_lead_on};
 pub use event::Event;
 pub use moment::Moment;
 pub use reply::{Outgoing, Reply};
+
+#[cfg(test)]
+mod tests;

@@ -29,6 +29,12 @@ impl Model for Moment {
 }
 
 impl Clone for Moment {
+    ghost use Rattle.std.specs.Prelude.{◌≡◌, ⊤};
+
+    ghost is_clone = { λ moment clone. clone ≡ moment };
+
+    ghost is_infallible = { λ _. ⊤ };
+
     fn clone(&self) -> Result<Self, AllocError> {
         Ok(*self)
     }

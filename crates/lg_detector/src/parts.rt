@@ -53,7 +53,21 @@ impl Parts {
     }
 }
 
-/// Answers a Ping for oneself by an Ack to where it came from (SWIM, section 3.1).
+/// An Ack with a number, from the member that was opened, to where its Ping came from.
+fn ack(config: &Config, source: Addr, number: u32) -> Outgoing
+    ensures { result ≡ record { to = source; packet = record { sender = config.now.name; body = Body.Ack number } } }
+{
+    Outgoing {
+        to: source,
+        packet: Packet {
+            sender: config.name,
+            body: Body::Ack { number },
+        },
+    }
+}
+
+/// Answers a Ping for oneself by an Ack to where it came from, in the place of what `sends` held
+/// (SWIM, section 3.1).
 pub fn answer(
     own: &Option<Config>,
     source: Addr,
@@ -63,15 +77,14 @@ pub fn answer(
     ensures { sends.new.items ≡ ack_to own.now source packet.now }
 {
     sends.clear();
-    if let (Some(config), Body::Ping { number, target }) = (own, packet.body) {
-        if target == config.name {
-            sends.push(Outgoing {
-                to: source,
-                packet: Packet {
-                    sender: config.name,
-                    body: Body::Ack { number },
-                },
-            });
+    if let Some(config) = own {
+        match packet.body {
+            Body::Ping { number, target } => {
+                if target == config.name {
+                    sends.push(ack(config, source, number));
+                }
+            }
+            Body::Ack { .. } => {}
         }
     }
 }

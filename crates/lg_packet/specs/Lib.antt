@@ -1,1 +1,4 @@
-
+pub mod Spelling
+pub mod Reading
+pub mod Fault
+pub mod Examples

@@ -2,7 +2,17 @@
 #![tactic(auto)]
 
 mod fault;
+mod kind;
+mod laws;
 mod packet;
+mod reading;
+mod writing;
 
 pub use fault::Fault;
+pub use laws::{first_bad_byte, one_spelling};
 pub use packet::{Body, Packet};
+pub use reading::decode;
+pub use writing::{MAX_PACKET, encode};
+
+#[cfg(test)]
+mod tests;

@@ -1,0 +1,128 @@
+-- The fields of a packet: what is read is spelled so, and what is spelled so is read again.
+use Rattle.std.proofs.Common.{◌≡◌, ℕ, zero, suc, ◌^◌, ◌<◌, Bool, true, false, cond, eqb, ltb, List, [], ◌∷◌, ◌++◌, length, get_or, Some, None, Ok, refl, sym, ap, subst, ◌∙◌, append_assoc, arith}
+use Rattle.std.specs.Int.{w32, byte_at, from_be_bytes, to_be_bytes}
+use Rattle.std.proofs.lemmas.Bool.{eqb-true, le-ltb}
+use Rattle.std.proofs.lemmas.Nat.{be_bytes_4, from_be_bytes-to_be_bytes_4}
+use Rattle.lg_packet.specs.declared.fault.Fault.{Fault}
+use Rattle.lg_packet.specs.declared.fault.Fault.TheVariants as faults
+use Rattle.lg_packet.specs.declared.kind.Kind.{Kind}
+use Rattle.lg_packet.specs.declared.kind.Kind.TheVariants as kinds
+use Rattle.lg_packet.specs.declared.packet.Body.{Body}
+use Rattle.lg_packet.specs.declared.packet.Body.TheVariants.{Ping, Ack}
+use Rattle.lg_packet.specs.Spelling.{kind_of, byte_of_kind, spelled_number, spelled_name, spelled_head, spelled_body, IsBody}
+use Rattle.lg_packet.specs.Reading.{◌>>=◌, literal_at, kind_before, kind_at, number_at, name_at, head_at, body_at, count_at}
+use Rattle.lg_packet.proofs.Outcomes.{step_ok, passed, same_ok}
+use Rattle.lg_packet.proofs.NameFields.{name_read, name_again}
+
+abbrev pub AreBytes : List ℕ → Type 0
+AreBytes bytes = (i : ℕ) → get_or bytes i 0 < 256
+
+-- what stands behind a front
+pub behind : (front rest : List ℕ) → AreBytes (front ++ rest) → AreBytes rest
+behind [] rest fit = fit
+behind (b ∷ front) rest fit = behind front rest (λ i. fit (suc i))
+
+-- ---- one byte that is due
+
+pub literal_read : (due : ℕ) (fault : Fault) (bytes rest : List ℕ) → literal_at due fault bytes ≡ Ok rest → bytes ≡ due ∷ rest
+literal_read due fault [] rest e = absurd cc
+literal_read due fault (b ∷ bytes) rest e =
+    let p = passed (eqb b due) fault (Ok bytes) rest e in
+    let here : b ≡ due = eqb-true b due p.0 in
+    let after : bytes ≡ rest = same_ok bytes rest p.1 in
+    cc
+
+-- ---- kinds
+
+pub kind_read : (bytes : List ℕ) (x : Kind × List ℕ) → kind_at bytes ≡ Ok x → bytes ≡ byte_of_kind x.0 ∷ x.1
+kind_read [] x e = absurd cc
+kind_read (b ∷ bytes) x e = step (eqb b 1) refl (eqb b 3) refl e
+  where
+    step : (one : Bool) → eqb b 1 ≡ one → (three : Bool) → eqb b 3 ≡ three → kind_before bytes (cond one (Some kinds.Ping) (cond three (Some kinds.Ack) None)) ≡ Ok x → b ∷ bytes ≡ byte_of_kind x.0 ∷ x.1
+    step true h three k e = let same = same_ok (kinds.Ping, bytes) x e in let here : b ≡ 1 = eqb-true b 1 h in subst (λ (y : Kind × List ℕ). b ∷ bytes ≡ byte_of_kind y.0 ∷ y.1) same (ap (λ (n : ℕ). n ∷ bytes) here)
+    step false h true k e = let same = same_ok (kinds.Ack, bytes) x e in let here : b ≡ 3 = eqb-true b 3 k in subst (λ (y : Kind × List ℕ). b ∷ bytes ≡ byte_of_kind y.0 ∷ y.1) same (ap (λ (n : ℕ). n ∷ bytes) here)
+    step false h false k e = absurd cc
+
+pub kind_again : (kind : Kind) (rest : List ℕ) → kind_at (byte_of_kind kind ∷ rest) ≡ Ok (kind, rest)
+kind_again kinds.Ping rest = refl
+kind_again kinds.Ack rest = refl
+
+-- ---- the head
+
+pub head_read : (bytes : List ℕ) (x : Kind × List ℕ) → head_at bytes ≡ Ok x → bytes ≡ spelled_head x.0 ++ x.1
+unfolding head_at
+head_read bytes x e =
+    let a = step_ok (literal_at 0x53 faults.Magic bytes) (λ r. literal_at 0x4c faults.Magic r >>= λ s. literal_at 1 faults.Version s >>= kind_at) x e in
+    let b = step_ok (literal_at 0x4c faults.Magic a.0) (λ s. literal_at 1 faults.Version s >>= kind_at) x a.2 in
+    let d = step_ok (literal_at 1 faults.Version b.0) kind_at x b.2 in
+    literal_read 0x53 faults.Magic bytes a.0 a.1
+    ∙ ap (λ (r : List ℕ). 0x53 ∷ r) (literal_read 0x4c faults.Magic a.0 b.0 b.1
+    ∙ ap (λ (r : List ℕ). 0x4c ∷ r) (literal_read 1 faults.Version b.0 d.0 d.1
+    ∙ ap (λ (r : List ℕ). 1 ∷ r) (kind_read d.0 x d.2)))
+
+pub head_again : (kind : Kind) (rest : List ℕ) → head_at (spelled_head kind ++ rest) ≡ Ok (kind, rest)
+unfolding head_at
+head_again kind rest = kind_again kind rest
+
+-- ---- numbers
+
+-- four bytes that are there
+pub number_there : (a b c d : ℕ) (rest : List ℕ) → number_at w32 (a ∷ b ∷ c ∷ d ∷ rest) ≡ Ok (from_be_bytes w32 (a ∷ b ∷ c ∷ d ∷ []), rest)
+number_there a b c d rest =
+    let enough : ltb (length (a ∷ b ∷ c ∷ d ∷ rest)) 4 ≡ false = le-ltb (length (a ∷ b ∷ c ∷ d ∷ rest)) 4 (omega arith) in
+    rw enough refl
+
+pub number_read : (bytes : List ℕ) (x : ℕ × List ℕ) → AreBytes bytes → number_at w32 bytes ≡ Ok x → (bytes ≡ spelled_number x.0 ++ x.1) × (x.0 < 2 ^ 32)
+number_read [] x fit e = absurd cc
+number_read (a ∷ []) x fit e = absurd cc
+number_read (a ∷ b ∷ []) x fit e = absurd cc
+number_read (a ∷ b ∷ c ∷ []) x fit e = absurd cc
+number_read (a ∷ b ∷ c ∷ d ∷ rest) x fit e =
+    let four = a ∷ b ∷ c ∷ d ∷ [] in
+    let few : AreBytes four = front_fits in
+    let written : to_be_bytes w32 (from_be_bytes w32 four) ≡ four = be_bytes_4 four (from_be_bytes w32 four) refl few refl in
+    let below : from_be_bytes w32 four < 2 ^ 32 = omega (arith, fit 0, fit 1, fit 2, fit 3) in
+    subst (λ (y : ℕ × List ℕ). (four ++ rest ≡ spelled_number y.0 ++ y.1) × (y.0 < 2 ^ 32)) (same_ok (from_be_bytes w32 four, rest) x (sym (number_there a b c d rest) ∙ e)) (ap (λ (t : List ℕ). t ++ rest) (sym written), below)
+  where
+    front_fits : AreBytes (a ∷ b ∷ c ∷ d ∷ [])
+    front_fits zero = fit 0
+    front_fits (suc zero) = fit 1
+    front_fits (suc (suc zero)) = fit 2
+    front_fits (suc (suc (suc zero))) = fit 3
+    front_fits (suc (suc (suc (suc i)))) = omega arith
+
+pub number_again : (n : ℕ) (rest : List ℕ) → n < 2 ^ 32 → number_at w32 (spelled_number n ++ rest) ≡ Ok (n, rest)
+number_again n rest fit =
+    number_there (byte_at 3 n) (byte_at 2 n) (byte_at 1 n) (byte_at 0 n) rest ∙ rw (from_be_bytes-to_be_bytes_4 n fit) refl
+
+-- ---- bodies
+
+pub body_read : (kind : Kind) (bytes : List ℕ) (x : Body × List ℕ) → AreBytes bytes → body_at kind bytes ≡ Ok x → (bytes ≡ spelled_body x.0 ++ x.1) × IsBody x.0 × (kind_of x.0 ≡ kind)
+unfolding body_at
+body_read kinds.Ping bytes x fit e =
+    let a = step_ok (number_at w32 bytes) (λ number. name_at number.1 >>= λ target. Ok (Ping number.0 target.0, target.1)) x e in
+    let b = step_ok (name_at a.0.1) (λ target. Ok (Ping a.0.0 target.0, target.1)) x a.2 in
+    let number = number_read bytes a.0 fit a.1 in
+    let target = name_read a.0.1 b.0 b.1 in
+    let whole : bytes ≡ spelled_body (Ping a.0.0 b.0.0) ++ b.0.1 =
+    number.0 ∙ ap (λ (t : List ℕ). spelled_number a.0.0 ++ t) target.0 ∙ sym (append_assoc (spelled_number a.0.0) (spelled_name b.0.0) b.0.1) in
+    subst (λ (y : Body × List ℕ). (bytes ≡ spelled_body y.0 ++ y.1) × IsBody y.0 × (kind_of y.0 ≡ kinds.Ping)) (same_ok (Ping a.0.0 b.0.0, b.0.1) x b.2) (whole, (number.1, target.1), refl)
+body_read kinds.Ack bytes x fit e =
+    let a = step_ok (number_at w32 bytes) (λ number. Ok (Ack number.0, number.1)) x e in
+    let number = number_read bytes a.0 fit a.1 in
+    subst (λ (y : Body × List ℕ). (bytes ≡ spelled_body y.0 ++ y.1) × IsBody y.0 × (kind_of y.0 ≡ kinds.Ack)) (same_ok (Ack a.0.0, a.0.1) x a.2) (number.0, number.1, refl)
+
+pub body_again : (body : Body) (rest : List ℕ) → IsBody body → body_at (kind_of body) (spelled_body body ++ rest) ≡ Ok (body, rest)
+unfolding body_at
+body_again (Ping number target) rest fit = rw (number_again number (spelled_name target ++ rest) fit.0, name_again target rest fit.1) refl
+body_again (Ack number) rest fit = rw (number_again number rest fit) refl
+
+-- ---- the count
+
+pub count_read : (bytes rest : List ℕ) → count_at bytes ≡ Ok rest → bytes ≡ 0 ∷ rest
+count_read [] rest e = absurd cc
+count_read (b ∷ bytes) rest e =
+    let p = passed (eqb b 0) faults.Count (Ok bytes) rest e in
+    let here : b ≡ 0 = eqb-true b 0 p.0 in
+    let after : bytes ≡ rest = same_ok bytes rest p.1 in
+    cc

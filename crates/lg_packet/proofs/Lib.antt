@@ -1,0 +1,5 @@
+pub mod Outcomes
+pub mod NameFields
+pub mod Fields
+pub mod Packets
+pub mod Places

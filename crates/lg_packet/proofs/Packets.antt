@@ -1,0 +1,80 @@
+-- The two laws of packets: what is read is spelled so, and what is spelled so is read.
+use Rattle.std.proofs.Common.{◌≡◌, ℕ, cond, eqb, List, [], ◌∷◌, ◌++◌, length, Result, Ok, Err, refl, sym, ap, subst, ◌∙◌, append_assoc}
+use Rattle.std.specs.Prelude.{IfOk}
+use Rattle.std.proofs.lemmas.Bool.{eqb-true}
+use Rattle.std.proofs.lemmas.List.{append-nil, nil_from_length}
+use Rattle.lg_packet.specs.declared.fault.Fault.{Fault}
+use Rattle.lg_packet.specs.declared.fault.Fault.TheVariants as faults
+use Rattle.lg_packet.specs.declared.packet.Packet.{Packet}
+use Rattle.lg_packet.specs.Spelling.{kind_of, spelled_head, spelled_name, spelled_body, spelling, IsPacket, Spells}
+use Rattle.lg_packet.specs.Reading.{◌>>=◌, head_at, name_at, body_at, count_at, packet_at, packet_of}
+use Rattle.lg_packet.proofs.Outcomes.{step_ok, passed, same_ok}
+use Rattle.lg_packet.proofs.NameFields.{name_read, name_again}
+use Rattle.lg_packet.proofs.Fields.{AreBytes, behind, head_read, head_again, body_read, body_again, count_read}
+
+-- a packet's spelling, and what stands behind it
+pub regrouped : (p : Packet) (rest : List ℕ) → spelling p ++ rest ≡ spelled_head (kind_of p.body) ++ (spelled_name p.sender ++ (spelled_body p.body ++ (0 ∷ rest)))
+unfolding spelling
+regrouped p rest = simp append_assoc
+
+pub packet_read : (bytes : List ℕ) (x : Packet × List ℕ) → AreBytes bytes → packet_at bytes ≡ Ok x → IsPacket x.0 × (bytes ≡ spelling x.0 ++ x.1)
+unfolding packet_at
+packet_read bytes x fit e =
+    let a = step_ok (head_at bytes) (λ head. name_at head.1 >>= λ sender. body_at head.0 sender.1 >>= λ body. count_at body.1 >>= λ rest. Ok (record { sender = sender.0; body = body.0 }, rest)) x e in
+    let b = step_ok (name_at a.0.1) (λ sender. body_at a.0.0 sender.1 >>= λ body. count_at body.1 >>= λ rest. Ok (record { sender = sender.0; body = body.0 }, rest)) x a.2 in
+    let d = step_ok (body_at a.0.0 b.0.1) (λ body. count_at body.1 >>= λ rest. Ok (record { sender = b.0.0; body = body.0 }, rest)) x b.2 in
+    let f = step_ok (count_at d.0.1) (λ rest. Ok (record { sender = b.0.0; body = d.0.0 }, rest)) x d.2 in
+    let head = head_read bytes a.0 a.1 in
+    let behind_head : AreBytes a.0.1 = behind (spelled_head a.0.0) a.0.1 (subst AreBytes head fit) in
+    let sender = name_read a.0.1 b.0 b.1 in
+    let behind_sender : AreBytes b.0.1 = behind (spelled_name b.0.0) b.0.1 (subst AreBytes sender.0 behind_head) in
+    let body = body_read a.0.0 b.0.1 d.0 behind_sender d.1 in
+    let count = count_read d.0.1 f.0 f.1 in
+    let made : Packet = record { sender = b.0.0; body = d.0.0 } in
+    let whole : bytes ≡ spelling made ++ f.0 =
+    head
+    ∙ ap (λ (t : List ℕ). spelled_head a.0.0 ++ t) (sender.0 ∙ ap (λ (t : List ℕ). spelled_name b.0.0 ++ t) (body.0 ∙ ap (λ (t : List ℕ). spelled_body d.0.0 ++ t) count))
+    ∙ ap (λ kind. spelled_head kind ++ (spelled_name b.0.0 ++ (spelled_body d.0.0 ++ (0 ∷ f.0)))) (sym body.2)
+    ∙ sym (regrouped made f.0) in
+    subst (λ (y : Packet × List ℕ). IsPacket y.0 × (bytes ≡ spelling y.0 ++ y.1)) (same_ok (made, f.0) x f.2) (record { sender = sender.1; body = body.1 }, whole)
+
+pub packet_again : (p : Packet) (rest : List ℕ) → IsPacket p → packet_at (spelling p ++ rest) ≡ Ok (p, rest)
+unfolding packet_at
+packet_again p rest fit =
+    ap packet_at (regrouped p rest)
+    ∙ rw (head_again (kind_of p.body) (spelled_name p.sender ++ (spelled_body p.body ++ (0 ∷ rest))), name_again p.sender (spelled_body p.body ++ (0 ∷ rest)) fit.sender, body_again p.body (0 ∷ rest) fit.body) refl
+
+-- ---- all of the bytes
+
+pub whole_read : (bytes : List ℕ) (p : Packet) → AreBytes bytes → packet_of bytes ≡ Ok p → Spells bytes p
+unfolding packet_of
+whole_read bytes p fit e =
+    let a = step_ok (packet_at bytes) (λ packet. cond (eqb (length packet.1) 0) (Ok packet.0) (Err faults.Trailing)) p e in
+    let b = passed (eqb (length a.0.1) 0) faults.Trailing (Ok a.0.0) p a.2 in
+    let nothing : a.0.1 ≡ [] = nil_from_length a.0.1 (eqb-true (length a.0.1) 0 b.0) in
+    let read = packet_read bytes a.0 fit a.1 in
+    let whole : bytes ≡ spelling a.0.0 = read.1 ∙ ap (λ (t : List ℕ). spelling a.0.0 ++ t) nothing ∙ append-nil (spelling a.0.0) in
+    subst (λ (q : Packet). Spells bytes q) (same_ok a.0.0 p b.1) (read.0, whole)
+
+pub whole_again : (bytes : List ℕ) (p : Packet) → Spells bytes p → packet_of bytes ≡ Ok p
+unfolding packet_of
+whole_again bytes p spells =
+    let at_front : packet_at bytes ≡ Ok (p, []) = ap packet_at (spells.1 ∙ sym (append-nil (spelling p))) ∙ packet_again p [] spells.0 in
+    rw at_front refl
+
+pub found : (bytes : List ℕ) (r : Result Packet Fault) → AreBytes bytes → r ≡ packet_of bytes → IfOk r (λ p. Spells bytes p)
+found bytes (Ok p) fit e = whole_read bytes p fit (sym e)
+found bytes (Err f) fit e = tt
+
+-- ---- spellings
+
+-- a spelling that begins another is the other
+pub one_start : (p q : Packet) (rest : List ℕ) → IsPacket p → IsPacket q → spelling p ++ rest ≡ spelling q → (p ≡ q) × (rest ≡ [])
+one_start p q rest p_fits q_fits e =
+    let first = packet_again p rest p_fits in
+    let second = packet_again q [] q_fits in
+    let same : (p, rest) ≡ (q, []) = same_ok (p, rest) (q, []) (sym first ∙ ap packet_at (e ∙ sym (append-nil (spelling q))) ∙ second) in
+    (ap (λ (x : Packet × List ℕ). x.0) same, ap (λ (x : Packet × List ℕ). x.1) same)
+
+pub one_packet : (p q : Packet) → IsPacket p → IsPacket q → spelling p ≡ spelling q → p ≡ q
+one_packet p q p_fits q_fits e = (one_start p q [] p_fits q_fits (append-nil (spelling p) ∙ e)).0

@@ -1,0 +1,19 @@
+//! What holds of the spellings of packets.
+ghost use Rattle.std.specs.Prelude.{◌≡◌, ℕ, List, [], ◌∷◌, ◌++◌, Some};
+ghost use Rattle.lg_packet.specs.declared.packet.Packet.{Packet};
+ghost use Rattle.lg_packet.specs.declared.fault.Fault.{Fault};
+ghost use Rattle.lg_packet.specs.Fault.{Stands, fault_behind, fault_of};
+ghost use Rattle.lg_packet.specs.Spelling.{IsPacket, spelling};
+
+/// No two packets have one spelling, and no spelling begins another.
+pub fn one_spelling()
+    ensures apart { (p q : Packet) → IsPacket p → IsPacket q → spelling p ≡ spelling q → p ≡ q }
+    ensures whole { (p q : Packet) (rest : List ℕ) → IsPacket p → IsPacket q → spelling p ++ rest ≡ spelling q → rest ≡ [] }
+{}
+
+/// The fault of bytes is that of the first byte that can't stand where it stands, whatever follows
+/// it, or [`Fault::Short`](crate::Fault::Short) where each can.
+pub fn first_bad_byte()
+    ensures bad { (front rest : List ℕ) (b : ℕ) (f : Fault) → Stands front → fault_behind front b ≡ Some f → fault_of (front ++ b ∷ rest) ≡ f }
+    ensures none { (bytes : List ℕ) → Stands bytes → fault_of bytes ≡ Fault.Short }
+{}
