@@ -1,10 +1,12 @@
 -- The command line of the program.
-use Rattle.std.specs.Prelude.{ℕ, true, false, List, [], ◌∷◌, Option, Some, None, codes, option_and_then, unwrap_or}
+use Rattle.std.specs.Prelude.{◌≡◌, ℕ, true, false, List, [], ◌∷◌, Option, Some, None, codes, option_and_then, unwrap_or}
 use Rattle.clap.specs.Faults.{fault_of}
-use Rattle.clap.specs.Kinds.{Kinds}
+use Rattle.clap.specs.Kinds.{IsAmong, Kinds}
 use Rattle.clap.specs.Simple.{App, new_app, new_rule, subcommand_of, with_rule, with_subcommand, on_top}
 use Rattle.clap.specs.Walk.{Row, Rule, Text, first_of}
 use Rattle.clap.specs.declared.builder.action.ArgAction.TheVariants.{Set}
+use Rattle.clap.specs.declared.error.kind.ErrorKind.{ErrorKind}
+use Rattle.clap.specs.declared.error.kind.ErrorKind.TheVariants.{DisplayHelp, DisplayVersion}
 use Rattle.lg_cli.specs.declared.command.Asked.{Asked}
 use Rattle.lg_cli.specs.declared.command.Asked.TheVariants.{Answer}
 
@@ -33,3 +35,15 @@ asked_name words = name_of_rows (subcommand_of lg_app words)
 
 abbrev pub asked_text : Asked → Text
 asked_text (Answer name) = name.now
+
+-- the status of a command line that isn't run: 0 where it asks for help
+abbrev pub status_of_kind : ErrorKind → ℕ
+status_of_kind DisplayHelp = 0
+status_of_kind DisplayVersion = 0
+status_of_kind _ = 2
+
+-- a status that one of the faults of a command line has
+pub record RefusesLine (faults : Kinds) (status : ℕ) : Type 0 where
+  pub kind : ErrorKind
+  pub among : IsAmong kind faults
+  pub is : status ≡ status_of_kind kind

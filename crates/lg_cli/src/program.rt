@@ -1,12 +1,13 @@
 //! The program over any reader and writers: its commands, its statuses, and what it says of faults.
-ghost use Rattle.std.specs.Prelude.{◌≡◌, ◌≢◌, ◌⊎◌, IfErr, IfOk, List, [], Ok, map, Bool, true};
-ghost use Rattle.std.specs.Io.KnownBytes.{Keeps};
+ghost use Rattle.std.specs.Prelude.{◌≡◌, ◌≢◌, IfOk, [], map, true};
 ghost use Rattle.std.specs.Result.{is_err};
 ghost use Rattle.clap.specs.Values.{kind_of};
 ghost use Rattle.lg_rules.specs.Name.{name_of_text};
-ghost use Rattle.lg_cli.specs.Commands.{asked_name, line_faults};
+ghost use Rattle.lg_cli.specs.Running.{RunsAnswer};
+ghost use Rattle.lg_cli.specs.Commands.{asked_name, line_faults, status_of_kind, RefusesLine};
 
-use clap::{Error, ErrorKind};
+use clap::Error;
+use clap::error::ErrorKind;
 use lg_rules::Name;
 use std::alloc::Global;
 use std::convert::AsStr;
@@ -41,6 +42,20 @@ pub fn run_words<S: AsStr, R: Read, W: Write, F: Write>(
     writer: &mut W,
     faults: &mut F,
 ) -> u8
+    // A command line that is taken runs its command, for a text of `--name` that is a name.
+    ensures answered { let line = map S.text words.now in line_faults line ≡ [] → result ≢ FAILED
+        → IfOk (name_of_text (asked_name line)) (λ name. RunsAnswer (R.remaining reader.old) (R.remaining reader.new)
+        (W.contents writer.old) (W.contents writer.new) name result) }
+    ensures bad_name { let line = map S.text words.now in line_faults line ≡ [] → result ≢ FAILED
+        → is_err (name_of_text (asked_name line)) ≡ true → result ≡ BAD_INPUT }
+    ensures unread { let line = map S.text words.now in is_err (name_of_text (asked_name line)) ≡ true
+        → reader.new ≡ reader.old }
+
+    // Any other is refused, or asks for help.
+    ensures refused { let line = map S.text words.now in line_faults line ≢ [] → result ≢ FAILED
+        → RefusesLine (line_faults line) result }
+    ensures unrun { line_faults (map S.text words.now) ≢ [] → reader.new ≡ reader.old }
+    ensures unwritten { result ≡ USAGE → writer.new ≡ writer.old }
 {
     match read_words(alloc, words) {
         Ok(Asked::Answer { name }) => answer_named(alloc, name, reader, writer, faults),
@@ -56,6 +71,11 @@ fn answer_named<R: Read, W: Write, F: Write>(
     writer: &mut W,
     faults: &mut F,
 ) -> u8
+    ensures answered { result ≢ FAILED → IfOk (name_of_text name.now) (λ name. RunsAnswer (R.remaining reader.old)
+        (R.remaining reader.new) (W.contents writer.old) (W.contents writer.new) name result) }
+    ensures bad_name { is_err (name_of_text name.now) ≡ true → result ≡ BAD_INPUT }
+    ensures unread { is_err (name_of_text name.now) ≡ true → reader.new ≡ reader.old }
+    ensures run { result ≢ USAGE }
 {
     let name = match Name::new(name.as_bytes()) {
         Ok(name) => name,
@@ -75,6 +95,9 @@ fn answer_named<R: Read, W: Write, F: Write>(
 
 /// Tells why a command line isn't run, or writes the help that it asks for, and gives the status.
 fn tell_refusal<W: Write, F: Write>(error: &Error, writer: &mut W, faults: &mut F) -> u8
+    ensures status { result ≢ FAILED → result ≡ status_of_kind (kind_of error.now) }
+    ensures memory { kind_of error.now ≡ ErrorKind.OutOfMemory → result ≡ FAILED }
+    ensures unwritten { result ≡ USAGE → writer.new ≡ writer.old }
 {
     if error.kind() == ErrorKind::OutOfMemory {
         tell(faults, RunFault::Memory.text());

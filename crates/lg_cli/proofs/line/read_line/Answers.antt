@@ -10,9 +10,9 @@ returns-then-is_err c =
 pub returns-in-Ok : goal.returns-in-Ok
 returns-in-Ok c =
     let half = length-take-le (length c.args.line.now / 2) c.args.row.now (omega arith) in
-    spelled c.args.line.now _ c.decode_to_slice.result _ half c.decode_to_slice.ensures.value (sym c.if-is_err.ensures.value) _ (sym c.decode.ensures ∙ c.in-Ok.is)
+    spelled c.args.line.now _ c.decode_to_slice.result _ half c.decode_to_slice.ensures.value (sym c.if-is_err.ensures.value) _ (sym c.decode.ensures.exact ∙ c.in-Ok.is)
 
 pub returns-in-Err : goal.returns-in-Err
 returns-in-Err c =
     let half = length-take-le (length c.args.line.now / 2) c.args.row.now (omega arith) in
-    spelled c.args.line.now _ c.decode_to_slice.result _ half c.decode_to_slice.ensures.value (sym c.if-is_err.ensures.value) _ (sym c.decode.ensures ∙ c.in-Err.is)
+    spelled c.args.line.now _ c.decode_to_slice.result _ half c.decode_to_slice.ensures.value (sym c.if-is_err.ensures.value) _ (sym c.decode.ensures.exact ∙ c.in-Err.is)
