@@ -1,6 +1,7 @@
 //! The program over any reader and writers: its commands, its statuses, and what it says of faults.
 ghost use Rattle.std.specs.Prelude.{◌≡◌, ◌≢◌, IfOk, [], map, true};
 ghost use Rattle.std.specs.Result.{is_err};
+ghost use Rattle.std.specs.IoError.{error_kind};
 ghost use Rattle.clap.specs.Values.{kind_of};
 ghost use Rattle.lg_rules.specs.Name.{name_of_text};
 ghost use Rattle.lg_cli.specs.Running.{RunsAnswer};
@@ -11,6 +12,8 @@ use clap::error::ErrorKind;
 use lg_rules::Name;
 use std::alloc::Global;
 use std::convert::AsStr;
+use std::io;
+use std::io::ErrorKind as IoErrorKind;
 use std::io::{Read, Write};
 
 use crate::command::{Asked, read_words};
@@ -112,6 +115,21 @@ fn tell_refusal<W: Write, F: Write>(error: &Error, writer: &mut W, faults: &mut 
         return FAILED;
     }
     0
+}
+
+/// Tells why the words of the command line couldn't be had, and gives the status: memory was
+/// refused, or the words aren't UTF-8, which refuses the command line (this project's choice).
+pub fn refuse_words<F: Write>(error: &io::Error, faults: &mut F) -> u8
+    ensures memory { error_kind error.now ≡ IoErrorKind.OutOfMemory → result ≡ FAILED }
+    ensures usage { error_kind error.now ≢ IoErrorKind.OutOfMemory → result ≡ USAGE }
+{
+    if error.kind() == IoErrorKind::OutOfMemory {
+        tell(faults, RunFault::Memory.text());
+        FAILED
+    } else {
+        tell(faults, "error: the command line isn't UTF-8");
+        USAGE
+    }
 }
 
 /// Writes a line, or drops it where that fails.
