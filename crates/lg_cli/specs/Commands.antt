@@ -12,7 +12,7 @@ use Rattle.lg_cli.specs.declared.command.Asked.TheVariants.{Answer}
 
 -- the option `--name NAME`, which is required
 abbrev pub name_rule : Rule
-name_rule = record (new_rule (codes "name")) { long = Some (codes "name"); required = true; action = Some Set }
+name_rule = record (new_rule (codes "name")) { long = Some (codes "name"); value_names = 1; required = true; action = Some Set }
 
 abbrev pub answer_app : App
 answer_app = with_rule (new_app (codes "answer")) name_rule

@@ -1,5 +1,6 @@
 pub mod Answering
 pub mod Commands
+pub mod Examples
 pub mod Faults
 pub mod Input
 pub mod Lines

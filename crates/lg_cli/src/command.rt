@@ -26,9 +26,13 @@ fn answer_command<'a>(alloc: Global) -> Result<Command<'a>, AllocError>
 {
     let name = Arg::new(alloc, "name")
         .long("name")
+        .value_name("NAME")
+        .help("The name of the detector, of 1 to 32 bytes of A-Z a-z 0-9 . _ -")
         .required(true)
         .action(ArgAction::Set);
-    Command::new(alloc, "answer").arg(name)
+    Command::new(alloc, "answer")
+        .about("Answers packets, a line of hex each, as a detector does")
+        .arg(name)
 }
 
 /// The program with its commands, one of which has to be named.
@@ -37,6 +41,7 @@ fn lg_command<'a>(alloc: Global) -> Result<Command<'a>, AllocError>
 {
     let answer = answer_command(alloc)?;
     let lg = Command::new(alloc, "lg")
+        .about("A SWIM failure detector with Lifeguard's extensions")
         .subcommand_required(true)
         .subcommand(answer)?;
     Ok(lg)
