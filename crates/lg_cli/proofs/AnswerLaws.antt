@@ -60,13 +60,14 @@ accepted any n none few = grind arith
 -- the events of some lines, and one more packet heard, are accepted
 pub accepts_lines : (name : List ℕ) (lines : List (List ℕ)) (s : State) → length lines ≤ 3000000000 → s ≡ state_after (events_of name lines) → AcceptsHeard s
 unfolding events_of heard_in
-accepts_lines name lines s few is = record { accepts = λ packet.
-    let es = heard_in lines in
-    let some = few_heard lines in
-    let now : is_accepted (opening name ∷ es) ≡ true = accepted (list_any is_open es) (length es) (none_open lines) (omega arith) in
-    let none : list_any is_open (es ++ hearing packet ∷ []) ≡ false = list_any-append is_open es (hearing packet ∷ []) ∙ rw (none_open lines) refl in
-    let more : is_accepted (opening name ∷ (es ++ hearing packet ∷ [])) ≡ true = accepted _ (length (es ++ hearing packet ∷ [])) none (omega (arith, length-append es (hearing packet ∷ []))) in
-    ap (λ (t : State). accepts_of t (hearing packet)) is ∙ accepts-after (opening name ∷ es) (hearing packet) now ∙ more
+accepts_lines name lines s few is = record {
+  accepts = λ packet.
+      let es = heard_in lines in
+      let some = few_heard lines in
+      let now : is_accepted (opening name ∷ es) ≡ true = accepted (list_any is_open es) (length es) (none_open lines) (omega arith) in
+      let none : list_any is_open (es ++ hearing packet ∷ []) ≡ false = list_any-append is_open es (hearing packet ∷ []) ∙ rw (none_open lines) refl in
+      let more : is_accepted (opening name ∷ (es ++ hearing packet ∷ [])) ≡ true = accepted _ (length (es ++ hearing packet ∷ [])) none (omega (arith, length-append es (hearing packet ∷ []))) in
+      ap (λ (t : State). accepts_of t (hearing packet)) is ∙ accepts-after (opening name ∷ es) (hearing packet) now ∙ more;
 }
 
 -- ---- a run over the lines
@@ -88,7 +89,7 @@ answered_none name input s is = record {
   few = omega arith;
   after = is;
   said = refl;
-  ends = refl
+  ends = refl;
 }
 
 faulty_more : (any now : Bool) → cond now Faulty (cond any Faulty Done) ≡ cond (any || (now || false)) Faulty Done
@@ -112,10 +113,10 @@ answered_more name input rest text s end line after text' s' end' said has cut s
       few = omega (arith, length-append has.before (line ∷ []), has.few);
       after = step f has.after ∙ ap (λ (d : Result Packet LineFault). state_after (with_heard f d)) is ∙ ap (λ (es : List Event). state_after es) (sym (events_of-append name has.before line));
       said = ap (λ (xs : List ℕ). xs ++ text_from name (has.before ++ line ∷ []) (lines_of after)) t
-        ∙ append_assoc text (line_text f line) _
-        ∙ ap (λ (ls : List (List ℕ)). text ++ text_from name has.before ls) (sym cut) ∙ has.said;
+          ∙ append_assoc text (line_text f line) _
+          ∙ ap (λ (ls : List (List ℕ)). text ++ text_from name has.before ls) (sym cut) ∙ has.said;
       ends = ends ∙ ap (λ (d : Result Packet LineFault). cond (is_err d) Faulty end) is ∙ ap (λ (e : End). cond (is_faulty line) Faulty e) has.ends
-        ∙ faulty_more (list_any is_faulty has.before) (is_faulty line) ∙ ap (λ (b : Bool). cond b Faulty Done) (sym (list_any-append is_faulty has.before (line ∷ [])))
+          ∙ faulty_more (list_any is_faulty has.before) (is_faulty line) ∙ ap (λ (b : Bool). cond b Faulty Done) (sym (list_any-append is_faulty has.before (line ∷ [])));
     }
 
 no_more : (rest : List ℕ) → length rest ≡ 0 → rest ≡ []

@@ -6,15 +6,14 @@ ghost use Rattle.lg_detector.specs.declared.event.Event.{Event as Happened};
 ghost use Rattle.lg_cli.specs.Answering.{answer_end, answer_text, hearing, opening, sent_line, sent_text, told, with_heard, AcceptsHeard, newline};
 ghost use Rattle.lg_cli.specs.Said.{fault_text};
 
+use crate::input::MAX_INPUT;
+use crate::line::{LineFault, read_line};
+use crate::lines::cut_line;
 use arrayvec::ArrayVec;
 use lg_detector::{Config, Detector, Event, Moment, NoMemory, Outgoing, Reply};
 use lg_packet::{MAX_PACKET, Packet};
 use lg_rules::{Addr, Name};
 use std::alloc::Global;
-
-use crate::input::MAX_INPUT;
-use crate::line::{LineFault, read_line};
-use crate::lines::cut_line;
 
 /// The most hex digits of a packet: two for each of its bytes.
 const MAX_DIGITS: usize = 1086;

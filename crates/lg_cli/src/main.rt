@@ -12,6 +12,7 @@ mod run;
 #[cfg(test)]
 mod tests;
 
+use std::env::Env;
 use std::process::ExitCode;
 use std::{env, io};
 
@@ -30,7 +31,7 @@ fn main(rt: HostRuntime) -> ExitCode {
 }
 
 /// The words of the command line, of which the first is the program's name.
-fn words_of(rt: &HostRuntime) -> io::Result<Vec<String>> {
+fn words_of(rt: &(impl Env + AllocGlobal)) -> io::Result<Vec<String>> {
     let words = env::args(rt)?.collect(rt.alloc())?;
     Ok(words)
 }

@@ -7,18 +7,16 @@ ghost use Rattle.lg_rules.specs.Name.{name_of_text};
 ghost use Rattle.lg_cli.specs.Running.{RunsAnswer};
 ghost use Rattle.lg_cli.specs.Commands.{asked_name, line_faults, status_of_kind, RefusesLine};
 
+use crate::command::{Asked, read_words};
+use crate::fault::RunFault;
+use crate::run::answer_run;
 use clap::Error;
 use clap::error::ErrorKind;
 use lg_rules::Name;
 use std::alloc::Global;
 use std::convert::AsStr;
 use std::io;
-use std::io::ErrorKind as IoErrorKind;
-use std::io::{Read, Write};
-
-use crate::command::{Asked, read_words};
-use crate::fault::RunFault;
-use crate::run::answer_run;
+use std::io::{ErrorKind as IoErrorKind, Read, Write};
 
 /// The status of a run that memory, a read or a write failed.
 const FAILED: u8 = 1;

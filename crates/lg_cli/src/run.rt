@@ -5,13 +5,12 @@ ghost use Rattle.lg_cli.specs.Answering.{answer_end, answer_text};
 ghost use Rattle.lg_cli.specs.Input.{TakesAtMost};
 ghost use Rattle.lg_cli.specs.Running.{AnswersInput};
 
-use std::alloc::Global;
-use std::io::{Read, Write};
-
 use crate::answer::{End, answer};
 use crate::fault::RunFault;
 use crate::input::{MAX_INPUT, read_input};
 use lg_rules::Name;
+use std::alloc::Global;
+use std::io::{Read, Write};
 
 /// Carries the command `answer`: reads all that a reader has left, and writes what a detector of
 /// this name sends for it, and nothing else.

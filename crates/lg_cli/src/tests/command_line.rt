@@ -54,7 +54,11 @@ fn runs_and_refuses_commands(rt: HostRuntime) -> Result<(), Fail> {
 
 #[test]
 fn reads_nothing_for_a_bad_name(rt: HostRuntime) {
-    for name in ["--name=", "--name=a/b", "--name=0123456789012345678901234567890123"] {
+    for name in [
+        "--name=",
+        "--name=a/b",
+        "--name=0123456789012345678901234567890123",
+    ] {
         let words = ["lg", "answer", name];
         let mut reader = Pieces::bytewise(PING);
         let mut writer = Room::failing(0);

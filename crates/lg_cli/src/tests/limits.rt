@@ -25,7 +25,11 @@ fn takes_as_many_lines_as_bytes(rt: HostRuntime) -> Result<(), Fail> {
     let ended = answer_run(rt.alloc(), &mut lines.as_slice(), &mut written, &name);
     assert_eq!(rt; ended, Ok(End::Faulty));
     assert_eq!(rt; written.len(), 14_680_064);
-    assert!(rt; written.as_slice().ends_with(b"fault 1 Short\nfault 1 Short\n"));
+    assert!(rt;
+        written
+            .as_slice()
+            .ends_with(b"fault 1 Short\nfault 1 Short\n")
+    );
     Ok(())
 }
 

@@ -79,7 +79,12 @@ fn tells_refused_packets(rt: HostRuntime) -> Result<(), Fail> {
         ("an empty line", "\n", "fault 1 Short\n", End::Faulty),
         ("another mark", "00\n", "fault 2 Magic\n", End::Faulty),
         ("half a mark", "534d\n", "fault 2 Magic\n", End::Faulty),
-        ("another version", "534c02\n", "fault 3 Version\n", End::Faulty),
+        (
+            "another version",
+            "534c02\n",
+            "fault 3 Version\n",
+            End::Faulty,
+        ),
         ("no kind", "534c0107\n", "fault 4 Kind\n", End::Faulty),
         ("a long name", "534c010121\n", "fault 5 Name\n", End::Faulty),
         (
