@@ -1,5 +1,5 @@
 -- What a line says, by what decoding it into a row answers.
-use Rattle.std.proofs.Common.{◌≡◌, ℕ, ◌+◌, ◌*◌, ◌/◌, ◌%◌, List, length, Result, Ok, Err, MatchResult, refl, sym, ap, ◌∙◌, arith, inl, inr, Bool, true, false}
+use Rattle.std.proofs.Common.{◌≡◌, ℕ, ◌/◌, ◌%◌, List, length, Result, Ok, Err, MatchResult, refl, sym, ap, ◌∙◌, arith, inl, inr, true, false}
 use Rattle.std.proofs.lemmas.Bool.{cases_eq}
 use Rattle.std.specs.Result.{is_err}
 use Rattle.hex.specs.Hex.{decode_of, decode_sized}

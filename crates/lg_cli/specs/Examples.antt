@@ -1,5 +1,5 @@
 -- Worked inputs and command lines.
-use Rattle.std.specs.Prelude.{◌≡◌, ℕ, List, [], ◌∷◌, ◌++◌, codes, Result, Ok, Err, refl}
+use Rattle.std.specs.Prelude.{◌≡◌, ℕ, List, [], ◌∷◌, ◌++◌, codes, refl}
 use Rattle.hex.proofs.OnLiterals.{hex_on_literals}
 use Rattle.clap.proofs.OnLiterals.{clap_on_literals}
 use Rattle.clap.specs.declared.error.kind.ErrorKind.TheVariants as kind
@@ -9,7 +9,7 @@ use Rattle.lg_cli.specs.Answering.{answer_end, answer_text, events_of}
 use Rattle.lg_cli.specs.Commands.{asked_name, line_faults}
 use Rattle.lg_cli.specs.Lines.{lines_of}
 use Rattle.lg_cli.specs.Said.{packet_in}
-use Rattle.lg_cli.specs.declared.answer.End.TheVariants.{Done, Faulty}
+use Rattle.lg_cli.specs.declared.answer.End.TheVariants.{Done}
 
 two-lines : lines_of (codes "ab" ++ 10 ∷ 10 ∷ codes "c") ≡ codes "ab" ∷ [] ∷ codes "c" ∷ []
 two-lines = refl

@@ -1,6 +1,6 @@
-use Rattle.std.proofs.Common.{◌≡◌, ◌/◌, ◌<◌, ◌≤◌, length, Bool, cond, sym, ap, ◌∙◌, arith, rules}
+use Rattle.std.proofs.Common.{◌≡◌, length, Bool, cond, ap, ◌∙◌, arith, rules}
 use Rattle.std.specs.Result.{is_err}
-use Rattle.lg_cli.specs.declared.answer.End.TheVariants.{Done, Faulty}
+use Rattle.lg_cli.specs.declared.answer.End.TheVariants.{Faulty}
 use Rattle.lg_cli.proofs.AnswerLaws.{accepts_lines, answered_none, answered_more, answered_text, answered_end}
 use Rattle.lg_cli.proofs.answer.answer.Goals.{then-is_err, else-is_err}
 use Rattle.lg_cli.proofs.answer.answer.Goals as goal

@@ -1,4 +1,4 @@
-use Rattle.std.proofs.Common.{ℕ, length}
+use Rattle.std.proofs.Common.{length}
 use Rattle.lg_cli.proofs.AnswerLaws.{HasAnswered}
 use Rattle.lg_cli.proofs.answer.answer.Given as goal
 

@@ -1,6 +1,5 @@
 use Rattle.std.proofs.Common.{◌≡◌, ◌∙◌, ap, ap₂, true}
 use Rattle.clap.specs.Simple.{App, Shape, app_of, app_of_fields, on_top, with_subcommand}
-use Rattle.lg_cli.specs.Commands.{answer_app, lg_app}
 use Rattle.lg_cli.proofs.command.lg_command.Goals as goal
 
 abbrev requiring : App → App

@@ -1,4 +1,4 @@
-use Rattle.std.proofs.Common.{◌≡◌, ℕ, ◌/◌, length, take, sym, ◌∙◌, arith, length-take-le}
+use Rattle.std.proofs.Common.{◌/◌, length, sym, ◌∙◌, arith, length-take-le}
 use Rattle.lg_cli.proofs.HexLines.{not_hex, spelled}
 use Rattle.lg_cli.proofs.line.read_line.Goals as goal
 
