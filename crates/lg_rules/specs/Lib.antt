@@ -1,3 +1,5 @@
 pub mod Claim
 pub mod Name
 pub mod Padding
+pub mod Past
+pub mod Rows
