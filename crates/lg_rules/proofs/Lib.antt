@@ -1,7 +1,9 @@
 pub mod Cases
 pub mod KeyOrder
 pub mod NameLemmas
+pub mod PastLaws
 pub mod Places
+pub mod Ranks
 pub mod Rises
 pub mod RowLaws
 pub mod Tests

@@ -1,4 +1,6 @@
+pub mod Beats
 pub mod Claim
+pub mod Examples
 pub mod Name
 pub mod Padding
 pub mod Past

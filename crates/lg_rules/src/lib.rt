@@ -5,10 +5,12 @@ mod addr;
 mod claim;
 mod incarnation;
 mod name;
+mod overriding;
 mod rows;
 
 pub use addr::Addr;
 pub use claim::{Claim, Record, Status};
 pub use incarnation::Incarnation;
 pub use name::{MAX_NAME, Name, NameFault, is_name_byte};
+pub use overriding::beats;
 pub use rows::{Keyed, seat_of};

@@ -1,0 +1,28 @@
+//! Which claim overrides which.
+ghost use Rattle.std.specs.Prelude.{◌≡◌};
+ghost use Rattle.lg_rules.specs.Beats.{beats_of};
+
+use crate::claim::{Claim, Record, Status};
+
+/// Whether a claim overrides the record of its member; both are about one member (SWIM, section 4.2,
+/// whose Confirm is called Failed here).
+///
+/// | Claim | overrides |
+/// |---|---|
+/// | Alive(i) | Alive(j) and Suspect(j) where i > j |
+/// | Suspect(i) | Suspect(j) where i > j, and Alive(j) where i >= j |
+/// | Failed(i) | Alive(j) and Suspect(j), for every j |
+///
+/// Nothing else overrides: Failed is final.
+pub fn beats(claim: &Claim, record: &Record) -> bool
+    ensures { result ≡ beats_of claim.now record.now }
+{
+    let heard = claim.incarnation.number();
+    let standing = record.incarnation.number();
+    match (claim.status, record.status) {
+        (_, Status::Failed) => false,
+        (Status::Failed, _) => true,
+        (Status::Suspect(_), Status::Alive) => heard >= standing,
+        (Status::Suspect(_), Status::Suspect(_)) | (Status::Alive, _) => heard > standing,
+    }
+}
