@@ -5,5 +5,7 @@ pub mod PastLaws
 pub mod Places
 pub mod Ranks
 pub mod Rises
+pub mod Roster
 pub mod RowLaws
+pub mod Tables
 pub mod Tests

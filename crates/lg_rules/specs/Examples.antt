@@ -1,9 +1,11 @@
 -- Worked rows.
-use Rattle.std.specs.Prelude.{◌≡◌, ℕ, true, false, [], ◌∷◌, refl}
+use Rattle.std.specs.Prelude.{◌≡◌, ℕ, ◌+◌, true, false, [], ◌∷◌, Some, refl}
 use Rattle.lg_rules.specs.declared.claim.Claim.{Claim}
 use Rattle.lg_rules.specs.declared.claim.Status.{Status}
 use Rattle.lg_rules.specs.declared.claim.Status.TheVariants.{Alive, Suspect, Failed}
+use Rattle.lg_rules.specs.declared.members.Heard.TheVariants.{Accused, Ignored}
 use Rattle.lg_rules.specs.Beats.{beats_of}
+use Rattle.lg_rules.specs.Table.{record_of, roster, table_of, takes, answer_of}
 
 -- on the member c, at 127.0.0.1 and a port
 abbrev pub on_c : Status → ℕ → ℕ → Claim
@@ -26,3 +28,26 @@ failed_below_it = refl
 
 pub failed_is_final : beats_of (on_c Alive 9 7001) (on_c Failed 0 7001) ≡ false
 failed_is_final = refl
+
+abbrev pub a_claim : ℕ → Status → ℕ → Claim
+a_claim letter status i = record { name = letter ∷ []; addr = record { octets = 127 ∷ 0 ∷ 0 ∷ 1 ∷ []; port = 7000 + letter }; status = status; incarnation = i }
+
+-- b hears, the latest first: c is refuted at 5, accused twice at 4, d failed though it was alive at 3, and itself is suspected
+pub standing_claims :
+    table_of (98 ∷ []) (a_claim 99 Alive 5 ∷ a_claim 99 Alive 4 ∷ a_claim 98 (Suspect (100 ∷ [])) 0 ∷ a_claim 99 (Suspect (101 ∷ [])) 4 ∷ a_claim 100 Alive 7 ∷ a_claim 100 Failed 0 ∷ a_claim 99 (Suspect (97 ∷ [])) 4 ∷ a_claim 100 Alive 3 ∷ a_claim 99 Alive 4 ∷ a_claim 97 Alive 0 ∷ [])
+    ≡ a_claim 97 Alive 0 ∷ a_claim 99 Alive 5 ∷ a_claim 100 Failed 0 ∷ []
+unfolding table_of record_of roster
+standing_claims = refl
+
+-- before the refutation the first accuser stands, at its address
+pub first_accuser : record_of (a_claim 99 Alive 4 ∷ a_claim 99 (Suspect (101 ∷ [])) 4 ∷ a_claim 99 (Suspect (97 ∷ [])) 4 ∷ a_claim 99 Alive 4 ∷ []) (99 ∷ []) ≡ Some (a_claim 99 (Suspect (97 ∷ [])) 4)
+unfolding record_of
+first_accuser = refl
+
+pub not_cleared : answer_of (a_claim 99 (Suspect (97 ∷ [])) 4 ∷ []) (a_claim 99 Alive 4) ≡ Ignored
+unfolding takes
+not_cleared = refl
+
+pub accused_again : answer_of (a_claim 99 (Suspect (97 ∷ [])) 4 ∷ []) (a_claim 99 (Suspect (101 ∷ [])) 4) ≡ Accused
+unfolding takes
+accused_again = refl

@@ -5,3 +5,4 @@ pub mod Name
 pub mod Padding
 pub mod Past
 pub mod Rows
+pub mod Table

@@ -4,6 +4,7 @@
 mod addr;
 mod claim;
 mod incarnation;
+mod members;
 mod name;
 mod overriding;
 mod rows;
@@ -11,6 +12,7 @@ mod rows;
 pub use addr::Addr;
 pub use claim::{Claim, Record, Status};
 pub use incarnation::Incarnation;
+pub use members::{Heard, MAX_OTHERS, Members};
 pub use name::{MAX_NAME, Name, NameFault, is_name_byte};
 pub use overriding::beats;
 pub use rows::{Keyed, seat_of};
