@@ -1,6 +1,7 @@
 pub mod Cases
 pub mod KeyOrder
 pub mod NameLemmas
+pub mod OwnLaws
 pub mod PastLaws
 pub mod Places
 pub mod Ranks

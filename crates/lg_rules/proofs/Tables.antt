@@ -1,18 +1,18 @@
 -- The table of a past, once one more claim is said.
-use Rattle.std.proofs.Common.{◌≡◌, ◌≢◌, ℕ, ◌<◌, ◌≤◌, Bool, true, false, ◌||◌, cond, List, [], ◌∷◌, length, Option, Some, None, inl, inr, refl, sym, ◌∙◌, ap, subst, arith, ltb}
+use Rattle.std.proofs.Common.{◌≡◌, ◌≢◌, ℕ, ◌<◌, ◌≤◌, true, false, cond, List, [], ◌∷◌, length, Option, Some, None, inl, inr, refl, sym, ◌∙◌, ap, subst, arith, ltb}
 use Rattle.std.proofs.lemmas.Bool.{cases_Bool, lt-ltb, le-ltb, false≢true}
 use Rattle.lg_rules.specs.declared.claim.Claim.{Claim}
 use Rattle.lg_rules.specs.Beats.{beats_of}
 use Rattle.lg_rules.specs.Claim.{name_of}
-use Rattle.lg_rules.specs.Rows.{name_cmp, is_same, is_among, put_row, put_key, row_at}
+use Rattle.lg_rules.specs.Rows.{name_cmp, put_row, put_key, row_at}
 use Rattle.lg_rules.specs.Table.{about, names_said, record_of, roster, table_of, takes, takes_over, heard}
-use Rattle.lg_rules.proofs.Cases.{Held, Missing, Holding, held, held_once}
+use Rattle.lg_rules.proofs.Cases.{Missing, Holding, held, held_once}
 use Rattle.lg_rules.proofs.KeyOrder.{names_order, same_key, other_key, cases_key}
 use Rattle.lg_rules.proofs.PastLaws.{after_hearing, unbeaten-cons}
 use Rattle.lg_rules.proofs.Ranks.{ranked}
-use Rattle.lg_rules.proofs.Rises.{put-there, among-put_same, among-put_other, among-cons_same, among-cons_other}
+use Rattle.lg_rules.proofs.Rises.{put-there, among-cons_same, among-cons_other}
 use Rattle.lg_rules.proofs.RowLaws.{Keyed, AgreeBut, rows-put, rows_same, rows_equal, row_at-rows, length-rows}
-use Rattle.lg_rules.proofs.Roster.{is_known, names-own, names-other, roster-own, rises-roster, roster_said, own_unknown, Joined, Knew, Joins, Refused, joined}
+use Rattle.lg_rules.proofs.Roster.{is_known, names-own, names-other, roster-own, rises-roster, roster_said, own_unknown, Knew, Joins, Refused, joined}
 
 -- the record, once a claim is said
 pub record_of-nil : (m : List ℕ) → record_of [] m ≡ None

@@ -1,10 +1,12 @@
 -- Worked rows.
-use Rattle.std.specs.Prelude.{◌≡◌, ℕ, ◌+◌, true, false, [], ◌∷◌, Some, refl}
+use Rattle.std.specs.Prelude.{◌≡◌, ℕ, ◌+◌, Bool, true, false, [], ◌∷◌, Some, refl}
+use Rattle.lg_rules.specs.declared.addr.Addr.{Addr}
 use Rattle.lg_rules.specs.declared.claim.Claim.{Claim}
 use Rattle.lg_rules.specs.declared.claim.Status.{Status}
 use Rattle.lg_rules.specs.declared.claim.Status.TheVariants.{Alive, Suspect, Failed}
 use Rattle.lg_rules.specs.declared.members.Heard.TheVariants.{Accused, Ignored}
 use Rattle.lg_rules.specs.Beats.{beats_of}
+use Rattle.lg_rules.specs.Own.{Oneself, own_of}
 use Rattle.lg_rules.specs.Table.{record_of, roster, table_of, takes, answer_of}
 
 -- on the member c, at 127.0.0.1 and a port
@@ -51,3 +53,35 @@ not_cleared = refl
 pub accused_again : answer_of (a_claim 99 (Suspect (97 ∷ [])) 4 ∷ []) (a_claim 99 (Suspect (101 ∷ [])) 4) ≡ Accused
 unfolding takes
 accused_again = refl
+
+-- b at 127.0.0.1:7000
+abbrev pub b_at : Addr
+b_at = record { octets = 127 ∷ 0 ∷ 0 ∷ 1 ∷ []; port = 7000 }
+
+abbrev pub b_is : ℕ → Bool → Oneself
+b_is number ousted = record { name = 98 ∷ []; addr = b_at; number = number; ousted = ousted }
+
+-- suspected by a and then by c, both at 0
+pub refuted_once : own_of (98 ∷ []) b_at (a_claim 98 (Suspect (99 ∷ [])) 0 ∷ a_claim 98 (Suspect (97 ∷ [])) 0 ∷ []) ≡ b_is 1 false
+unfolding own_of
+refuted_once = refl
+
+pub alive_at_the_own_number : own_of (98 ∷ []) b_at (a_claim 98 Alive 0 ∷ a_claim 99 (Suspect (97 ∷ [])) 7 ∷ []) ≡ b_is 0 false
+unfolding own_of
+alive_at_the_own_number = refl
+
+pub alive_above_the_own_number : own_of (98 ∷ []) b_at (a_claim 98 Alive 3 ∷ []) ≡ b_is 4 false
+unfolding own_of
+alive_above_the_own_number = refl
+
+pub suspected_beyond_refuting : own_of (98 ∷ []) b_at (a_claim 98 (Suspect (97 ∷ [])) 1000000000 ∷ []) ≡ b_is 0 true
+unfolding own_of
+suspected_beyond_refuting = refl
+
+pub refuted_by_the_greatest : own_of (98 ∷ []) b_at (a_claim 98 (Suspect (97 ∷ [])) 999999999 ∷ []) ≡ b_is 1000000000 false
+unfolding own_of
+refuted_by_the_greatest = refl
+
+pub given_up : own_of (98 ∷ []) b_at (a_claim 98 (Suspect (97 ∷ [])) 0 ∷ a_claim 98 Failed 0 ∷ []) ≡ b_is 1 true
+unfolding own_of
+given_up = refl

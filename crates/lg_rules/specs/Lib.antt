@@ -2,6 +2,7 @@ pub mod Beats
 pub mod Claim
 pub mod Examples
 pub mod Name
+pub mod Own
 pub mod Padding
 pub mod Past
 pub mod Rows

@@ -7,6 +7,7 @@ mod incarnation;
 mod members;
 mod name;
 mod overriding;
+mod own;
 mod rows;
 
 pub use addr::Addr;
@@ -15,4 +16,5 @@ pub use incarnation::Incarnation;
 pub use members::{Heard, MAX_OTHERS, Members};
 pub use name::{MAX_NAME, Name, NameFault, is_name_byte};
 pub use overriding::beats;
+pub use own::{Own, OwnHeard};
 pub use rows::{Keyed, seat_of};
