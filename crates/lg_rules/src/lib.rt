@@ -9,6 +9,8 @@ mod name;
 mod overriding;
 mod own;
 mod rows;
+#[cfg(test)]
+mod worked_rows;
 
 pub use addr::Addr;
 pub use claim::{Claim, Record, Status};
