@@ -1,4 +1,5 @@
 pub mod Cases
+pub mod Changes
 pub mod KeyOrder
 pub mod NameLemmas
 pub mod OwnLaws
@@ -8,5 +9,7 @@ pub mod Ranks
 pub mod Rises
 pub mod Roster
 pub mod RowLaws
+pub mod RowsFound
 pub mod Tables
 pub mod Tests
+pub mod Views

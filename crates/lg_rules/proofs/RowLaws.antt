@@ -221,3 +221,11 @@ module _ {K : Type 0} {cmp : K → K → Ordering} (order : IsKeyOrder cmp) wher
             | Above e ↦ rw (a, e) (row_at-put m r xs)
           ])
     ]
+
+    pub length_put_row-le : (r : R) (rows : List R) → length (put_row cmp key r rows) ≤ suc (length rows)
+    length_put_row-le r [] = omega arith
+    length_put_row-le r (x ∷ xs) = elim (compared (cmp (key r) (key x))) [
+      | Below e ↦ rw e (omega arith)
+      | Tied e ↦ rw e (omega arith)
+      | Above e ↦ rw e (omega (arith, length_put_row-le r xs))
+    ]

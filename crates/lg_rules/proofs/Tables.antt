@@ -12,7 +12,7 @@ use Rattle.lg_rules.proofs.PastLaws.{after_hearing, unbeaten-cons}
 use Rattle.lg_rules.proofs.Ranks.{ranked}
 use Rattle.lg_rules.proofs.Rises.{put-there, among-cons_same, among-cons_other}
 use Rattle.lg_rules.proofs.RowLaws.{Keyed, AgreeBut, rows-put, rows_same, rows_equal, row_at-rows, length-rows}
-use Rattle.lg_rules.proofs.Roster.{is_known, names-own, names-other, roster-own, rises-roster, roster_said, own_unknown, Knew, Joins, Refused, joined}
+use Rattle.lg_rules.proofs.Roster.{is_known, names-own, names-other, roster-own, rises-roster, roster_said, own_unknown, length-roster, Knew, Joins, Refused, joined}
 
 -- the record, once a claim is said
 pub record_of-nil : (m : List ℕ) → record_of [] m ≡ None
@@ -89,9 +89,16 @@ pub length-table : (own : List ℕ) (past : List Claim) → length (table_of own
 unfolding table_of
 length-table own past = length-rows names_order (record_of past) (roster own past) (λ n a. record_of_some own past n (roster_said own past n a))
 
+pub length_table-le : (own : List ℕ) (past : List Claim) → length (table_of own past) ≤ 255
+length_table-le own past = omega (arith, length-table own past, length-roster own past)
+
 pub row_at-table : (own : List ℕ) (past : List Claim) (m : List ℕ) → row_at name_cmp name_of m (table_of own past) ≡ cond (is_known m (roster own past)) (record_of past m) None
 unfolding table_of
 row_at-table own past m = row_at-rows names_order name_of (record_of past) m (roster own past) (rises-roster own past) (records_keyed past)
+
+-- there is no record of oneself among them
+pub row_at_own-table : (own : List ℕ) (past : List Claim) → row_at name_cmp name_of own (table_of own past) ≡ None
+row_at_own-table own past = row_at-table own past own ∙ ap (λ b. cond b (record_of past own) None) (own_unknown own past)
 
 pub table-nil : (own : List ℕ) → table_of own [] ≡ []
 unfolding table_of roster
@@ -188,10 +195,10 @@ heard_cases own c past d = elim (joined own c past d) [
 ]
 
 -- whatever is heard, the table is that of the past
-heard_taken : (table : List Claim) (c : Claim) → takes table c ≡ true → heard table c ≡ put_row name_cmp name_of c table
+pub heard_taken : (table : List Claim) (c : Claim) → takes table c ≡ true → heard table c ≡ put_row name_cmp name_of c table
 heard_taken table c t = ap (λ b. cond b (put_row name_cmp name_of c table) table) t
 
-heard_passed : (table : List Claim) (c : Claim) → takes table c ≡ false → heard table c ≡ table
+pub heard_passed : (table : List Claim) (c : Claim) → takes table c ≡ false → heard table c ≡ table
 heard_passed table c f = ap (λ b. cond b (put_row name_cmp name_of c table) table) f
 
 pub heard-table : (own : List ℕ) (c : Claim) (past : List Claim) → c.name ≢ own → heard (table_of own past) c ≡ table_of own (c ∷ past)

@@ -7,6 +7,7 @@ use Rattle.lg_rules.specs.declared.claim.Status.TheVariants.{Alive, Suspect, Fai
 use Rattle.lg_rules.specs.declared.members.Heard.TheVariants.{Accused, Ignored}
 use Rattle.lg_rules.specs.Beats.{beats_of}
 use Rattle.lg_rules.specs.Own.{Oneself, own_of}
+use Rattle.lg_rules.specs.View.{membership_of, view, told, told_all, changed}
 use Rattle.lg_rules.specs.Table.{record_of, roster, table_of, takes, answer_of}
 
 -- on the member c, at 127.0.0.1 and a port
@@ -85,3 +86,10 @@ refuted_by_the_greatest = refl
 pub given_up : own_of (98 ∷ []) b_at (a_claim 98 (Suspect (97 ∷ [])) 0 ∷ a_claim 98 Failed 0 ∷ []) ≡ b_is 1 true
 unfolding own_of
 given_up = refl
+
+-- b, which knows c as alive at 2, is told that c is alive at 3, that c is alive at 2, and that itself is suspected
+pub changed_rows :
+    (let m = membership_of (98 ∷ []) b_at (a_claim 99 Alive 2 ∷ []) in changed (view m) (view (told_all m (a_claim 99 Alive 3 ∷ a_claim 99 Alive 2 ∷ a_claim 98 (Suspect (97 ∷ [])) 0 ∷ []))))
+    ≡ record { name = 98 ∷ []; addr = b_at; status = Alive; incarnation = 1 } ∷ a_claim 99 Alive 3 ∷ []
+unfolding own_of table_of record_of roster takes told
+changed_rows = refl

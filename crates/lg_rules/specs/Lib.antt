@@ -7,3 +7,4 @@ pub mod Padding
 pub mod Past
 pub mod Rows
 pub mod Table
+pub mod View

@@ -188,6 +188,8 @@ impl Members {
         ensures table { self.new.table ≡ heard self.old.table claim.now }
         // Whatever was said so far, the latest first, the table is that of all that was said.
         ensures past { (past : List Said) → self.old ≡ members_of self.old.own past → self.new ≡ members_of self.old.own (claim.now ∷ past) }
+        // What was said of oneself is passed over.
+        ensures oneself { (past : List Said) (c : Said) → c.name ≡ self.old.own → members_of self.old.own (c ∷ past) ≡ members_of self.old.own past }
     {
         hear_in(&mut self.records, claim)
     }

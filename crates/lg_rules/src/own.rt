@@ -1,5 +1,5 @@
 //! The own number.
-ghost use Rattle.std.specs.Prelude.{◌≡◌, List, [], ◌∷◌, true};
+ghost use Rattle.std.specs.Prelude.{◌≡◌, ◌≢◌, List, [], ◌∷◌, true};
 ghost use Rattle.lg_rules.specs.declared.claim.Claim.{Claim as Said};
 ghost use Rattle.lg_rules.specs.Own.{answered, own_answer, own_heard, own_of, own_record};
 
@@ -122,6 +122,8 @@ impl Own {
         ensures own { self.new ≡ own_heard self.old claim.now }
         // Whatever was said so far, the latest first, this is oneself after all that was said.
         ensures past { (past : List Said) → self.old ≡ own_of self.old.name self.old.addr past → self.new ≡ own_of self.old.name self.old.addr (claim.now ∷ past) }
+        // What was said of others is passed over.
+        ensures others { (past : List Said) (c : Said) → c.name ≢ self.old.name → own_of self.old.name self.old.addr (c ∷ past) ≡ own_of self.old.name self.old.addr past }
     {
         self.answer(claim.status, claim.incarnation)
     }
