@@ -1,4 +1,4 @@
-//! What members are called, where they are, and what is claimed of them.
+//! What members are called, where they are, what is claimed of them, which claims stand, and the own number.
 #![tactic(auto)]
 
 mod addr;
