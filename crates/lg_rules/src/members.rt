@@ -79,13 +79,13 @@ fn find<'a>(records: &'a [Record], name: &Name) -> Option<&'a Record>
 }
 
 /// What is answered to a claim that doesn't override the record of its member.
-fn keep(claim: &Claim, record: &Record) -> Heard
-    ensures { result ≡ kept_answer claim.now (Some record.now) }
+fn keep(claim: &Claim, standing: &Record) -> Heard
+    ensures { result ≡ kept_answer claim.now (Some standing.now) }
 {
-    if claim.incarnation != record.incarnation {
+    if claim.incarnation != standing.incarnation {
         return Heard::Ignored;
     }
-    match (claim.status, record.status) {
+    match (claim.status, standing.status) {
         (Status::Alive, Status::Alive) | (Status::Failed, Status::Failed) => Heard::Same,
         (Status::Suspect(_), Status::Suspect(_)) => Heard::Accused,
         _ => Heard::Ignored,
