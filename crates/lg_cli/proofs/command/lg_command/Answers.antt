@@ -1,0 +1,13 @@
+use Rattle.std.proofs.Common.{◌≡◌, ◌∙◌, ap, ap₂, true}
+use Rattle.clap.specs.Simple.{App, Shape, app_of, app_of_fields, on_top, with_subcommand}
+use Rattle.lg_cli.specs.Commands.{answer_app, lg_app}
+use Rattle.lg_cli.proofs.command.lg_command.Goals as goal
+
+abbrev requiring : App → App
+requiring = on_top (λ (s : Shape). record s { subcommand_required = true })
+
+pub returns : goal.returns
+returns c =
+    let named : app_of c.about.result ≡ app_of c.new.result = ap app_of_fields c.about.ensures in
+    let top : app_of c.subcommand_required.result ≡ requiring (app_of c.about.result) = ap app_of_fields c.subcommand_required.ensures in
+    c.in_ok-lg.ensures.shape c.in_ok-answer.ensures.local ∙ ap₂ with_subcommand (top ∙ ap requiring (named ∙ c.new.ensures.app)) (ap (λ (a : App). a.top) c.in_ok-answer.ensures.app)

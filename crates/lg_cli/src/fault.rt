@@ -1,0 +1,38 @@
+//! Why a run of a command over an input failed.
+ghost use Rattle.std.specs.Prelude.{◌≡◌};
+ghost use Rattle.lg_cli.specs.Faults.{run_fault_text};
+ghost use Rattle.lg_cli.specs.declared.fault.RunFault.TheVariants.{Memory};
+
+use std::alloc::AllocError;
+
+/// Why a run over an input wrote no answer, or not all of it.
+#[derive(Clone, Copy, Debug, PartialEq, Eq)]
+pub enum RunFault {
+    /// Memory was refused; nothing was written.
+    Memory = 1,
+    /// The input was too long or couldn't be read; nothing was written.
+    Read = 2,
+    /// The answer couldn't be written; a beginning of it may have been.
+    Write = 3,
+}
+
+impl RunFault {
+    /// The line that tells the fault.
+    pub fn text(self) -> &'static str
+        ensures { result.now ≡ run_fault_text self }
+    {
+        match self {
+            RunFault::Memory => "lg: memory",
+            RunFault::Read => "lg: read",
+            RunFault::Write => "lg: write",
+        }
+    }
+}
+
+impl From<AllocError> for RunFault {
+    ghost from_gives = { λ _ fault. fault ≡ Memory };
+
+    fn from(_refused: AllocError) -> RunFault {
+        RunFault::Memory
+    }
+}

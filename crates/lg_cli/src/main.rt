@@ -1,0 +1,37 @@
+//! The program `lg`: a SWIM failure detector with Lifeguard's extensions, on a command line.
+#![tactic(auto)]
+
+mod answer;
+mod command;
+mod fault;
+mod input;
+mod line;
+mod lines;
+mod program;
+mod run;
+#[cfg(test)]
+mod tests;
+
+use std::env::Env;
+use std::process::ExitCode;
+use std::{env, io};
+
+fn main(rt: HostRuntime) -> ExitCode {
+    let status = match words_of(&rt) {
+        Ok(words) => program::run_words(
+            rt.alloc(),
+            words.as_slice(),
+            &mut rt.stdin(),
+            &mut rt.stdout(),
+            &mut rt.stderr(),
+        ),
+        Err(error) => program::refuse_words(&error, &mut rt.stderr()),
+    };
+    ExitCode::from(status)
+}
+
+/// The words of the command line, of which the first is the program's name.
+fn words_of(rt: &(impl Env + AllocGlobal)) -> io::Result<Vec<String>> {
+    let words = env::args(rt)?.collect(rt.alloc())?;
+    Ok(words)
+}

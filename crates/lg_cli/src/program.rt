@@ -1,0 +1,136 @@
+//! The program over any reader and writers: its commands, its statuses, and what it says of faults.
+ghost use Rattle.std.specs.Prelude.{◌≡◌, ◌≢◌, IfOk, [], map, true};
+ghost use Rattle.std.specs.Result.{is_err};
+ghost use Rattle.std.specs.IoError.{error_kind};
+ghost use Rattle.clap.specs.Values.{kind_of};
+ghost use Rattle.lg_rules.specs.Name.{name_of_text};
+ghost use Rattle.lg_cli.specs.Running.{RunsAnswer};
+ghost use Rattle.lg_cli.specs.Commands.{asked_name, line_faults, status_of_kind, RefusesLine};
+
+use crate::command::{Asked, read_words};
+use crate::fault::RunFault;
+use crate::run::answer_run;
+use clap::Error;
+use clap::error::ErrorKind;
+use lg_rules::Name;
+use std::alloc::Global;
+use std::convert::AsStr;
+use std::io;
+use std::io::{ErrorKind as IoErrorKind, Read, Write};
+
+/// The status of a run that memory, a read or a write failed.
+const FAILED: u8 = 1;
+
+/// The status of a command line that is refused.
+const USAGE: u8 = 2;
+
+/// The status of bad input.
+const BAD_INPUT: u8 = 3;
+
+/// Runs the program on the words of a command line, of which the first is the program's name, and
+/// gives its exit status.
+///
+/// `reader`, `writer` and `faults` stand for the standard input, output and error. The statuses
+/// are 0 where all was done, also where help was asked for, which is written; 1 where memory, a
+/// read or a write failed, told as `lg: memory`, `lg: read` or `lg: write`; 2 where the command
+/// line is refused, told by a text of the command line's own; 3 for bad input: `lg: bad names`
+/// where the text of `--name` is no name, and nothing is then read, or a faulty line of the input
+/// of `answer`, of which nothing is told. A line that `faults` doesn't take is dropped.
+pub fn run_words<S: AsStr, R: Read, W: Write, F: Write>(
+    alloc: Global,
+    words: &[S],
+    reader: &mut R,
+    writer: &mut W,
+    faults: &mut F,
+) -> u8
+    // A command line that is taken runs its command, for a text of `--name` that is a name.
+    ensures answered { let line = map S.text words.now in line_faults line ≡ [] → result ≢ FAILED
+        → IfOk (name_of_text (asked_name line)) (λ name. RunsAnswer (R.remaining reader.old) (R.remaining reader.new)
+        (W.contents writer.old) (W.contents writer.new) name result) }
+    ensures bad_name { let line = map S.text words.now in line_faults line ≡ [] → result ≢ FAILED
+        → is_err (name_of_text (asked_name line)) ≡ true → result ≡ BAD_INPUT }
+    ensures unread { let line = map S.text words.now in is_err (name_of_text (asked_name line)) ≡ true
+        → reader.new ≡ reader.old }
+
+    // Any other is refused, or asks for help.
+    ensures refused { let line = map S.text words.now in line_faults line ≢ [] → result ≢ FAILED
+        → RefusesLine (line_faults line) result }
+    ensures unrun { line_faults (map S.text words.now) ≢ [] → reader.new ≡ reader.old }
+    ensures unwritten { result ≡ USAGE → writer.new ≡ writer.old }
+{
+    match read_words(alloc, words) {
+        Ok(Asked::Answer { name }) => answer_named(alloc, name, reader, writer, faults),
+        Err(error) => tell_refusal(&error, writer, faults),
+    }
+}
+
+/// Carries `answer` for a text that should be a name.
+fn answer_named<R: Read, W: Write, F: Write>(
+    alloc: Global,
+    name: &str,
+    reader: &mut R,
+    writer: &mut W,
+    faults: &mut F,
+) -> u8
+    ensures answered { result ≢ FAILED → IfOk (name_of_text name.now) (λ name. RunsAnswer (R.remaining reader.old)
+        (R.remaining reader.new) (W.contents writer.old) (W.contents writer.new) name result) }
+    ensures bad_name { is_err (name_of_text name.now) ≡ true → result ≡ BAD_INPUT }
+    ensures unread { is_err (name_of_text name.now) ≡ true → reader.new ≡ reader.old }
+    ensures run { result ≢ USAGE }
+{
+    let name = match Name::new(name.as_bytes()) {
+        Ok(name) => name,
+        Err(_) => {
+            tell(faults, "lg: bad names");
+            return BAD_INPUT;
+        }
+    };
+    match answer_run(alloc, reader, writer, &name) {
+        Ok(end) => end as u8,
+        Err(fault) => {
+            tell(faults, fault.text());
+            FAILED
+        }
+    }
+}
+
+/// Tells why a command line isn't run, or writes the help that it asks for, and gives the status.
+fn tell_refusal<W: Write, F: Write>(error: &Error, writer: &mut W, faults: &mut F) -> u8
+    ensures status { result ≢ FAILED → result ≡ status_of_kind (kind_of error.now) }
+    ensures memory { kind_of error.now ≡ ErrorKind.OutOfMemory → result ≡ FAILED }
+    ensures unwritten { result ≡ USAGE → writer.new ≡ writer.old }
+{
+    if error.kind() == ErrorKind::OutOfMemory {
+        tell(faults, RunFault::Memory.text());
+        return FAILED;
+    }
+    if error.use_stderr() {
+        let _ = write!(faults, "{error}");
+        return USAGE;
+    }
+    if write!(writer, "{error}").is_err() || writer.flush().is_err() {
+        tell(faults, RunFault::Write.text());
+        return FAILED;
+    }
+    0
+}
+
+/// Tells why the words of the command line couldn't be had, and gives the status: memory was
+/// refused, or the words aren't UTF-8, which refuses the command line (this project's choice).
+pub fn refuse_words<F: Write>(error: &io::Error, faults: &mut F) -> u8
+    ensures memory { error_kind error.now ≡ IoErrorKind.OutOfMemory → result ≡ FAILED }
+    ensures usage { error_kind error.now ≢ IoErrorKind.OutOfMemory → result ≡ USAGE }
+{
+    if error.kind() == IoErrorKind::OutOfMemory {
+        tell(faults, RunFault::Memory.text());
+        FAILED
+    } else {
+        tell(faults, "error: the command line isn't UTF-8");
+        USAGE
+    }
+}
+
+/// Writes a line, or drops it where that fails.
+fn tell<F: Write>(faults: &mut F, line: &str) {
+    let _ = writeln!(faults, "{line}");
+}

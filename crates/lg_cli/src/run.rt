@@ -1,0 +1,61 @@
+//! Runs the command `answer` over a reader and a writer.
+ghost use Rattle.std.specs.Prelude.{◌≡◌, ◌≢◌, ◌+◌, ◌≤◌, IfErr, IfOk, IfSome, OnOk, length};
+ghost use Rattle.std.specs.Io.KnownBytes.{Appends, Keeps};
+ghost use Rattle.lg_cli.specs.Answering.{answer_end, answer_text};
+ghost use Rattle.lg_cli.specs.Input.{TakesAtMost};
+ghost use Rattle.lg_cli.specs.Running.{AnswersInput};
+
+use crate::answer::{End, answer};
+use crate::fault::RunFault;
+use crate::input::{MAX_INPUT, read_input};
+use lg_rules::Name;
+use std::alloc::Global;
+use std::io::{Read, Write};
+
+/// Carries the command `answer`: reads all that a reader has left, and writes what a detector of
+/// this name sends for it, and nothing else.
+///
+/// The detector is opened at moment 0 at 127.0.0.1:7000. Each line of the input is a packet in hex
+/// of either case, heard at moment 0 from 127.0.0.1:1; each packet sent is written as a line of
+/// lower-case hex. A packet that is refused gives `fault NUMBER NAME`, and a line that isn't hex
+/// `bad hex`; both go on, and the end is then [`End::Faulty`]. An empty line is a packet of no
+/// bytes (this project's choice).
+///
+/// The input has at most 1,048,576 bytes; a longer or endless one is [`RunFault::Read`], as is any
+/// error of the reader but an interruption. The whole text is made before its first byte is
+/// written: with [`RunFault::Read`] or [`RunFault::Memory`] nothing is. Time and memory are in
+/// proportion to the input.
+pub fn answer_run<R: Read, W: Write>(
+    alloc: Global,
+    reader: &mut R,
+    writer: &mut W,
+    name: &Name,
+) -> Result<End, RunFault>
+    // Where the reader tells its bytes, the answer to them is written, and the end is theirs.
+    ensures text { OnOk result (IfSome (R.remaining reader.old) (λ input.
+        Appends (W.contents writer.old) (W.contents writer.new) (answer_text name.now input))) }
+    ensures end { IfOk result (λ end. IfSome (R.remaining reader.old) (λ input. end ≡ answer_end input)) }
+    ensures within { OnOk result (IfSome (R.remaining reader.old) (λ input. length input ≤ MAX_INPUT)) }
+
+    // At any reader what is written answers what was read, and it was read to its end.
+    ensures answers { IfOk result (λ end. AnswersInput (R.remaining reader.old) (R.remaining reader.new)
+        (W.contents writer.old) (W.contents writer.new) name.now end) }
+    ensures kept { IfErr result (λ fault. fault ≢ RunFault.Write → Keeps (W.contents writer.old) (W.contents writer.new)) }
+    ensures taken { TakesAtMost (MAX_INPUT + 1) (R.remaining reader.old) (R.remaining reader.new) }
+{
+    let input = read_input(alloc, reader)?;
+    let answered = answer(alloc, name, &input)?;
+    write_whole(writer, &answered.text)?;
+    Ok(answered.end)
+}
+
+/// Writes a text and hands it on. Where that fails, a beginning of the text may be written.
+fn write_whole<W: Write>(writer: &mut W, text: &[u8]) -> Result<(), RunFault>
+    ensures written { OnOk result (Appends (W.contents writer.old) (W.contents writer.new) text.now) }
+    ensures refused { IfErr result (λ fault. fault ≡ RunFault.Write) }
+{
+    if writer.write_all(text).is_err() || writer.flush().is_err() {
+        return Err(RunFault::Write);
+    }
+    Ok(())
+}

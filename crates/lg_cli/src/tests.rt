@@ -1,0 +1,9 @@
+//! Runs over readers and writers in memory.
+
+mod command_line;
+mod limits;
+mod readers;
+mod refused_memory;
+mod rows;
+mod scripted;
+mod writers;

@@ -1,0 +1,123 @@
+//! Inputs of the command `answer`, and what is written for them.
+use crate::answer::End;
+use crate::run::answer_run;
+use lg_rules::Name;
+use std::process::Abort;
+use std::test::Fail;
+
+/// What the input shows, the input, the text that is written, and the end.
+type Row = (&'static str, &'static str, &'static str, End);
+
+/// Runs `answer` for the name `b` over each input of a table.
+fn check(rt: &(impl Abort + AllocGlobal), rows: &[Row]) -> Result<(), Fail> {
+    let name = Name::new(b"b").expect(rt, "a name");
+    for (shows, input, text, end) in rows {
+        let mut reader = input.as_bytes();
+        let mut written = Vec::new(rt.alloc());
+        let ended = answer_run(rt.alloc(), &mut reader, &mut written, &name);
+        assert_eq!(rt; ended, Ok(*end), "{shows}");
+        assert_eq!(rt; written.as_slice(), text.as_bytes(), "{shows}");
+        assert_eq!(rt; reader.len(), 0, "{shows}");
+    }
+    Ok(())
+}
+
+#[test]
+fn answers_pings(rt: HostRuntime) -> Result<(), Fail> {
+    let rows = [
+        (
+            "a Ping is answered by an Ack",
+            "534c0101016100000007016200\n",
+            "534c010301620000000700\n",
+            End::Done,
+        ),
+        (
+            "upper-case digits",
+            "534C010101610000000A016200\n",
+            "534c010301620000000a00\n",
+            End::Done,
+        ),
+        (
+            "a last line without a newline",
+            "534c0101016100000007016200",
+            "534c010301620000000700\n",
+            End::Done,
+        ),
+        (
+            "two Pings, in order",
+            "534c0101016100000007016200\n534c0101016100000008016200\n",
+            "534c010301620000000700\n534c010301620000000800\n",
+            End::Done,
+        ),
+        (
+            "a Ping for another",
+            "534c0101016100000007016300\n",
+            "",
+            End::Done,
+        ),
+        ("an Ack", "534c010301610000000700\n", "", End::Done),
+        ("no input", "", "", End::Done),
+    ];
+    check(&rt, rows.as_slice())
+}
+
+#[test]
+fn tells_refused_packets(rt: HostRuntime) -> Result<(), Fail> {
+    let rows = [
+        (
+            "a byte behind the packet",
+            "534c010101610000000701620000\n",
+            "fault 9 Trailing\n",
+            End::Faulty,
+        ),
+        (
+            "12 of 13 bytes",
+            "534c01010161000000070162\n",
+            "fault 1 Short\n",
+            End::Faulty,
+        ),
+        ("an empty line", "\n", "fault 1 Short\n", End::Faulty),
+        ("another mark", "00\n", "fault 2 Magic\n", End::Faulty),
+        ("half a mark", "534d\n", "fault 2 Magic\n", End::Faulty),
+        (
+            "another version",
+            "534c02\n",
+            "fault 3 Version\n",
+            End::Faulty,
+        ),
+        ("no kind", "534c0107\n", "fault 4 Kind\n", End::Faulty),
+        ("a long name", "534c010121\n", "fault 5 Name\n", End::Faulty),
+        (
+            "too many claims",
+            "534c0101016100000007016207\n",
+            "fault 6 Count\n",
+            End::Faulty,
+        ),
+    ];
+    check(&rt, rows.as_slice())
+}
+
+#[test]
+fn tells_bad_hex_and_goes_on(rt: HostRuntime) -> Result<(), Fail> {
+    let rows = [
+        ("an odd length", "534\n", "bad hex\n", End::Faulty),
+        ("a blank", "53 4c1\n", "bad hex\n", End::Faulty),
+        ("blanks alone", "  \n", "bad hex\n", End::Faulty),
+        ("a prefix", "0x53\n", "bad hex\n", End::Faulty),
+        ("a carriage return", "5\r\n", "bad hex\n", End::Faulty),
+        ("a letter past f", "5g\n", "bad hex\n", End::Faulty),
+        (
+            "a Ping behind a faulty line",
+            "zz\n\n534c0101016100000007016200\n",
+            "bad hex\nfault 1 Short\n534c010301620000000700\n",
+            End::Faulty,
+        ),
+        (
+            "a Ping before a faulty line",
+            "534c0101016100000007016200\r\n534c0101016100000007016200\nz",
+            "bad hex\n534c010301620000000700\nbad hex\n",
+            End::Faulty,
+        ),
+    ];
+    check(&rt, rows.as_slice())
+}
