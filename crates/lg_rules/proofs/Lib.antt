@@ -1,2 +1,15 @@
+pub mod Cases
+pub mod Changes
+pub mod KeyOrder
 pub mod NameLemmas
+pub mod OwnLaws
+pub mod PastLaws
+pub mod Places
+pub mod Ranks
+pub mod Rises
+pub mod Roster
+pub mod RowLaws
+pub mod RowsFound
+pub mod Tables
 pub mod Tests
+pub mod Views

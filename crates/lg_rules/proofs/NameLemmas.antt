@@ -1,6 +1,5 @@
 -- Names in their rows.
-use Rattle.std.proofs.Common.{◌≡◌, ℕ, ◌-◌, ◌+◌, ◌≤◌, Bool, true, false, cond, not, ◌&&◌, IsTrue, leb, List, [], ◌∷◌, ◌++◌, length, take, drop, replicate, Option, Some, None, refl, sym, ◌∙◌, ap, inl, inr, arith, length-append}
-use Rattle.std.specs.Prelude.{find}
+use Rattle.std.proofs.Common.{◌≡◌, ℕ, ◌-◌, ◌≤◌, Bool, true, false, ◌&&◌, IsTrue, leb, List, [], ◌∷◌, ◌++◌, length, take, drop, replicate, Some, None, refl, ap, arith, length-append}
 use Rattle.std.specs.List.{list_all}
 use Rattle.std.proofs.Math.Seq.{take-append_seam}
 use Rattle.std.proofs.lemmas.Bool.{le-leb, leb-true}
@@ -39,12 +38,11 @@ pub holds_copied : (copied text : List ℕ) → copied ≡ text → IsTrue (is_n
 holds_copied copied text same name =
     let few = (is_named text name).few in
     rw (same, drop-replicate {X = ℕ} (length text) 32 0) (
-      let zeros : List ℕ = replicate (32 - length text) 0 in
-      let front : take (length text) (text ++ zeros) ≡ text = take-append_seam text zeros in
-      record {
-        whole = omega (arith, length-append text zeros, length-replicate {A = ℕ} (32 - length text) 0);
-        within = few;
-        zeros = ap padded front;
-        named = rw front name;
-      })
-
+    let zeros : List ℕ = replicate (32 - length text) 0 in
+    let front : take (length text) (text ++ zeros) ≡ text = take-append_seam text zeros in
+    record {
+      whole = omega (arith, length-append text zeros, length-replicate {A = ℕ} (32 - length text) 0);
+      within = few;
+      zeros = ap padded front;
+      named = rw front name;
+    })

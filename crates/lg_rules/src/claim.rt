@@ -1,10 +1,11 @@
 //! Claims about members.
 ghost use Rattle.std.specs.Prelude.{◌≡◌};
-ghost use Rattle.lg_rules.specs.Claim.{accuser_of};
+ghost use Rattle.lg_rules.specs.Claim.{accuser_of, name_of};
 
 use crate::addr::Addr;
 use crate::incarnation::Incarnation;
 use crate::name::Name;
+use crate::rows::Keyed;
 
 /// What is claimed of a member (SWIM, section 4.2, whose Confirm is called Failed here).
 #[derive(Clone, Copy, Debug, Default, PartialEq, Eq)]
@@ -71,5 +72,14 @@ impl Claim {
             Status::Suspect(accuser) => Some(accuser),
             Status::Alive | Status::Failed => None,
         }
+    }
+}
+
+/// Claims are kept in the order of the members that they are about.
+impl Keyed for Claim {
+    ghost key_of = { name_of };
+
+    fn key(&self) -> Name {
+        self.name
     }
 }

@@ -1,5 +1,5 @@
 //! Incarnation numbers.
-ghost use Rattle.std.specs.Prelude.{◌≡◌, ◌≤◌};
+ghost use Rattle.std.specs.Prelude.{◌≡◌, ◌≤◌, ◌<◌, ◌+◌};
 ghost use Rattle.std.specs.Option.{SomeIff};
 
 use std::alloc::AllocError;
@@ -29,6 +29,12 @@ impl Model for Incarnation {
 }
 
 impl Clone for Incarnation {
+    ghost use Rattle.std.specs.Prelude.{◌≡◌, ⊤};
+
+    ghost is_clone = { λ x y. y ≡ x };
+
+    ghost is_infallible = { λ _. ⊤ };
+
     fn clone(&self) -> Result<Self, AllocError> {
         Ok(*self)
     }
@@ -77,6 +83,13 @@ impl Incarnation {
         } else {
             None
         }
+    }
+
+    /// The next incarnation, where the number is below 1,000,000,000.
+    pub fn next(&self) -> Option<Incarnation>
+        ensures { SomeIff result (self.now < 1000000000) (self.now + 1) }
+    {
+        Incarnation::new(self.number + 1)
     }
 
     /// The number, 0 to 1,000,000,000.

@@ -1,13 +1,22 @@
-//! What members are called, where they are, and what is claimed of them.
+//! What members are called, where they are, what is claimed of them, which claims stand, and the own number.
 #![tactic(auto)]
 
 mod addr;
 mod claim;
 mod incarnation;
+mod members;
 mod name;
+mod overriding;
+mod own;
+mod rows;
+#[cfg(test)]
+mod worked_rows;
 
 pub use addr::Addr;
 pub use claim::{Claim, Record, Status};
 pub use incarnation::Incarnation;
+pub use members::{Heard, MAX_OTHERS, Members};
 pub use name::{MAX_NAME, Name, NameFault, is_name_byte};
-
+pub use overriding::beats;
+pub use own::{Own, OwnHeard};
+pub use rows::{Keyed, seat_of};

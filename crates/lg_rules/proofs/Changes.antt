@@ -1,0 +1,178 @@
+-- Which records of the view differ once claims are told: those of the names that were news.
+use Rattle.std.proofs.Common.{◌≡◌, ◌≢◌, ℕ, ◌≤◌, true, false, ◌&&◌, not, cond, List, [], ◌∷◌, length, Option, Some, None, inl, inr, refl, sym, ◌∙◌, ap, subst, arith, eqb}
+use Rattle.std.specs.Prelude.{filter, nat_eq}
+use Rattle.std.specs.Cmp.Lexicographic.{pointwise}
+use Rattle.std.proofs.lemmas.Bool.{cases_Bool, eq-eqb, eqb-true, false≢true, and_parts}
+use Rattle.std.proofs.lemmas.Slice.Eq.{bytes_eq-Decides}
+use Rattle.lg_rules.specs.declared.addr.Addr.{Addr}
+use Rattle.lg_rules.specs.declared.claim.Claim.{Claim}
+use Rattle.lg_rules.specs.declared.claim.Status.{Status}
+use Rattle.lg_rules.specs.declared.claim.Status.TheVariants.{Alive, Suspect, Failed}
+use Rattle.lg_rules.specs.Beats.{beats_of}
+use Rattle.lg_rules.specs.Claim.{name_of}
+use Rattle.lg_rules.specs.Rows.{name_cmp, is_same, row_at}
+use Rattle.lg_rules.specs.View.{Membership, membership_of, view, told, told_all, is_news, news, is_same_status, is_same_addr, is_same_claim, is_row, changed}
+use Rattle.lg_rules.proofs.Cases.{held_once}
+use Rattle.lg_rules.proofs.KeyOrder.{names_order, same_key, key_is, cases_key}
+use Rattle.lg_rules.proofs.Ranks.{ranked}
+use Rattle.lg_rules.proofs.Rises.{among-cons_same, among-cons_other}
+use Rattle.lg_rules.proofs.Roster.{is_known}
+use Rattle.lg_rules.proofs.RowsFound.{filter_same, rows_found, few_among}
+use Rattle.lg_rules.proofs.Views.{view_after, told-membership, rises-view, Follows, IsNews, Changes, Leaves, telling}
+
+-- the past once these are told, the first first
+abbrev pub after_telling : List Claim → List Claim → List Claim
+after_telling past [] = past
+after_telling past (c ∷ cs) = after_telling (c ∷ past) cs
+
+pub told_all-membership : (name : List ℕ) (addr : Addr) (past cs : List Claim) → told_all (membership_of name addr past) cs ≡ membership_of name addr (after_telling past cs)
+told_all-membership name addr past [] = refl
+told_all-membership name addr past (c ∷ cs) = ap (λ m. told_all m cs) (told-membership name addr past c) ∙ told_all-membership name addr (c ∷ past) cs
+
+-- the names that are news after a past
+abbrev pub news_after : List ℕ → Addr → List Claim → List Claim → List (List ℕ)
+news_after name addr past cs = news (membership_of name addr past) cs
+
+news_more : (name : List ℕ) (addr : Addr) (past : List Claim) (c : Claim) (cs : List Claim) → is_news (membership_of name addr past) c ≡ true → news_after name addr past (c ∷ cs) ≡ c.name ∷ news_after name addr (c ∷ past) cs
+news_more name addr past c cs t =
+    ap (λ b. cond b (c.name ∷ news (told (membership_of name addr past) c) cs) (news (told (membership_of name addr past) c) cs)) t
+    ∙ ap (λ m. c.name ∷ news m cs) (told-membership name addr past c)
+
+news_none : (name : List ℕ) (addr : Addr) (past : List Claim) (c : Claim) (cs : List Claim) → is_news (membership_of name addr past) c ≡ false → news_after name addr past (c ∷ cs) ≡ news_after name addr (c ∷ past) cs
+news_none name addr past c cs f =
+    ap (λ b. cond b (c.name ∷ news (told (membership_of name addr past) c) cs) (news (told (membership_of name addr past) c) cs)) f
+    ∙ ap (λ m. news m cs) (told-membership name addr past c)
+
+-- what overrides what overrides a third overrides that
+beats_through : (r c b : Claim) → beats_of r c ≡ true → beats_of c b ≡ true → beats_of r b ≡ true
+beats_through r c b p q = elim (cases_Bool (beats_of r b)) [
+  | inl t ↦ t
+  | inr f ↦ absurd (false≢true (sym (ranked.not_below c b r q f) ∙ p))
+]
+
+follows_through : (r c : Claim) (o : Option Claim) → beats_of r c ≡ true → Follows c o → Follows r o
+follows_through r c None p h = tt
+follows_through r c (Some b) p h = beats_through r c b p h
+
+-- A record of a name overrides the one before where the name was news, and else is the one before.
+record Traced (name : List ℕ) (addr : Addr) (past cs : List Claim) (m : List ℕ) (r : Claim) : Type 0 where
+  hit : is_known m (news_after name addr past cs) ≡ true → Follows r (row_at name_cmp name_of m (view_after name addr past))
+  missed : is_known m (news_after name addr past cs) ≡ false → row_at name_cmp name_of m (view_after name addr past) ≡ Some r
+
+traced_hit : (name : List ℕ) (addr : Addr) (past : List Claim) (c : Claim) (cs : List Claim) (r : Claim) → IsNews name addr c past → Traced name addr (c ∷ past) cs c.name r → Traced name addr past (c ∷ cs) c.name r
+traced_hit name addr past c cs r n rest =
+    let more = news_more name addr past c cs n.news in
+    record {
+      hit = λ h. elim (cases_Bool (is_known c.name (news_after name addr (c ∷ past) cs))) [
+        | inl a ↦ follows_through r n.r (row_at name_cmp name_of c.name (view_after name addr past)) (subst (Follows r) n.row (rest.hit a)) n.follows
+        | inr b ↦ subst (λ x. Follows x (row_at name_cmp name_of c.name (view_after name addr past))) (held_once n.r r (sym n.row ∙ rest.missed b)) n.follows
+      ];
+      missed = λ h. absurd (false≢true (sym h ∙ ap (is_known c.name) more ∙ among-cons_same names_order c.name c.name (news_after name addr (c ∷ past) cs) refl));
+    }
+
+traced_other : (name : List ℕ) (addr : Addr) (past : List Claim) (c : Claim) (cs : List Claim) (m : List ℕ) (r : Claim) → IsNews name addr c past → c.name ≢ m → Traced name addr (c ∷ past) cs m r → Traced name addr past (c ∷ cs) m r
+traced_other name addr past c cs m r n d rest =
+    let row = n.others m d in
+    let among : is_known m (news_after name addr past (c ∷ cs)) ≡ is_known m (news_after name addr (c ∷ past) cs) = ap (is_known m) (news_more name addr past c cs n.news) ∙ among-cons_other names_order m c.name (news_after name addr (c ∷ past) cs) d in
+    record {
+      hit = λ h. subst (Follows r) row (rest.hit (sym among ∙ h));
+      missed = λ h. sym row ∙ rest.missed (sym among ∙ h);
+    }
+
+traced : (name : List ℕ) (addr : Addr) (past cs : List Claim) (m : List ℕ) (r : Claim) → row_at name_cmp name_of m (view_after name addr (after_telling past cs)) ≡ Some r → Traced name addr past cs m r
+traced name addr past [] m r e = record { hit = λ h. absurd (false≢true h); missed = λ h. e }
+traced name addr past (c ∷ cs) m r e =
+    let rest : Traced name addr (c ∷ past) cs m r = traced name addr (c ∷ past) cs m r e in
+    elim (telling name addr c past) [
+      | Leaves f same ↦ (
+          let names : news_after name addr past (c ∷ cs) ≡ news_after name addr (c ∷ past) cs = news_none name addr past c cs f in
+          record {
+            hit = λ h. subst (λ v. Follows r (row_at name_cmp name_of m v)) same (rest.hit (sym (ap (is_known m) names) ∙ h));
+            missed = λ h. sym (ap (row_at name_cmp name_of m) same) ∙ rest.missed (sym (ap (is_known m) names) ∙ h);
+          })
+      | Changes n ↦ elim (cases_key names_order c.name m) [
+        | inl is ↦ subst (λ k. Traced name addr past (c ∷ cs) k r) is (traced_hit name addr past c cs r n (subst (λ k. Traced name addr (c ∷ past) cs k r) (sym is) rest))
+        | inr d ↦ traced_other name addr past c cs m r n d rest
+      ]
+    ]
+
+-- the test of two claims tells whether they are one
+same_status : (s t : Status) → is_same_status s t ≡ true → s ≡ t
+same_status Alive Alive e = refl
+same_status (Suspect a) (Suspect b) e = ap Suspect (key_is names_order a b e)
+same_status Failed Failed e = refl
+same_status _ _ e = absurd (false≢true e)
+
+status_itself : (s : Status) → is_same_status s s ≡ true
+status_itself Alive = refl
+status_itself (Suspect a) = same_key names_order a a refl
+status_itself Failed = refl
+
+same_addr : (a b : Addr) → is_same_addr a b ≡ true → a ≡ b
+same_addr a b e =
+    let h = and_parts (pointwise nat_eq a.octets b.octets) (eqb a.port b.port) e in
+    λ i. record { octets = (bytes_eq-Decides a.octets b.octets).0 h.0 i; port = eqb-true a.port b.port h.1 i }
+
+addr_itself : (a : Addr) → is_same_addr a a ≡ true
+addr_itself a = rw ((bytes_eq-Decides a.octets a.octets).1 refl, eq-eqb a.port a.port refl)
+
+pub same_claim : (c d : Claim) → is_same_claim c d ≡ true → c ≡ d
+same_claim c d e =
+    let h = and_parts (is_same name_cmp c.name d.name) (is_same_addr c.addr d.addr && (is_same_status c.status d.status && eqb c.incarnation d.incarnation)) e in
+    let g = and_parts (is_same_addr c.addr d.addr) (is_same_status c.status d.status && eqb c.incarnation d.incarnation) h.1 in
+    let f = and_parts (is_same_status c.status d.status) (eqb c.incarnation d.incarnation) g.1 in
+    λ i. record { name = key_is names_order c.name d.name h.0 i; addr = same_addr c.addr d.addr g.0 i; status = same_status c.status d.status f.0 i; incarnation = eqb-true c.incarnation d.incarnation f.1 i }
+
+pub claim_itself : (c : Claim) → is_same_claim c c ≡ true
+claim_itself c = rw (same_key names_order c.name c.name refl, addr_itself c.addr, status_itself c.status, eq-eqb c.incarnation c.incarnation refl)
+
+-- what overrides a record isn't it
+fresh : (r : Claim) (o : Option Claim) → Follows r o → is_row r o ≡ false
+fresh r None h = refl
+fresh r (Some b) h = elim (cases_Bool (is_same_claim b r)) [
+  | inl t ↦ absurd (false≢true (sym (ranked.not_itself r) ∙ subst (λ x. beats_of r x ≡ true) (same_claim b r t) h))
+  | inr f ↦ f
+]
+
+-- a record of the view differs exactly where its name was news
+differs : (name : List ℕ) (addr : Addr) (past cs : List Claim) (r : Claim) → row_at name_cmp name_of r.name (view_after name addr (after_telling past cs)) ≡ Some r
+    → not (is_row r (row_at name_cmp name_of r.name (view_after name addr past))) ≡ is_known r.name (news_after name addr past cs)
+differs name addr past cs r e =
+    let t = traced name addr past cs r.name r e in
+    elim (cases_Bool (is_known r.name (news_after name addr past cs))) [
+      | inl a ↦ ap not (fresh r (row_at name_cmp name_of r.name (view_after name addr past)) (t.hit a)) ∙ sym a
+      | inr b ↦ ap (λ o. not (is_row r o)) (t.missed b) ∙ ap not (claim_itself r) ∙ sym b
+    ]
+
+changed-past : (name : List ℕ) (addr : Addr) (past cs : List Claim)
+    → changed (view_after name addr past) (view_after name addr (after_telling past cs)) ≡ filter (λ r. is_known r.name (news_after name addr past cs)) (view_after name addr (after_telling past cs))
+changed-past name addr past cs =
+    let rows : List Claim = view_after name addr (after_telling past cs) in
+    filter_same (λ r. not (is_row r (row_at name_cmp name_of r.name (view_after name addr past)))) (λ r. is_known r.name (news_after name addr past cs)) (λ r. row_at name_cmp name_of r.name rows ≡ Some r) rows (differs name addr past cs)
+    (rows_found names_order name_of rows (rises-view name addr (after_telling past cs)))
+
+pub length-news : (m : Membership) (cs : List Claim) → length (news m cs) ≤ length cs
+length-news m [] = omega arith
+length-news m (c ∷ cs) = elim (cases_Bool (is_news m c)) [
+  | inl t ↦ rw t (omega (arith, length-news (told m c) cs))
+  | inr f ↦ rw f (omega (arith, length-news (told m c) cs))
+]
+
+-- Once claims are told to the membership after a past, the records that differ are those of the names that were news,
+pub changed-told : (name : List ℕ) (addr : Addr) (past cs : List Claim) (m : Membership) → m ≡ membership_of name addr past
+    → changed (view m) (view (told_all m cs)) ≡ filter (λ r. is_known r.name (news m cs)) (view (told_all m cs))
+changed-told name addr past cs m is =
+    subst (λ (k : Membership). changed (view k) (view (told_all k cs)) ≡ filter (λ r. is_known r.name (news k cs)) (view (told_all k cs))) (sym is)
+    (subst (λ (k : Membership). changed (view_after name addr past) (view k) ≡ filter (λ r. is_known r.name (news_after name addr past cs)) (view k)) (sym (told_all-membership name addr past cs)) (changed-past name addr past cs))
+
+-- and they are no more than the claims.
+pub length-told : (name : List ℕ) (addr : Addr) (past cs : List Claim) (m : Membership) → m ≡ membership_of name addr past
+    → length (filter (λ r. is_known r.name (news m cs)) (view (told_all m cs))) ≤ length cs
+length-told name addr past cs m is =
+    let few = subst (λ (k : Membership). length (filter (λ r. is_known r.name (news m cs)) (view k)) ≤ length (news m cs))
+    (sym (ap (λ k. told_all k cs) is ∙ told_all-membership name addr past cs))
+    (few_among names_order name_of (news m cs) (view_after name addr (after_telling past cs)) (rises-view name addr (after_telling past cs))) in
+    omega (arith, few, length-news m cs)
+
+pub length-changed : (name : List ℕ) (addr : Addr) (past cs : List Claim) (m : Membership) → m ≡ membership_of name addr past → length (changed (view m) (view (told_all m cs))) ≤ length cs
+length-changed name addr past cs m is = subst (λ xs. length xs ≤ length cs) (sym (changed-told name addr past cs m is)) (length-told name addr past cs m is)

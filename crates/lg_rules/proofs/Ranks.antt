@@ -1,0 +1,27 @@
+-- The claims about one member are ranked by which overrides which.
+use Rattle.std.proofs.Common.{◌≡◌, ℕ, true, false, arith}
+use Rattle.std.proofs.lemmas.Bool.Decides.{nat_tests}
+use Rattle.lg_rules.specs.declared.claim.Status.{Status}
+use Rattle.lg_rules.specs.declared.claim.Status.TheVariants.{Alive, Suspect, Failed}
+use Rattle.lg_rules.specs.Beats.{overrides, beats_of}
+use Rattle.lg_rules.proofs.PastLaws.{IsRanked}
+
+not_itself : (s : Status) (i : ℕ) → overrides s i s i ≡ false
+not_itself Alive i = grind (arith, nat_tests)
+not_itself (Suspect a) i = grind (arith, nat_tests)
+not_itself Failed i = grind (arith, nat_tests)
+
+above : (s t u : Status) (i j k : ℕ) → overrides s i t j ≡ true → overrides u k t j ≡ false → overrides s i u k ≡ true
+above Alive Alive Alive i j k p q = grind (arith, nat_tests)
+above _ _ _ i j k p q = grind (arith, nat_tests)
+
+not_below : (s t u : Status) (i j k : ℕ) → overrides s i t j ≡ true → overrides u k t j ≡ false → overrides u k s i ≡ false
+not_below Alive Alive Alive i j k p q = grind (arith, nat_tests)
+not_below _ _ _ i j k p q = grind (arith, nat_tests)
+
+pub ranked : IsRanked beats_of
+ranked = record {
+  not_itself = λ c. not_itself c.status c.incarnation;
+  above = λ c r d p q. above c.status r.status d.status c.incarnation r.incarnation d.incarnation p q;
+  not_below = λ c r d p q. not_below c.status r.status d.status c.incarnation r.incarnation d.incarnation p q;
+}

@@ -1,0 +1,184 @@
+-- The view after a past, and after one more claim.
+use Rattle.std.proofs.Common.{◌≡◌, ◌≢◌, ℕ, ◌<◌, ◌≤◌, ◌+◌, Bool, true, false, cond, List, ◌∷◌, length, map, Option, Some, None, inl, inr, refl, sym, ◌∙◌, ap, subst, arith, ltb, leb}
+use Rattle.std.specs.Prelude.{⊤}
+use Rattle.std.proofs.lemmas.Bool.{cases_Bool, ltb-true, leb-true, lt-ltb, false≢true}
+use Rattle.lg_rules.specs.declared.addr.Addr.{Addr}
+use Rattle.lg_rules.specs.declared.claim.Claim.{Claim}
+use Rattle.lg_rules.specs.declared.claim.Status.{Status}
+use Rattle.lg_rules.specs.declared.claim.Status.TheVariants.{Alive, Suspect, Failed}
+use Rattle.lg_rules.specs.declared.own.OwnHeard.{OwnHeard}
+use Rattle.lg_rules.specs.declared.own.OwnHeard.TheVariants.{Refuted, Raised, Ousted, Ignored}
+use Rattle.lg_rules.specs.Beats.{beats_of}
+use Rattle.lg_rules.specs.Claim.{name_of}
+use Rattle.lg_rules.specs.Own.{Oneself, beyond, own_answer, answered, own_heard, own_of, own_record}
+use Rattle.lg_rules.specs.Rows.{name_cmp, is_same, put_row, row_at}
+use Rattle.lg_rules.specs.Table.{record_of, roster, table_of, takes, heard}
+use Rattle.lg_rules.specs.View.{Membership, membership_of, view_of, view, told, is_rise, is_news}
+use Rattle.lg_rules.proofs.Cases.{Missing, Holding, held}
+use Rattle.lg_rules.proofs.KeyOrder.{names_order, same_key, other_key, cases_key}
+use Rattle.lg_rules.proofs.OwnLaws.{own-same, own-other, own_of_name}
+use Rattle.lg_rules.proofs.Rises.{Rises}
+use Rattle.lg_rules.proofs.Roster.{is_known, rises-roster}
+use Rattle.lg_rules.proofs.RowLaws.{row_at-put, rises-rows, length_put_row-le}
+use Rattle.lg_rules.proofs.RowsFound.{rises-put_row}
+use Rattle.lg_rules.proofs.Tables.{length_table-le, records_keyed, row_at-table, table-own, heard-table, Taken, Kept, Out, heard_cases, heard_passed, heard_taken, IsTaken}
+
+-- A claim about oneself or another, told to the membership of a past.
+pub told-own : (m : Membership) (c : Claim) → c.name ≡ m.own.name → told m c ≡ record m { own = own_heard m.own c }
+unfolding told
+told-own m c e = ap (λ b. cond b (record m { own = own_heard m.own c }) (record m { table = heard m.table c })) (same_key names_order c.name m.own.name e)
+
+pub told-other : (m : Membership) (c : Claim) → c.name ≢ m.own.name → told m c ≡ record m { table = heard m.table c }
+unfolding told
+told-other m c d = ap (λ b. cond b (record m { own = own_heard m.own c }) (record m { table = heard m.table c })) (other_key names_order c.name m.own.name d)
+
+pub told-membership : (name : List ℕ) (addr : Addr) (past : List Claim) (c : Claim) → told (membership_of name addr past) c ≡ membership_of name addr (c ∷ past)
+told-membership name addr past c =
+    let is = own_of_name name addr past in
+    elim (cases_key names_order c.name name) [
+      | inl e ↦ told-own (membership_of name addr past) c (e ∙ sym is) ∙ (λ i. record { own = sym (own-same name addr c past e) i; table = sym (table-own name c past e) i })
+      | inr d ↦ told-other (membership_of name addr past) c (λ e. d (e ∙ is)) ∙ (λ i. record { own = sym (own-other name addr c past d) i; table = heard-table name c past d i })
+    ]
+
+pub news-own : (m : Membership) (c : Claim) → c.name ≡ m.own.name → is_news m c ≡ is_rise (own_answer c.status c.incarnation m.own.number)
+unfolding is_news
+news-own m c e = ap (λ b. cond b (is_rise (own_answer c.status c.incarnation m.own.number)) (takes m.table c)) (same_key names_order c.name m.own.name e)
+
+pub news-other : (m : Membership) (c : Claim) → c.name ≢ m.own.name → is_news m c ≡ takes m.table c
+unfolding is_news
+news-other m c d = ap (λ b. cond b (is_rise (own_answer c.status c.incarnation m.own.number)) (takes m.table c)) (other_key names_order c.name m.own.name d)
+
+-- The view after a past: the own record at the own name, and the table elsewhere.
+abbrev pub view_after : List ℕ → Addr → List Claim → List Claim
+view_after name addr past = view (membership_of name addr past)
+
+pub row_at-view : (name : List ℕ) (addr : Addr) (past : List Claim) (m : List ℕ)
+    → row_at name_cmp name_of m (view_after name addr past) ≡ cond (is_same name_cmp name m) (Some (own_record (own_of name addr past))) (row_at name_cmp name_of m (table_of name past))
+row_at-view name addr past m =
+    let r : Claim = own_record (own_of name addr past) in
+    row_at-put names_order name_of m r (table_of name past) ∙ ap (λ n. cond (is_same name_cmp n m) (Some r) (row_at name_cmp name_of m (table_of name past))) (own_of_name name addr past)
+
+pub row_at-own : (name : List ℕ) (addr : Addr) (past : List Claim) (m : List ℕ) → name ≡ m → row_at name_cmp name_of m (view_after name addr past) ≡ Some (own_record (own_of name addr past))
+row_at-own name addr past m e = row_at-view name addr past m ∙ ap (λ b. cond b (Some (own_record (own_of name addr past))) (row_at name_cmp name_of m (table_of name past))) (same_key names_order name m e)
+
+pub row_at-others : (name : List ℕ) (addr : Addr) (past : List Claim) (m : List ℕ) → name ≢ m → row_at name_cmp name_of m (view_after name addr past) ≡ row_at name_cmp name_of m (table_of name past)
+row_at-others name addr past m d = row_at-view name addr past m ∙ ap (λ b. cond b (Some (own_record (own_of name addr past))) (row_at name_cmp name_of m (table_of name past))) (other_key names_order name m d)
+
+pub rises-table : (name : List ℕ) (past : List Claim) → Rises name_cmp (map name_of (table_of name past))
+unfolding table_of
+rises-table name past = rises-rows names_order name_of (record_of past) (roster name past) (records_keyed past) (rises-roster name past)
+
+pub rises-view : (name : List ℕ) (addr : Addr) (past : List Claim) → Rises name_cmp (map name_of (view_after name addr past))
+rises-view name addr past = rises-put_row names_order name_of (own_record (own_of name addr past)) (table_of name past) (rises-table name past)
+
+-- which is of at most 256 members
+pub length_view-le : (name : List ℕ) (addr : Addr) (past : List Claim) → length (view_after name addr past) ≤ 256
+length_view-le name addr past = omega (arith, length_put_row-le names_order name_of (own_record (own_of name addr past)) (table_of name past), length_table-le name past)
+
+-- a record comes after what stood before it, if anything did
+abbrev pub Follows : Claim → Option Claim → Type 0
+Follows r None = ⊤
+Follows r (Some b) = beats_of r b ≡ true
+
+-- What a claim does to the view: it changes the record of its name alone, to one that overrides it, or nothing.
+pub record IsNews (name : List ℕ) (addr : Addr) (c : Claim) (past : List Claim) : Type 0 where
+  pub news : is_news (membership_of name addr past) c ≡ true
+  pub r : Claim
+  pub row : row_at name_cmp name_of c.name (view_after name addr (c ∷ past)) ≡ Some r
+  pub follows : Follows r (row_at name_cmp name_of c.name (view_after name addr past))
+  pub others : (m : List ℕ) → c.name ≢ m → row_at name_cmp name_of m (view_after name addr (c ∷ past)) ≡ row_at name_cmp name_of m (view_after name addr past)
+
+pub data Telling (name : List ℕ) (addr : Addr) (c : Claim) (past : List Claim) : Type 0 where
+  Changes : IsNews name addr c past → Telling name addr c past
+  Leaves : is_news (membership_of name addr past) c ≡ false → view_after name addr (c ∷ past) ≡ view_after name addr past → Telling name addr c past
+
+-- the own record changes where the own number rises, and nowhere else
+stays : (o : OwnHeard) (i : ℕ) (me : Oneself) → is_rise o ≡ false → own_record (answered o i me) ≡ own_record me
+stays Refuted i me f = absurd (false≢true (sym f))
+stays Raised i me f = absurd (false≢true (sym f))
+stays Ousted i me f = refl
+stays Ignored i me f = refl
+
+beyond_rises : (o : OwnHeard) (i : ℕ) (me : Oneself) → ((j : ℕ) → (answered o j me).number ≡ j + 1) → me.number ≤ i → is_rise (beyond i o) ≡ true → me.number < (answered (beyond i o) i me).number
+beyond_rises o i me h l t = elim (cases_Bool (ltb i 1000000000)) [
+  | inl few ↦ rw few (omega (arith, h i, l))
+  | inr many ↦ absurd (false≢true (sym (ap is_rise (ap (λ b. cond b o Ousted) many)) ∙ t))
+]
+
+rises : (s : Status) (i : ℕ) (me : Oneself) → is_rise (own_answer s i me.number) ≡ true → me.number < (answered (own_answer s i me.number) i me).number
+rises Alive i me t = elim (cases_Bool (ltb me.number i)) [
+  | inl l ↦ (
+      let less : me.number < i = ltb-true me.number i l in
+      rw l (beyond_rises Raised i me (λ j. refl) (omega (arith, less)) (sym (ap is_rise (ap (λ b. cond b (beyond i Raised) Ignored) l)) ∙ t)))
+  | inr f ↦ absurd (false≢true (sym (ap is_rise (ap (λ b. cond b (beyond i Raised) Ignored) f)) ∙ t))
+]
+rises (Suspect a) i me t = elim (cases_Bool (leb me.number i)) [
+  | inl l ↦ rw l (beyond_rises Refuted i me (λ j. refl) (leb-true me.number i l) (sym (ap is_rise (ap (λ b. cond b (beyond i Refuted) Ignored) l)) ∙ t))
+  | inr f ↦ absurd (false≢true (sym (ap is_rise (ap (λ b. cond b (beyond i Refuted) Ignored) f)) ∙ t))
+]
+rises Failed i me t = absurd (false≢true t)
+
+telling_own : (name : List ℕ) (addr : Addr) (c : Claim) (past : List Claim) → c.name ≡ name → Telling name addr c past
+telling_own name addr c past e =
+    let me = own_of name addr past in
+    let is : own_of name addr (c ∷ past) ≡ own_heard me c = own-same name addr c past e in
+    let table = table-own name c past e in
+    let test = news-own (membership_of name addr past) c (e ∙ sym (own_of_name name addr past)) in
+    elim (cases_Bool (is_rise (own_answer c.status c.incarnation me.number))) [
+      | inl t ↦ (
+          let more = rises c.status c.incarnation me t in
+          let before = row_at-own name addr past c.name (sym e) in
+          Changes record {
+            news = test ∙ t;
+            r = own_record (own_heard me c);
+            row = row_at-own name addr (c ∷ past) c.name (sym e) ∙ ap (λ o. Some (own_record o)) is;
+            follows = subst (Follows (own_record (own_heard me c))) (sym before) (lt-ltb me.number (own_heard me c).number more);
+            others = λ m d. (let other : name ≢ m = λ s. d (e ∙ s) in row_at-others name addr (c ∷ past) m other ∙ ap (row_at name_cmp name_of m) table ∙ sym (row_at-others name addr past m other));
+          })
+      | inr f ↦ (
+          let record_stays = ap own_record is ∙ stays (own_answer c.status c.incarnation me.number) c.incarnation me f in
+          Leaves (test ∙ f) (λ i. view_of (record_stays i) (table i)))
+    ]
+
+-- of another, the claim stands where it is taken
+follows_table : (name : List ℕ) (c : Claim) (past : List Claim) → IsTaken name c past → Follows c (row_at name_cmp name_of c.name (table_of name past))
+follows_table name c past t = elim (held (row_at name_cmp name_of c.name (table_of name past))) [
+  | Missing e ↦ rw e tt
+  | Holding r e ↦ rw e (t.beaten r (known (is_known c.name (roster name past)) (sym (row_at-table name past c.name) ∙ e)))
+]
+  where
+    known : (b : Bool) {r : Claim} → cond b (record_of past c.name) None ≡ Some r → record_of past c.name ≡ Some r
+    known true h = h
+    known false h = absurd cc
+
+telling_taken : (name : List ℕ) (addr : Addr) (c : Claim) (past : List Claim) → c.name ≢ name → IsTaken name c past → Telling name addr c past
+telling_taken name addr c past d t =
+    let d' : name ≢ c.name = λ e. d (sym e) in
+    let table : table_of name (c ∷ past) ≡ put_row name_cmp name_of c (table_of name past) = sym (heard-table name c past d) ∙ heard_taken (table_of name past) c t.taken in
+    let own = own-other name addr c past d in
+    Changes record {
+      news = news-other (membership_of name addr past) c (λ e. d (e ∙ own_of_name name addr past)) ∙ t.taken;
+      r = c;
+      row = row_at-others name addr (c ∷ past) c.name d' ∙ ap (row_at name_cmp name_of c.name) table ∙ row_at-put names_order name_of c.name c (table_of name past) ∙ ap (λ b. cond b (Some c) (row_at name_cmp name_of c.name (table_of name past))) (same_key names_order c.name c.name refl);
+      follows = subst (Follows c) (sym (row_at-others name addr past c.name d')) (follows_table name c past t);
+      others = λ m u. elim (cases_key names_order name m) [
+        | inl s ↦ row_at-own name addr (c ∷ past) m s ∙ ap (λ o. Some (own_record o)) own ∙ sym (row_at-own name addr past m s)
+        | inr v ↦ row_at-others name addr (c ∷ past) m v ∙ ap (row_at name_cmp name_of m) table ∙ row_at-put names_order name_of m c (table_of name past) ∙ ap (λ b. cond b (Some c) (row_at name_cmp name_of m (table_of name past))) (other_key names_order c.name m u) ∙ sym (row_at-others name addr past m v)
+      ];
+    }
+
+telling_passed : (name : List ℕ) (addr : Addr) (c : Claim) (past : List Claim) → c.name ≢ name → takes (table_of name past) c ≡ false → Telling name addr c past
+telling_passed name addr c past d f =
+    let table : table_of name (c ∷ past) ≡ table_of name past = sym (heard-table name c past d) ∙ heard_passed (table_of name past) c f in
+    let own = own-other name addr c past d in
+    Leaves (news-other (membership_of name addr past) c (λ e. d (e ∙ own_of_name name addr past)) ∙ f) (λ i. view_of (own_record (own i)) (table i))
+
+pub telling : (name : List ℕ) (addr : Addr) (c : Claim) (past : List Claim) → Telling name addr c past
+telling name addr c past = elim (cases_key names_order c.name name) [
+  | inl e ↦ telling_own name addr c past e
+  | inr d ↦ elim (heard_cases name c past d) [
+    | Taken t ↦ telling_taken name addr c past d t
+    | Kept k ↦ telling_passed name addr c past d k.taken
+    | Out o ↦ telling_passed name addr c past d o.taken
+  ]
+]

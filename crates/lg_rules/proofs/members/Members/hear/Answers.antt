@@ -1,0 +1,13 @@
+use Rattle.std.proofs.Common.{ap, ◌∙◌}
+use Rattle.lg_rules.specs.Table.{Known, heard}
+use Rattle.lg_rules.proofs.Tables.{heard-table, table-own}
+use Rattle.lg_rules.proofs.members.Members.hear.Goals as goal
+
+pub returns-clause-past : goal.returns-clause-past
+returns-clause-past c = λ past e.
+    let before = ap (λ (k : Known). k.table) (c.self.view_is ∙ e) in
+    let table = c.hear_in.ensures.table ∙ ap (λ t. heard t c.args.claim.now) before ∙ heard-table c.args.self.now.own c.args.claim.now past c.requires in
+    λ i. record { own = ap (λ (k : Known). k.own) c.self.view_is i; table = table i }
+
+pub returns-clause-oneself : goal.returns-clause-oneself
+returns-clause-oneself c = λ past d e i. record { own = c.args.self.now.own; table = table-own c.args.self.now.own d past e i }

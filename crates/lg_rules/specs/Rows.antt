@@ -1,0 +1,67 @@
+-- Rows in rising order of their keys, for any order of keys.
+use Rattle.std.specs.Prelude.{ℕ, ◌≡◌, ◌<◌, ◌≤◌, Bool, not, List, [], ◌∷◌, length, filter, insert, slice_index_or, slice_set, Option, Some, None, if◌then◌else◌}
+use Rattle.std.specs.List.{list_any}
+use Rattle.std.specs.declared.cmp.Ordering.{Ordering}
+use Rattle.std.specs.declared.cmp.Ordering.TheVariants.{Less, Equal, Greater}
+use Rattle.std.specs.Ordering.{is_eq, nat_cmp}
+use Rattle.std.specs.Cmp.Lexicographic.{slice_cmp}
+
+-- one of three, by how two keys compare
+abbrev pub by_order : {A : Type 0} → Ordering → A → A → A → A
+by_order Less less same more = less
+by_order Equal less same more = same
+by_order Greater less same more = more
+
+-- the order of names: by their bytes, a name before those that it begins
+abbrev pub name_cmp : List ℕ → List ℕ → Ordering
+name_cmp = slice_cmp nat_cmp
+
+module _ {K : Type 0} (cmp : K → K → Ordering) where
+  -- whether two keys are one
+  abbrev pub is_same : K → K → Bool
+  is_same m n = is_eq (cmp m n)
+
+  -- whether a key is among these
+  abbrev pub is_among : K → List K → Bool
+  is_among n ns = list_any (λ m. is_same m n) ns
+
+  -- the rows with one more, which takes the place of the row with its key where there is one
+  abbrev pub put_row : {R : Type 0} → (R → K) → R → List R → List R
+  put_row key r [] = r ∷ []
+  put_row key r (x ∷ xs) = by_order (cmp (key r) (key x)) (r ∷ x ∷ xs) (r ∷ xs) (x ∷ put_row key r xs)
+
+  -- the row with a key
+  abbrev pub row_at : {R : Type 0} → (R → K) → K → List R → Option R
+  row_at key n [] = None
+  row_at key n (x ∷ xs) = by_order (cmp n (key x)) None (Some x) (row_at key n xs)
+
+  -- the rows with other keys
+  abbrev pub without_row : {R : Type 0} → (R → K) → K → List R → List R
+  without_row key n rows = filter (λ r. not (is_same (key r) n)) rows
+
+  -- a key put among keys in rising order
+  abbrev pub put_key : K → List K → List K
+  put_key n ns = put_row (λ m. m) n ns
+
+  -- these keys in rising order, each once
+  abbrev pub in_order : List K → List K
+  in_order [] = []
+  in_order (n ∷ ns) = put_key n (in_order ns)
+
+  -- the different keys of a past, each where it first came
+  abbrev pub distinct : List K → List K
+  distinct [] = []
+  distinct (n ∷ past) = if is_among n past then distinct past else n ∷ distinct past
+
+  -- The row with a key stands at a place: a write there puts a row in its stead.
+  pub record HasRow {R : Type 0} (key : R → K) (n : K) (rows : List R) (at : ℕ) : Type 0 where
+    pub within : at < length rows
+    pub named : (d : R) → key (slice_index_or rows at d) ≡ n
+    pub found : (d : R) → row_at key n rows ≡ Some (slice_index_or rows at d)
+    pub set : (r : R) → key r ≡ n → slice_set rows at r ≡ put_row key r rows
+
+  -- No row has a key: one that has it would be put at this place.
+  pub record LacksRow {R : Type 0} (key : R → K) (n : K) (rows : List R) (at : ℕ) : Type 0 where
+    pub within : at ≤ length rows
+    pub missing : row_at key n rows ≡ None
+    pub insert : (r : R) → key r ≡ n → insert rows at r ≡ put_row key r rows

@@ -1,0 +1,196 @@
+//! The table of members.
+ghost use Rattle.std.specs.Prelude.{◌≡◌, ◌≢◌, ◌≤◌, ◌<◌, ◌+◌, List, [], ◌∷◌, length, slice_get, option_copied, None, Some};
+ghost use Rattle.lg_rules.specs.declared.claim.Claim.{Claim as Said};
+ghost use Rattle.lg_rules.specs.Claim.{name_of};
+ghost use Rattle.lg_rules.specs.Rows.{name_cmp, put_row, row_at};
+ghost use Rattle.arrayvec.specs.ArrayVec.{array_vec_len};
+ghost use Rattle.lg_rules.specs.Table.{answer_of, heard, is_failed, kept_answer, members_in, members_of, takes};
+
+use crate::claim::{Claim, Record, Status};
+use crate::name::Name;
+use crate::overriding::beats;
+use crate::rows::seat_of;
+use arrayvec::ArrayVec;
+use std::marker::Model;
+
+/// The most members that are known beside oneself: 255 (this project's choice).
+pub const MAX_OTHERS: usize = 255;
+
+/// What hearing a claim about another member did.
+#[derive(Clone, Copy, Debug, PartialEq, Eq)]
+pub enum Heard {
+    /// It made or replaced the record of its member.
+    Overrode,
+    /// It accuses a member that is suspected already, at the incarnation of its record. The table is as before.
+    Accused,
+    /// It has the status and the incarnation of the record, and isn't an accusation. The table is as before.
+    Same,
+    /// It says nothing new. The table is as before.
+    Ignored,
+    /// Its name is unknown, and 255 others are known. The table is as before.
+    NoRoom,
+}
+
+/// The records of the other members, at most 255, in the order of their names.
+///
+/// The first 255 names that are heard of are known, beside the own name; none is ever removed. The
+/// record of a member is the first claim about it that no claim about it overrides (SWIM, section 4.2). No
+/// call takes memory. A contract sees the own name and the list of the records.
+#[derive(Debug, Drop)]
+pub struct Members {
+    own: Name,
+    records: ArrayVec<Record, MAX_OTHERS>,
+}
+
+impl Model for Members {
+    ghost use Rattle.lg_rules.specs.Table.{Known};
+
+    ghost Value = { Known };
+
+    ghost view = { λ m. record { own = m.own; table = m.records.items } };
+}
+
+/// Whether a status is Failed.
+fn is_failed(status: Status) -> bool
+    ensures { result ≡ is_failed status }
+{
+    matches!(status, Status::Failed)
+}
+
+/// Makes a claim the record of its member.
+fn put(records: &mut ArrayVec<Record, MAX_OTHERS>, claim: Claim)
+    requires { (row_at name_cmp name_of claim.name records.old.items ≡ None) → array_vec_len records.old < 255 }
+    ensures { records.new.items ≡ put_row name_cmp name_of claim records.old.items }
+{
+    match seat_of(records.as_slice(), &claim.name) {
+        Ok(at) => records[at] = claim,
+        Err(at) => records.insert(at, claim),
+    }
+}
+
+/// The record of a member.
+fn find<'a>(records: &'a [Record], name: &Name) -> Option<&'a Record>
+    ensures { option_copied result ≡ row_at name_cmp name_of name.now records.now }
+{
+    match seat_of(records, name) {
+        Ok(at) => Some(&records[at]),
+        Err(_) => None,
+    }
+}
+
+/// What is answered to a claim that doesn't override the record of its member.
+fn keep(claim: &Claim, standing: &Record) -> Heard
+    ensures { result ≡ kept_answer claim.now (Some standing.now) }
+{
+    if claim.incarnation != standing.incarnation {
+        return Heard::Ignored;
+    }
+    match (claim.status, standing.status) {
+        (Status::Alive, Status::Alive) | (Status::Failed, Status::Failed) => Heard::Same,
+        (Status::Suspect(_), Status::Suspect(_)) => Heard::Accused,
+        _ => Heard::Ignored,
+    }
+}
+
+/// What is answered to a claim, where the records stand as they do.
+#[tactic(auto, unfolding(crate::specs::Table::takes))]
+fn judge(records: &ArrayVec<Record, MAX_OTHERS>, claim: &Claim) -> Heard
+    ensures { result ≡ answer_of records.now.items claim.now }
+{
+    match find(records.as_slice(), &claim.name) {
+        Some(record) if beats(claim, record) => Heard::Overrode,
+        Some(record) => keep(claim, record),
+        None if records.is_full() => Heard::NoRoom,
+        None => Heard::Overrode,
+    }
+}
+
+/// Hears a claim about another member.
+#[tactic(auto, unfolding(crate::specs::Table::takes))]
+fn hear_in(records: &mut ArrayVec<Record, MAX_OTHERS>, claim: &Claim) -> Heard
+    ensures answer { result ≡ answer_of records.old.items claim.now }
+    ensures table { records.new.items ≡ heard records.old.items claim.now }
+{
+    let answer = judge(records, claim);
+    if answer == Heard::Overrode {
+        put(records, *claim);
+    }
+    answer
+}
+
+/// How many members haven't failed, oneself included.
+fn live(records: &[Record]) -> usize
+    requires { length records.now ≤ 255 }
+    ensures { result ≡ members_in records.now }
+{
+    1 + records
+        .iter()
+        .filter(|record| !is_failed(record.status))
+        .count()
+}
+
+impl Members {
+    /// No other member is known.
+    pub fn new(own: &Name) -> Members
+        ensures { result ≡ members_of own.now [] }
+    {
+        Members {
+            own: *own,
+            records: ArrayVec::new(),
+        }
+    }
+
+    /// The own name.
+    pub fn own(&self) -> Name
+        ensures { result ≡ self.now.own }
+    {
+        self.own
+    }
+
+    /// The records of the others, in the order of their names.
+    pub fn records(&self) -> &[Record]
+        ensures records { result.now ≡ self.now.table }
+        ensures few { length result.now ≤ 255 }
+    {
+        self.records.as_slice()
+    }
+
+    /// The record of another member, where it is known.
+    pub fn get(&self, name: &Name) -> Option<&Record>
+        ensures { option_copied result ≡ row_at name_cmp name_of name.now self.now.table }
+    {
+        find(self.records.as_slice(), name)
+    }
+
+    /// The record at an index of the order of names, from 0, where there are so many.
+    pub fn at(&self, index: usize) -> Option<&Record>
+        ensures { option_copied result ≡ slice_get self.now.table index }
+    {
+        self.records.as_slice().get(index)
+    }
+
+    /// How many members haven't failed, oneself included: 1 to 256.
+    pub fn live(&self) -> usize
+        ensures count { result ≡ members_in self.now.table }
+        ensures few { result ≤ 256 }
+    {
+        live(self.records.as_slice())
+    }
+
+    /// Hears a claim about another member.
+    ///
+    /// The claim makes the record of a member that isn't known, where there is room, and replaces the record that
+    /// it overrides, with its address and accuser.
+    pub fn hear(&mut self, claim: &Claim) -> Heard
+        requires { claim.now.name ≢ self.old.own }
+        ensures answer { result ≡ answer_of self.old.table claim.now }
+        ensures own { self.new.own ≡ self.old.own }
+        ensures table { self.new.table ≡ heard self.old.table claim.now }
+        // Whatever was said so far, the latest first, the table is that of all that was said.
+        ensures past { (past : List Said) → self.old ≡ members_of self.old.own past → self.new ≡ members_of self.old.own (claim.now ∷ past) }
+        // What was said of oneself is passed over.
+        ensures oneself { (past : List Said) (c : Said) → c.name ≡ self.old.own → members_of self.old.own (c ∷ past) ≡ members_of self.old.own past }
+    {
+        hear_in(&mut self.records, claim)
+    }
+}

@@ -1,0 +1,39 @@
+//! Rows in rising order of their names.
+ghost use Rattle.std.specs.Prelude.{◌≡◌, ℕ, List, MatchResult};
+ghost use Rattle.std.specs.List.{prefix_len};
+ghost use Rattle.std.specs.Ordering.{is_lt};
+ghost use Rattle.lg_rules.specs.Rows.{name_cmp, HasRow, LacksRow};
+
+use crate::name::Name;
+
+/// What is kept in the order of a name.
+pub trait Keyed {
+    ghost key_of: { Self → List ℕ };
+
+    /// The name by which it is kept.
+    fn key(&self) -> Name
+        ensures { result ≡ key_of self.now };
+}
+
+/// How many rows have a lesser name, up to the first that hasn't.
+fn place_of<T: Keyed>(rows: &[T], name: &Name) -> usize
+    ensures { result ≡ prefix_len (λ r. is_lt (name_cmp (T.key_of r) name.now)) rows.now }
+{
+    rows.iter()
+        .take_while(|row| row.key().cmp(name).is_lt())
+        .count()
+}
+
+/// Where the row with a name stands among rows in the order of their names, or else where it would
+/// be inserted.
+pub fn seat_of<T: Keyed>(rows: &[T], name: &Name) -> Result<usize, usize>
+    ensures { MatchResult result (HasRow name_cmp T.key_of name.now rows.now) (LacksRow name_cmp T.key_of name.now rows.now) }
+{
+    let at = place_of(rows, name);
+    if at < rows.len() {
+        let row = &rows[at];
+        if row.key() == *name { Ok(at) } else { Err(at) }
+    } else {
+        Err(at)
+    }
+}
