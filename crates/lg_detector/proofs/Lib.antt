@@ -1,2 +1,13 @@
-pub mod Law
+pub mod KnownLaws
+pub mod QueuedLaws
+pub mod QueueLaws
+pub mod MarkLaws
+pub mod EventLaws
 pub mod Accepting
+pub mod Rooms
+pub mod ShownRows
+pub mod Shown
+pub mod Hearing
+pub mod HearingLoop
+pub mod Differing
+pub mod Openings

@@ -3,4 +3,12 @@ use Rattle.lg_detector.specs.declared.parts.Parts.{Parts}
 use Rattle.lg_detector.specs.State.{State}
 
 abbrev pub state_in : Parts → State
-state_in parts = record { events = parts.events; moment = parts.moment; own = parts.own; round_start = parts.round_start }
+state_in parts = record {
+  events = parts.events;
+  moment = parts.moment;
+  config = parts.config;
+  own = parts.own;
+  members = parts.members;
+  queue = parts.queue;
+  round_start = parts.round_start;
+}

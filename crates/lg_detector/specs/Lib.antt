@@ -1,5 +1,7 @@
 pub mod Marks
 pub mod State
-pub mod Kept
+pub mod Events
+pub mod Answers
 pub mod Reached
-pub mod Examples
+pub mod Room
+pub mod Kept

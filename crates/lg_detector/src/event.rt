@@ -1,10 +1,9 @@
 //! What happens to a detector.
 ghost use Rattle.std.specs.Prelude.{◌≡◌};
 
-use crate::config::Config;
-use crate::moment::Moment;
 use lg_packet::Packet;
-use lg_rules::Addr;
+use lg_rules::{Addr, Name};
+use lg_timing::{Config, Moment};
 
 /// What happens to a detector, at the moment that is handed in.
 #[derive(Debug, Drop)]
@@ -24,6 +23,13 @@ pub enum Event {
         source: Addr,
         /// The packet.
         packet: Packet,
+    },
+    /// The record of a name is asked for.
+    Ask {
+        /// When.
+        now: Moment,
+        /// Whose record.
+        name: Name,
     },
 }
 
@@ -45,6 +51,10 @@ impl Event {
                 now: *now,
                 source: *source,
                 packet: packet.copy(),
+            },
+            Event::Ask { now, name } => Event::Ask {
+                now: *now,
+                name: *name,
             },
         }
     }

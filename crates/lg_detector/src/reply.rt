@@ -1,13 +1,16 @@
 //! What a detector answers.
-ghost use Rattle.std.specs.Prelude.{◌≡◌, ◌<◌, ◌≤◌, length};
+ghost use Rattle.std.specs.Prelude.{◌≡◌, ◌<◌, ◌≤◌, length, [], None};
 ghost use Rattle.arrayvec.specs.ArrayVec.{array_vec_len};
 
 use arrayvec::ArrayVec;
 use lg_packet::Packet;
-use lg_rules::Addr;
+use lg_rules::{Addr, Record};
 
 /// The most packets that one event sends: 8 PingReqs (this project's choice).
 pub const MAX_SENDS: usize = 8;
+
+/// The most records that one event changes: those of the 6 claims of a packet (this project's choice).
+pub const MAX_CHANGED: usize = 6;
 
 /// A packet to be sent.
 #[derive(Debug, Drop, Default)]
@@ -30,20 +33,36 @@ impl Outgoing {
     }
 }
 
+/// The answer to a question.
+#[derive(Clone, Copy, Debug, PartialEq, Eq)]
+pub enum Answer {
+    /// To [`Event::Ask`](crate::Event::Ask): the record of the name, or none where it isn't known.
+    Status(Option<Record>),
+}
+
 /// What a detector answers to an event. It is of fixed size, so it always has room.
 #[derive(Debug, Drop)]
 pub struct Reply {
     /// The packets to be sent, in order.
     pub sends: ArrayVec<Outgoing, MAX_SENDS>,
+    /// The records that differ from those before the event, in the order of their names; none for the opening.
+    pub changed: ArrayVec<Record, MAX_CHANGED>,
+    /// The answer to a question.
+    pub answer: Option<Answer>,
+    /// Whether the others gave this member up, and nothing can refute it.
+    pub ousted: bool,
     /// The least open deadline after the event, in milliseconds.
     pub next: u64,
 }
 
-/// Sends nothing, and the deadline is 0: a place for the first reply.
+/// Says nothing, and the deadline is 0: a place for the first reply.
 impl Default for Reply {
     fn default() -> Self {
         Reply {
             sends: ArrayVec::new(),
+            changed: ArrayVec::new(),
+            answer: None,
+            ousted: false,
             next: 0,
         }
     }
@@ -61,13 +80,37 @@ fn copy_sends(sends: &[Outgoing]) -> ArrayVec<Outgoing, MAX_SENDS>
     copies
 }
 
+/// Copies of records.
+fn copy_records(records: &[Record]) -> ArrayVec<Record, MAX_CHANGED>
+    requires { length records.now ≤ 6 }
+    ensures { result.items ≡ records.now }
+{
+    let mut copies = ArrayVec::new();
+    for claim in records {
+        copies.push(*claim);
+    }
+    copies
+}
+
 impl Reply {
+    /// Drops what was to be sent, what changed and the answer.
+    pub fn say_nothing(&mut self)
+        ensures { self.new ≡ record self.old { sends = record { items = [] }; changed = record { items = [] }; answer = None } }
+    {
+        self.sends.clear();
+        self.changed.clear();
+        self.answer = None;
+    }
+
     /// An equal reply.
     pub fn copy(&self) -> Reply
         ensures { result ≡ self.now }
     {
         Reply {
             sends: copy_sends(self.sends.as_slice()),
+            changed: copy_records(self.changed.as_slice()),
+            answer: self.answer,
+            ousted: self.ousted,
             next: self.next,
         }
     }

@@ -1,7 +1,7 @@
 -- The fields of a packet: what is read is spelled so, and what is spelled so is read again.
-use Rattle.std.proofs.Common.{◌≡◌, ℕ, zero, suc, ◌^◌, ◌<◌, Bool, true, false, cond, eqb, ltb, List, [], ◌∷◌, ◌++◌, length, get_or, Some, None, Ok, refl, sym, ap, subst, ◌∙◌, append_assoc, arith}
+use Rattle.std.proofs.Common.{◌≡◌, ℕ, zero, suc, ◌^◌, ◌<◌, ◌≤◌, Bool, true, false, cond, eqb, ltb, List, [], ◌∷◌, ◌++◌, length, get_or, Some, None, Ok, refl, sym, ap, subst, ◌∙◌, append_assoc, arith}
 use Rattle.std.specs.Int.{w32, byte_at, from_be_bytes, to_be_bytes}
-use Rattle.std.proofs.lemmas.Bool.{eqb-true, le-ltb}
+use Rattle.std.proofs.lemmas.Bool.{eqb-true, le-ltb, ltb-false}
 use Rattle.std.proofs.lemmas.Nat.{be_bytes_4, from_be_bytes-to_be_bytes_4}
 use Rattle.lg_packet.specs.declared.fault.Fault.{Fault}
 use Rattle.lg_packet.specs.declared.fault.Fault.TheVariants as faults
@@ -11,7 +11,7 @@ use Rattle.lg_packet.specs.declared.packet.Body.{Body}
 use Rattle.lg_packet.specs.declared.packet.Body.TheVariants.{Ping, Ack}
 use Rattle.lg_packet.specs.Spelling.{kind_of, byte_of_kind, spelled_number, spelled_name, spelled_head, spelled_body, IsBody}
 use Rattle.lg_packet.specs.Reading.{◌>>=◌, literal_at, kind_before, kind_at, number_at, name_at, head_at, body_at, count_at}
-use Rattle.lg_packet.proofs.Outcomes.{step_ok, passed, same_ok}
+use Rattle.lg_packet.proofs.Outcomes.{step_ok, passed, passed_by, same_ok}
 use Rattle.lg_packet.proofs.NameFields.{name_read, name_again}
 
 abbrev pub AreBytes : List ℕ → Type 0
@@ -117,12 +117,13 @@ unfolding body_at
 body_again (Ping number target) rest fit = rw (number_again number (spelled_name target ++ rest) fit.0, name_again target rest fit.1) refl
 body_again (Ack number) rest fit = rw (number_again number rest fit) refl
 
--- ---- the count
+-- ---- the count of claims
 
-pub count_read : (bytes rest : List ℕ) → count_at bytes ≡ Ok rest → bytes ≡ 0 ∷ rest
-count_read [] rest e = absurd cc
-count_read (b ∷ bytes) rest e =
-    let p = passed (eqb b 0) faults.Count (Ok bytes) rest e in
-    let here : b ≡ 0 = eqb-true b 0 p.0 in
-    let after : bytes ≡ rest = same_ok bytes rest p.1 in
-    cc
+pub count_read : (bytes : List ℕ) (x : ℕ × List ℕ) → count_at bytes ≡ Ok x → (bytes ≡ x.0 ∷ x.1) × (x.0 ≤ 6)
+count_read [] x e = absurd cc
+count_read (n ∷ bytes) x e =
+    let p = passed_by (ltb 6 n) faults.Count (Ok (n, bytes)) x e in
+    subst (λ (y : ℕ × List ℕ). (n ∷ bytes ≡ y.0 ∷ y.1) × (y.0 ≤ 6)) (same_ok (n, bytes) x p.1) (refl, ltb-false 6 n p.0)
+
+pub count_again : (n : ℕ) (rest : List ℕ) → n ≤ 6 → count_at (n ∷ rest) ≡ Ok (n, rest)
+count_again n rest few = rw (le-ltb 6 n few) refl

@@ -1,5 +1,11 @@
 pub mod Outcomes
 pub mod NameFields
 pub mod Fields
+pub mod ClaimFields
+pub mod ClaimLoop
+pub mod Written
 pub mod Packets
 pub mod Places
+pub mod FieldPlaces
+pub mod ClaimPlaces
+pub mod PacketPlaces

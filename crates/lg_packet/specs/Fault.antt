@@ -1,10 +1,11 @@
 -- What is wrong with bytes that are no packet, by places: the first place whose byte can't stand there.
-use Rattle.std.specs.Prelude.{◌≡◌, ℕ, Bool, true, ◌&&◌, ◌||◌, List, [], ◌∷◌, ◌++◌, replicate, nat_le, ◌==◌, Option, Some, None, unwrap_or, if◌then◌else◌}
+use Rattle.std.specs.Prelude.{◌≡◌, ℕ, Bool, true, ◌&&◌, ◌||◌, List, [], ◌∷◌, ◌++◌, length, replicate, nat_lt, nat_le, ◌==◌, Option, Some, None, unwrap_or, if◌then◌else◌}
+use Rattle.std.specs.Int.{w32, from_be_bytes}
 use Rattle.lg_rules.specs.Name.{is_name_byte}
 use Rattle.lg_packet.specs.declared.fault.Fault.{Fault}
 use Rattle.lg_packet.specs.declared.fault.Fault.TheVariants as faults
 
--- what can be due at a place
+-- what can be due at a place: of an incarnation, a byte behind those of it that are there
 pub data Part : Type 0 where
   MarkByte : ℕ → Part
   VersionByte : Part
@@ -13,6 +14,8 @@ pub data Part : Type 0 where
   NameByte : Part
   NumberByte : Part
   CountByte : Part
+  ClaimKindByte : Part
+  IncarnationByte : List ℕ → Part
 
 -- whether a byte can stand where this is due
 abbrev pub is_allowed : Part → ℕ → Bool
@@ -22,9 +25,11 @@ is_allowed KindByte b = b == 1 || b == 3
 is_allowed LengthByte b = nat_le 1 b && nat_le b 32
 is_allowed NameByte b = is_name_byte b
 is_allowed NumberByte b = true
-is_allowed CountByte b = b == 0
+is_allowed CountByte b = nat_le b 6
+is_allowed ClaimKindByte b = nat_le 1 b && nat_le b 3
+is_allowed (IncarnationByte before) b = nat_lt (length before) 3 || nat_le (from_be_bytes w32 (before ++ b ∷ [])) 1000000000
 
--- the fault of a byte that can't
+-- the fault of a byte that can't (each byte of a number can)
 abbrev pub fault_at : Part → Fault
 fault_at (MarkByte mark) = faults.Magic
 fault_at VersionByte = faults.Version
@@ -33,6 +38,8 @@ fault_at LengthByte = faults.Name
 fault_at NameByte = faults.Name
 fault_at NumberByte = faults.Short
 fault_at CountByte = faults.Count
+fault_at ClaimKindByte = faults.ClaimKind
+fault_at (IncarnationByte before) = faults.Incarnation
 
 -- the parts of a number, and of the body of a kind
 abbrev pub number_parts : List Part
@@ -41,10 +48,23 @@ number_parts = replicate 4 NumberByte
 abbrev pub body_parts : ℕ → List Part
 body_parts kind = if kind == 1 then number_parts ++ LengthByte ∷ [] else number_parts
 
+-- the parts of an address, and of a claim of a kind behind its kind
+abbrev pub addr_parts : List Part
+addr_parts = replicate 6 NumberByte
+
+abbrev pub accuser_parts : ℕ → List Part
+accuser_parts kind = if kind == 2 then LengthByte ∷ [] else []
+
+abbrev pub claim_parts : ℕ → List Part
+claim_parts kind = LengthByte ∷ addr_parts ++ IncarnationByte [] ∷ accuser_parts kind
+
 -- the parts that a byte brings with it, due right behind it
 abbrev pub brought : Part → ℕ → List Part
 brought KindByte kind = LengthByte ∷ body_parts kind ++ CountByte ∷ []
 brought LengthByte n = replicate n NameByte
+brought CountByte n = replicate n ClaimKindByte
+brought ClaimKindByte kind = claim_parts kind
+brought (IncarnationByte before) b = if nat_lt (length before) 3 then IncarnationByte (before ++ b ∷ []) ∷ [] else []
 brought _ b = []
 
 -- the parts of a packet before its first byte

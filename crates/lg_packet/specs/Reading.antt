@@ -1,10 +1,16 @@
 -- Reading the fields of a packet from left to right, with the first fault that is met.
-use Rattle.std.specs.Prelude.{◌≡◌, ℕ, List, [], ◌∷◌, length, take, drop, Option, Some, None, Result, Ok, Err, nat_lt, ◌==◌, if◌then◌else◌}
+use Rattle.std.specs.Prelude.{◌≡◌, ℕ, zero, suc, List, [], ◌∷◌, length, take, drop, Option, Some, None, Result, Ok, Err, nat_lt, ◌==◌, if◌then◌else◌}
 use Rattle.std.specs.List.{list_all}
-use Rattle.std.specs.Int.{Width, w32, byte_len, from_be_bytes}
+use Rattle.std.specs.Int.{Width, w16, w32, byte_len, from_be_bytes}
 use Rattle.lg_rules.specs.Name.{is_name_byte}
+use Rattle.lg_rules.specs.declared.addr.Addr.{Addr}
+use Rattle.lg_rules.specs.declared.claim.Claim.{Claim}
+use Rattle.lg_rules.specs.declared.claim.Status.{Status}
+use Rattle.lg_rules.specs.declared.claim.Status.TheVariants.{Alive, Suspect, Failed}
 use Rattle.lg_packet.specs.declared.fault.Fault.{Fault}
 use Rattle.lg_packet.specs.declared.fault.Fault.TheVariants as faults
+use Rattle.lg_packet.specs.declared.kind.ClaimKind.{ClaimKind}
+use Rattle.lg_packet.specs.declared.kind.ClaimKind.TheVariants as claims
 use Rattle.lg_packet.specs.declared.kind.Kind.{Kind}
 use Rattle.lg_packet.specs.declared.kind.Kind.TheVariants as kinds
 use Rattle.lg_packet.specs.declared.packet.Body.{Body}
@@ -68,17 +74,73 @@ body_at kinds.Ack bytes = do
   number ← number_at w32 bytes
   Ok (Ack number.0, number.1)
 
-abbrev pub count_at : List ℕ → Result (List ℕ) Fault
+-- ---- claims
+
+abbrev pub octets_at : List ℕ → Result (List ℕ × List ℕ) Fault
+octets_at bytes = if nat_lt (length bytes) 4 then Err faults.Short else Ok (take 4 bytes, drop 4 bytes)
+
+unfoldable pub addr_at : List ℕ → Result (Addr × List ℕ) Fault
+addr_at bytes = do
+  octets ← octets_at bytes
+  port ← number_at w16 octets.1
+  Ok (record { octets = octets.0; port = port.0 }, port.1)
+
+-- all four bytes are there before the number is judged
+unfoldable pub incarnation_at : List ℕ → Result (ℕ × List ℕ) Fault
+incarnation_at bytes = do
+  number ← number_at w32 bytes
+  if nat_lt 1000000000 number.0 then Err faults.Incarnation else Ok number
+
+abbrev pub claim_kind_of_byte : ℕ → Option ClaimKind
+claim_kind_of_byte b = if b == 1 then Some claims.Alive else if b == 2 then Some claims.Suspect else if b == 3 then Some claims.Failed else None
+
+abbrev pub claim_kind_before : List ℕ → Option ClaimKind → Result (ClaimKind × List ℕ) Fault
+claim_kind_before rest None = Err faults.ClaimKind
+claim_kind_before rest (Some kind) = Ok (kind, rest)
+
+abbrev pub claim_kind_at : List ℕ → Result (ClaimKind × List ℕ) Fault
+claim_kind_at [] = Err faults.Short
+claim_kind_at (b ∷ rest) = claim_kind_before rest (claim_kind_of_byte b)
+
+-- the status of a claim of a kind, with the accuser where it has one
+unfoldable pub status_at : ClaimKind → List ℕ → Result (Status × List ℕ) Fault
+status_at claims.Alive bytes = Ok (Alive, bytes)
+status_at claims.Suspect bytes = do
+  accuser ← name_at bytes
+  Ok (Suspect accuser.0, accuser.1)
+status_at claims.Failed bytes = Ok (Failed, bytes)
+
+unfoldable pub claim_at : List ℕ → Result (Claim × List ℕ) Fault
+claim_at bytes = do
+  kind ← claim_kind_at bytes
+  name ← name_at kind.1
+  addr ← addr_at name.1
+  incarnation ← incarnation_at addr.1
+  status ← status_at kind.0 incarnation.1
+  Ok (record { name = name.0; addr = addr.0; status = status.0; incarnation = incarnation.0 }, status.1)
+
+abbrev pub count_at : List ℕ → Result (ℕ × List ℕ) Fault
 count_at [] = Err faults.Short
-count_at (n ∷ rest) = if n == 0 then Ok rest else Err faults.Count
+count_at (n ∷ rest) = if nat_lt 6 n then Err faults.Count else Ok (n, rest)
+
+-- n claims
+unfoldable pub claims_at : ℕ → List ℕ → Result (List Claim × List ℕ) Fault
+claims_at zero bytes = Ok ([], bytes)
+claims_at (suc n) bytes = do
+  first ← claim_at bytes
+  others ← claims_at n first.1
+  Ok (first.0 ∷ others.0, others.1)
+
+-- ---- the whole
 
 unfoldable pub packet_at : List ℕ → Result (Packet × List ℕ) Fault
 packet_at bytes = do
   head ← head_at bytes
   sender ← name_at head.1
   body ← body_at head.0 sender.1
-  rest ← count_at body.1
-  Ok (record { sender = sender.0; body = body.0 }, rest)
+  count ← count_at body.1
+  claims ← claims_at count.0 count.1
+  Ok (record { sender = sender.0; body = body.0; claims = record { items = claims.0 } }, claims.1)
 
 -- all of the bytes
 unfoldable pub packet_of : List ℕ → Result Packet Fault

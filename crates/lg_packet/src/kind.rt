@@ -1,9 +1,10 @@
-//! Kinds of packets.
+//! Kinds of packets and of claims.
 ghost use Rattle.std.specs.Prelude.{◌≡◌};
-ghost use Rattle.lg_packet.specs.Reading.{kind_of_byte};
-ghost use Rattle.lg_packet.specs.Spelling.{kind_of};
+ghost use Rattle.lg_packet.specs.Reading.{kind_of_byte, claim_kind_of_byte};
+ghost use Rattle.lg_packet.specs.Spelling.{kind_of, claim_kind_of};
 
 use crate::packet::Body;
+use lg_rules::Status;
 
 /// The kind of a packet, by the byte that stands for it.
 #[derive(Clone, Copy, Debug, PartialEq, Eq)]
@@ -32,5 +33,39 @@ pub(crate) fn kind_of(body: &Body) -> Kind
     match body {
         Body::Ping { .. } => Kind::Ping,
         Body::Ack { .. } => Kind::Ack,
+    }
+}
+
+/// The kind of a claim, by the byte that stands for it.
+#[derive(Clone, Copy, Debug, PartialEq, Eq)]
+pub(crate) enum ClaimKind {
+    /// That a member is there.
+    Alive = 1,
+    /// That it is suspected, by an accuser.
+    Suspect = 2,
+    /// That it has failed.
+    Failed = 3,
+}
+
+/// The kind of claim that a byte stands for.
+pub(crate) fn claim_kind_of_byte(byte: u8) -> Option<ClaimKind>
+    ensures { result ≡ claim_kind_of_byte byte }
+{
+    match byte {
+        1 => Some(ClaimKind::Alive),
+        2 => Some(ClaimKind::Suspect),
+        3 => Some(ClaimKind::Failed),
+        _ => None,
+    }
+}
+
+/// The kind of a claim with this status.
+pub(crate) fn claim_kind_of(status: &Status) -> ClaimKind
+    ensures { result ≡ claim_kind_of status.now }
+{
+    match status {
+        Status::Alive => ClaimKind::Alive,
+        Status::Suspect(_) => ClaimKind::Suspect,
+        Status::Failed => ClaimKind::Failed,
     }
 }

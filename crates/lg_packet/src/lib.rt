@@ -10,7 +10,7 @@ mod writing;
 
 pub use fault::Fault;
 pub use laws::{first_bad_byte, one_spelling};
-pub use packet::{Body, Packet};
+pub use packet::{Body, MAX_CLAIMS, Packet};
 pub use reading::decode;
 pub use writing::{MAX_PACKET, encode};
 

@@ -1,7 +1,11 @@
 //! Packets.
 ghost use Rattle.std.specs.Prelude.{◌≡◌};
 
-use lg_rules::Name;
+use arrayvec::ArrayVec;
+use lg_rules::{Claim, Name};
+
+/// The most claims of a packet: 6 (this project's choice).
+pub const MAX_CLAIMS: usize = 6;
 
 /// What a packet asks or answers (SWIM, section 3.1).
 #[derive(Clone, Copy, Debug, PartialEq, Eq)]
@@ -27,6 +31,8 @@ pub struct Packet {
     pub sender: Name,
     /// What it asks or answers.
     pub body: Body,
+    /// What it says of members, in the order in which it is heard (SWIM, section 4.1).
+    pub claims: ArrayVec<Claim, MAX_CLAIMS>,
 }
 
 impl Packet {
@@ -34,19 +40,30 @@ impl Packet {
     pub fn copy(&self) -> Packet
         ensures { result ≡ self.now }
     {
+        let mut claims = ArrayVec::new();
+        let copied = claims.try_extend_from_slice(&self.claims);
+        prove!(copied.is_ok());
         Packet {
             sender: self.sender,
             body: self.body,
+            claims,
         }
     }
 }
 
-/// An Ack numbered 0 of the member `a`, which fills the rows of fixed capacity where no packet is kept.
+/// An Ack numbered 0 of the member `a` without claims, which fills the rows of fixed capacity where
+/// no packet is kept.
 impl Default for Packet {
+    ghost use Rattle.std.specs.Prelude.{◌≡◌, [], ◌∷◌};
+    ghost use Rattle.lg_packet.specs.declared.packet.Body.TheVariants.{Ack};
+
+    ghost is_default = { λ p. p ≡ record { sender = 97 ∷ []; body = Ack 0; claims = record { items = [] } } };
+
     fn default() -> Self {
         Packet {
             sender: Name::default(),
             body: Body::Ack { number: 0 },
+            claims: ArrayVec::new(),
         }
     }
 }

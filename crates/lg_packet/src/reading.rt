@@ -1,17 +1,18 @@
 //! Reading packets, from the first byte on.
 ghost use Rattle.std.specs.Prelude.{◌≡◌, ◌≤◌, List, length, IfOk, IfErr, Ok, Err};
-ghost use Rattle.std.specs.Int.{w32};
+ghost use Rattle.std.specs.Int.{w16, w32};
 ghost use Rattle.std.specs.List.{list_all};
 ghost use Rattle.lg_rules.specs.Name.{is_name_byte};
 ghost use Rattle.lg_packet.specs.declared.packet.Packet.{Packet};
 ghost use Rattle.lg_packet.specs.Fault.{fault_of};
-ghost use Rattle.lg_packet.specs.Reading.{Gives, literal_at, kind_at, name_at, name_bytes_at, number_at, head_at, body_at, count_at, packet_at, packet_of};
+ghost use Rattle.lg_packet.specs.Reading.{Gives, literal_at, kind_at, name_at, name_bytes_at, number_at, head_at, body_at, octets_at, addr_at, incarnation_at, claim_kind_at, status_at, claim_at, count_at, claims_at, packet_at, packet_of};
 ghost use Rattle.lg_packet.specs.Spelling.{Spells};
 
 use crate::fault::Fault;
-use crate::kind::{Kind, kind_of_byte};
-use crate::packet::{Body, Packet};
-use lg_rules::{MAX_NAME, Name, is_name_byte};
+use crate::kind::{ClaimKind, Kind, claim_kind_of_byte, kind_of_byte};
+use crate::packet::{Body, MAX_CLAIMS, Packet};
+use arrayvec::ArrayVec;
+use lg_rules::{Addr, Claim, Incarnation, MAX_NAME, Name, Status, is_name_byte};
 
 /// Whether each byte may stand in a name.
 fn are_name_bytes(text: &[u8]) -> bool
@@ -118,11 +119,110 @@ impl Reader<'_> {
         }
     }
 
-    /// The count of claims.
-    fn count(&mut self) -> Result<(), Fault>
-        ensures { Gives (λ _. self.new.rest.now) result (count_at self.old.rest.now) }
+    fn octets(&mut self) -> Result<[u8; 4], Fault>
+        ensures { Gives (λ x. (x, self.new.rest.now)) result (octets_at self.old.rest.now) }
     {
-        self.literal(0, Fault::Count)
+        let [a, b, c, d, rest @ ..] = self.rest else {
+            return Err(Fault::Short);
+        };
+        self.rest = rest;
+        Ok([*a, *b, *c, *d])
+    }
+
+    fn port(&mut self) -> Result<u16, Fault>
+        ensures { Gives (λ x. (x, self.new.rest.now)) result (number_at w16 self.old.rest.now) }
+    {
+        let [a, b, rest @ ..] = self.rest else {
+            return Err(Fault::Short);
+        };
+        self.rest = rest;
+        Ok(u16::from_be_bytes([*a, *b]))
+    }
+
+    #[tactic(auto, unfolding(crate::specs::Reading::addr_at))]
+    fn addr(&mut self) -> Result<Addr, Fault>
+        ensures { Gives (λ x. (x, self.new.rest.now)) result (addr_at self.old.rest.now) }
+    {
+        let octets = self.octets()?;
+        let port = self.port()?;
+        Ok(Addr { octets, port })
+    }
+
+    /// An incarnation, judged once its four bytes are there.
+    #[tactic(auto, unfolding(crate::specs::Reading::incarnation_at))]
+    fn incarnation(&mut self) -> Result<Incarnation, Fault>
+        ensures { Gives (λ x. (x, self.new.rest.now)) result (incarnation_at self.old.rest.now) }
+    {
+        let number = self.number()?;
+        Incarnation::new(number).ok_or(Fault::Incarnation)
+    }
+
+    fn claim_kind(&mut self) -> Result<ClaimKind, Fault>
+        ensures { Gives (λ x. (x, self.new.rest.now)) result (claim_kind_at self.old.rest.now) }
+    {
+        let [byte, rest @ ..] = self.rest else {
+            return Err(Fault::Short);
+        };
+        self.rest = rest;
+        claim_kind_of_byte(*byte).ok_or(Fault::ClaimKind)
+    }
+
+    /// The status of a claim of a kind, with the accuser where it has one.
+    #[tactic(auto, unfolding(crate::specs::Reading::status_at))]
+    fn status(&mut self, kind: ClaimKind) -> Result<Status, Fault>
+        ensures { Gives (λ x. (x, self.new.rest.now)) result (status_at kind self.old.rest.now) }
+    {
+        match kind {
+            ClaimKind::Alive => Ok(Status::Alive),
+            ClaimKind::Suspect => Ok(Status::Suspect(self.name()?)),
+            ClaimKind::Failed => Ok(Status::Failed),
+        }
+    }
+
+    #[tactic(auto, unfolding(crate::specs::Reading::claim_at))]
+    fn claim(&mut self) -> Result<Claim, Fault>
+        ensures { Gives (λ x. (x, self.new.rest.now)) result (claim_at self.old.rest.now) }
+    {
+        let kind = self.claim_kind()?;
+        let name = self.name()?;
+        let addr = self.addr()?;
+        let incarnation = self.incarnation()?;
+        let status = self.status(kind)?;
+        Ok(Claim {
+            name,
+            addr,
+            status,
+            incarnation,
+        })
+    }
+
+    /// The count of claims.
+    fn count(&mut self) -> Result<usize, Fault>
+        ensures value { Gives (λ x. (x, self.new.rest.now)) result (count_at self.old.rest.now) }
+        ensures few { IfOk result (λ x. x ≤ 6) }
+    {
+        let [count, rest @ ..] = self.rest else {
+            return Err(Fault::Short);
+        };
+        let count = usize::from(*count);
+        if count > MAX_CLAIMS {
+            return Err(Fault::Count);
+        }
+        self.rest = rest;
+        Ok(count)
+    }
+
+    /// As many claims.
+    fn claims(&mut self, count: usize) -> Result<ArrayVec<Claim, MAX_CLAIMS>, Fault>
+        requires { count ≤ 6 }
+        ensures { Gives (λ x. (x.items, self.new.rest.now)) result (claims_at count self.old.rest.now) }
+    {
+        let mut claims = ArrayVec::new();
+        for _ in 0..count {
+            let claim = self.claim()?;
+            claims.push(claim);
+        }
+        Ok(claims)
     }
 
     #[tactic(auto, unfolding(crate::specs::Reading::packet_at))]
@@ -132,8 +232,13 @@ impl Reader<'_> {
         let kind = self.head()?;
         let sender = self.name()?;
         let body = self.body(kind)?;
-        self.count()?;
-        Ok(Packet { sender, body })
+        let count = self.count()?;
+        let claims = self.claims(count)?;
+        Ok(Packet {
+            sender,
+            body,
+            claims,
+        })
     }
 }
 

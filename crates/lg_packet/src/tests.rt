@@ -4,7 +4,7 @@ mod judge;
 use super::*;
 use arrayvec::ArrayVec;
 use judge::judge;
-use lg_rules::Name;
+use lg_rules::{Addr, Claim, Incarnation, Name, Status};
 use std::alloc::Global;
 use std::process::Abort;
 use std::test::*;
@@ -14,6 +14,31 @@ const PING: &[u8] = b"SL\x01\x01\x01a\x00\x00\x00\x07\x01b\x00";
 
 /// An Ack of `b`, numbered 7.
 const ACK: &[u8] = b"SL\x01\x03\x01b\x00\x00\x00\x07\x00";
+
+/// A Ping from `a` for `c`, that says that `c` is there.
+const ALIVE: &[u8] = b"SL\x01\x01\x01a\x00\x00\x00\x07\x01c\x01\
+    \x01\x01c\x7f\x00\x00\x01\x1b\x5b\x00\x00\x00\x00";
+
+/// An Ack of `b` that says the same.
+const ACK_ALIVE: &[u8] = b"SL\x01\x03\x01b\x00\x00\x00\x08\x01\
+    \x01\x01c\x7f\x00\x00\x01\x1b\x5b\x00\x00\x00\x00";
+
+/// A Ping in which `b` is suspected by `a` and then by `c`.
+const SUSPECTS: &[u8] = b"SL\x01\x01\x01a\x00\x00\x00\x09\x01c\x02\
+    \x02\x01b\x7f\x00\x00\x01\x1b\x58\x00\x00\x00\x00\x01a\
+    \x02\x01b\x7f\x00\x00\x01\x1b\x58\x00\x00\x00\x00\x01c";
+
+/// A Ping in which `b` is suspected at the greatest incarnation.
+const GREATEST: &[u8] = b"SL\x01\x01\x01a\x00\x00\x00\x01\x01b\x01\
+    \x02\x01b\x7f\x00\x00\x01\x1b\x58\x3b\x9a\xca\x00\x01a";
+
+/// The same with an incarnation above it.
+const ABOVE: &[u8] = b"SL\x01\x01\x01a\x00\x00\x00\x01\x01b\x01\
+    \x02\x01b\x7f\x00\x00\x01\x1b\x58\x3b\x9a\xca\x01\x01a";
+
+fn name(text: &[u8]) -> Result<Name, Fail> {
+    Ok(Name::new(text).ok().ok_or("a name")?)
+}
 
 /// Judges bytes by `decode` and by the slow judge, and writes what was read again.
 fn agree(rt: &impl Abort, alloc: Global, bytes: &[u8]) -> Result<(), Fail> {
@@ -62,11 +87,97 @@ fn near_an_ack(rt: HostRuntime) -> Result<(), Fail> {
 }
 
 #[test]
-fn values(rt: HostRuntime) -> Result<(), Fail> {
-    let (a, b) = (
-        Name::new(b"a").ok().ok_or("a name")?,
-        Name::new(b"b").ok().ok_or("a name")?,
+fn near_a_claim(rt: HostRuntime) -> Result<(), Fail> {
+    agree_near(&rt, rt.alloc(), ALIVE)?;
+    agree_near(&rt, rt.alloc(), ACK_ALIVE)
+}
+
+#[test]
+fn near_two_claims(rt: HostRuntime) -> Result<(), Fail> {
+    agree_near(&rt, rt.alloc(), SUSPECTS)
+}
+
+#[test]
+fn near_the_greatest_incarnation(rt: HostRuntime) -> Result<(), Fail> {
+    agree_near(&rt, rt.alloc(), GREATEST)?;
+    agree_near(&rt, rt.alloc(), ABOVE)
+}
+
+/// The claim that `b` at port 7000 is suspected by an accuser.
+fn suspected(b: Name, accuser: Name) -> Claim {
+    Claim {
+        name: b,
+        addr: Addr::new([127, 0, 0, 1], 7000),
+        status: Status::Suspect(accuser),
+        incarnation: Incarnation::default(),
+    }
+}
+
+#[test]
+fn claims(rt: HostRuntime) -> Result<(), Fail> {
+    let (a, b, c) = (name(b"a")?, name(b"b")?, name(b"c")?);
+    let packet = decode(SUSPECTS).ok().ok_or("the bytes are a packet")?;
+    assert_eq!(rt; packet.sender, a);
+    assert_eq!(rt;
+        packet.body,
+        Body::Ping {
+            number: 9,
+            target: c
+        }
     );
+    assert_eq!(rt;
+        packet.claims.as_slice(),
+        [suspected(b, a), suspected(b, c)].as_slice()
+    );
+    let packet = decode(ACK_ALIVE).ok().ok_or("the bytes are a packet")?;
+    let alive = Claim {
+        name: c,
+        addr: Addr::new([127, 0, 0, 1], 7003),
+        ..Claim::default()
+    };
+    assert_eq!(rt; packet.body, Body::Ack { number: 8 });
+    assert_eq!(rt; packet.claims.as_slice(), [alive].as_slice());
+    let packet = decode(GREATEST).ok().ok_or("the bytes are a packet")?;
+    for claim in &packet.claims {
+        assert_eq!(rt; claim.incarnation.number(), 1_000_000_000);
+    }
+    assert_eq!(rt; decode(ABOVE).err(), Some(Fault::Incarnation));
+    Ok(())
+}
+
+#[test]
+fn longest(rt: HostRuntime) -> Result<(), Fail> {
+    let long = name(b"ABCDEFGHIJKLMNOPabcdefghijklm._-")?;
+    let mut claims = ArrayVec::new();
+    assert!(rt;
+        claims
+            .try_extend_from_slice(&[suspected(long, long); 6])
+            .is_ok()
+    );
+    let packet = Packet {
+        sender: long,
+        body: Body::Ping {
+            number: u32::MAX,
+            target: long,
+        },
+        claims,
+    };
+    let mut out = ArrayVec::new();
+    encode(&packet, &mut out);
+    assert_eq!(rt; out.len(), 4 + 33 + 37 + 1 + 6 * 77);
+    agree(&rt, rt.alloc(), &out)?;
+    let read = decode(&out).ok().ok_or("the bytes are a packet")?;
+    assert_eq!(rt; read.sender, long);
+    assert_eq!(rt; read.claims.as_slice(), packet.claims.as_slice());
+    let mut longer = out.to_vec(rt.alloc())?;
+    longer.push(0)?;
+    assert_eq!(rt; decode(&longer).err(), Some(Fault::Trailing));
+    Ok(())
+}
+
+#[test]
+fn values(rt: HostRuntime) -> Result<(), Fail> {
+    let (a, b) = (name(b"a")?, name(b"b")?);
     let ping = decode(PING).ok().ok_or("the bytes are a Ping")?;
     assert_eq!(rt; ping.sender, a);
     assert_eq!(rt;
@@ -82,15 +193,21 @@ fn values(rt: HostRuntime) -> Result<(), Fail> {
     let ack = Packet {
         sender: b,
         body: Body::Ack { number: 7 },
+        claims: ArrayVec::new(),
     };
     encode(&ack, &mut out);
     assert_eq!(rt; out.as_slice(), ACK);
+    encode(&Packet::default(), &mut out);
+    assert_eq!(rt;
+        out.as_slice(),
+        b"SL\x01\x03\x01a\x00\x00\x00\x00\x00".as_slice()
+    );
     Ok(())
 }
 
 #[test]
 fn faults(rt: HostRuntime) -> Result<(), Fail> {
-    let rows: [(&[u8], Fault); 11] = [
+    let rows: [(&[u8], Fault); 16] = [
         (b"", Fault::Short),
         (b"S", Fault::Short),
         (b"\x00", Fault::Magic),
@@ -102,6 +219,11 @@ fn faults(rt: HostRuntime) -> Result<(), Fail> {
         (b"SL\x01\x01\x03a ", Fault::Name),
         (b"SL\x01\x01\x03aa", Fault::Short),
         (b"SL\x01\x03\x01b\x00\x00\x00\x07\x00\x00", Fault::Trailing),
+        (b"SL\x01\x03\x01b\x00\x00\x00\x07\x07", Fault::Count),
+        (b"SL\x01\x03\x01b\x00\x00\x00\x07\x06", Fault::Short),
+        (b"SL\x01\x03\x01b\x00\x00\x00\x07\x01\x04", Fault::ClaimKind),
+        (&ABOVE[..25], Fault::Short),
+        (&ABOVE[..26], Fault::Incarnation),
     ];
     for (bytes, fault) in rows {
         match decode(bytes) {

@@ -79,13 +79,13 @@ fn find<'a>(records: &'a [Record], name: &Name) -> Option<&'a Record>
 }
 
 /// What is answered to a claim that doesn't override the record of its member.
-fn keep(claim: &Claim, standing: &Record) -> Heard
-    ensures { result ≡ kept_answer claim.now (Some standing.now) }
+fn keep(claim: &Claim, record: &Record) -> Heard
+    ensures { result ≡ kept_answer claim.now (Some record.now) }
 {
-    if claim.incarnation != standing.incarnation {
+    if claim.incarnation != record.incarnation {
         return Heard::Ignored;
     }
-    match (claim.status, standing.status) {
+    match (claim.status, record.status) {
         (Status::Alive, Status::Alive) | (Status::Failed, Status::Failed) => Heard::Same,
         (Status::Suspect(_), Status::Suspect(_)) => Heard::Accused,
         _ => Heard::Ignored,
@@ -138,6 +138,15 @@ impl Members {
             own: *own,
             records: ArrayVec::new(),
         }
+    }
+
+    /// Forgets all that was heard, and begins anew under an own name.
+    pub fn restart(&mut self, own: &Name)
+        ensures { self.new ≡ members_of own.now [] }
+    {
+        let Members { own: name, records } = self;
+        *name = *own;
+        records.clear();
     }
 
     /// The own name.

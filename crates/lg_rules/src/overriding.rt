@@ -14,15 +14,15 @@ use crate::claim::{Claim, Record, Status};
 /// | Failed(i) | Alive(j) and Suspect(j), for every j |
 ///
 /// Nothing else overrides: Failed is final.
-pub fn beats(claim: &Claim, standing: &Record) -> bool
-    ensures { result ≡ beats_of claim.now standing.now }
+pub fn beats(claim: &Claim, record: &Record) -> bool
+    ensures { result ≡ beats_of claim.now record.now }
 {
     let heard = claim.incarnation.number();
-    let known = standing.incarnation.number();
-    match (claim.status, standing.status) {
+    let standing = record.incarnation.number();
+    match (claim.status, record.status) {
         (_, Status::Failed) => false,
         (Status::Failed, _) => true,
-        (Status::Suspect(_), Status::Alive) => heard >= known,
-        (Status::Suspect(_), Status::Suspect(_)) | (Status::Alive, _) => heard > known,
+        (Status::Suspect(_), Status::Alive) => heard >= standing,
+        (Status::Suspect(_), Status::Suspect(_)) | (Status::Alive, _) => heard > standing,
     }
 }

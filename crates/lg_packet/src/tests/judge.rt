@@ -12,6 +12,9 @@ enum Due {
     NameByte,
     Any,
     Count,
+    ClaimKind,
+    /// A byte of an incarnation: how many of it are there, and the number that they make.
+    Incarnation(u8, u64),
 }
 
 /// The fault of a byte where this is due, if it has one.
@@ -25,7 +28,12 @@ fn fault_of(due: Due, byte: u8) -> Option<Fault> {
             Fault::Name,
         ),
         Due::Any => (true, Fault::Short),
-        Due::Count => (byte == 0, Fault::Count),
+        Due::Count => (byte <= 6, Fault::Count),
+        Due::ClaimKind => (matches!(byte, 1..=3), Fault::ClaimKind),
+        Due::Incarnation(there, high) => {
+            let number = high.wrapping_mul(256).wrapping_add(u64::from(byte));
+            (there < 3 || number <= 1_000_000_000, Fault::Incarnation)
+        }
     };
     if stands { None } else { Some(fault) }
 }
@@ -48,7 +56,26 @@ fn bring(due: Due, byte: u8, stack: &mut Vec<Due>) -> Result<(), AllocError> {
                 stack.push(Due::NameByte)?;
             }
         }
-        Due::Exactly(..) | Due::NameByte | Due::Any | Due::Count => {}
+        Due::Count => {
+            for _ in 0..byte {
+                stack.push(Due::ClaimKind)?;
+            }
+        }
+        Due::ClaimKind => {
+            if byte == 2 {
+                stack.push(Due::Length)?;
+            }
+            stack.push(Due::Incarnation(0, 0))?;
+            for _ in 0..6 {
+                stack.push(Due::Any)?;
+            }
+            stack.push(Due::Length)?;
+        }
+        Due::Incarnation(there, high) if there < 3 => {
+            let number = high.wrapping_mul(256).wrapping_add(u64::from(byte));
+            stack.push(Due::Incarnation(there + 1, number))?;
+        }
+        Due::Exactly(..) | Due::NameByte | Due::Any | Due::Incarnation(..) => {}
     }
     Ok(())
 }

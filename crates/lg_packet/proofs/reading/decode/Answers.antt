@@ -1,6 +1,6 @@
 use Rattle.std.proofs.Common.{◌∙◌, arith}
 use Rattle.lg_packet.proofs.Packets.{found, whole_again}
-use Rattle.lg_packet.proofs.Places.{is_fault}
+use Rattle.lg_packet.proofs.PacketPlaces.{is_fault}
 use Rattle.lg_packet.proofs.reading.decode.Goals as goal
 
 pub returns-clause-found : goal.returns-clause-found

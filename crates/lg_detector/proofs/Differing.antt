@@ -1,0 +1,56 @@
+-- The records that differ once claims are heard.
+use Rattle.std.proofs.Common.{◌≡◌, ℕ, ◌≤◌, Bool, true, false, cond, List, [], ◌∷◌, length, Option, refl, sym, ap, ◌∙◌, subst, arith}
+use Rattle.std.specs.Prelude.{filter, is_some}
+use Rattle.lg_rules.specs.declared.claim.Claim.{Claim}
+use Rattle.lg_rules.specs.Rows.{name_cmp, is_same, is_among}
+use Rattle.lg_rules.specs.View.{Membership, view, told_all, news, changed}
+use Rattle.lg_rules.proofs.Changes.{changed-told, length-told}
+use Rattle.lg_timing.specs.declared.config.Config.{Config}
+use Rattle.lg_detector.specs.Marks.{Log, config, me, said, addr_in}
+use Rattle.lg_detector.specs.State.{State, state_of, come, tell_own, tell_other, tell, tell_all, membership}
+use Rattle.lg_detector.specs.Answers.{shown_of, hear}
+use Rattle.lg_detector.proofs.Hearing.{membership-tell_all}
+use Rattle.lg_detector.proofs.Shown.{view-opened}
+
+config-tell : (seed : Bool) (c : Claim) (s : State) → (tell seed c s).config ≡ s.config
+unfolding tell
+config-tell seed c s = either (is_same name_cmp c.name s.own.name)
+  where
+    either : (b : Bool) → (cond b (tell_own c s) (tell_other seed c s)).config ≡ s.config
+    either true = refl
+    either false = refl
+
+pub config-tell_all : (seed : Bool) (cs : List Claim) (s : State) → (tell_all seed cs s).config ≡ s.config
+config-tell_all seed [] s = refl
+config-tell_all seed (c ∷ cs) s = config-tell_all seed cs (tell seed c s) ∙ config-tell seed c s
+
+-- what is shown after the opening
+shown-view : (s : State) → is_some s.config ≡ true → shown_of s ≡ view (membership s)
+shown-view s opened = view-opened s.config s.own s.members.table opened
+
+abbrev among : List (List ℕ) → Claim → Bool
+among names r = is_among name_cmp r.name names
+
+pub membership-heard : (s after : State) (now : ℕ) (cs : List Claim) → after ≡ hear cs now s → membership after ≡ told_all (membership s) cs
+membership-heard s after now cs e = ap membership e ∙ membership-tell_all false cs (come now s)
+
+pub shown_few : (s after : State) (log : Log) (now : ℕ) (cs : List Claim) (names : List (List ℕ)) → s ≡ state_of log → after ≡ hear cs now s → names ≡ news (membership s) cs
+    → length cs ≤ 6 → length (filter (among names) (view (membership after))) ≤ 6
+shown_few s after log now cs names is e named few =
+    let long = length-told (me log) (addr_in (config log)) (said log) cs (membership s) (ap membership is) in
+    let whole : length (filter (among (news (membership s) cs)) (view (told_all (membership s) cs))) ≤ 6 = omega (arith, long) in
+    subst (λ (ns : List (List ℕ)). length (filter (among ns) (view (membership after))) ≤ 6) (sym named)
+    (subst (λ (m : Membership). length (filter (among (news (membership s) cs)) (view m)) ≤ 6) (sym (membership-heard s after now cs e)) whole)
+
+pub shown_differing : (s after : State) (log : Log) (now : ℕ) (cs : List Claim) (names : List (List ℕ)) → s ≡ state_of log → after ≡ hear cs now s → names ≡ news (membership s) cs
+    → is_some after.config ≡ true → filter (among names) (view (membership after)) ≡ changed (shown_of s) (shown_of (hear cs now s))
+shown_differing s after log now cs names is e named opened =
+    let differ = changed-told (me log) (addr_in (config log)) (said log) cs (membership s) (ap membership is) in
+    let was : is_some s.config ≡ true = ap is_some (sym (ap (λ (t : State). t.config) e ∙ config-tell_all false cs (come now s))) ∙ opened in
+    let then : is_some (hear cs now s).config ≡ true = ap (λ (t : State). is_some t.config) (sym e) ∙ opened in
+    ap (λ ns. filter (among ns) (view (membership after))) named
+    ∙ ap (λ m. filter (among (news (membership s) cs)) (view m)) (membership-heard s after now cs e)
+    ∙ sym differ
+    ∙ ap (λ m. changed (view (membership s)) (view m)) (sym (membership-tell_all false cs (come now s)))
+    ∙ ap (λ rows. changed rows (view (membership (hear cs now s)))) (sym (shown-view s was))
+    ∙ ap (changed (shown_of s)) (sym (shown-view (hear cs now s) then))

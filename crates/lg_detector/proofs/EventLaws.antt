@@ -1,0 +1,81 @@
+-- The states lead on as the events do, and give out the answers to them.
+use Rattle.std.proofs.Common.{◌≡◌, ℕ, Bool, true, false, List, [], ◌∷◌, ◌++◌, map, reverse, Option, Some, None, IsTrue, refl, sym, ◌∙◌, ap}
+use Rattle.std.proofs.lemmas.List.{reverse-append}
+use Rattle.lg_rules.specs.declared.claim.Claim.{Claim}
+use Rattle.lg_packet.specs.declared.packet.Body.{Body}
+use Rattle.lg_detector.specs.declared.event.Event.{Event}
+use Rattle.lg_detector.specs.declared.event.Event.TheVariants.{Open, Heard, Ask}
+use Rattle.lg_rules.specs.View.{changed}
+use Rattle.lg_detector.specs.Marks.{Log, Came, Opened, Said, Sent, config, round_start, own, view}
+use Rattle.lg_detector.specs.State.{State, state_of, come, open_with, tell, tell_all, send}
+use Rattle.lg_detector.specs.Events.{alive_seed, say, told, asked_in, acked, after, log_of, answer, ack_with, answer_by}
+use Rattle.lg_detector.specs.Answers.{state_after, answer_after, accepts_of, shown_of, hear, ack, respond, react, next, ack_out, answer_out, out}
+use Rattle.lg_detector.proofs.MarkLaws.{come-state, open-state, tell-state, send-state}
+
+pub tell_all-state : (seed : Bool) (cs : List Claim) (log : Log) → tell_all seed cs (state_of log) ≡ state_of (say seed cs log)
+tell_all-state seed [] log = refl
+tell_all-state seed (c ∷ cs) log = ap (tell_all seed cs) (tell-state seed c log) ∙ tell_all-state seed cs (Said seed c ∷ log)
+
+pub hear-state : (claims : List Claim) (now : ℕ) (log : Log) → hear claims now (state_of log) ≡ state_of (told claims now log)
+hear-state claims now log = ap (tell_all false claims) (come-state now log) ∙ tell_all-state false claims (Came now ∷ log)
+
+pub ack-state : (o : Option ℕ) (log : Log) → ack o (state_of log) ≡ state_of (acked o log)
+ack-state None log = refl
+ack-state (Some number) log = send-state _ log
+
+pub react-state : (log : Log) (e : Event) → react (state_of log) e ≡ state_of (after e log)
+unfolding react
+react-state log (Open now opening) =
+    ap (λ s. tell_all true (map alive_seed opening.seeds.items) (open_with opening s)) (come-state now log)
+    ∙ ap (tell_all true (map alive_seed opening.seeds.items)) (open-state opening (Came now ∷ log))
+    ∙ tell_all-state true (map alive_seed opening.seeds.items) (Opened opening ∷ Came now ∷ log)
+react-state log (Heard now source packet) =
+    let heard = told packet.claims.items now log in
+    ap (respond packet.body) (hear-state packet.claims.items now log) ∙ ack-state (asked_in (config heard) packet.body) heard
+react-state log (Ask now name) = come-state now log
+
+ack_out-log : (source : _) (o : Option ℕ) (log : Log) → ack_out source o (state_of log) ≡ ack_with log source o
+ack_out-log source None log = refl
+ack_out-log source (Some number) log = refl
+
+pub out-state : (log : Log) (e : Event) → out (state_of log) e ≡ answer log e
+unfolding out
+out-state log (Open now opening) = λ i. record {
+  sends = record { items = [] };
+  changed = record { items = [] };
+  answer = None;
+  ousted = (react-state log (Open now opening) i).own.ousted;
+  next = (react-state log (Open now opening) i).round_start;
+}
+out-state log (Heard now source packet) =
+    let heard = told packet.claims.items now log in
+    let heard-is = hear-state packet.claims.items now log in
+    let sends-is = ap (λ s. ack_out source (asked_in s.config packet.body) s) heard-is ∙ ack_out-log source (asked_in (config heard) packet.body) heard in
+    λ i. record {
+      sends = record { items = sends-is i };
+      changed = record { items = changed (view log) (shown_of (heard-is i)) };
+      answer = None;
+      ousted = (react-state log (Heard now source packet) i).own.ousted;
+      next = (react-state log (Heard now source packet) i).round_start;
+    }
+out-state log (Ask now name) = λ i. record {
+  sends = record { items = [] };
+  changed = record { items = [] };
+  answer = answer_by log (Ask now name);
+  ousted = (react-state log (Ask now name) i).own.ousted;
+  next = (react-state log (Ask now name) i).round_start;
+}
+
+-- an event that is accepted is reacted to
+pub next-accepted : (s : State) (e : Event) → IsTrue (accepts_of s e) → next s e ≡ react s e
+next-accepted s e accepted = rw accepted refl
+
+-- one more event
+state_after-append : (f : List Event) (e : Event) → state_of (after e (log_of (reverse f))) ≡ state_after (f ++ e ∷ [])
+state_after-append f e = sym (ap (λ (past : List Event). state_of (log_of past)) (reverse-append f (e ∷ [])))
+
+pub next-after : (f : List Event) (e : Event) → IsTrue (accepts_of (state_after f) e) → next (state_after f) e ≡ state_after (f ++ e ∷ [])
+next-after f e accepted = next-accepted (state_after f) e accepted ∙ react-state (log_of (reverse f)) e ∙ state_after-append f e
+
+pub out-after : (f : List Event) (e : Event) → out (state_after f) e ≡ answer_after f e
+out-after f e = out-state (log_of (reverse f)) e

@@ -1,0 +1,178 @@
+-- What is queued about one name, when a claim is said.
+use Rattle.std.proofs.Common.{◌≡◌, ◌≢◌, ℕ, ◌+◌, Bool, true, false, cond, map, List, [], ◌∷◌, Option, Some, None, inl, inr, refl, sym, ◌∙◌, ap}
+use Rattle.std.specs.Prelude.{option_map}
+use Rattle.std.proofs.lemmas.Bool.{cases_Bool}
+use Rattle.lg_rules.specs.Claim.{name_of}
+use Rattle.lg_rules.specs.declared.claim.Claim.{Claim}
+use Rattle.lg_rules.specs.declared.own.OwnHeard.{OwnHeard}
+use Rattle.lg_rules.specs.declared.own.OwnHeard.TheVariants.{Refuted, Raised, Ousted, Ignored}
+use Rattle.lg_rules.specs.Own.{Oneself, own_of, own_answer, answered, own_heard, own_record}
+use Rattle.lg_rules.specs.Rows.{name_cmp, is_same, is_among, put_key}
+use Rattle.lg_rules.specs.Table.{takes}
+use Rattle.lg_rules.proofs.Cases.{Missing, Holding, held, held_once}
+use Rattle.lg_rules.proofs.KeyOrder.{names_order, cases_key, same_key, other_key, key_is}
+use Rattle.lg_rules.proofs.OwnLaws.{own_of_name}
+use Rattle.lg_rules.proofs.Rises.{among-put_same, put-there}
+use Rattle.lg_rules.proofs.RowLaws.{Keyed, AgreeBut}
+use Rattle.lg_rules.proofs.Tables.{IsTaken, Taken, Kept, Out, heard_cases}
+use Rattle.lg_gossip.specs.declared.queued.Queued.{Queued}
+use Rattle.lg_gossip.specs.Queue.{fresh, queued_name, sent_once}
+use Rattle.lg_detector.specs.Marks.{Log, Came, Opened, Said, Sent, me, said, own, table, known, put_of_own, put_of_other, put_by, put_or, put_last, sends, queued}
+use Rattle.lg_detector.proofs.KnownLaws.{rises-known, own_known, known-own, known-taken, known-grows}
+
+-- What a claim puts into the queue, about oneself or another.
+pub put_by-own : (seed : Bool) (log : Log) (c : Claim) → c.name ≡ me log
+    → put_by seed log c ≡ put_of_own (own_answer c.status c.incarnation (own log).number) (own_heard (own log) c)
+unfolding put_by
+put_by-own seed log c same = rw (same_key names_order c.name (me log) same) refl
+
+pub put_by-other : (seed : Bool) (log : Log) (c : Claim) → c.name ≢ me log → put_by seed log c ≡ put_of_other seed (table log) c
+unfolding put_by
+put_by-other seed log c other = rw (other_key names_order c.name (me log) other) refl
+
+answered_name : (o : OwnHeard) (i : ℕ) (oneself : Oneself) → (answered o i oneself).name ≡ oneself.name
+answered_name Refuted i oneself = refl
+answered_name Raised i oneself = refl
+answered_name Ousted i oneself = refl
+answered_name Ignored i oneself = refl
+
+put_own_name : (o : OwnHeard) (oneself : Oneself) (p : Claim) → put_of_own o oneself ≡ Some p → p.name ≡ oneself.name
+put_own_name Refuted oneself p e = ap (λ (r : Claim). r.name) (sym (held_once (own_record oneself) p e))
+put_own_name Raised oneself p e = ap (λ (r : Claim). r.name) (sym (held_once (own_record oneself) p e))
+put_own_name Ousted oneself p e = absurd cc
+put_own_name Ignored oneself p e = absurd cc
+
+-- what a claim about oneself puts is about oneself
+pub own_put_name : (log : Log) (c p : Claim) → put_of_own (own_answer c.status c.incarnation (own log).number) (own_heard (own log) c) ≡ Some p → p.name ≡ me log
+own_put_name log c p e =
+    let answer = own_answer c.status c.incarnation (own log).number in
+    put_own_name answer (own_heard (own log) c) p e ∙ answered_name answer c.incarnation (own log) ∙ own_of_name (me log) _ (said log)
+
+-- What is queued about a name is about it.
+put_or_name : (o before : Option Claim) (m : List ℕ) (p : Claim) → (before ≡ Some p → p.name ≡ m) → put_or o m before ≡ Some p → p.name ≡ m
+put_or_name None before m p rest e = rest e
+put_or_name (Some q) before m p rest e = elim (cases_Bool (is_same name_cmp q.name m)) [
+  | inl t ↦ ap (λ (r : Claim). r.name) (sym (held_once q p (rw t at e))) ∙ key_is names_order q.name m t
+  | inr f ↦ rest (rw f at e)
+]
+
+last_name : (log : Log) (m : List ℕ) (p : Claim) → put_last log m ≡ Some p → p.name ≡ m
+last_name [] m p e = absurd cc
+last_name (Came now ∷ log) m p e = last_name log m p e
+last_name (Opened opening ∷ log) m p e = absurd cc
+last_name (Said seed c ∷ log) m p e = put_or_name (put_by seed log c) (put_last log m) m p (last_name log m p) e
+last_name (Sent taken ∷ log) m p e = last_name log m p e
+
+queued_last : (log : Log) (m : List ℕ) → put_last log m ≡ None → queued log m ≡ None
+unfolding queued
+queued_last log m e = rw e refl
+
+pub queued_keyed : (log : Log) → Keyed queued_name (queued log)
+unfolding queued
+queued_keyed log m r e = elim (held (put_last log m)) [
+  | Missing gap ↦ (let bad : None ≡ Some r = rw gap at e in absurd cc)
+  | Holding p is ↦ ap queued_name (sym (held_once _ r (rw is at e))) ∙ last_name log m p is
+]
+
+-- What is queued is known.
+taken_known : (seed : Bool) (log : Log) (c p : Claim) → takes (table log) c ≡ true → IsTaken (me log) c (said log) → put_of_other seed (table log) c ≡ Some p
+    → is_among name_cmp p.name (known (Said seed c ∷ log)) ≡ true
+taken_known true log c p test taken e = absurd cc
+taken_known false log c p test taken e =
+    let is : c ≡ p = held_once c p (rw test at e) in
+    ap (λ (q : Claim). is_among name_cmp q.name (known (Said false c ∷ log))) (sym is)
+    ∙ ap (is_among name_cmp c.name) (known-taken false log c taken)
+    ∙ among-put_same names_order c.name (known log)
+
+pub passed_none : (seed : Bool) (rows : List Claim) (c : Claim) → takes rows c ≡ false → put_of_other seed rows c ≡ None
+passed_none true rows c test = refl
+passed_none false rows c test = rw test refl
+
+pub put_is : (seed : Bool) (rows : List Claim) (c p : Claim) → put_of_other seed rows c ≡ Some p → c ≡ p
+put_is true rows c p e = absurd cc
+put_is false rows c p e = elim (cases_Bool (takes rows c)) [
+  | inl t ↦ held_once c p (rw t at e)
+  | inr f ↦ (let bad : None ≡ Some p = rw f at e in absurd cc)
+]
+
+put_other_known : (seed : Bool) (log : Log) (c p : Claim) → c.name ≢ me log → put_of_other seed (table log) c ≡ Some p
+    → is_among name_cmp p.name (known (Said seed c ∷ log)) ≡ true
+put_other_known seed log c p other e = elim (heard_cases (me log) c (said log) other) [
+  | Taken t ↦ taken_known seed log c p t.taken t e
+  | Kept k ↦ (let bad : None ≡ Some p = sym (passed_none seed (table log) c k.taken) ∙ e in absurd cc)
+  | Out o ↦ (let bad : None ≡ Some p = sym (passed_none seed (table log) c o.taken) ∙ e in absurd cc)
+]
+
+put_by_known : (seed : Bool) (log : Log) (c p : Claim) → put_by seed log c ≡ Some p → is_among name_cmp p.name (known (Said seed c ∷ log)) ≡ true
+put_by_known seed log c p e = elim (cases_key names_order c.name (me log)) [
+  | inl same ↦ (
+      let name = own_put_name log c p (sym (put_by-own seed log c same) ∙ e) in
+      ap (λ n. is_among name_cmp n (known (Said seed c ∷ log))) name ∙ ap (is_among name_cmp (me log)) (known-own seed log c same) ∙ own_known log)
+  | inr other ↦ put_other_known seed log c p other (sym (put_by-other seed log c other) ∙ e)
+]
+
+or_known : (o before : Option Claim) (m : List ℕ) (p : Claim) (names : List (List ℕ)) → ((q : Claim) → o ≡ Some q → is_among name_cmp q.name names ≡ true)
+    → (before ≡ Some p → is_among name_cmp m names ≡ true) → put_or o m before ≡ Some p → is_among name_cmp m names ≡ true
+or_known None before m p names put rest e = rest e
+or_known (Some q) before m p names put rest e = elim (cases_Bool (is_same name_cmp q.name m)) [
+  | inl t ↦ ap (λ n. is_among name_cmp n names) (sym (key_is names_order q.name m t)) ∙ put q refl
+  | inr f ↦ rest (rw f at e)
+]
+
+last_known : (log : Log) (m : List ℕ) (p : Claim) → put_last log m ≡ Some p → is_among name_cmp m (known log) ≡ true
+last_known [] m p e = absurd cc
+last_known (Came now ∷ log) m p e = last_known log m p e
+last_known (Opened opening ∷ log) m p e = absurd cc
+last_known (Said seed c ∷ log) m p e =
+    or_known (put_by seed log c) (put_last log m) m p (known (Said seed c ∷ log)) (put_by_known seed log c) (λ before. known-grows seed log c m (last_known log m p before)) e
+last_known (Sent taken ∷ log) m p e = last_known log m p e
+
+-- so nothing is queued about a name that isn't known
+pub queued_unknown : (log : Log) (m : List ℕ) → is_among name_cmp m (known log) ≡ false → queued log m ≡ None
+queued_unknown log m out = elim (held (put_last log m)) [
+  | Missing gap ↦ queued_last log m gap
+  | Holding p is ↦ (let bad : false ≡ true = sym out ∙ last_known log m p is in absurd cc)
+]
+
+-- A claim that is put is queued afresh; about other names nothing changes.
+pub queued-put : (seed : Bool) (log : Log) (c p : Claim) → put_by seed log c ≡ Some p → queued (Said seed c ∷ log) p.name ≡ Some (fresh p)
+unfolding queued
+queued-put seed log c p e = rw (e, same_key names_order p.name p.name refl) refl
+
+pub queued-put_other : (seed : Bool) (log : Log) (c p : Claim) → put_by seed log c ≡ Some p → AgreeBut p.name (queued log) (queued (Said seed c ∷ log))
+unfolding queued
+queued-put_other seed log c p e n other = rw (e, other_key names_order p.name n (λ same. other (sym same))) refl
+
+pub queued-no_put : (seed : Bool) (log : Log) (c : Claim) → put_by seed log c ≡ None → (n : List ℕ) → queued (Said seed c ∷ log) n ≡ queued log n
+unfolding queued
+queued-no_put seed log c e n = rw e refl
+
+-- A packet that holds what is queued about a name counts once.
+pub queued-sent : (log : Log) (taken : List Claim) (m : List ℕ) → queued (Sent taken ∷ log) m ≡ option_map (sent_once taken) (queued log m)
+unfolding queued
+queued-sent log taken m = elim (held (put_last log m)) [
+  | Missing gap ↦ rw gap refl
+  | Holding p is ↦ (
+      let name = last_name log m p is in
+      rw is (ap (λ n. counted p (is_among name_cmp n (map name_of taken)) (sends log m)) (sym name)))
+]
+  where
+    counted : Claim → Bool → ℕ → Option Queued
+    counted p holds n = Some record { claim = p; sends = cond holds (n + 1) n }
+
+-- What is put is about oneself or about the claim's member: the names that are known then are those before and this one.
+put_other_name : (seed : Bool) (log : Log) (c p : Claim) → put_of_other seed (table log) c ≡ Some p → c.name ≢ me log → known (Said seed c ∷ log) ≡ put_key name_cmp p.name (known log)
+put_other_name seed log c p e other = elim (heard_cases (me log) c (said log) other) [
+  | Taken t ↦ known-taken seed log c t ∙ ap (λ (q : Claim). put_key name_cmp q.name (known log)) (put_is seed (table log) c p e)
+  | Kept k ↦ (let bad : None ≡ Some p = sym (passed_none seed (table log) c k.taken) ∙ e in absurd cc)
+  | Out o ↦ (let bad : None ≡ Some p = sym (passed_none seed (table log) c o.taken) ∙ e in absurd cc)
+]
+
+pub put_by-grows : (seed : Bool) (log : Log) (c p : Claim) → put_by seed log c ≡ Some p → known (Said seed c ∷ log) ≡ put_key name_cmp p.name (known log)
+put_by-grows seed log c p e = elim (cases_key names_order c.name (me log)) [
+  | inl same ↦ (
+      let name = own_put_name log c p (sym (put_by-own seed log c same) ∙ e) in
+      let there = put-there names_order (me log) (known log) (rises-known log) (own_known log) in
+      known-own seed log c same ∙ sym (ap (λ n. put_key name_cmp n (known log)) name ∙ there))
+  | inr other ↦ put_other_name seed log c p (sym (put_by-other seed log c other) ∙ e) other
+]

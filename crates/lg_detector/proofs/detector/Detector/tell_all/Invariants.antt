@@ -1,0 +1,6 @@
+use Rattle.std.proofs.Common.{◌≤◌, length}
+use Rattle.lg_detector.proofs.HearingLoop.{IsOnTheWay}
+use Rattle.lg_detector.proofs.detector.Detector.tell_all.Given as goal
+
+abbrev pub invariant-loop-claim : goal.invariant-loop-claim
+invariant-loop-claim l = IsOnTheWay l.fn.self l.self l.claims l.claim-index l.names.items

@@ -1,0 +1,102 @@
+-- The state after an event, and the reply to it, by the state before it.
+use Rattle.std.specs.Prelude.{ℕ, Bool, true, false, ◌&&◌, not, List, [], ◌∷◌, map, reverse, Option, Some, None, nat_lt, ◌==◌, if◌then◌else◌}
+use Rattle.lg_rules.specs.declared.addr.Addr.{Addr}
+use Rattle.lg_rules.specs.declared.claim.Claim.{Claim}
+use Rattle.lg_rules.specs.Claim.{name_of}
+use Rattle.lg_rules.specs.Rows.{name_cmp, row_at}
+use Rattle.lg_rules.specs.Table.{members_in}
+use Rattle.lg_timing.specs.declared.config.Config.{Config}
+use Rattle.lg_gossip.specs.Queue.{taken_of, fill_of}
+use Rattle.lg_packet.specs.declared.packet.Body.{Body}
+use Rattle.lg_packet.specs.declared.packet.Body.TheVariants.{Ack}
+use Rattle.lg_detector.specs.declared.event.Event.{Event}
+use Rattle.lg_detector.specs.declared.event.Event.TheVariants.{Open, Heard, Ask}
+use Rattle.lg_detector.specs.declared.reply.Answer.{Answer}
+use Rattle.lg_detector.specs.declared.reply.Answer.TheVariants.{Status}
+use Rattle.lg_detector.specs.declared.reply.Outgoing.{Outgoing}
+use Rattle.lg_detector.specs.declared.reply.Reply.{Reply}
+use Rattle.lg_rules.specs.View.{changed}
+use Rattle.lg_detector.specs.Marks.{view_in, view, config, round_start}
+use Rattle.lg_detector.specs.Events.{log_of, answer, alive_seed, asked_in, is_open, opens_well}
+use Rattle.lg_detector.specs.State.{State, state_of, come, open_with, tell_all, send}
+
+-- the state and the answer after these events, the earliest first
+abbrev pub state_after : List Event → State
+state_after f = state_of (log_of (reverse f))
+
+abbrev pub answer_after : List Event → Event → Reply
+answer_after f e = answer (log_of (reverse f)) e
+
+-- the table and the least open deadline after them
+abbrev pub view_after : List Event → List Claim
+view_after f = view (log_of (reverse f))
+
+abbrev pub deadline_in : Option Config → ℕ → Option ℕ
+deadline_in None start = None
+deadline_in (Some opening) start = Some start
+
+abbrev pub deadline_after : List Event → Option ℕ
+deadline_after f = let log = log_of (reverse f) in deadline_in (config log) (round_start log)
+
+abbrev pub deadline_of : State → Option ℕ
+deadline_of s = deadline_in s.config s.round_start
+
+-- a good opening is the first event, and there is never another
+abbrev pub accepts_of : State → Event → Bool
+accepts_of s e = if s.events == 0 then opens_well e else (not (is_open e) && nat_lt s.events 4000000000)
+
+-- the table that is seen of a state
+abbrev pub shown_of : State → List Claim
+shown_of s = view_in s.config s.own s.members.table
+
+-- claims are heard
+abbrev pub hear : List Claim → ℕ → State → State
+hear claims now s = tell_all false claims (come now s)
+
+-- an Ack is sent where one is asked for
+abbrev pub ack : Option ℕ → State → State
+ack None s = s
+ack (Some number) s = send (taken_of s.queue None (members_in s.members.table)) s
+
+abbrev pub respond : Body → State → State
+respond body s = ack (asked_in s.config body) s
+
+unfoldable pub react : State → Event → State
+react s (Open now opening) = tell_all true (map alive_seed opening.seeds.items) (open_with opening (come now s))
+react s (Heard now source packet) = respond packet.body (hear packet.claims.items now s)
+react s (Ask now name) = come now s
+
+-- the state after an event; one that isn't accepted changes nothing
+abbrev pub next : State → Event → State
+next s e = if accepts_of s e then react s e else s
+
+-- the parts of the reply
+abbrev pub ack_out : Addr → Option ℕ → State → List Outgoing
+ack_out source None s = []
+ack_out source (Some number) s =
+    record { to = source; packet = record { sender = s.members.own; body = Ack number; claims = record { items = fill_of s.queue None (members_in s.members.table) } } } ∷ []
+
+abbrev pub sends_out : State → Event → List Outgoing
+sends_out s (Open now opening) = []
+sends_out s (Heard now source packet) = let heard = hear packet.claims.items now s in ack_out source (asked_in heard.config packet.body) heard
+sends_out s (Ask now name) = []
+
+abbrev pub changed_out : State → Event → List Claim
+changed_out s (Open now opening) = []
+changed_out s (Heard now source packet) = changed (shown_of s) (shown_of (hear packet.claims.items now s))
+changed_out s (Ask now name) = []
+
+abbrev pub answer_out : State → Event → Option Answer
+answer_out s (Open now opening) = None
+answer_out s (Heard now source packet) = None
+answer_out s (Ask now name) = Some (Status (row_at name_cmp name_of name (shown_of s)))
+
+-- the reply to an event
+unfoldable pub out : State → Event → Reply
+out s e = record {
+  sends = record { items = sends_out s e };
+  changed = record { items = changed_out s e };
+  answer = answer_out s e;
+  ousted = (react s e).own.ousted;
+  next = (react s e).round_start;
+}

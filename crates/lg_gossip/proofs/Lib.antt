@@ -1,0 +1,9 @@
+pub mod Counting
+pub mod Digits
+pub mod Distinct
+pub mod Each
+pub mod Filling
+pub mod RowsByName
+pub mod Soundness
+pub mod Taken
+pub mod Turns

@@ -1,0 +1,77 @@
+-- A queue stays sound.
+use Rattle.std.proofs.Common.{◌≡◌, ℕ, true, Option, inl, inr, ◌*◌, ◌<◌, ◌≤◌, List, [], ◌∷◌, map, refl, sym, ap, subst, arith}
+use Rattle.std.specs.List.{AllByRecursion}
+use Rattle.lg_rules.specs.declared.claim.Claim.{Claim}
+use Rattle.lg_rules.specs.Claim.{name_of}
+use Rattle.lg_rules.specs.Rows.{name_cmp, is_among, put_row, put_key}
+use Rattle.lg_rules.proofs.Tests.{both}
+use Rattle.std.proofs.lemmas.Bool.{cases_Bool, ltb-true}
+use Rattle.std.specs.Prelude.{nat_lt}
+use Rattle.lg_rules.proofs.Cases.{Below, Tied, Above, compared}
+use Rattle.lg_rules.proofs.KeyOrder.{names_order}
+use Rattle.lg_rules.proofs.Rises.{Rises, rises-put}
+use Rattle.lg_gossip.specs.declared.queued.Queued.{Queued}
+use Rattle.lg_gossip.specs.Queue.{queued_name, queued_claim, fresh, is_beside, may_go, rows_taken, sent_once}
+use Rattle.lg_gossip.proofs.Each.{all-both}
+use Rattle.lg_gossip.proofs.Taken.{may_when_taken}
+use Rattle.lg_gossip.specs.Sound.{AreWithin, IsSound}
+
+-- the names of rows with one put
+names-put : (r : Queued) (rows : List Queued) → map queued_name (put_row name_cmp queued_name r rows) ≡ put_key name_cmp (queued_name r) (map queued_name rows)
+names-put r [] = refl
+names-put r (x ∷ xs) = elim (compared (name_cmp (queued_name r) (queued_name x))) [
+  | Below l ↦ rw l refl
+  | Tied t ↦ rw t refl
+  | Above a ↦ rw a (ap (λ ns. queued_name x ∷ ns) (names-put r xs))
+]
+
+within-put : (most : ℕ) (r : Queued) (rows : List Queued) → r.sends ≤ most → AllByRecursion (λ q. q.sends ≤ most) rows → AllByRecursion (λ q. q.sends ≤ most) (put_row name_cmp queued_name r rows)
+within-put most r [] l w = (l, tt)
+within-put most r (x ∷ xs) l w = elim (compared (name_cmp (queued_name r) (queued_name x))) [
+  | Below e ↦ rw e (l, w)
+  | Tied e ↦ rw e (l, w.1)
+  | Above e ↦ rw e (w.0, within-put most r xs l w.1)
+]
+
+pub sound-put : (lambda : ℕ) (c : Claim) (rows : List Queued) → IsSound lambda rows → IsSound lambda (put_row name_cmp queued_name (fresh c) rows)
+sound-put lambda c rows s = record {
+  often = s.often;
+  in_order = subst (Rises name_cmp) (sym (names-put (fresh c) rows)) (rises-put names_order c.name (map queued_name rows) s.in_order);
+  within = within-put (lambda * 3) (fresh c) rows (omega arith) s.within;
+}
+
+-- so no row was sent more than thirty times
+pub below_thirty : (lambda : ℕ) (rows : List Queued) → lambda ≤ 10 → AreWithin lambda rows → AllByRecursion (λ q. q.sends ≤ 30) rows
+below_thirty lambda [] often w = tt
+below_thirty lambda (q ∷ qs) often w = (omega (arith, w.0), below_thirty lambda qs often w.1)
+
+-- the names of rows after a packet
+names-sent : (taken : List Claim) (rows : List Queued) → map queued_name (map (sent_once taken) rows) ≡ map queued_name rows
+names-sent taken [] = refl
+names-sent taken (q ∷ qs) = ap (λ ns. queued_name q ∷ ns) (names-sent taken qs)
+
+-- a row that may go was sent fewer times than the limit
+below_limit : (buddy : Option Claim) (limit : ℕ) (q : Queued) → may_go buddy limit q ≡ true → q.sends < limit
+below_limit buddy limit q e = ltb-true q.sends limit (both (nat_lt q.sends limit) (is_beside buddy q) e).0
+
+within-sent : (taken : List Claim) (limit most : ℕ) (rows : List Queued) → limit ≤ most
+    → AllByRecursion (λ q. q.sends ≤ most) rows → AllByRecursion (λ q. is_among name_cmp (queued_name q) (map name_of taken) ≡ true → q.sends < limit) rows
+    → AllByRecursion (λ q. q.sends ≤ most) (map (sent_once taken) rows)
+within-sent taken limit most [] l w t = tt
+within-sent taken limit most (q ∷ qs) l w t = (here, within-sent taken limit most qs l w.1 t.1)
+  where
+    here : (sent_once taken q).sends ≤ most
+    here = elim (cases_Bool (is_among name_cmp (queued_name q) (map name_of taken))) [
+      | inl a ↦ rw a (omega (arith, t.0 a))
+      | inr n ↦ rw n w.0
+    ]
+
+pub sound-sent : (lambda limit : ℕ) (buddy : Option Claim) (rows : List Queued) → limit ≤ lambda * 3 → IsSound lambda rows
+    → IsSound lambda (map (sent_once (map queued_claim (rows_taken buddy limit rows))) rows)
+sound-sent lambda limit buddy rows l s =
+    let taken = map queued_claim (rows_taken buddy limit rows) in
+    record {
+      often = s.often;
+      in_order = subst (Rises name_cmp) (sym (names-sent taken rows)) s.in_order;
+      within = within-sent taken limit (lambda * 3) rows l s.within (all-both _ _ _ rows (λ q w m a. below_limit buddy limit q (m a)) s.within (may_when_taken buddy limit rows s.in_order));
+    }

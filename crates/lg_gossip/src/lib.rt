@@ -1,0 +1,13 @@
+//! What is told along with the packets that a member sends (SWIM, section 4.1; Lifeguard's buddy system).
+#![tactic(auto)]
+
+mod choice;
+mod limit;
+mod queue;
+mod queued;
+
+pub use queue::{MAX_CLAIMS, MAX_QUEUED, Queue};
+pub use queued::Queued;
+
+#[cfg(test)]
+mod tests;

@@ -1,0 +1,134 @@
+//! The queue of claims.
+ghost use Rattle.std.specs.Prelude.{◌≡◌, ◌≤◌, ◌<◌, [], length, map, None, option_copied};
+ghost use Rattle.std.specs.List.{AllByRecursion, IsDistinct};
+ghost use Rattle.arrayvec.specs.ArrayVec.{array_vec_len};
+ghost use Rattle.lg_rules.specs.Rows.{name_cmp, is_same, row_at, put_row};
+ghost use Rattle.lg_rules.specs.Claim.{name_of};
+ghost use Rattle.lg_gossip.specs.Queue.{queued_name, queued_claim, put_of, fill_of, filled, sent_once};
+
+use crate::choice::{buddy_of, claims_of, rows_taken};
+use crate::limit::send_limit;
+use crate::queued::Queued;
+use arrayvec::ArrayVec;
+use lg_rules::{Claim, Record, seat_of};
+use std::marker::Model;
+
+/// The most claims of a packet: 6 (this project's choice).
+pub const MAX_CLAIMS: usize = 6;
+
+/// The most claims of a queue, one a member: 256 (this project's choice).
+pub const MAX_QUEUED: usize = 256;
+
+/// The claims that packets take with them (SWIM, section 4.1), one a member, in the order of the members'
+/// names.
+///
+/// A claim may be sent `lambda` times for each decimal digit of the number of members (SWIM takes a
+/// logarithm; the digits are this project's choice). It stays in the queue when it was sent so often, since
+/// more members may let it be sent again. No call takes memory. A contract sees `lambda` and the list of the
+/// claims with their sends.
+#[derive(Debug, Drop)]
+pub struct Queue {
+    lambda: u64,
+    rows: ArrayVec<Queued, MAX_QUEUED>,
+}
+
+impl Model for Queue {
+    ghost use Rattle.lg_gossip.specs.Queue.{GossipQueue};
+
+    ghost Value = { GossipQueue };
+
+    ghost use Rattle.lg_gossip.specs.Sound.{IsSound};
+
+    ghost view = { λ q. record { lambda = q.lambda; rows = q.rows.items } };
+
+    ghost invariant = { λ q. IsSound q.lambda q.rows.items };
+}
+
+/// Puts a row in the place of its name.
+fn put_row(rows: &mut ArrayVec<Queued, MAX_QUEUED>, queued: Queued)
+    requires { (row_at name_cmp queued_name queued.claim.name rows.old.items ≡ None) → array_vec_len rows.old < 256 }
+    ensures { rows.new.items ≡ put_row name_cmp queued_name queued rows.old.items }
+{
+    match seat_of(rows.as_slice(), &queued.claim.name) {
+        Ok(at) => rows[at] = queued,
+        Err(at) => rows.insert(at, queued),
+    }
+}
+
+/// Counts a packet that took these rows.
+fn count(rows: &mut [Queued], taken: &[Queued])
+    requires { AllByRecursion (λ q. q.sends ≤ 30) rows.old }
+    ensures { rows.new ≡ map (sent_once (map queued_claim taken.now)) rows.old }
+{
+    for row in rows.iter_mut() {
+        row.count(taken);
+    }
+}
+
+/// Counts it in the queue.
+fn count_all(rows: &mut ArrayVec<Queued, MAX_QUEUED>, taken: &[Queued])
+    requires { AllByRecursion (λ q. q.sends ≤ 30) rows.old.items }
+    ensures { rows.new.items ≡ map (sent_once (map queued_claim taken.now)) rows.old.items }
+{
+    count(rows.as_mut_slice(), taken);
+}
+
+impl Queue {
+    /// An empty queue whose claims may be sent `lambda` times for each decimal digit of the number of
+    /// members. `lambda` is at most 10.
+    pub fn new(lambda: u64) -> Queue
+        requires { lambda ≤ 10 }
+        ensures { result ≡ record { lambda = lambda; rows = [] } }
+    {
+        Queue {
+            lambda,
+            rows: ArrayVec::new(),
+        }
+    }
+
+    /// The claims with their sends, in the order of the members' names.
+    pub fn queued(&self) -> &[Queued]
+        ensures { result.now ≡ self.now.rows }
+    {
+        self.rows.as_slice()
+    }
+
+    /// Forgets all claims, and begins anew with another `lambda`, at most 10.
+    pub fn restart(&mut self, lambda: u64)
+        requires { lambda ≤ 10 }
+        ensures { self.new ≡ record { lambda = lambda; rows = [] } }
+    {
+        let Queue { lambda: factor, rows } = self;
+        *factor = lambda;
+        rows.clear();
+    }
+
+    /// Queues a claim with no sends, in the place of an older one about its member.
+    ///
+    /// Either a claim about its member is queued already, or fewer than 256 claims are.
+    pub fn put(&mut self, claim: Claim)
+        requires { (row_at name_cmp queued_name claim.name self.old.rows ≡ None) → length self.old.rows < 256 }
+        ensures { self.new ≡ put_of claim self.old }
+    {
+        put_row(&mut self.rows, Queued::fresh(claim));
+    }
+
+    /// The claims of the next packet, where `members`, at most 256, haven't failed, oneself included.
+    ///
+    /// They are the claims that were sent fewer times than the limit, by their sends and then by their
+    /// names, the first six. Each of them counts as sent once more. Where `to` is the record of the member
+    /// that a Ping goes to, and is Suspect, that record stands first (Lifeguard's buddy system). It doesn't
+    /// count as sent, and the queue's claim about that member is passed over, so at most five others follow.
+    pub fn fill(&mut self, to: Option<&Record>, members: usize) -> ArrayVec<Claim, MAX_CLAIMS>
+        requires { members ≤ 256 }
+        ensures apart { IsDistinct (is_same name_cmp) (map name_of result.items) }
+        ensures claims { result.items ≡ fill_of self.old (option_copied to.entry) members }
+        ensures queue { self.new ≡ filled self.old (option_copied to.entry) members }
+    {
+        let buddy = buddy_of(to);
+        let limit = send_limit(self.lambda, members);
+        let taken = rows_taken(self.rows.as_slice(), &buddy, limit);
+        count_all(&mut self.rows, taken.as_slice());
+        claims_of(&buddy, taken.as_slice())
+    }
+}

@@ -1,0 +1,216 @@
+-- The fields of claims: what is read is spelled so, and what is spelled so is read again.
+use Rattle.std.proofs.Common.{◌≡◌, ℕ, zero, suc, ◌^◌, ◌<◌, ◌≤◌, Bool, true, false, cond, eqb, ltb, List, [], ◌∷◌, ◌++◌, length, Some, None, Ok, Err, refl, sym, ap, subst, ◌∙◌, append_assoc, arith, length-append}
+use Rattle.std.specs.Int.{w16, w32, byte_at, from_be_bytes, to_be_bytes}
+use Rattle.std.specs.List.{flat_map, AllByRecursion}
+use Rattle.std.proofs.lemmas.Bool.{eqb-true, le-ltb, ltb-false}
+use Rattle.std.proofs.lemmas.List.{take_at, drop_at}
+use Rattle.std.proofs.lemmas.List.Concat.{flat_map-cons}
+use Rattle.std.proofs.lemmas.Nat.{be_bytes_2, from_be_bytes-to_be_bytes_2}
+use Rattle.lg_rules.specs.declared.addr.Addr.{Addr}
+use Rattle.lg_rules.specs.declared.claim.Claim.{Claim}
+use Rattle.lg_rules.specs.declared.claim.Status.{Status}
+use Rattle.lg_rules.specs.declared.claim.Status.TheVariants.{Alive, Suspect, Failed}
+use Rattle.lg_packet.specs.declared.fault.Fault.TheVariants as faults
+use Rattle.lg_packet.specs.declared.kind.ClaimKind.{ClaimKind}
+use Rattle.lg_packet.specs.declared.kind.ClaimKind.TheVariants as claims
+use Rattle.lg_packet.specs.Spelling.{claim_kind_of, byte_of_claim_kind, spelled_name, spelled_number, spelled_addr, spelled_accuser, spelled_claim, IsAddr, IsStatus, IsClaim}
+use Rattle.lg_packet.specs.Reading.{◌>>=◌, number_at, name_at, octets_at, addr_at, incarnation_at, claim_kind_before, claim_kind_at, status_at, claim_at, claims_at}
+use Rattle.lg_packet.proofs.Outcomes.{step_ok, passed_by, same_ok}
+use Rattle.lg_packet.proofs.NameFields.{name_read, name_again}
+use Rattle.lg_packet.proofs.Fields.{AreBytes, behind, number_read, number_again}
+
+-- ---- addresses
+
+pub octets_there : (a b c d : ℕ) (rest : List ℕ) → octets_at (a ∷ b ∷ c ∷ d ∷ rest) ≡ Ok (a ∷ b ∷ c ∷ d ∷ [], rest)
+octets_there a b c d rest =
+    let enough : ltb (length (a ∷ b ∷ c ∷ d ∷ rest)) 4 ≡ false = le-ltb (length (a ∷ b ∷ c ∷ d ∷ rest)) 4 (omega arith) in
+    rw enough refl
+
+-- four bytes that were read
+pub record AreOctets (octets : List ℕ) : Type 0 where
+  pub four : length octets ≡ 4
+  pub bytes : AllByRecursion (λ b. b < 256) octets
+
+octets_read : (bytes : List ℕ) (x : List ℕ × List ℕ) → AreBytes bytes → octets_at bytes ≡ Ok x → (bytes ≡ x.0 ++ x.1) × AreOctets x.0
+octets_read [] x fit e = absurd cc
+octets_read (a ∷ []) x fit e = absurd cc
+octets_read (a ∷ b ∷ []) x fit e = absurd cc
+octets_read (a ∷ b ∷ c ∷ []) x fit e = absurd cc
+octets_read (a ∷ b ∷ c ∷ d ∷ rest) x fit e =
+    let four = a ∷ b ∷ c ∷ d ∷ [] in
+    subst (λ (y : List ℕ × List ℕ). (four ++ rest ≡ y.0 ++ y.1) × AreOctets y.0) (same_ok (four, rest) x (sym (octets_there a b c d rest) ∙ e)) (refl, record { four = refl; bytes = (fit 0, (fit 1, (fit 2, (fit 3, tt)))) })
+
+octets_again : (octets rest : List ℕ) → length octets ≡ 4 → octets_at (octets ++ rest) ≡ Ok (octets, rest)
+octets_again octets rest four =
+    let enough : ltb (length (octets ++ rest)) 4 ≡ false = le-ltb (length (octets ++ rest)) 4 (omega (arith, length-append octets rest)) in
+    rw (enough, take_at octets rest 4 four, drop_at octets rest 4 four) refl
+
+pub port_there : (a b : ℕ) (rest : List ℕ) → number_at w16 (a ∷ b ∷ rest) ≡ Ok (from_be_bytes w16 (a ∷ b ∷ []), rest)
+port_there a b rest =
+    let enough : ltb (length (a ∷ b ∷ rest)) 2 ≡ false = le-ltb (length (a ∷ b ∷ rest)) 2 (omega arith) in
+    rw enough refl
+
+port_read : (bytes : List ℕ) (x : ℕ × List ℕ) → AreBytes bytes → number_at w16 bytes ≡ Ok x → (bytes ≡ to_be_bytes w16 x.0 ++ x.1) × (x.0 < 2 ^ 16)
+port_read [] x fit e = absurd cc
+port_read (a ∷ []) x fit e = absurd cc
+port_read (a ∷ b ∷ rest) x fit e =
+    let two = a ∷ b ∷ [] in
+    let written : to_be_bytes w16 (from_be_bytes w16 two) ≡ two = be_bytes_2 two (from_be_bytes w16 two) refl front_fits refl in
+    let below : from_be_bytes w16 two < 2 ^ 16 = omega (arith, fit 0, fit 1) in
+    subst (λ (y : ℕ × List ℕ). (two ++ rest ≡ to_be_bytes w16 y.0 ++ y.1) × (y.0 < 2 ^ 16)) (same_ok (from_be_bytes w16 two, rest) x (sym (port_there a b rest) ∙ e)) (ap (λ (t : List ℕ). t ++ rest) (sym written), below)
+  where
+    front_fits : AreBytes (a ∷ b ∷ [])
+    front_fits zero = fit 0
+    front_fits (suc zero) = fit 1
+    front_fits (suc (suc i)) = omega arith
+
+port_again : (n : ℕ) (rest : List ℕ) → n < 2 ^ 16 → number_at w16 (to_be_bytes w16 n ++ rest) ≡ Ok (n, rest)
+port_again n rest fit = port_there (byte_at 1 n) (byte_at 0 n) rest ∙ rw (from_be_bytes-to_be_bytes_2 n fit) refl
+
+addr_read : (bytes : List ℕ) (x : Addr × List ℕ) → AreBytes bytes → addr_at bytes ≡ Ok x → (bytes ≡ spelled_addr x.0 ++ x.1) × IsAddr x.0
+unfolding addr_at
+addr_read bytes x fit e =
+    let a = step_ok (octets_at bytes) (λ octets. number_at w16 octets.1 >>= λ port. Ok (record { octets = octets.0; port = port.0 }, port.1)) x e in
+    let b = step_ok (number_at w16 a.0.1) (λ port. Ok (record { octets = a.0.0; port = port.0 }, port.1)) x a.2 in
+    let octets = octets_read bytes a.0 fit a.1 in
+    let port = port_read a.0.1 b.0 (behind a.0.0 a.0.1 (subst AreBytes octets.0 fit)) b.1 in
+    let made : Addr = record { octets = a.0.0; port = b.0.0 } in
+    let whole : bytes ≡ spelled_addr made ++ b.0.1 = octets.0 ∙ ap (λ (t : List ℕ). a.0.0 ++ t) port.0 ∙ sym (append_assoc a.0.0 (to_be_bytes w16 b.0.0) b.0.1) in
+    subst (λ (y : Addr × List ℕ). (bytes ≡ spelled_addr y.0 ++ y.1) × IsAddr y.0) (same_ok (made, b.0.1) x b.2) (whole, record { four = octets.1.four; octets = octets.1.bytes; port = port.1 })
+
+addr_again : (addr : Addr) (rest : List ℕ) → IsAddr addr → addr_at (spelled_addr addr ++ rest) ≡ Ok (addr, rest)
+unfolding addr_at
+addr_again addr rest fit =
+    ap addr_at (append_assoc addr.octets (to_be_bytes w16 addr.port) rest)
+    ∙ rw (octets_again addr.octets (to_be_bytes w16 addr.port ++ rest) fit.four, port_again addr.port rest fit.port) refl
+
+-- ---- incarnations
+
+incarnation_read : (bytes : List ℕ) (x : ℕ × List ℕ) → AreBytes bytes → incarnation_at bytes ≡ Ok x → (bytes ≡ spelled_number x.0 ++ x.1) × (x.0 ≤ 1000000000)
+unfolding incarnation_at
+incarnation_read bytes x fit e =
+    let a = step_ok (number_at w32 bytes) (λ number. cond (ltb 1000000000 number.0) (Err faults.Incarnation) (Ok number)) x e in
+    let b = passed_by (ltb 1000000000 a.0.0) faults.Incarnation (Ok a.0) x a.2 in
+    let number = number_read bytes a.0 fit a.1 in
+    subst (λ (y : ℕ × List ℕ). (bytes ≡ spelled_number y.0 ++ y.1) × (y.0 ≤ 1000000000)) (same_ok a.0 x b.1) (number.0, ltb-false 1000000000 a.0.0 b.0)
+
+incarnation_again : (n : ℕ) (rest : List ℕ) → n ≤ 1000000000 → incarnation_at (spelled_number n ++ rest) ≡ Ok (n, rest)
+unfolding incarnation_at
+incarnation_again n rest fit = rw (number_again n rest (omega arith), le-ltb 1000000000 n fit) refl
+
+-- ---- kinds and statuses
+
+claim_kind_read : (bytes : List ℕ) (x : ClaimKind × List ℕ) → claim_kind_at bytes ≡ Ok x → bytes ≡ byte_of_claim_kind x.0 ∷ x.1
+claim_kind_read [] x e = absurd cc
+claim_kind_read (b ∷ bytes) x e = step (eqb b 1) refl (eqb b 2) refl (eqb b 3) refl e
+  where
+    is : (n : ℕ) (kind : ClaimKind) → byte_of_claim_kind kind ≡ n → eqb b n ≡ true → claim_kind_before bytes (Some kind) ≡ Ok x → b ∷ bytes ≡ byte_of_claim_kind x.0 ∷ x.1
+    is n kind byte h k =
+        let here : b ≡ byte_of_claim_kind kind = eqb-true b n h ∙ sym byte in
+        subst (λ (y : ClaimKind × List ℕ). b ∷ bytes ≡ byte_of_claim_kind y.0 ∷ y.1) (same_ok (kind, bytes) x k) (ap (λ (m : ℕ). m ∷ bytes) here)
+
+    step : (one : Bool) → eqb b 1 ≡ one → (two : Bool) → eqb b 2 ≡ two → (three : Bool) → eqb b 3 ≡ three
+        → claim_kind_before bytes (cond one (Some claims.Alive) (cond two (Some claims.Suspect) (cond three (Some claims.Failed) None))) ≡ Ok x → b ∷ bytes ≡ byte_of_claim_kind x.0 ∷ x.1
+    step true h two i three j k = is 1 claims.Alive refl h k
+    step false h true i three j k = is 2 claims.Suspect refl i k
+    step false h false i true j k = is 3 claims.Failed refl j k
+    step false h false i false j k = absurd cc
+
+claim_kind_again : (kind : ClaimKind) (rest : List ℕ) → claim_kind_at (byte_of_claim_kind kind ∷ rest) ≡ Ok (kind, rest)
+claim_kind_again claims.Alive rest = refl
+claim_kind_again claims.Suspect rest = refl
+claim_kind_again claims.Failed rest = refl
+
+-- a status that was read: its accuser, and its kind
+pub record IsRead (kind : ClaimKind) (bytes : List ℕ) (x : Status × List ℕ) : Type 0 where
+  pub whole : bytes ≡ spelled_accuser x.0 ++ x.1
+  pub status : IsStatus x.0
+  pub same : claim_kind_of x.0 ≡ kind
+
+status_read : (kind : ClaimKind) (bytes : List ℕ) (x : Status × List ℕ) → status_at kind bytes ≡ Ok x → IsRead kind bytes x
+unfolding status_at
+status_read claims.Alive bytes x e = subst (λ y. IsRead claims.Alive bytes y) (same_ok (Alive, bytes) x e) (record { whole = refl; status = tt; same = refl })
+status_read claims.Suspect bytes x e =
+    let a = step_ok (name_at bytes) (λ accuser. Ok (Suspect accuser.0, accuser.1)) x e in
+    let name = name_read bytes a.0 a.1 in
+    subst (λ y. IsRead claims.Suspect bytes y) (same_ok (Suspect a.0.0, a.0.1) x a.2) (record { whole = name.0; status = name.1; same = refl })
+status_read claims.Failed bytes x e = subst (λ y. IsRead claims.Failed bytes y) (same_ok (Failed, bytes) x e) (record { whole = refl; status = tt; same = refl })
+
+status_again : (status : Status) (rest : List ℕ) → IsStatus status → status_at (claim_kind_of status) (spelled_accuser status ++ rest) ≡ Ok (status, rest)
+unfolding status_at
+status_again Alive rest fit = refl
+status_again (Suspect accuser) rest fit = rw (name_again accuser rest fit) refl
+status_again Failed rest fit = refl
+
+-- ---- claims
+
+regrouped : (c : Claim) (rest : List ℕ) → spelled_claim c ++ rest
+    ≡ byte_of_claim_kind (claim_kind_of c.status) ∷ (spelled_name c.name ++ (spelled_addr c.addr ++ (spelled_number c.incarnation ++ (spelled_accuser c.status ++ rest))))
+regrouped c rest =
+    let after_addr = spelled_number c.incarnation ++ spelled_accuser c.status in
+    ap (λ (t : List ℕ). byte_of_claim_kind (claim_kind_of c.status) ∷ t)
+    (append_assoc (spelled_name c.name) (spelled_addr c.addr ++ after_addr) rest
+    ∙ ap (λ (t : List ℕ). spelled_name c.name ++ t) (append_assoc (spelled_addr c.addr) after_addr rest))
+
+-- fields one behind the other make a claim
+joined : (kind : ClaimKind) (c : Claim) (bytes after_kind after_name after_addr after_incarnation rest : List ℕ) → bytes ≡ byte_of_claim_kind kind ∷ after_kind → after_kind ≡ spelled_name c.name ++ after_name
+    → after_name ≡ spelled_addr c.addr ++ after_addr → after_addr ≡ spelled_number c.incarnation ++ after_incarnation → after_incarnation ≡ spelled_accuser c.status ++ rest → claim_kind_of c.status ≡ kind
+    → bytes ≡ spelled_claim c ++ rest
+joined kind c bytes after_kind after_name after_addr after_incarnation rest e name addr incarnation accuser same =
+    e ∙ ap (λ k. byte_of_claim_kind k ∷ after_kind) (sym same)
+    ∙ ap (λ (t : List ℕ). byte_of_claim_kind (claim_kind_of c.status) ∷ t) (name ∙ ap (λ (t : List ℕ). spelled_name c.name ++ t) (addr ∙ ap (λ (t : List ℕ). spelled_addr c.addr ++ t) (incarnation ∙ ap (λ (t : List ℕ). spelled_number c.incarnation ++ t) accuser)))
+    ∙ sym (regrouped c rest)
+
+claim_read : (bytes : List ℕ) (x : Claim × List ℕ) → AreBytes bytes → claim_at bytes ≡ Ok x → (bytes ≡ spelled_claim x.0 ++ x.1) × IsClaim x.0
+unfolding claim_at
+claim_read bytes x fit e =
+    let a = step_ok (claim_kind_at bytes) (λ kind. name_at kind.1 >>= λ name. addr_at name.1 >>= λ addr. incarnation_at addr.1 >>= λ incarnation. status_at kind.0 incarnation.1 >>= λ status.
+    Ok (record { name = name.0; addr = addr.0; status = status.0; incarnation = incarnation.0 }, status.1)) x e in
+    let b = step_ok (name_at a.0.1) (λ name. addr_at name.1 >>= λ addr. incarnation_at addr.1 >>= λ incarnation. status_at a.0.0 incarnation.1 >>= λ status.
+    Ok (record { name = name.0; addr = addr.0; status = status.0; incarnation = incarnation.0 }, status.1)) x a.2 in
+    let d = step_ok (addr_at b.0.1) (λ addr. incarnation_at addr.1 >>= λ incarnation. status_at a.0.0 incarnation.1 >>= λ status.
+    Ok (record { name = b.0.0; addr = addr.0; status = status.0; incarnation = incarnation.0 }, status.1)) x b.2 in
+    let f = step_ok (incarnation_at d.0.1) (λ incarnation. status_at a.0.0 incarnation.1 >>= λ status.
+    Ok (record { name = b.0.0; addr = d.0.0; status = status.0; incarnation = incarnation.0 }, status.1)) x d.2 in
+    let g = step_ok (status_at a.0.0 f.0.1) (λ status. Ok (record { name = b.0.0; addr = d.0.0; status = status.0; incarnation = f.0.0 }, status.1)) x f.2 in
+    let kind = claim_kind_read bytes a.0 a.1 in
+    let behind_kind : AreBytes a.0.1 = behind (byte_of_claim_kind a.0.0 ∷ []) a.0.1 (subst AreBytes kind fit) in
+    let name = name_read a.0.1 b.0 b.1 in
+    let behind_name : AreBytes b.0.1 = behind (spelled_name b.0.0) b.0.1 (subst AreBytes name.0 behind_kind) in
+    let addr = addr_read b.0.1 d.0 behind_name d.1 in
+    let behind_addr : AreBytes d.0.1 = behind (spelled_addr d.0.0) d.0.1 (subst AreBytes addr.0 behind_name) in
+    let incarnation = incarnation_read d.0.1 f.0 behind_addr f.1 in
+    let status = status_read a.0.0 f.0.1 g.0 g.1 in
+    let made : Claim = record { name = b.0.0; addr = d.0.0; status = g.0.0; incarnation = f.0.0 } in
+    let whole = joined a.0.0 made bytes a.0.1 b.0.1 d.0.1 f.0.1 g.0.1 kind name.0 addr.0 incarnation.0 status.whole status.same in
+    subst (λ (y : Claim × List ℕ). (bytes ≡ spelled_claim y.0 ++ y.1) × IsClaim y.0) (same_ok (made, g.0.1) x g.2) (whole, record { name = name.1; addr = addr.1; status = status.status; incarnation = incarnation.1 })
+
+claim_again : (c : Claim) (rest : List ℕ) → IsClaim c → claim_at (spelled_claim c ++ rest) ≡ Ok (c, rest)
+unfolding claim_at
+claim_again c rest fit =
+    let after_incarnation = spelled_accuser c.status ++ rest in
+    let after_addr = spelled_number c.incarnation ++ after_incarnation in
+    let after_name = spelled_addr c.addr ++ after_addr in
+    ap claim_at (regrouped c rest)
+    ∙ rw (claim_kind_again (claim_kind_of c.status) (spelled_name c.name ++ after_name), name_again c.name after_name fit.name, addr_again c.addr after_addr fit.addr, incarnation_again c.incarnation after_incarnation fit.incarnation, status_again c.status rest fit.status) refl
+
+pub claims_read : (n : ℕ) (bytes : List ℕ) (x : List Claim × List ℕ) → AreBytes bytes → claims_at n bytes ≡ Ok x → (bytes ≡ flat_map spelled_claim x.0 ++ x.1) × (length x.0 ≡ n) × AllByRecursion IsClaim x.0
+unfolding claims_at
+claims_read zero bytes x fit e =
+    subst (λ (y : List Claim × List ℕ). (bytes ≡ flat_map spelled_claim y.0 ++ y.1) × (length y.0 ≡ 0) × AllByRecursion IsClaim y.0) (same_ok ([], bytes) x e) (refl, refl, tt)
+claims_read (suc n) bytes x fit e =
+    let a = step_ok (claim_at bytes) (λ first. claims_at n first.1 >>= λ others. Ok (first.0 ∷ others.0, others.1)) x e in
+    let b = step_ok (claims_at n a.0.1) (λ others. Ok (a.0.0 ∷ others.0, others.1)) x a.2 in
+    let first = claim_read bytes a.0 fit a.1 in
+    let others = claims_read n a.0.1 b.0 (behind (spelled_claim a.0.0) a.0.1 (subst AreBytes first.0 fit)) b.1 in
+    let whole : bytes ≡ flat_map spelled_claim (a.0.0 ∷ b.0.0) ++ b.0.1 =
+    first.0 ∙ ap (λ (t : List ℕ). spelled_claim a.0.0 ++ t) others.0 ∙ sym (append_assoc (spelled_claim a.0.0) (flat_map spelled_claim b.0.0) b.0.1) ∙ ap (λ (t : List ℕ). t ++ b.0.1) (sym (flat_map-cons spelled_claim a.0.0 b.0.0)) in
+    subst (λ (y : List Claim × List ℕ). (bytes ≡ flat_map spelled_claim y.0 ++ y.1) × (length y.0 ≡ suc n) × AllByRecursion IsClaim y.0) (same_ok (a.0.0 ∷ b.0.0, b.0.1) x b.2) (whole, ap suc others.1, (first.1, others.2))
+
+pub claims_again : (cs : List Claim) (rest : List ℕ) → AllByRecursion IsClaim cs → claims_at (length cs) (flat_map spelled_claim cs ++ rest) ≡ Ok (cs, rest)
+unfolding claims_at
+claims_again [] rest fit = refl
+claims_again (c ∷ cs) rest fit =
+    let apart : flat_map spelled_claim (c ∷ cs) ++ rest ≡ spelled_claim c ++ (flat_map spelled_claim cs ++ rest) =
+    ap (λ (t : List ℕ). t ++ rest) (flat_map-cons spelled_claim c cs) ∙ append_assoc (spelled_claim c) (flat_map spelled_claim cs) rest in
+    ap (claims_at (suc (length cs))) apart ∙ rw (claim_again c (flat_map spelled_claim cs ++ rest) fit.0, claims_again cs rest fit.1) refl

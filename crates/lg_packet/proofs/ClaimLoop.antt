@@ -1,0 +1,44 @@
+-- Reading claims one after the other, as a loop does.
+use Rattle.std.proofs.Common.{◌≡◌, ℕ, suc, ◌-◌, ◌+◌, ◌≤◌, ◌<◌, List, [], ◌∷◌, ◌++◌, length, Result, Ok, Err, refl, sym, ap, ◌∙◌, append_assoc, arith}
+use Rattle.std.proofs.lemmas.List.{append-nil, length_push}
+use Rattle.lg_rules.specs.declared.claim.Claim.{Claim}
+use Rattle.lg_packet.specs.declared.fault.Fault.{Fault}
+use Rattle.lg_packet.specs.Reading.{◌>>=◌, claim_at, claims_at}
+
+-- what is read, with the claims that were read before it
+abbrev pub behind_some : List Claim → Result (List Claim × List ℕ) Fault → Result (List Claim × List ℕ) Fault
+behind_some front (Ok x) = Ok (front ++ x.0, x.1)
+behind_some front (Err f) = Err f
+
+-- of count claims, as many as the turn were read, and the rest still comes to the same
+pub record Reads (front : List Claim) (rest : List ℕ) (turn count : ℕ) (total : Result (List Claim × List ℕ) Fault) : Type 0 where
+  pub len : length front ≡ turn
+  pub comes : behind_some front (claims_at (count - turn) rest) ≡ total
+
+one_first : (front : List Claim) (c : Claim) (read : Result (List Claim × List ℕ) Fault) → behind_some front (read >>= λ x. Ok (c ∷ x.0, x.1)) ≡ behind_some (front ++ c ∷ []) read
+one_first front c (Ok x) = ap (λ (cs : List Claim). Ok (cs, x.1)) (sym (append_assoc front (c ∷ []) x.0))
+one_first front c (Err f) = refl
+
+pub one_more : (front : List Claim) (rest after : List ℕ) (c : Claim) (turn count : ℕ) (total : Result (List Claim × List ℕ) Fault)
+    → turn < count → claim_at rest ≡ Ok (c, after) → Reads front rest turn count total → Reads (front ++ c ∷ []) after (turn + 1) count total
+unfolding claims_at
+one_more front rest after c turn count total left read so_far =
+    let k : count - turn ≡ suc (count - (turn + 1)) = omega arith in
+    let more : behind_some front (claims_at (count - turn) rest) ≡ behind_some (front ++ c ∷ []) (claims_at (count - (turn + 1)) after) = rw (k, read) (one_first front c (claims_at (count - (turn + 1)) after)) in
+    record { len = omega (arith, length_push front c, so_far.len); comes = sym more ∙ so_far.comes }
+
+pub stops : (front : List Claim) (rest : List ℕ) (f : Fault) (turn count : ℕ) (total : Result (List Claim × List ℕ) Fault)
+    → turn < count → claim_at rest ≡ Err f → Reads front rest turn count total → total ≡ Err f
+unfolding claims_at
+stops front rest f turn count total left read so_far =
+    let k : count - turn ≡ suc (count - (turn + 1)) = omega arith in
+    let stopped : behind_some front (claims_at (count - turn) rest) ≡ Err f = rw (k, read) refl in
+    sym so_far.comes ∙ stopped
+
+pub all_read : (front : List Claim) (rest : List ℕ) (turn count : ℕ) (total : Result (List Claim × List ℕ) Fault)
+    → count ≤ turn → Reads front rest turn count total → total ≡ Ok (front, rest)
+unfolding claims_at
+all_read front rest turn count total done so_far =
+    let k : count - turn ≡ 0 = omega arith in
+    let ended : behind_some front (claims_at (count - turn) rest) ≡ Ok (front, rest) = rw k (ap (λ (cs : List Claim). Ok (cs, rest)) (append-nil front)) in
+    sym so_far.comes ∙ ended

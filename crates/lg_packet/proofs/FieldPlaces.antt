@@ -1,0 +1,101 @@
+-- The first fault of each field, by its places and as it is read.
+use Rattle.std.proofs.Common.{◌≡◌, ℕ, zero, suc, Bool, true, false, cond, eqb, ltb, leb, ◌&&◌, List, [], ◌∷◌, ◌++◌, length, take, drop, replicate, Ok, Err, refl, sym, ap, subst, ◌∙◌, arith}
+use Rattle.std.specs.List.{list_all}
+use Rattle.std.specs.Int.{w32}
+use Rattle.std.proofs.lemmas.Bool.{le-ltb, lt-ltb, ltb-true, ltb-false, le-leb, lt-leb, eqb-true, eqb-false}
+use Rattle.std.proofs.Math.Dec.{leb-suc-suc}
+use Rattle.lg_rules.specs.Name.{is_name_byte}
+use Rattle.lg_packet.specs.declared.fault.Fault.{Fault}
+use Rattle.lg_packet.specs.declared.fault.Fault.TheVariants as faults
+use Rattle.lg_packet.specs.declared.kind.Kind.{Kind}
+use Rattle.lg_packet.specs.Spelling.{byte_of_kind}
+use Rattle.lg_packet.specs.Reading.{literal_at, kind_at, name_at, number_at, count_at}
+use Rattle.lg_packet.specs.Fault.{Part, KindByte, LengthByte, NameByte, CountByte, ClaimKindByte, is_allowed, fault_at, number_parts, body_parts, brought}
+use Rattle.lg_packet.proofs.Outcomes.{fault_or}
+use Rattle.lg_packet.proofs.Fields.{number_there}
+use Rattle.lg_packet.proofs.Places.{fault_from}
+
+pub literal_fault : (due : ℕ) (fault : Fault) (part : Part) (parts : List Part) (bytes : List ℕ) → ((b : ℕ) → is_allowed part b ≡ eqb b due) → fault_at part ≡ fault → ((b : ℕ) → brought part b ≡ [])
+    → fault_from bytes (part ∷ parts) ≡ fault_or (λ rest. fault_from rest parts) (literal_at due fault bytes)
+literal_fault due fault part parts [] test named brings = refl
+literal_fault due fault part parts (b ∷ bytes) test named brings = rw (test b, named, brings b) (step (eqb b due))
+  where
+    step : (good : Bool) → cond good (fault_from bytes parts) fault ≡ fault_or (λ rest. fault_from rest parts) (cond good (Ok bytes) (Err fault))
+    step true = refl
+    step false = refl
+
+pub kind_fault : (bytes : List ℕ) → fault_from bytes (KindByte ∷ []) ≡ fault_or (λ (x : Kind × List ℕ). fault_from x.1 (LengthByte ∷ (body_parts (byte_of_kind x.0) ++ CountByte ∷ []))) (kind_at bytes)
+kind_fault [] = refl
+kind_fault (b ∷ bytes) = step (eqb b 1) refl (eqb b 3) refl
+  where
+    Same : ℕ → Type 0
+    Same n = fault_from (n ∷ bytes) (KindByte ∷ []) ≡ fault_or (λ (x : Kind × List ℕ). fault_from x.1 (LengthByte ∷ (body_parts (byte_of_kind x.0) ++ CountByte ∷ []))) (kind_at (n ∷ bytes))
+
+    step : (one : Bool) → eqb b 1 ≡ one → (three : Bool) → eqb b 3 ≡ three → Same b
+    step true h three k = let here : b ≡ 1 = eqb-true b 1 h in subst Same (sym here) refl
+    step false h true k = let here : b ≡ 3 = eqb-true b 3 k in subst Same (sym here) refl
+    step false h false k = rw (h, k) refl
+
+name_bytes_fault : (n : ℕ) (parts : List Part) (bytes : List ℕ) → fault_from bytes (replicate n NameByte ++ parts)
+    ≡ cond (list_all is_name_byte (take n bytes)) (cond (ltb (length bytes) n) faults.Short (fault_from (drop n bytes) parts)) faults.Name
+name_bytes_fault zero parts bytes = rw (le-ltb (length bytes) 0 (omega arith)) refl
+name_bytes_fault (suc n) parts [] = rw (lt-ltb 0 (suc n) (omega arith)) refl
+name_bytes_fault (suc n) parts (b ∷ bytes) = step (is_name_byte b) (name_bytes_fault n parts bytes)
+  where
+    step : (good : Bool)
+        → fault_from bytes (replicate n NameByte ++ parts) ≡ cond (list_all is_name_byte (take n bytes)) (cond (ltb (length bytes) n) faults.Short (fault_from (drop n bytes) parts)) faults.Name
+        → cond good (fault_from bytes (replicate n NameByte ++ parts)) faults.Name
+        ≡ cond (good && list_all is_name_byte (take n bytes)) (cond (ltb (suc (length bytes)) (suc n)) faults.Short (fault_from (drop n bytes) parts)) faults.Name
+    step true others = rw (leb-suc-suc (suc (length bytes)) n) others
+    step false others = refl
+
+-- the length of a name, tested in one way and in the other
+length_tests : (n : ℕ) (good bad : Fault) → cond (leb 1 n && leb n 32) good bad ≡ cond (eqb n 0) bad (cond (ltb 32 n) bad good)
+length_tests n good bad = step (eqb n 0) refl (ltb 32 n) refl
+  where
+    step : (none : Bool) → eqb n 0 ≡ none → (long : Bool) → ltb 32 n ≡ long → cond (leb 1 n && leb n 32) good bad ≡ cond none bad (cond long bad good)
+    step true h long k = rw (lt-leb 1 n (omega (arith, eqb-true n 0 h))) refl
+    step false h true k = rw (le-leb 1 n (omega (arith, ltb-true 32 n k)), lt-leb n 32 (ltb-true 32 n k)) refl
+    step false h false k = rw (le-leb 1 n (omega (arith, eqb-false n 0 h)), le-leb n 32 (ltb-false 32 n k)) refl
+
+fault_of_tests : {A : Type 0} (none long good short : Bool) (x : A) (go : A → Fault)
+    → fault_or go (cond none (Err faults.Name) (cond long (Err faults.Name) (cond good (cond short (Err faults.Short) (Ok x)) (Err faults.Name))))
+    ≡ cond none faults.Name (cond long faults.Name (cond good (cond short faults.Short (go x)) faults.Name))
+fault_of_tests true long good short x go = refl
+fault_of_tests false true good short x go = refl
+fault_of_tests false false true true x go = refl
+fault_of_tests false false true false x go = refl
+fault_of_tests false false false short x go = refl
+
+pub name_fault : (parts : List Part) (bytes : List ℕ) → fault_from bytes (LengthByte ∷ parts) ≡ fault_or (λ (x : List ℕ × List ℕ). fault_from x.1 parts) (name_at bytes)
+unfolding name_at
+name_fault parts [] = refl
+name_fault parts (n ∷ bytes) =
+    length_tests n (fault_from bytes (replicate n NameByte ++ parts)) faults.Name
+    ∙ ap (λ (f : Fault). cond (eqb n 0) faults.Name (cond (ltb 32 n) faults.Name f)) (name_bytes_fault n parts bytes)
+    ∙ sym (fault_of_tests (eqb n 0) (ltb 32 n) (list_all is_name_byte (take n bytes)) (ltb (length bytes) n) (take n bytes, drop n bytes) (λ (x : List ℕ × List ℕ). fault_from x.1 parts))
+
+pub number_fault : (parts : List Part) (bytes : List ℕ) → fault_from bytes (number_parts ++ parts) ≡ fault_or (λ (x : ℕ × List ℕ). fault_from x.1 parts) (number_at w32 bytes)
+number_fault parts [] = refl
+number_fault parts (a ∷ []) = refl
+number_fault parts (a ∷ b ∷ []) = refl
+number_fault parts (a ∷ b ∷ c ∷ []) = refl
+number_fault parts (a ∷ b ∷ c ∷ d ∷ rest) = sym (ap (fault_or (λ (x : ℕ × List ℕ). fault_from x.1 parts)) (number_there a b c d rest))
+
+-- a test from one side and from the other
+pub at_most : (n m : ℕ) (good bad : Fault) → cond (leb n m) good bad ≡ cond (ltb m n) bad good
+at_most n m good bad = step (ltb m n) refl
+  where
+    step : (above : Bool) → ltb m n ≡ above → cond (leb n m) good bad ≡ cond above bad good
+    step true h = rw (lt-leb n m (ltb-true m n h)) refl
+    step false h = rw (le-leb n m (ltb-false m n h)) refl
+
+pub fault_of_test : {A : Type 0} (above : Bool) (fault : Fault) (x : A) (go : A → Fault) → fault_or go (cond above (Err fault) (Ok x)) ≡ cond above fault (go x)
+fault_of_test true fault x go = refl
+fault_of_test false fault x go = refl
+
+pub count_fault : (parts : List Part) (bytes : List ℕ) → fault_from bytes (CountByte ∷ parts) ≡ fault_or (λ (x : ℕ × List ℕ). fault_from x.1 (replicate x.0 ClaimKindByte ++ parts)) (count_at bytes)
+count_fault parts [] = refl
+count_fault parts (n ∷ bytes) =
+    at_most n 6 (fault_from bytes (replicate n ClaimKindByte ++ parts)) faults.Count
+    ∙ sym (fault_of_test (ltb 6 n) faults.Count (n, bytes) (λ (x : ℕ × List ℕ). fault_from x.1 (replicate x.0 ClaimKindByte ++ parts)))

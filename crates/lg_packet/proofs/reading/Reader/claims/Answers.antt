@@ -1,0 +1,20 @@
+use Rattle.std.proofs.Common.{◌+◌, List, sym, subst}
+use Rattle.std.proofs.lemmas.Result.{err_from_is_err_and}
+use Rattle.lg_rules.specs.declared.claim.Claim.{Claim}
+use Rattle.lg_packet.specs.Reading.{claims_at}
+use Rattle.lg_packet.proofs.ClaimLoop.{Reads, one_more, stops, all_read}
+use Rattle.lg_packet.proofs.reading.Reader.claims.Goals as goal
+
+pub returns-in_err-claim : goal.returns-in_err-claim
+returns-in_err-claim c =
+    let p = err_from_is_err_and c.from_residual.result c.from_residual.ensures.1 in
+    rw (p.1, p.2) (stops c.loop.claims.items c.loop.self.rest.now c.in_err-claim.field-0.0 c.loop.counter c.args.count (claims_at c.args.count c.args.self.now.rest.now) c.loop-test.true c.in_err-claim.ensures c.loop.invariant)
+
+pub loop-preserved : goal.loop-preserved
+loop-preserved c =
+    let total = claims_at c.args.count c.args.self.now.rest.now in
+    let more = one_more c.loop.claims.items c.loop.self.rest.now c.claim.new.self.rest.now c.in_ok-claim.claim c.loop.counter c.args.count total c.loop-test.true c.in_ok-claim.ensures c.loop.invariant in
+    subst (λ (cs : List Claim). Reads cs c.claim.new.self.rest.now (c.loop.counter + 1) c.args.count total) (sym c.push.ensures.items) more
+
+pub returns : goal.returns
+returns c = all_read c.loop.claims.items c.loop.self.rest.now c.loop.counter c.args.count (claims_at c.args.count c.args.self.now.rest.now) c.loop-test.false c.loop.invariant

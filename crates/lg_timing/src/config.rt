@@ -1,0 +1,205 @@
+//! The configuration of a member.
+ghost use Rattle.std.specs.Prelude.{◌≡◌, []};
+ghost use Rattle.lg_timing.specs.Config.{is_within, is_seed, have_distinct_names, are_good_seeds, first_broken};
+
+use arrayvec::ArrayVec;
+use lg_rules::{Addr, Name};
+
+/// The most seeds of a configuration: 16 (this project's choice).
+pub const MAX_SEEDS: usize = 16;
+
+/// A member that is known from the start, and where it is reached.
+#[derive(Clone, Copy, Debug, Default, PartialEq, Eq)]
+pub struct Seed {
+    /// The member.
+    pub name: Name,
+    /// Where it is reached.
+    pub addr: Addr,
+}
+
+/// What is wrong with a configuration: a field that is out of its range.
+#[derive(Clone, Copy, Debug, PartialEq, Eq)]
+pub enum ConfigFault {
+    /// `interval_ms` isn't 10 to 60000.
+    Interval = 1,
+    /// `timeout_ms` isn't 1 to `interval_ms - 1`.
+    Timeout = 2,
+    /// `indirect` isn't 0 to 8.
+    Indirect = 3,
+    /// `max_score` isn't 0 to 20.
+    MaxScore = 4,
+    /// `alpha` isn't 1 to 20.
+    Alpha = 5,
+    /// `beta` isn't 1 to 20.
+    Beta = 6,
+    /// `confirmations` isn't 0 to 5.
+    Confirmations = 7,
+    /// `lambda` isn't 1 to 10.
+    Lambda = 8,
+    /// `nack_thousandths` isn't 1 to 999.
+    Nack = 9,
+    /// `history_limit` isn't 2 to 1,000,000.
+    History = 10,
+    /// Two seeds have one name, or a seed has the member's own name.
+    Seeds = 11,
+}
+
+/// The configuration of a member: its own name and address, whom it knows from the start, and its
+/// numbers. The ranges and the defaults are this project's choice.
+#[derive(Debug, Drop)]
+pub struct Config {
+    /// The protocol period at a health score of 0, in milliseconds: 10 to 60000 (SWIM, section 3.1).
+    pub interval_ms: u64,
+    /// How long a probe waits for its ack before helpers are asked, at a health score of 0, in
+    /// milliseconds: 1 to `interval_ms - 1` (SWIM, section 3.1).
+    pub timeout_ms: u64,
+    /// How many helpers are asked to ping a member that didn't answer: 0 to 8 (SWIM, section 3.1,
+    /// whose k it is).
+    pub indirect: u64,
+    /// The greatest health score: 0 to 20 (Lifeguard, local health aware probe, whose S it is).
+    pub max_score: u64,
+    /// The factor of the least suspicion timeout: 1 to 20 (Lifeguard, local health aware suspicion).
+    pub alpha: u64,
+    /// The greatest suspicion timeout over the least: 1 to 20 (Lifeguard, local health aware suspicion).
+    pub beta: u64,
+    /// After how many confirmations a suspicion has its least timeout: 0 to 5 (Lifeguard, local
+    /// health aware suspicion, whose K it is).
+    pub confirmations: u64,
+    /// The factor of the number of times that a claim is sent: 1 to 10 (SWIM, section 4.1).
+    pub lambda: u64,
+    /// When a helper sends its nack, in thousandths of `timeout_ms`: 1 to 999 (Lifeguard, local
+    /// health aware probe).
+    pub nack_thousandths: u64,
+    /// The most entries of a stored history: 2 to 1,000,000 (this project's choice).
+    pub history_limit: u64,
+    /// The members that are known from the start: at most 16, with distinct names, none the own name.
+    pub seeds: ArrayVec<Seed, MAX_SEEDS>,
+    /// The member's own name.
+    pub name: Name,
+    /// Where the member is reached.
+    pub addr: Addr,
+}
+
+/// Whether a number lies between two others, which count.
+fn is_within(least: u64, most: u64, number: u64) -> bool
+    ensures { result ≡ is_within least most number }
+{
+    least <= number && number <= most
+}
+
+/// Whether some seed has this name.
+fn is_seed(name: &Name, seeds: &[Seed]) -> bool
+    ensures { result ≡ is_seed name.now seeds.now }
+{
+    seeds.iter().any(|seed| seed.name == *name)
+}
+
+/// Whether no two seeds have one name.
+fn have_distinct_names(seeds: &[Seed]) -> bool
+    ensures { result ≡ have_distinct_names seeds.now }
+{
+    match seeds {
+        [] => true,
+        [seed, others @ ..] => !is_seed(&seed.name, others) && have_distinct_names(others),
+    }
+}
+
+/// Whether there are at most 16 seeds, with distinct names, none the own name.
+fn are_good_seeds(own: &Name, seeds: &[Seed]) -> bool
+    ensures { result ≡ are_good_seeds own.now seeds.now }
+{
+    seeds.len() <= MAX_SEEDS && have_distinct_names(seeds) && !is_seed(own, seeds)
+}
+
+/// The first rule that isn't kept.
+fn first_broken(rules: &[(bool, ConfigFault)]) -> Option<(bool, ConfigFault)>
+    ensures { result ≡ first_broken rules.now }
+{
+    rules.iter().copied().find(|rule| !rule.0)
+}
+
+impl Config {
+    ghost use Rattle.std.specs.Prelude.{◌≡◌, []};
+    ghost use Rattle.lg_timing.specs.Config.{check_of};
+
+    /// The configuration of a member with the default numbers and no seed.
+    pub fn new(name: Name, addr: Addr) -> Config
+        ensures { result ≡ record {
+          interval_ms = 1000;
+          timeout_ms = 500;
+          indirect = 3;
+          max_score = 8;
+          alpha = 5;
+          beta = 6;
+          confirmations = 3;
+          lambda = 4;
+          nack_thousandths = 800;
+          history_limit = 20000;
+          seeds = record { items = [] };
+          name = name;
+          addr = addr;
+        } }
+    {
+        Config {
+            interval_ms: 1000,
+            timeout_ms: 500,
+            indirect: 3,
+            max_score: 8,
+            alpha: 5,
+            beta: 6,
+            confirmations: 3,
+            lambda: 4,
+            nack_thousandths: 800,
+            history_limit: 20000,
+            seeds: ArrayVec::new(),
+            name,
+            addr,
+        }
+    }
+
+    /// An equal configuration. It takes no memory.
+    pub fn copy(&self) -> Config
+        ensures { result ≡ self.now }
+    {
+        let mut seeds = ArrayVec::new();
+        seeds.try_extend_from_slice(&self.seeds).unwrap();
+        Config { seeds, ..*self }
+    }
+
+    /// Whether each field is in its range, or else the fault of the first that isn't, in the order of
+    /// [`ConfigFault`].
+    #[tactic(auto, unfolding(crate::specs::Config::check_of))]
+    pub fn check(&self) -> Result<(), ConfigFault>
+        ensures { result ≡ check_of self.now }
+    {
+        let rules = [
+            (
+                is_within(10, 60000, self.interval_ms),
+                ConfigFault::Interval,
+            ),
+            (
+                is_within(1, self.interval_ms.saturating_sub(1), self.timeout_ms),
+                ConfigFault::Timeout,
+            ),
+            (self.indirect <= 8, ConfigFault::Indirect),
+            (self.max_score <= 20, ConfigFault::MaxScore),
+            (is_within(1, 20, self.alpha), ConfigFault::Alpha),
+            (is_within(1, 20, self.beta), ConfigFault::Beta),
+            (self.confirmations <= 5, ConfigFault::Confirmations),
+            (is_within(1, 10, self.lambda), ConfigFault::Lambda),
+            (is_within(1, 999, self.nack_thousandths), ConfigFault::Nack),
+            (
+                is_within(2, 1_000_000, self.history_limit),
+                ConfigFault::History,
+            ),
+            (are_good_seeds(&self.name, &self.seeds), ConfigFault::Seeds),
+        ];
+        match first_broken(&rules) {
+            Some((_, fault)) => Err(fault),
+            None => Ok(()),
+        }
+    }
+}
+
+#[cfg(test)]
+mod tests;

@@ -1,0 +1,158 @@
+//! Moments.
+ghost use Rattle.std.specs.Prelude.{◌≡◌, ◌≤◌, max};
+ghost use Rattle.std.specs.Option.{SomeIff};
+
+use std::alloc::AllocError;
+use std::cmp::Ordering;
+use std::marker::Model;
+
+/// The last moment: 1,000,000,000,000,000 milliseconds (this project's choice).
+pub const MAX_MOMENT: u64 = 1_000_000_000_000_000;
+
+/// A moment, in whole milliseconds from 0 to 1,000,000,000,000,000. Who hands it in says from when it
+/// is counted.
+///
+/// A contract sees it as its number of milliseconds. The default is 0.
+#[derive(Debug)]
+pub struct Moment {
+    milliseconds: u64,
+}
+
+impl Model for Moment {
+    ghost use Rattle.std.specs.Prelude.{ℕ, ◌≤◌};
+
+    ghost Value = { ℕ };
+
+    ghost view = { λ m. m.milliseconds };
+
+    ghost invariant = { λ m. m.milliseconds ≤ 1000000000000000 };
+
+    ghost inverse = { λ n. record { milliseconds = n } };
+}
+
+impl Clone for Moment {
+    fn clone(&self) -> Result<Self, AllocError> {
+        Ok(*self)
+    }
+}
+
+impl Copy for Moment {}
+
+impl Default for Moment {
+    ghost use Rattle.std.specs.Prelude.{◌≡◌};
+
+    ghost is_default = { λ m. m ≡ 0 };
+
+    fn default() -> Self {
+        Moment { milliseconds: 0 }
+    }
+}
+
+impl PartialEq for Moment {
+    ghost use Rattle.std.specs.Prelude.{nat_eq};
+    ghost use Rattle.std.proofs.Common.{rules};
+    ghost use Rattle.std.specs.Cmp.Rules.{comparing};
+
+    ghost eq = { nat_eq };
+
+    ghost laws = { Prim.search (comparing, rules) };
+
+    fn eq(&self, other: &Moment) -> bool {
+        self.milliseconds == other.milliseconds
+    }
+}
+
+impl Eq for Moment {
+    ghost use Rattle.std.proofs.Common.{rules};
+    ghost use Rattle.std.specs.Cmp.Rules.{comparing};
+
+    ghost laws = { Prim.search (comparing, rules) };
+}
+
+impl PartialOrd for Moment {
+    ghost use Rattle.std.proofs.Common.{rules};
+    ghost use Rattle.std.specs.Cmp.{partial_order_from_own_ties};
+    ghost use Rattle.std.specs.Cmp.Rules.{comparing};
+    ghost use Rattle.std.specs.Ordering.{nat_cmp, as_partial_cmp};
+
+    ghost partial_cmp = { as_partial_cmp nat_cmp };
+
+    ghost laws = { partial_order_from_own_ties (Prim.search (comparing, rules)) (Prim.search (comparing, rules)) };
+
+    fn partial_cmp(&self, other: &Moment) -> Option<Ordering> {
+        Some(self.cmp(other))
+    }
+}
+
+impl Ord for Moment {
+    ghost use Rattle.std.proofs.Common.{rules};
+    ghost use Rattle.std.specs.Cmp.Rules.{comparing};
+    ghost use Rattle.std.specs.Ordering.{nat_cmp};
+
+    ghost cmp = { nat_cmp };
+
+    ghost total = { Prim.search (comparing, rules) };
+
+    ghost matches_partial_cmp = { Prim.search (comparing, rules) };
+
+    ghost matches_eq = { Prim.search (comparing, rules) };
+
+    fn cmp(&self, other: &Moment) -> Ordering {
+        self.milliseconds.cmp(&other.milliseconds)
+    }
+}
+
+impl Moment {
+    /// The moment with a number of milliseconds, where that is at most 1,000,000,000,000,000.
+    pub fn new(milliseconds: u64) -> Option<Moment>
+        ensures { SomeIff result (milliseconds ≤ 1000000000000000) milliseconds }
+    {
+        if milliseconds <= MAX_MOMENT {
+            Some(Moment { milliseconds })
+        } else {
+            None
+        }
+    }
+
+    /// The number of milliseconds, 0 to 1,000,000,000,000,000.
+    pub fn milliseconds(&self) -> u64
+        ensures milliseconds { result ≡ self.now }
+        ensures within { self.now ≤ 1000000000000000 }
+    {
+        self.milliseconds
+    }
+
+    /// The greater of two moments.
+    pub fn later(self, other: Moment) -> Moment
+        ensures { result ≡ max self other }
+    {
+        Moment {
+            milliseconds: self.milliseconds.max(other.milliseconds),
+        }
+    }
+}
+
+#[cfg(test)]
+mod tests {
+    use super::Moment;
+
+    #[test]
+    fn the_last_moment(rt: HostRuntime) {
+        let last = Moment::new(1_000_000_000_000_000);
+        assert_eq!(rt;
+            last.map(|moment| moment.milliseconds()),
+            Some(1_000_000_000_000_000)
+        );
+        assert!(rt; Moment::new(1_000_000_000_000_001).is_none());
+    }
+
+    #[test]
+    fn the_later_of_two(rt: HostRuntime) {
+        let (five, four) = (Moment::new(5000), Moment::new(4000));
+        let later = five
+            .unwrap_or(Moment::default())
+            .later(four.unwrap_or(Moment::default()));
+        assert_eq!(rt; later.milliseconds(), 5000);
+        assert!(rt; Moment::default() < later);
+    }
+}
