@@ -5,13 +5,16 @@ use Rattle.std.specs.List.{cons_option, filter_map, list_any}
 use Rattle.std.proofs.lemmas.List.Elements.{filter_map-append}
 use Rattle.std.proofs.lemmas.List.Folds.{list_any-append}
 use Rattle.lg_packet.specs.declared.packet.Packet.{Packet}
-use Rattle.lg_detector.specs.Marks.{is_accepted, is_open}
-use Rattle.lg_detector.specs.State.{State, state_after, accepts_of}
+use Rattle.lg_rules.specs.declared.addr.Addr.{Addr}
+use Rattle.lg_timing.specs.Config.{check_of, IsChecked}
+use Rattle.lg_detector.specs.Events.{is_accepted, is_open, opens_well}
+use Rattle.lg_detector.specs.Answers.{state_after, accepts_of}
+use Rattle.lg_detector.specs.State.{State}
 use Rattle.lg_detector.specs.declared.event.Event.{Event}
 use Rattle.lg_detector.proofs.Accepting.{accepts-after}
 use Rattle.lg_cli.specs.Lines.{lines_of}
 use Rattle.lg_cli.specs.Said.{packet_in}
-use Rattle.lg_cli.specs.Answering.{opening, hearing, heard, events_of, told, line_text, text_from, answer_text, answer_end, is_faulty, with_heard, AcceptsHeard}
+use Rattle.lg_cli.specs.Answering.{defaults, opening, hearing, heard, events_of, told, line_text, text_from, answer_text, answer_end, is_faulty, with_heard, AcceptsHeard}
 use Rattle.lg_cli.specs.declared.answer.End.{End}
 use Rattle.lg_cli.specs.declared.answer.End.TheVariants.{Done, Faulty}
 use Rattle.lg_cli.specs.declared.line.LineFault.{LineFault}
@@ -54,8 +57,17 @@ unfolding heard_in
 few_heard [] = omega arith
 few_heard (line ∷ lines) = few_more (packet_in line) (heard_in lines) (length lines) (few_heard lines)
 
-accepted : (any : Bool) (n : ℕ) → any ≡ false → n + 1 ≤ 4000000000 → (true && (not any && leb (n + 1) 4000000000)) ≡ true
-accepted any n none few = grind arith
+-- the defaults pass the check, whatever the name and the address
+defaults_are_checked : (name : List ℕ) (addr : Addr) → IsChecked (defaults name addr)
+unfolding check_of
+defaults_are_checked name addr = refl
+
+pub opens_with_defaults : (name : List ℕ) → opens_well (opening name) ≡ true
+unfolding check_of
+opens_with_defaults name = refl
+
+accepted : (well any : Bool) (n : ℕ) → well ≡ true → any ≡ false → n + 1 ≤ 4000000000 → (well && (not any && leb (n + 1) 4000000000)) ≡ true
+accepted well any n good none few = grind arith
 
 -- the events of some lines, and one more packet heard, are accepted
 pub accepts_lines : (name : List ℕ) (lines : List (List ℕ)) (s : State) → length lines ≤ 3000000000 → s ≡ state_after (events_of name lines) → AcceptsHeard s
@@ -64,9 +76,9 @@ accepts_lines name lines s few is = record {
   accepts = λ packet.
       let es = heard_in lines in
       let some = few_heard lines in
-      let now : is_accepted (opening name ∷ es) ≡ true = accepted (list_any is_open es) (length es) (none_open lines) (omega arith) in
+      let now : is_accepted (opening name ∷ es) ≡ true = accepted (opens_well (opening name)) (list_any is_open es) (length es) (opens_with_defaults name) (none_open lines) (omega arith) in
       let none : list_any is_open (es ++ hearing packet ∷ []) ≡ false = list_any-append is_open es (hearing packet ∷ []) ∙ rw (none_open lines) refl in
-      let more : is_accepted (opening name ∷ (es ++ hearing packet ∷ [])) ≡ true = accepted _ (length (es ++ hearing packet ∷ [])) none (omega (arith, length-append es (hearing packet ∷ []))) in
+      let more : is_accepted (opening name ∷ (es ++ hearing packet ∷ [])) ≡ true = accepted (opens_well (opening name)) _ (length (es ++ hearing packet ∷ [])) (opens_with_defaults name) none (omega (arith, length-append es (hearing packet ∷ []))) in
       ap (λ (t : State). accepts_of t (hearing packet)) is ∙ accepts-after (opening name ∷ es) (hearing packet) now ∙ more;
 }
 

@@ -6,7 +6,9 @@ use Rattle.hex.specs.Hex.{encode_lower}
 use Rattle.lg_rules.specs.declared.addr.Addr.{Addr}
 use Rattle.lg_packet.specs.Spelling.{spelling}
 use Rattle.lg_packet.specs.declared.packet.Packet.{Packet}
-use Rattle.lg_detector.specs.State.{State, accepts_of, answer_after}
+use Rattle.lg_timing.specs.declared.config.Config.{Config}
+use Rattle.lg_detector.specs.State.{State}
+use Rattle.lg_detector.specs.Answers.{accepts_of, answer_after}
 use Rattle.lg_detector.specs.declared.event.Event.{Event}
 use Rattle.lg_detector.specs.declared.event.Event.TheVariants.{Open, Heard}
 use Rattle.lg_detector.specs.declared.reply.Outgoing.{Outgoing}
@@ -19,9 +21,27 @@ use Rattle.lg_cli.specs.declared.answer.End.TheVariants.{Done, Faulty}
 abbrev pub local : ℕ → Addr
 local port = record { octets = 127 ∷ 0 ∷ 0 ∷ 1 ∷ []; port = port }
 
--- the detector is opened at 127.0.0.1:7000
+-- the default configuration of a member with no seed (this project's choice)
+abbrev pub defaults : List ℕ → Addr → Config
+defaults name addr = record {
+  interval_ms = 1000;
+  timeout_ms = 500;
+  indirect = 3;
+  max_score = 8;
+  alpha = 5;
+  beta = 6;
+  confirmations = 3;
+  lambda = 4;
+  nack_thousandths = 800;
+  history_limit = 20000;
+  seeds = record { items = [] };
+  name = name;
+  addr = addr;
+}
+
+-- the detector is opened with the defaults, at 127.0.0.1:7000
 abbrev pub opening : List ℕ → Event
-opening name = Open 0 record { name = name; addr = local 7000 }
+opening name = Open 0 (defaults name (local 7000))
 
 -- a packet comes from 127.0.0.1:1
 abbrev pub hearing : Packet → Event

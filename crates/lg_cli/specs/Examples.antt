@@ -1,11 +1,15 @@
 -- Worked inputs and command lines.
-use Rattle.std.specs.Prelude.{◌≡◌, ℕ, List, [], ◌∷◌, ◌++◌, codes, refl}
+use Rattle.std.specs.Prelude.{◌≡◌, ℕ, List, [], ◌∷◌, ◌++◌, Ok, codes, refl}
 use Rattle.hex.proofs.OnLiterals.{hex_on_literals}
 use Rattle.clap.proofs.OnLiterals.{clap_on_literals}
 use Rattle.clap.specs.declared.error.kind.ErrorKind.TheVariants as kind
-use Rattle.lg_packet.specs.Reading.{body_at, head_at, name_at, packet_at, packet_of}
+use Rattle.lg_rules.specs.declared.claim.Claim.{Claim}
+use Rattle.lg_rules.specs.declared.claim.Status.TheVariants.{Alive}
+use Rattle.lg_packet.specs.declared.packet.Body.TheVariants.{Ack, Ping}
+use Rattle.lg_packet.specs.declared.packet.Packet.{Packet}
+use Rattle.lg_packet.specs.Reading.{addr_at, body_at, claim_at, claims_at, head_at, incarnation_at, name_at, packet_at, packet_of, status_at}
 use Rattle.lg_packet.specs.Spelling.{spelling}
-use Rattle.lg_cli.specs.Answering.{answer_end, answer_text, events_of}
+use Rattle.lg_cli.specs.Answering.{answer_end, answer_text, events_of, hearing, local, opening, sent_text}
 use Rattle.lg_cli.specs.Commands.{asked_name, line_faults}
 use Rattle.lg_cli.specs.Lines.{lines_of}
 use Rattle.lg_cli.specs.Said.{packet_in}
@@ -20,19 +24,48 @@ ended-line = refl
 no-line : lines_of [] ≡ []
 no-line = refl
 
+-- a Ping from a for b, numbered 7
 abbrev ping : List ℕ
 ping = codes "534c0101016100000007016200"
 
-acked : answer_text (codes "b") (ping ++ 10 ∷ []) ≡ codes "534c010301620000000700" ++ 10 ∷ []
-unfolding answer_text events_of packet_in hex_on_literals packet_of packet_at head_at name_at body_at spelling
+pinged : Packet
+pinged = record { sender = 97 ∷ []; body = Ping 7 (98 ∷ []); claims = record { items = [] } }
+
+heard-ping : events_of (codes "b") (lines_of (ping ++ 10 ∷ [])) ≡ opening (98 ∷ []) ∷ hearing pinged ∷ []
+unfolding events_of packet_in hex_on_literals packet_of packet_at head_at name_at body_at claims_at pinged
+heard-ping = refl
+
+acked : sent_text record { sender = 98 ∷ []; body = Ack 7; claims = record { items = [] } } ≡ codes "534c010301620000000700" ++ 10 ∷ []
+unfolding hex_on_literals spelling
 acked = refl
 
 done : answer_end (ping ++ 10 ∷ []) ≡ Done
-unfolding answer_end packet_in hex_on_literals packet_of packet_at head_at name_at body_at spelling
+unfolding answer_end packet_in hex_on_literals packet_of packet_at head_at name_at body_at claims_at
 done = refl
 
+-- that c is alive at number 0
+c-alive : Claim
+c-alive = record { name = 99 ∷ []; addr = local 7003; status = Alive; incarnation = 0 }
+
+heard-claim : packet_in (codes "534c01010161000000070163010101637f0000011b5b00000000") ≡ Ok record { sender = 97 ∷ []; body = Ping 7 (99 ∷ []); claims = record { items = c-alive ∷ [] } }
+unfolding packet_in hex_on_literals packet_of packet_at head_at name_at body_at claims_at claim_at addr_at incarnation_at status_at c-alive
+heard-claim = refl
+
+acked-with-claim : sent_text record { sender = 98 ∷ []; body = Ack 8; claims = record { items = c-alive ∷ [] } } ≡ codes "534c0103016200000008010101637f0000011b5b00000000" ++ 10 ∷ []
+unfolding hex_on_literals spelling c-alive
+acked-with-claim = refl
+
+-- a Ping for another isn't answered
+for-another : answer_text (codes "b") (codes "534c01010161000000070163010101637f0000011b5b00000000" ++ 10 ∷ []) ≡ []
+unfolding answer_text events_of packet_in hex_on_literals packet_of packet_at head_at name_at body_at claims_at claim_at addr_at incarnation_at status_at
+for-another = refl
+
+past-greatest : answer_text (codes "b") (codes "534c01010161000000010162010201627f0000011b583b9aca010161" ++ 10 ∷ []) ≡ codes "fault 8 Incarnation" ++ 10 ∷ []
+unfolding answer_text events_of packet_in hex_on_literals packet_of packet_at head_at name_at body_at claims_at claim_at addr_at incarnation_at status_at
+past-greatest = refl
+
 trailing : answer_text (codes "b") (ping ++ codes "00") ≡ codes "fault 9 Trailing" ++ 10 ∷ []
-unfolding answer_text events_of packet_in hex_on_literals packet_of packet_at head_at name_at body_at spelling
+unfolding answer_text events_of packet_in hex_on_literals packet_of packet_at head_at name_at body_at claims_at
 trailing = refl
 
 taken : line_faults (codes "lg" ∷ codes "answer" ∷ codes "--name" ∷ codes "b" ∷ []) ≡ []

@@ -1,7 +1,7 @@
 //! The command `answer`: what a detector sends for the packets of an input.
 ghost use Rattle.std.specs.Prelude.{◌≡◌, ◌+◌, ◌*◌, ◌≤◌, List, [], ◌∷◌, ◌++◌, IfOk, OnOk, length, vec_len};
 ghost use Rattle.std.specs.List.{flat_map};
-ghost use Rattle.lg_detector.specs.State.{state_after};
+ghost use Rattle.lg_detector.specs.Answers.{state_after};
 ghost use Rattle.lg_detector.specs.declared.event.Event.{Event as Happened};
 ghost use Rattle.lg_cli.specs.Answering.{answer_end, answer_text, hearing, opening, sent_line, sent_text, told, with_heard, AcceptsHeard, newline};
 ghost use Rattle.lg_cli.specs.Said.{fault_text};
@@ -10,9 +10,10 @@ use crate::input::MAX_INPUT;
 use crate::line::{LineFault, read_line};
 use crate::lines::cut_line;
 use arrayvec::ArrayVec;
-use lg_detector::{Config, Detector, Event, Moment, NoMemory, Outgoing, Reply};
+use lg_detector::{Detector, Event, NoMemory, Outgoing, Reply};
 use lg_packet::{MAX_PACKET, Packet};
 use lg_rules::{Addr, Name};
+use lg_timing::{Config, Moment};
 use std::alloc::Global;
 
 /// The most hex digits of a packet: two for each of its bytes.
@@ -45,10 +46,7 @@ fn open_event(name: &Name) -> Event
 {
     Event::Open {
         now: Moment::default(),
-        config: Config {
-            name: *name,
-            addr: Addr::new(LOCALHOST, 7000),
-        },
+        config: Config::new(*name, Addr::new(LOCALHOST, 7000)),
     }
 }
 

@@ -1,6 +1,7 @@
 //! Runs over readers and writers in memory.
 
 mod command_line;
+mod floods;
 mod limits;
 mod readers;
 mod refused_memory;

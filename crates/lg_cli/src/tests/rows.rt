@@ -62,6 +62,49 @@ fn answers_pings(rt: HostRuntime) -> Result<(), Fail> {
 }
 
 #[test]
+fn hears_claims(rt: HostRuntime) -> Result<(), Fail> {
+    let rows = [
+        (
+            "a claim that a Ping for another carries is handed on",
+            "534c01010161000000070163010101637f0000011b5b00000000\n534c0101016100000008016200\n",
+            "534c0103016200000008010101637f0000011b5b00000000\n",
+            End::Done,
+        ),
+        (
+            "a suspicion of oneself is refuted once",
+            "534c01010161000000090162020201627f0000011b580000000001610201627f0000011b58000000000163\n",
+            "534c0103016200000009010101627f0000011b5800000001\n",
+            End::Done,
+        ),
+        (
+            "a suspicion at the greatest number can't be refuted",
+            "534c01010161000000010162010201627f0000011b583b9aca000161\n",
+            "534c010301620000000100\n",
+            End::Done,
+        ),
+        (
+            "that oneself failed can't be refuted",
+            "534c01010161000000030162010301627f0000011b5800000000\n",
+            "534c010301620000000300\n",
+            End::Done,
+        ),
+        (
+            "a number past the greatest",
+            "534c01010161000000010162010201627f0000011b583b9aca010161\n",
+            "fault 8 Incarnation\n",
+            End::Faulty,
+        ),
+        (
+            "a claim of no kind",
+            "534c01010161000000070163010401637f0000011b5b00000000\n",
+            "fault 7 ClaimKind\n",
+            End::Faulty,
+        ),
+    ];
+    check(&rt, rows.as_slice())
+}
+
+#[test]
 fn tells_refused_packets(rt: HostRuntime) -> Result<(), Fail> {
     let rows = [
         (

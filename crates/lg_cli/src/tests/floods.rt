@@ -1,0 +1,48 @@
+//! More names than a member table has places.
+use crate::answer::End;
+use crate::run::answer_run;
+use lg_rules::Name;
+use std::alloc::AllocError;
+use std::test::Fail;
+
+/// The names of the flood are `m000` to `m299`.
+const NAMES: u32 = 300;
+
+/// Puts the claim behind a text that the member of this number is alive at 127.0.0.1:7000, in hex.
+fn put_alive(number: u32, text: &mut String) -> Result<(), AllocError> {
+    let (hundreds, tens, ones) = (number / 100, number / 10 % 10, number % 10);
+    write!(
+        text,
+        "01046d3{hundreds}3{tens}3{ones}7f0000011b5800000000"
+    )
+}
+
+#[test]
+fn goes_on_after_a_flood_of_names(rt: HostRuntime) -> Result<(), Fail> {
+    let name = Name::new(b"b").expect(&rt, "a name");
+    // Pings for another member, of which each says a further name, the last name first.
+    let mut input = String::new(rt.alloc());
+    for said in 1..NAMES + 1 {
+        input.push_str("534c0101016100000001016301")?;
+        put_alive(NAMES - said, &mut input)?;
+        input.push_str("\n")?;
+    }
+    input.push_str("534c0101016100000008016200\n534c0101016100000009016200\n")?;
+    // The first 255 of them have places beside the own name, so `m045` is the first of the others.
+    let mut expected = String::new(rt.alloc());
+    expected.push_str("534c010301620000000806")?;
+    for number in 45..51 {
+        put_alive(number, &mut expected)?;
+    }
+    expected.push_str("\n534c010301620000000906")?;
+    for number in 51..57 {
+        put_alive(number, &mut expected)?;
+    }
+    expected.push_str("\n")?;
+    let mut reader = input.as_bytes();
+    let mut written = Vec::new(rt.alloc());
+    let ended = answer_run(rt.alloc(), &mut reader, &mut written, &name);
+    assert_eq!(rt; ended, Ok(End::Done));
+    assert_eq!(rt; written.as_slice(), expected.as_bytes());
+    Ok(())
+}
