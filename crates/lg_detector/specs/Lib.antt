@@ -5,3 +5,4 @@ pub mod Answers
 pub mod Reached
 pub mod Room
 pub mod Kept
+pub mod Examples

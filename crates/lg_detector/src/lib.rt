@@ -11,3 +11,6 @@ pub use detector::{Detector, MAX_EVENTS, NoMemory, states_lead_on};
 pub use event::Event;
 pub use reply::{Answer, MAX_CHANGED, MAX_SENDS, Outgoing, Reply};
 pub use showing::MAX_MEMBERS;
+
+#[cfg(test)]
+mod tests;
