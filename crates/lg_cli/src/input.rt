@@ -86,7 +86,8 @@ fn keep_read(read: &[u8], input: &mut Vec<u8>) -> Result<(), RunFault>
     requires { vec_len input.old ≤ MAX_INPUT }
     ensures kept { OnOk result (input.new.items ≡ input.old.items ++ read.now) }
     ensures within { OnOk result (vec_len input.new ≤ MAX_INPUT) }
-    ensures refused { IfErr result (λ fault. (fault ≡ RunFault.Memory) ⊎ (fault ≡ RunFault.Read)) }
+    ensures refused { IfErr result (λ fault. (fault ≡ RunFault.Memory)
+        ⊎ ((fault ≡ RunFault.Read) × (MAX_INPUT < vec_len input.old + length read.now))) }
 {
     if read.len() > MAX_INPUT - input.len() {
         return Err(RunFault::Read);

@@ -1,5 +1,5 @@
 //! The program over any reader and writers: its commands, its statuses, and what it says of faults.
-ghost use Rattle.std.specs.Prelude.{◌≡◌, ◌≢◌, IfOk, [], map, true};
+ghost use Rattle.std.specs.Prelude.{◌≡◌, ◌≢◌, ◌⊎◌, IfOk, [], map, true};
 ghost use Rattle.std.specs.Result.{is_err};
 ghost use Rattle.std.specs.IoError.{error_kind};
 ghost use Rattle.clap.specs.Values.{kind_of};
@@ -98,6 +98,8 @@ fn answer_named<R: Read, W: Write, F: Write>(
 fn tell_refusal<W: Write, F: Write>(error: &Error, writer: &mut W, faults: &mut F) -> u8
     ensures status { result ≢ FAILED → result ≡ status_of_kind (kind_of error.now) }
     ensures memory { kind_of error.now ≡ ErrorKind.OutOfMemory → result ≡ FAILED }
+    // Else only help that isn't taken fails.
+    ensures failed { result ≡ FAILED → (kind_of error.now ≡ ErrorKind.OutOfMemory) ⊎ (status_of_kind (kind_of error.now) ≡ 0) }
     ensures unwritten { result ≡ USAGE → writer.new ≡ writer.old }
 {
     if error.kind() == ErrorKind::OutOfMemory {
