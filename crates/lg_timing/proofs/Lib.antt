@@ -1,1 +1,3 @@
 pub mod ConfigLemmas
+pub mod TableLemmas
+pub mod TimeoutLemmas

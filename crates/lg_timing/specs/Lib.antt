@@ -1,1 +1,6 @@
 pub mod Config
+pub mod Examples
+pub mod Score
+pub mod Tables
+pub mod TimeoutRange
+pub mod Timeouts

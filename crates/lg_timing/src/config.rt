@@ -120,11 +120,12 @@ fn first_broken(rules: &[(bool, ConfigFault)]) -> Option<(bool, ConfigFault)>
 
 impl Config {
     ghost use Rattle.std.specs.Prelude.{◌≡◌, []};
-    ghost use Rattle.lg_timing.specs.Config.{check_of};
+    ghost use Rattle.lg_timing.specs.Config.{check_of, IsChecked};
 
-    /// The configuration of a member with the default numbers and no seed.
+    /// The configuration of a member with the default numbers and no seed. It passes its check.
+    #[tactic(auto, unfolding(crate::specs::Config::check_of))]
     pub fn new(name: Name, addr: Addr) -> Config
-        ensures { result ≡ record {
+        ensures defaults { result ≡ record {
           interval_ms = 1000;
           timeout_ms = 500;
           indirect = 3;
@@ -139,6 +140,7 @@ impl Config {
           name = name;
           addr = addr;
         } }
+        ensures checked { IsChecked result }
     {
         Config {
             interval_ms: 1000,

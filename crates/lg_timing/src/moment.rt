@@ -31,6 +31,12 @@ impl Model for Moment {
 }
 
 impl Clone for Moment {
+    ghost use Rattle.std.specs.Prelude.{◌≡◌, ⊤};
+
+    ghost is_clone = { λ it other. other ≡ it };
+
+    ghost is_infallible = { λ _. ⊤ };
+
     fn clone(&self) -> Result<Self, AllocError> {
         Ok(*self)
     }

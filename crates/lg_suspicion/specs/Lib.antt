@@ -1,0 +1,2 @@
+pub mod Accusers
+pub mod Examples

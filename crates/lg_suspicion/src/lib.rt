@@ -1,0 +1,6 @@
+//! Who accuses a suspected member, and when it is taken as failed.
+#![tactic(auto)]
+
+mod suspicion;
+
+pub use suspicion::{MAX_KEPT, Suspicion, deadlines_are_by_the_set};

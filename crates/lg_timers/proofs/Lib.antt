@@ -1,0 +1,6 @@
+pub mod CancelLaws
+pub mod KeyLaws
+pub mod Pending
+pub mod SetLaws
+pub mod TimerSets
+pub mod TurnLaws

@@ -1,0 +1,52 @@
+//! One timer.
+use lg_rules::Name;
+
+/// What a timer is for: its kind, and the member or the relay that it is about. One timer of an id is
+/// set at most. Ids are ordered by their kinds as they stand here, then by the bytes of the name or by
+/// the number (this project's choice).
+#[derive(Clone, Copy, Debug, Default, PartialEq, Eq, PartialOrd, Ord)]
+pub enum TimerId {
+    /// A round of probing ends.
+    #[default]
+    RoundEnd,
+    /// A suspected member is taken as failed.
+    Suspicion(Name),
+    /// The target of a probe didn't answer in time, and helpers are asked.
+    Direct,
+    /// A relay, by its number, tells its asker that the target hasn't answered.
+    RelayNack(u32),
+    /// A relay, by its number, is closed.
+    RelayEnd(u32),
+    /// A round of probing starts.
+    RoundStart,
+}
+
+/// What is to happen, and when. Timers are ordered by their deadlines, then by their ids: in that
+/// order they fire.
+#[derive(Clone, Copy, Debug, Default, PartialEq, Eq, PartialOrd, Ord)]
+pub struct Timer {
+    /// From when on it may fire, in milliseconds.
+    pub deadline: u64,
+    /// What it is for.
+    pub id: TimerId,
+}
+
+impl Timer {
+    ghost use Rattle.std.specs.Prelude.{◌≡◌};
+    ghost use Rattle.std.specs.Ordering.{is_lt};
+    ghost use Rattle.lg_timers.specs.Timers.{timer_cmp, has_id};
+
+    /// Whether it fires before another one, where both are due.
+    pub(crate) fn is_before(&self, other: &Timer) -> bool
+        ensures { result ≡ is_lt (timer_cmp self.now other.now) }
+    {
+        self.cmp(other).is_lt()
+    }
+
+    /// Whether it has an id.
+    pub(crate) fn has_id(&self, id: &TimerId) -> bool
+        ensures { result ≡ has_id id.now self.now }
+    {
+        self.id.cmp(id).is_eq()
+    }
+}

@@ -1,0 +1,94 @@
+//! Which timers fire, and when.
+use super::{MAX_TIMERS, Timers};
+use crate::timer::{Timer, TimerId};
+use lg_rules::Name;
+use lg_timing::Moment;
+
+fn name(text: &[u8]) -> Name {
+    Name::new(text).unwrap_or(Name::default())
+}
+
+fn moment(milliseconds: u64) -> Moment {
+    Moment::new(milliseconds).unwrap_or(Moment::default())
+}
+
+// Sets a timer where there is room, and none of its id is set.
+fn put(timers: &mut Timers, timer: Timer) {
+    if !timers.is_full() && !timers.is_set(&timer.id) {
+        timers.set(timer);
+    }
+}
+
+fn timer(deadline: u64, id: TimerId) -> Timer {
+    Timer { deadline, id }
+}
+
+#[test]
+fn the_order_in_which_they_fire(rt: HostRuntime) {
+    let order = [
+        timer(8000, TimerId::RoundStart),
+        timer(9000, TimerId::RoundEnd),
+        timer(9000, TimerId::Suspicion(name(b"c"))),
+        timer(9000, TimerId::Suspicion(name(b"ca"))),
+        timer(9000, TimerId::Suspicion(name(b"d"))),
+        timer(9000, TimerId::Direct),
+        timer(9000, TimerId::RelayNack(2)),
+        timer(9000, TimerId::RelayNack(10)),
+        timer(9000, TimerId::RelayEnd(1)),
+        timer(9500, TimerId::RelayEnd(2)),
+    ];
+    let mut timers = Timers::new();
+    for at in [3, 7, 0, 9, 5, 1, 8, 2, 6, 4] {
+        put(&mut timers, order[at]);
+    }
+    assert_eq!(rt; timers.len(), 10);
+    assert_eq!(rt; timers.take_due(moment(7999)), None);
+    for next in order {
+        let least = timers.least();
+        assert_eq!(rt; timers.take_due(moment(9500)), least);
+        assert_eq!(rt; least, Some(next));
+    }
+    assert!(rt; timers.is_empty());
+    assert_eq!(rt; timers.least(), None);
+}
+
+#[test]
+fn one_of_an_id(rt: HostRuntime) {
+    let mut timers = Timers::new();
+    put(&mut timers, timer(500, TimerId::RelayNack(7)));
+    put(&mut timers, timer(600, TimerId::RelayEnd(7)));
+    assert!(rt; timers.is_set(&TimerId::RelayNack(7)));
+    assert!(rt; !timers.is_set(&TimerId::RelayNack(6)));
+    assert!(rt; !timers.cancel(&TimerId::RelayNack(6)));
+    assert!(rt; timers.cancel(&TimerId::RelayNack(7)));
+    assert!(rt; !timers.cancel(&TimerId::RelayNack(7)));
+    assert_eq!(rt; timers.least(), Some(timer(600, TimerId::RelayEnd(7))));
+}
+
+#[test]
+fn four_hundred_timers(rt: HostRuntime) {
+    let mut timers = Timers::new();
+    for number in 0..400u32 {
+        put(
+            &mut timers,
+            timer(u64::from(number * 7 % 31), TimerId::RelayEnd(number)),
+        );
+    }
+    assert_eq!(rt; timers.len(), MAX_TIMERS);
+    assert!(rt; timers.is_full());
+    for number in 0..400u32 {
+        if number % 3 == 0 {
+            assert!(rt; timers.cancel(&TimerId::RelayEnd(number)), "{number}");
+        }
+    }
+    assert_eq!(rt; timers.len(), 266);
+    for deadline in 0..31u32 {
+        for number in 0..400u32 {
+            if number % 3 != 0 && number * 7 % 31 == deadline {
+                let want = timer(u64::from(deadline), TimerId::RelayEnd(number));
+                assert_eq!(rt; timers.take_due(moment(30)), Some(want), "{number}");
+            }
+        }
+    }
+    assert!(rt; timers.is_empty());
+}

@@ -1,0 +1,137 @@
+//! The health score.
+ghost use Rattle.std.specs.Prelude.{◌≡◌, ◌≢◌, ◌≤◌, ℤ, pos, negsuc, ◌≤ℤ◌, ◌+◌, ◌*◌, List, ◌∷◌};
+ghost use Rattle.lg_timing.specs.Config.{IsChecked};
+ghost use Rattle.lg_timing.specs.Score.{score_of, marked};
+
+use crate::config::Config;
+use std::alloc::AllocError;
+use std::marker::Model;
+
+/// The greatest health score that a configuration can allow: 20 (this project's choice).
+pub const MAX_SCORE: u64 = 20;
+
+/// The health score of a member: the sum of the marks that it earned, held between 0 and a greatest
+/// score at every mark (Lifeguard, local health aware probe).
+///
+/// A contract sees the value and the greatest score.
+#[derive(Debug)]
+pub struct Score {
+    value: u64,
+    max: u64,
+}
+
+impl Model for Score {
+    ghost use Rattle.std.specs.Prelude.{◌≤◌};
+    ghost use Rattle.lg_timing.specs.Score.{ScoreValue};
+
+    ghost Value = { ScoreValue };
+
+    ghost view = { λ s. record { value = s.value; max = s.max } };
+
+    ghost invariant = { λ s. (s.value ≤ s.max) × (s.max ≤ 20) };
+
+    ghost inverse = { λ s. record { value = s.value; max = s.max } };
+}
+
+impl Clone for Score {
+    ghost use Rattle.std.specs.Prelude.{◌≡◌, ⊤};
+
+    ghost is_clone = { λ it other. other ≡ it };
+
+    ghost is_infallible = { λ _. ⊤ };
+
+    fn clone(&self) -> Result<Self, AllocError> {
+        Ok(*self)
+    }
+}
+
+impl Copy for Score {}
+
+impl Score {
+    /// The score 0, which is at most `max` from then on; `max` is 0 to 20.
+    pub fn new(max: u64) -> Score
+        requires { max ≤ 20 }
+        ensures { result ≡ record { value = 0; max = max } }
+    {
+        Score { value: 0, max }
+    }
+
+    /// Adds a mark, -1, 1 or 2, and holds the sum between 0 and the greatest score.
+    pub fn mark(&mut self, mark: i8)
+        requires least { negsuc 0 ≤ℤ mark }
+        requires most { mark ≤ℤ pos 2 }
+        requires some { mark ≢ pos 0 }
+
+        ensures marked { self.new ≡ marked self.old mark }
+
+        // After any list of marks, the latest first, it is their sum, held at every mark.
+        ensures after { (past : List ℤ) → self.old.value ≡ score_of self.old.max past
+            → self.new.value ≡ score_of self.old.max (mark ∷ past) }
+    {
+        self.value = match mark {
+            1 => (self.value + 1).min(self.max),
+            2 => (self.value + 2).min(self.max),
+            _ => self.value.saturating_sub(1),
+        };
+    }
+
+    /// The score, 0 to the greatest score.
+    pub fn value(&self) -> u64
+        ensures value { result ≡ self.now.value }
+        ensures held { self.now.value ≤ self.now.max }
+        ensures within { self.now.max ≤ 20 }
+    {
+        self.value
+    }
+
+    /// The protocol period at this score, in milliseconds: `interval_ms` times one more than the score,
+    /// at most 1,260,000.
+    pub fn interval(&self, config: &Config) -> u64
+        requires { IsChecked config.now }
+        ensures scaled { result ≡ config.now.interval_ms * (self.now.value + 1) }
+        ensures within { result ≤ 1260000 }
+    {
+        config.interval_ms * (self.value + 1)
+    }
+
+    /// How long a probe waits for its ack at this score, in milliseconds: `timeout_ms` times one more
+    /// than the score, at most 1,260,000.
+    pub fn timeout(&self, config: &Config) -> u64
+        requires { IsChecked config.now }
+        ensures scaled { result ≡ config.now.timeout_ms * (self.now.value + 1) }
+        ensures within { result ≤ 1260000 }
+    {
+        config.timeout_ms * (self.value + 1)
+    }
+}
+
+#[cfg(test)]
+mod tests {
+    use super::Score;
+    use crate::config::Config;
+    use lg_rules::{Addr, Name};
+
+    #[test]
+    fn a_missed_nack_at_the_greatest_score(rt: HostRuntime) {
+        let config = Config::new(Name::default(), Addr::default());
+        let mut score = Score::new(8);
+        for _ in 0..8 {
+            score.mark(1);
+        }
+        assert_eq!(rt; score.value(), 8);
+        score.mark(2);
+        assert_eq!(rt; score.value(), 8);
+        assert_eq!(rt; score.interval(&config), 9000);
+        assert_eq!(rt; score.timeout(&config), 4500);
+    }
+
+    #[test]
+    fn an_ack_at_the_least_score(rt: HostRuntime) {
+        let mut score = Score::new(8);
+        score.mark(-1);
+        assert_eq!(rt; score.value(), 0);
+        score.mark(2);
+        score.mark(-1);
+        assert_eq!(rt; score.value(), 1);
+    }
+}

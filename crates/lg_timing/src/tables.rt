@@ -1,0 +1,76 @@
+//! The tables of logarithms.
+ghost use Rattle.std.specs.Prelude.{◌≡◌, ℕ, ◌+◌, ◌≤◌};
+ghost use Rattle.lg_timing.specs.Tables.{IsLog, range_end, log10_of, ratio_of};
+
+// A row for each number of confirmations in all, a column for each number of those that came.
+const RATIOS: [[u64; 6]; 6] = [
+    [1000, 0, 0, 0, 0, 0],
+    [0, 1000, 0, 0, 0, 0],
+    [0, 630, 1000, 0, 0, 0],
+    [0, 500, 792, 1000, 0, 0],
+    [0, 430, 682, 861, 1000, 0],
+    [0, 386, 613, 773, 898, 1000],
+];
+
+/// The base-ten logarithm that counts for `members` members, 1 to 256, in thousandths rounded down:
+/// that of the greatest number in the same one of the ranges up to 10, 16, 32, 64, 128 and 256 (the
+/// ranges are this project's choice).
+#[tactic(auto, unfolding(crate::specs::Tables::log10_of))]
+pub fn log10_thousandths(members: u64) -> u64
+    requires some { 1 ≤ members }
+    requires within { members ≤ 256 }
+    ensures { result ≡ log10_of members }
+{
+    match members {
+        0..=10 => 1000,
+        11..=16 => 1204,
+        17..=32 => 1505,
+        33..=64 => 1806,
+        65..=128 => 2107,
+        _ => 2408,
+    }
+}
+
+/// The quotient log(c + 1) / log(k + 1) in thousandths rounded down, for `c` of `k` confirmations, c at
+/// most k and k at most 5 (Lifeguard, local health aware suspicion). For k = 0 it is 1000 (this
+/// project's choice).
+#[tactic(auto, unfolding(crate::specs::Tables::ratio_of))]
+pub fn ratio(k: u64, c: u64) -> u64
+    requires came { c ≤ k }
+    requires within { k ≤ 5 }
+    ensures quotient { result ≡ ratio_of k c }
+    ensures within_one { result ≤ 1000 }
+{
+    RATIOS[k as usize][c as usize]
+}
+
+/// The tables are what they say: each entry, taken to its base, is the greatest that doesn't pass the
+/// power that it stands for.
+pub fn tables_are_logarithms()
+    ensures logarithms { (members : ℕ) → IsLog 10 (range_end members) (log10_of members) }
+    ensures quotients { (k c : ℕ) → 1 ≤ k → k ≤ 5 → c ≤ k → IsLog (k + 1) (c + 1) (ratio_of k c) }
+    ensures none { ratio_of 0 0 ≡ 1000 }
+{}
+
+#[cfg(test)]
+mod tests {
+    use super::{log10_thousandths, ratio, tables_are_logarithms};
+
+    #[test]
+    fn the_ends_of_the_ranges(rt: HostRuntime) {
+        tables_are_logarithms();
+        assert_eq!(rt; log10_thousandths(1), 1000);
+        assert_eq!(rt; log10_thousandths(10), 1000);
+        assert_eq!(rt; log10_thousandths(11), 1204);
+        assert_eq!(rt; log10_thousandths(100), 2107);
+        assert_eq!(rt; log10_thousandths(129), 2408);
+        assert_eq!(rt; log10_thousandths(256), 2408);
+    }
+
+    #[test]
+    fn some_quotients(rt: HostRuntime) {
+        assert_eq!(rt; ratio(0, 0), 1000);
+        assert_eq!(rt; ratio(3, 2), 792);
+        assert_eq!(rt; ratio(5, 4), 898);
+    }
+}

@@ -1,0 +1,208 @@
+//! How long a suspicion lasts.
+ghost use Rattle.std.specs.Prelude.{◌≡◌, ◌≤◌};
+ghost use Rattle.lg_timing.specs.Config.{IsChecked};
+ghost use Rattle.lg_timing.specs.Timeouts.{confirmations_of, range_of, timeout_of, suspicion_of};
+
+use crate::config::Config;
+use crate::tables::{log10_thousandths, ratio};
+use std::alloc::AllocError;
+use std::marker::Model;
+
+/// The timeouts of one suspicion: from a greatest one with no confirmation down to a least one once
+/// all the confirmations that count have come (Lifeguard, local health aware suspicion).
+///
+/// A contract sees the least and the greatest timeout and the number of confirmations. The default
+/// has zeros.
+#[derive(Debug)]
+pub struct SuspicionTimeout {
+    min_ms: u64,
+    max_ms: u64,
+    confirmations: u64,
+}
+
+impl Model for SuspicionTimeout {
+    ghost use Rattle.std.specs.Prelude.{◌≤◌};
+    ghost use Rattle.lg_timing.specs.TimeoutRange.{TimeoutRange, HasTimeouts};
+
+    ghost Value = { TimeoutRange };
+
+    ghost view = { λ t. record { min = t.min_ms; max = t.max_ms; confirmations = t.confirmations } };
+
+    ghost invariant = { λ t. HasTimeouts t.min_ms t.max_ms t.confirmations };
+
+    ghost inverse = { λ r. record { min_ms = r.min; max_ms = r.max; confirmations = r.confirmations } };
+}
+
+impl Clone for SuspicionTimeout {
+    ghost use Rattle.std.specs.Prelude.{◌≡◌, ⊤};
+
+    ghost is_clone = { λ it other. other ≡ it };
+
+    ghost is_infallible = { λ _. ⊤ };
+
+    fn clone(&self) -> Result<Self, AllocError> {
+        Ok(*self)
+    }
+}
+
+impl Copy for SuspicionTimeout {}
+
+impl Default for SuspicionTimeout {
+    ghost use Rattle.std.specs.Prelude.{◌≡◌};
+
+    ghost is_default = { λ t. t ≡ record { min = 0; max = 0; confirmations = 0 } };
+
+    fn default() -> Self {
+        SuspicionTimeout {
+            min_ms: 0,
+            max_ms: 0,
+            confirmations: 0,
+        }
+    }
+}
+
+/// The confirmations that count for a suspicion raised among `members` members: those of the
+/// configuration, or 0 where there are fewer members than two more than these (this project's choice).
+fn confirmations_among(members: u64, config: &Config) -> u64
+    requires { IsChecked config.now }
+    ensures { result ≡ confirmations_of members config.now }
+{
+    if members < config.confirmations + 2 {
+        0
+    } else {
+        config.confirmations
+    }
+}
+
+impl SuspicionTimeout {
+    /// The timeouts of a suspicion raised among `members` members, 1 to 256, of which oneself is one.
+    pub fn new(members: u64, config: &Config) -> SuspicionTimeout
+        requires checked { IsChecked config.now }
+        requires some { 1 ≤ members }
+        requires within { members ≤ 256 }
+        ensures { result ≡ range_of members config.now }
+    {
+        let min_ms = config.alpha * log10_thousandths(members) * config.interval_ms / 1000;
+        SuspicionTimeout {
+            min_ms,
+            max_ms: config.beta * min_ms,
+            confirmations: confirmations_among(members, config),
+        }
+    }
+
+    /// The least timeout, in milliseconds.
+    pub fn min_ms(&self) -> u64
+        ensures { result ≡ self.now.min }
+    {
+        self.min_ms
+    }
+
+    /// The greatest timeout, in milliseconds, at most 57,792,000.
+    pub fn max_ms(&self) -> u64
+        ensures { result ≡ self.now.max }
+    {
+        self.max_ms
+    }
+
+    /// After how many confirmations the timeout is the least, 0 to 5.
+    pub fn confirmations(&self) -> u64
+        ensures confirmations { result ≡ self.now.confirmations }
+        ensures within { self.now.confirmations ≤ 5 }
+    {
+        self.confirmations
+    }
+
+    /// The timeout after some confirmations, at most as many as count, in milliseconds.
+    pub fn after(&self, confirmations: u64) -> u64
+        requires { confirmations ≤ self.now.confirmations }
+        ensures timeout { result ≡ timeout_of self.now confirmations }
+        ensures within { result ≤ 57792000 }
+    {
+        let saved = (self.max_ms - self.min_ms) * ratio(self.confirmations, confirmations) / 1000;
+        self.max_ms - saved
+    }
+}
+
+/// The timeout of a suspicion raised among `members` members, 1 to 256, after some confirmations, at
+/// most as many as count among so many members, in milliseconds.
+pub fn suspicion_ms(members: u64, confirmations: u64, config: &Config) -> u64
+    requires checked { IsChecked config.now }
+    requires some { 1 ≤ members }
+    requires within { members ≤ 256 }
+    requires counted { confirmations ≤ confirmations_of members config.now }
+    ensures { result ≡ suspicion_of members confirmations config.now }
+{
+    SuspicionTimeout::new(members, config).after(confirmations)
+}
+
+#[cfg(test)]
+mod tests {
+    use super::{SuspicionTimeout, suspicion_ms};
+    use crate::config::Config;
+    use lg_rules::{Addr, Name};
+
+    // The least and the greatest timeout among some members, and that after each number of
+    // confirmations, from none up to all that count.
+    fn timeouts(members: u64, config: &Config) -> [Option<u64>; 8] {
+        let mut found = [None; 8];
+        if 1 <= members && members <= 256 && config.check().is_ok() {
+            let timeout = SuspicionTimeout::new(members, config);
+            found[0] = Some(timeout.min_ms());
+            found[1] = Some(timeout.max_ms());
+            for confirmations in 0..=timeout.confirmations() {
+                if confirmations <= timeout.confirmations() && confirmations <= 5 {
+                    found[2 + confirmations as usize] = Some(timeout.after(confirmations));
+                }
+            }
+        }
+        found
+    }
+
+    #[test]
+    fn the_timeouts_among_some_members(rt: HostRuntime) {
+        let config = Config::new(Name::default(), Addr::default());
+        for (members, want) in [
+            (5, [5000, 30000, 30000, 17500, 10200, 5000]),
+            (100, [10535, 63210, 63210, 36873, 21492, 10535]),
+        ] {
+            let found = timeouts(members, &config);
+            for (i, value) in want.iter().enumerate() {
+                assert_eq!(rt;
+                    found.get(i).copied(),
+                    Some(Some(*value)),
+                    "{members} members, {i}"
+                );
+            }
+            assert_eq!(rt; found[6], None);
+        }
+    }
+
+    #[test]
+    fn four_members_are_too_few(rt: HostRuntime) {
+        let config = Config::new(Name::default(), Addr::default());
+        let found = timeouts(4, &config);
+        assert_eq!(rt; found[0], Some(5000));
+        assert_eq!(rt; found[1], Some(30000));
+        assert_eq!(rt; found[2], Some(5000));
+        assert_eq!(rt; found[3], None);
+    }
+
+    #[test]
+    fn sixteen_members_and_five_confirmations(rt: HostRuntime) {
+        let mut config = Config::new(Name::default(), Addr::default());
+        config.confirmations = 5;
+        config.interval_ms = 200;
+        config.timeout_ms = 1;
+        let want = [1204, 7224, 7224, 4901, 3534, 2571, 1819, 1204];
+        let found = timeouts(16, &config);
+        for (i, value) in want.iter().enumerate() {
+            assert_eq!(rt; found.get(i).copied(), Some(Some(*value)), "{i}");
+        }
+    }
+
+    #[test]
+    fn one_call(rt: HostRuntime) {
+        let config = Config::new(Name::default(), Addr::default());
+        assert_eq!(rt; suspicion_ms(4, 0, &config), 5000);
+    }
+}
