@@ -10,15 +10,11 @@ ghost use Rattle.lg_detector.specs.State.{state_of, come, open_with, tell, tell_
 ghost use Rattle.lg_detector.specs.Answers.{accepts_of, next, out, react, state_after, answer_after, view_after, deadline_of, deadline_after, shown_of, hear, respond, ack_out, sends_out, changed_out, answer_out};
 ghost use Rattle.lg_detector.specs.declared.event.Event.{Event as Happened};
 
-
 use crate::parts::{Parts, is_same_name};
 use crate::event::Event;
 use crate::reply::{Answer, MAX_CHANGED, MAX_SENDS, Outgoing, Reply};
 use crate::showing::{self, MAX_MEMBERS};
-
-
 use arrayvec::ArrayVec;
-
 use lg_gossip::MAX_CLAIMS;
 use lg_packet::{Body, Packet};
 use lg_rules::{Addr, Claim, Incarnation, Name, Record, Status};
@@ -65,7 +61,7 @@ fn alive(seed: &Seed) -> Claim
 }
 
 impl Detector {
-    /// A detector that nothing has happened to. It takes all the memory that the detector will ever take.
+    /// A detector that nothing has happened to. It takes all the memory that the detector will ever keep, in one box.
     pub fn blank(alloc: Global) -> Result<Detector, NoMemory>
         ensures { IfOk result (λ detector. detector ≡ state_after []) }
     {

@@ -6,7 +6,7 @@ use arrayvec::ArrayVec;
 use lg_packet::Packet;
 use lg_rules::{Addr, Record};
 
-/// The most packets that one event sends: 8 PingReqs (this project's choice).
+/// The most packets that a reply has room for (this project's choice). So far an event sends one at the most.
 pub const MAX_SENDS: usize = 8;
 
 /// The most records that one event changes: those of the 6 claims of a packet (this project's choice).
@@ -49,9 +49,9 @@ pub struct Reply {
     pub changed: ArrayVec<Record, MAX_CHANGED>,
     /// The answer to a question.
     pub answer: Option<Answer>,
-    /// Whether the others gave this member up, and nothing can refute it.
+    /// Whether a claim about this member came that nothing can refute.
     pub ousted: bool,
-    /// The least open deadline after the event, in milliseconds.
+    /// The least open deadline after the event, in milliseconds: so far the start of the first round.
     pub next: u64,
 }
 

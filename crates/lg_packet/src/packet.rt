@@ -12,7 +12,7 @@ pub const MAX_CLAIMS: usize = 6;
 pub enum Body {
     /// Asks a member for an Ack with this number.
     Ping {
-        /// The number of the probe or relay.
+        /// The number of the probe.
         number: u32,
         /// The member that is to answer.
         target: Name,

@@ -17,7 +17,7 @@ pub enum OwnHeard {
     Refuted,
     /// It said that oneself is alive at a greater number than the own: the own number is now one more than the claim's.
     Raised,
-    /// It said that oneself failed, or nothing can refute it, its number being the greatest: the flag is set.
+    /// It said that oneself failed, or its number is the greatest and nothing can outdo it: the flag is set.
     Ousted,
     /// It says nothing that isn't outdone already. Nothing changed.
     Ignored,
