@@ -1,5 +1,6 @@
 -- How the text of an input grows by a line, and that its events are accepted.
 use Rattle.std.proofs.Common.{◌≡◌, ℕ, ◌+◌, ◌<◌, ◌≤◌, suc, Bool, true, false, ◌||◌, ◌&&◌, not, cond, leb, List, [], ◌∷◌, ◌++◌, length, Result, Ok, Err, refl, sym, ap, ◌∙◌, arith, append_assoc, append-nil, length-append}
+use Rattle.std.specs.Prelude.{is_ok}
 use Rattle.std.specs.Result.{is_err}
 use Rattle.std.specs.List.{cons_option, filter_map, list_any}
 use Rattle.std.proofs.lemmas.List.Elements.{filter_map-append}
@@ -14,7 +15,7 @@ use Rattle.lg_detector.specs.declared.event.Event.{Event}
 use Rattle.lg_detector.proofs.Accepting.{accepts-after}
 use Rattle.lg_cli.specs.Lines.{lines_of}
 use Rattle.lg_cli.specs.Said.{packet_in}
-use Rattle.lg_cli.specs.Answering.{defaults, opening, hearing, heard, events_of, told, line_text, text_from, answer_text, answer_end, is_faulty, with_heard, AcceptsHeard}
+use Rattle.lg_cli.specs.Answering.{local, defaults, opening, hearing, heard, events_of, told, line_text, text_from, answer_text, answer_end, is_faulty, with_heard, AcceptsHeard}
 use Rattle.lg_cli.specs.declared.answer.End.{End}
 use Rattle.lg_cli.specs.declared.answer.End.TheVariants.{Done, Faulty}
 use Rattle.lg_cli.specs.declared.line.LineFault.{LineFault}
@@ -58,13 +59,13 @@ few_heard [] = omega arith
 few_heard (line ∷ lines) = few_more (packet_in line) (heard_in lines) (length lines) (few_heard lines)
 
 -- the defaults pass the check, whatever the name and the address
-defaults_are_checked : (name : List ℕ) (addr : Addr) → IsChecked (defaults name addr)
+pub defaults_are_checked : (name : List ℕ) (addr : Addr) → IsChecked (defaults name addr)
 unfolding check_of
 defaults_are_checked name addr = refl
 
+-- so the opening is good
 pub opens_with_defaults : (name : List ℕ) → opens_well (opening name) ≡ true
-unfolding check_of
-opens_with_defaults name = refl
+opens_with_defaults name = ap is_ok (defaults_are_checked name (local 7000))
 
 accepted : (well any : Bool) (n : ℕ) → well ≡ true → any ≡ false → n + 1 ≤ 4000000000 → (well && (not any && leb (n + 1) 4000000000)) ≡ true
 accepted well any n good none few = grind arith

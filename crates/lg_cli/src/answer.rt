@@ -40,7 +40,8 @@ pub struct Answered {
     pub end: End,
 }
 
-/// The opening of a detector of this name, at moment 0 at 127.0.0.1:7000.
+/// The opening of a detector of this name with the default configuration, at moment 0 at
+/// 127.0.0.1:7000.
 fn open_event(name: &Name) -> Event
     ensures { result ≡ opening name.now }
 {
@@ -114,7 +115,8 @@ fn answer_line(
     }
 }
 
-/// A detector of a name that was opened at moment 0 at 127.0.0.1:7000.
+/// A detector of a name that was opened with the default configuration, at moment 0 at
+/// 127.0.0.1:7000.
 fn opened(alloc: Global, name: &Name, reply: &mut Reply) -> Result<Detector, NoMemory>
     ensures { IfOk result (λ detector. detector ≡ state_after (opening name.now ∷ [])) }
 {

@@ -15,11 +15,11 @@ use std::io::{Read, Write};
 /// Carries the command `answer`: reads all that a reader has left, and writes what a detector of
 /// this name sends for it, and nothing else.
 ///
-/// The detector is opened at moment 0 at 127.0.0.1:7000. Each line of the input is a packet in hex
-/// of either case, heard at moment 0 from 127.0.0.1:1; each packet sent is written as a line of
-/// lower-case hex. A packet that is refused gives `fault NUMBER NAME`, and a line that isn't hex
-/// `bad hex`; both go on, and the end is then [`End::Faulty`]. An empty line is a packet of no
-/// bytes (this project's choice).
+/// The detector is opened with the default configuration, at moment 0 at 127.0.0.1:7000. Each line
+/// of the input is a packet in hex of either case, heard at moment 0 from 127.0.0.1:1; each packet
+/// sent is written as a line of lower-case hex. A packet that is refused gives `fault NUMBER NAME`,
+/// and a line that isn't hex `bad hex`; both go on, and the end is then [`End::Faulty`]. An empty
+/// line is a packet of no bytes (this project's choice).
 ///
 /// The input has at most 1,048,576 bytes; a longer or endless one is [`RunFault::Read`], as is any
 /// error of the reader but an interruption. The whole text is made before its first byte is

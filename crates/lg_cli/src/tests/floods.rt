@@ -11,10 +11,7 @@ const NAMES: u32 = 300;
 /// Puts the claim behind a text that the member of this number is alive at 127.0.0.1:7000, in hex.
 fn put_alive(number: u32, text: &mut String) -> Result<(), AllocError> {
     let (hundreds, tens, ones) = (number / 100, number / 10 % 10, number % 10);
-    write!(
-        text,
-        "01046d3{hundreds}3{tens}3{ones}7f0000011b5800000000"
-    )
+    write!(text, "01046d3{hundreds}3{tens}3{ones}7f0000011b5800000000")
 }
 
 #[test]
