@@ -1,12 +1,12 @@
 -- After an accepted list, the state accepts an event exactly where the list with it is accepted.
-use Rattle.std.proofs.Common.{◌≡◌, ℕ, ◌+◌, ◌<◌, ◌≤◌, suc, Bool, true, false, ◌&&◌, ◌||◌, not, cond, leb, ltb, eqb, List, [], ◌∷◌, ◌++◌, reverse, length, map, Option, Some, None, IsTrue, refl, sym, ap, ◌∙◌, arith, length-append}
+use Rattle.std.proofs.Common.{◌≡◌, ℕ, ◌+◌, suc, Bool, true, false, ◌&&◌, ◌||◌, not, cond, leb, ltb, eqb, List, [], ◌∷◌, ◌++◌, reverse, length, map, Option, Some, None, IsTrue, refl, ap, ◌∙◌, arith, length-append}
 use Rattle.std.specs.List.{list_any}
 use Rattle.std.proofs.lemmas.List.{length-reverse}
 use Rattle.std.proofs.lemmas.List.Folds.{list_any-append}
 use Rattle.lg_rules.specs.declared.claim.Claim.{Claim}
 use Rattle.lg_detector.specs.declared.event.Event.{Event}
 use Rattle.lg_detector.specs.declared.event.Event.TheVariants.{Open, Heard, Ask}
-use Rattle.lg_detector.specs.Marks.{Log, Came, Opened, Said, Sent, events, config}
+use Rattle.lg_detector.specs.Marks.{Log, Came, Opened, Said, events, config}
 use Rattle.lg_detector.specs.Events.{log_of, alive_seed, say, told, acked, asked_in, is_open, opens_well, is_accepted}
 use Rattle.lg_detector.specs.Answers.{state_after, accepts_of}
 

@@ -1,11 +1,10 @@
 -- The records that differ once claims are heard.
-use Rattle.std.proofs.Common.{◌≡◌, ℕ, ◌≤◌, Bool, true, false, cond, List, [], ◌∷◌, length, Option, refl, sym, ap, ◌∙◌, subst, arith}
+use Rattle.std.proofs.Common.{◌≡◌, ℕ, ◌≤◌, Bool, true, false, cond, List, [], ◌∷◌, length, refl, sym, ap, ◌∙◌, subst, arith}
 use Rattle.std.specs.Prelude.{filter, is_some}
 use Rattle.lg_rules.specs.declared.claim.Claim.{Claim}
 use Rattle.lg_rules.specs.Rows.{name_cmp, is_same, is_among}
 use Rattle.lg_rules.specs.View.{Membership, view, told_all, news, changed}
 use Rattle.lg_rules.proofs.Changes.{changed-told, length-told}
-use Rattle.lg_timing.specs.declared.config.Config.{Config}
 use Rattle.lg_detector.specs.Marks.{Log, config, me, said, addr_in}
 use Rattle.lg_detector.specs.State.{State, state_of, come, tell_own, tell_other, tell, tell_all, membership}
 use Rattle.lg_detector.specs.Answers.{shown_of, hear}

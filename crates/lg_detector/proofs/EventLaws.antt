@@ -2,14 +2,13 @@
 use Rattle.std.proofs.Common.{◌≡◌, ℕ, Bool, true, false, List, [], ◌∷◌, ◌++◌, map, reverse, Option, Some, None, IsTrue, refl, sym, ◌∙◌, ap}
 use Rattle.std.proofs.lemmas.List.{reverse-append}
 use Rattle.lg_rules.specs.declared.claim.Claim.{Claim}
-use Rattle.lg_packet.specs.declared.packet.Body.{Body}
 use Rattle.lg_detector.specs.declared.event.Event.{Event}
 use Rattle.lg_detector.specs.declared.event.Event.TheVariants.{Open, Heard, Ask}
 use Rattle.lg_rules.specs.View.{changed}
-use Rattle.lg_detector.specs.Marks.{Log, Came, Opened, Said, Sent, config, round_start, own, view}
-use Rattle.lg_detector.specs.State.{State, state_of, come, open_with, tell, tell_all, send}
+use Rattle.lg_detector.specs.Marks.{Log, Came, Opened, Said, config, view}
+use Rattle.lg_detector.specs.State.{State, state_of, open_with, tell_all}
 use Rattle.lg_detector.specs.Events.{alive_seed, say, told, asked_in, acked, after, log_of, answer, ack_with, answer_by}
-use Rattle.lg_detector.specs.Answers.{state_after, answer_after, accepts_of, shown_of, hear, ack, respond, react, next, ack_out, answer_out, out}
+use Rattle.lg_detector.specs.Answers.{state_after, answer_after, accepts_of, shown_of, hear, ack, respond, react, next, ack_out, out}
 use Rattle.lg_detector.proofs.MarkLaws.{come-state, open-state, tell-state, send-state}
 
 pub tell_all-state : (seed : Bool) (cs : List Claim) (log : Log) → tell_all seed cs (state_of log) ≡ state_of (say seed cs log)

@@ -4,7 +4,7 @@ use Rattle.lg_rules.specs.declared.claim.Claim.{Claim}
 use Rattle.lg_rules.specs.Own.{own_heard}
 use Rattle.lg_rules.specs.Rows.{name_cmp, is_same}
 use Rattle.lg_rules.specs.Table.{heard}
-use Rattle.lg_rules.specs.View.{Membership, told, told_all, is_news, news}
+use Rattle.lg_rules.specs.View.{told, told_all}
 use Rattle.lg_detector.specs.State.{State, tell_own, tell_other, tell, tell_all, membership}
 
 pub membership-tell : (seed : Bool) (c : Claim) (s : State) → membership (tell seed c s) ≡ told (membership s) c

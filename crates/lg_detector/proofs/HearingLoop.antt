@@ -1,5 +1,5 @@
 -- Claims that are said one after another.
-use Rattle.std.proofs.Common.{◌≡◌, ℕ, ◌+◌, ◌<◌, ◌≤◌, suc, Bool, true, false, cond, List, [], ◌∷◌, ◌++◌, length, get_or, drop, refl, sym, ap, ◌∙◌, append_assoc, arith, length-append}
+use Rattle.std.proofs.Common.{◌≡◌, ℕ, ◌+◌, ◌<◌, ◌≤◌, Bool, true, false, cond, List, [], ◌∷◌, ◌++◌, length, get_or, drop, refl, sym, ap, ◌∙◌, append_assoc, arith, length-append}
 use Rattle.std.proofs.lemmas.List.{drop_more, append-nil, drop_all}
 use Rattle.lg_rules.specs.declared.claim.Claim.{Claim}
 use Rattle.lg_rules.specs.View.{Membership, told, is_news, news}
@@ -48,11 +48,11 @@ goes_on first now claims i heard c way lt is =
     record {
       state = sym (ap (λ cs. tell_all false cs now) step) ∙ way.state;
       names =
-        sym (
+          sym (
           ap (λ cs. heard ++ news (membership now) cs) step
           ∙ either (is_news (membership now) c) heard (news (told (membership now) c) rest) c
           ∙ ap (λ (m : Membership). named (is_news (membership now) c) heard c ++ news m rest) (sym (membership-tell false c now)))
-        ∙ way.names;
+          ∙ way.names;
       few = omega (arith, way.few, length-named (is_news (membership now) c) heard c);
     }
 

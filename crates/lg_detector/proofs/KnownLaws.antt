@@ -1,13 +1,12 @@
 -- The names that are known, when a claim is said.
-use Rattle.std.proofs.Common.{◌≡◌, ◌≢◌, ℕ, ◌+◌, ◌≤◌, suc, Bool, true, false, ◌||◌, List, ◌∷◌, length, inl, inr, refl, sym, ◌∙◌, ap, subst, arith}
-use Rattle.std.proofs.lemmas.Bool.{cases_Bool}
+use Rattle.std.proofs.Common.{◌≡◌, ℕ, ◌≤◌, Bool, true, false, ◌||◌, List, ◌∷◌, length, inl, inr, refl, sym, ◌∙◌, ap, arith}
 use Rattle.lg_rules.specs.declared.claim.Claim.{Claim}
 use Rattle.lg_rules.specs.Rows.{name_cmp, is_same, is_among, put_key}
 use Rattle.lg_rules.specs.Table.{roster}
 use Rattle.lg_rules.proofs.KeyOrder.{names_order, cases_key}
-use Rattle.lg_rules.proofs.Rises.{Rises, rises-put, among-put, among-put_same, same_members, put-there, length-put}
+use Rattle.lg_rules.proofs.Rises.{Rises, rises-put, among-put, among-put_same, same_members, length-put}
 use Rattle.lg_rules.proofs.Roster.{rises-roster, roster-own, length-roster, own_unknown}
-use Rattle.lg_rules.proofs.Tables.{IsTaken, IsKept, IsOut, Hearing, Taken, Kept, Out, heard_cases}
+use Rattle.lg_rules.proofs.Tables.{IsTaken, Taken, Kept, Out, heard_cases}
 use Rattle.lg_detector.specs.Marks.{Log, Said, me, said, known}
 
 pub rises-known : (log : Log) → Rises name_cmp (known log)
@@ -33,11 +32,11 @@ put-twice m n ns rise =
     (rises-put names_order m (put_key name_cmp n ns) (rises-put names_order n ns rise))
     (rises-put names_order n (put_key name_cmp m ns) (rises-put names_order m ns rise))
     (λ k.
-      among-put names_order k m (put_key name_cmp n ns)
-      ∙ ap (λ b. is_same name_cmp m k || b) (among-put names_order k n ns)
-      ∙ or_swap (is_same name_cmp m k) (is_same name_cmp n k) (is_among name_cmp k ns)
-      ∙ ap (λ b. is_same name_cmp n k || b) (sym (among-put names_order k m ns))
-      ∙ sym (among-put names_order k n (put_key name_cmp m ns)))
+    among-put names_order k m (put_key name_cmp n ns)
+    ∙ ap (λ b. is_same name_cmp m k || b) (among-put names_order k n ns)
+    ∙ or_swap (is_same name_cmp m k) (is_same name_cmp n k) (is_among name_cmp k ns)
+    ∙ ap (λ b. is_same name_cmp n k || b) (sym (among-put names_order k m ns))
+    ∙ sym (among-put names_order k n (put_key name_cmp m ns)))
 
 -- A claim about oneself makes no name known; one that is taken makes its name known, and one that isn't none.
 pub known-own : (seed : Bool) (log : Log) (c : Claim) → c.name ≡ me log → known (Said seed c ∷ log) ≡ known log

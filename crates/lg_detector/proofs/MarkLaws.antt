@@ -1,15 +1,14 @@
 -- The state is led on by each mark as its definitions are.
-use Rattle.std.proofs.Common.{◌≡◌, ◌≢◌, ℕ, Bool, true, false, List, [], ◌∷◌, Some, inl, inr, refl, sym, ◌∙◌, ap}
+use Rattle.std.proofs.Common.{◌≡◌, ◌≢◌, ℕ, Bool, List, [], ◌∷◌, Some, inl, inr, refl, sym, ◌∙◌}
 use Rattle.lg_rules.specs.declared.claim.Claim.{Claim}
-use Rattle.lg_rules.specs.Rows.{name_cmp}
 use Rattle.lg_rules.specs.Own.{own_of}
 use Rattle.lg_rules.specs.Table.{members_of}
 use Rattle.lg_rules.proofs.KeyOrder.{names_order, cases_key, same_key, other_key}
 use Rattle.lg_rules.proofs.OwnLaws.{own-same, own-other, own_of_name}
-use Rattle.lg_rules.proofs.Tables.{heard-table, table-own, table-nil}
+use Rattle.lg_rules.proofs.Tables.{heard-table, table-own}
 use Rattle.lg_timing.specs.declared.config.Config.{Config}
 use Rattle.lg_detector.specs.Marks.{Log, Came, Opened, Said, Sent, events, moment, config, me, said, own, round_start, lambda_in, addr_in, queued, queue_rows}
-use Rattle.lg_detector.specs.State.{State, state_of, come, open_with, tell_own, tell_other, tell, tell_all, send}
+use Rattle.lg_detector.specs.State.{state_of, come, open_with, tell_own, tell_other, tell, send}
 use Rattle.lg_detector.proofs.QueueLaws.{queue-own, queue-other, queue-sent, queue-opened}
 
 pub come-state : (now : ℕ) (log : Log) → come now (state_of log) ≡ state_of (Came now ∷ log)

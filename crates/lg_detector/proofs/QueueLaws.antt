@@ -1,25 +1,22 @@
 -- The queue, when a claim is said or a packet is sent.
-use Rattle.std.proofs.Common.{◌≡◌, ◌≢◌, ℕ, Bool, true, false, List, [], ◌∷◌, map, Option, Some, None, inl, inr, refl, sym, ◌∙◌, ap}
+use Rattle.std.proofs.Common.{◌≡◌, ◌≢◌, ℕ, Bool, false, List, [], ◌∷◌, map, Option, Some, None, inl, inr, refl, sym, ◌∙◌, ap}
 use Rattle.std.specs.Prelude.{filter_map, option_map}
-use Rattle.std.specs.List.{cons_option}
 use Rattle.std.proofs.lemmas.Bool.{cases_Bool}
 use Rattle.lg_rules.specs.declared.claim.Claim.{Claim}
 use Rattle.lg_rules.specs.Own.{own_answer, own_heard}
-use Rattle.lg_rules.specs.Claim.{name_of}
 use Rattle.lg_rules.specs.Table.{takes}
 use Rattle.lg_timing.specs.declared.config.Config.{Config}
 use Rattle.lg_rules.specs.Rows.{name_cmp, is_among, put_key, put_row}
-use Rattle.lg_rules.proofs.Cases.{Missing, Holding, held, held_once}
+use Rattle.lg_rules.proofs.Cases.{Missing, Holding, held}
 use Rattle.lg_rules.proofs.KeyOrder.{names_order}
 use Rattle.lg_rules.proofs.Rises.{put-there}
 use Rattle.lg_rules.proofs.RowLaws.{rows_equal, rows-put, rows-skip}
 use Rattle.lg_rules.proofs.Tables.{Taken, Kept, Out, heard_cases}
-use Rattle.lg_gossip.specs.declared.queued.Queued.{Queued}
-use Rattle.lg_gossip.specs.Queue.{fresh, queued_name, put_of, sent_once}
-use Rattle.lg_detector.specs.Marks.{Log, Opened, Said, Sent, config, lambda_in, me, said, own, table, known, put_of_own, put_of_other, put_by, put_last, sends, queued, queue_rows, queue}
+use Rattle.lg_gossip.specs.Queue.{fresh, queued_name, sent_once}
+use Rattle.lg_detector.specs.Marks.{Log, Opened, Said, Sent, config, lambda_in, me, said, own, table, known, put_of_own, put_of_other, put_by, queued, queue_rows, queue}
 use Rattle.lg_detector.specs.State.{put_in}
 use Rattle.lg_detector.proofs.KnownLaws.{rises-known, own_known, known-own, known-taken, known-passed}
-use Rattle.lg_detector.proofs.QueuedLaws.{queued-sent, put_by-own, put_by-other, own_put_name, queued_keyed, queued_unknown, queued-put, queued-put_other, queued-no_put, passed_none, put_is, put_by-grows}
+use Rattle.lg_detector.proofs.QueuedLaws.{queued-sent, put_by-own, put_by-other, own_put_name, queued_keyed, queued_unknown, queued-put, queued-put_other, queued-no_put, passed_none, put_is}
 
 abbrev names_after : Bool → Log → Claim → List (List ℕ)
 names_after seed log c = known (Said seed c ∷ log)
@@ -47,7 +44,7 @@ rows-join seed log c none names = elim (cases_Bool (is_among name_cmp c.name (kn
   | inl among ↦ rows-stay seed log c none (names ∙ put-there names_order c.name (known log) (rises-known log) among)
   | inr out ↦ (
       let same : filter_map (queued (Said seed c ∷ log)) (put_key name_cmp c.name (known log)) ≡ filter_map (queued log) (put_key name_cmp c.name (known log)) =
-          rows_equal (queued log) (queued (Said seed c ∷ log)) (put_key name_cmp c.name (known log)) (queued-no_put seed log c none) in
+      rows_equal (queued log) (queued (Said seed c ∷ log)) (put_key name_cmp c.name (known log)) (queued-no_put seed log c none) in
       sym (rows-skip names_order (queued log) c.name (known log) (queued_unknown log c.name out)) ∙ sym same
       ∙ ap (filter_map (queued (Said seed c ∷ log))) (sym names))
 ]

@@ -6,7 +6,7 @@ use Rattle.lg_rules.specs.Claim.{name_of}
 use Rattle.lg_rules.specs.declared.claim.Claim.{Claim}
 use Rattle.lg_rules.specs.declared.own.OwnHeard.{OwnHeard}
 use Rattle.lg_rules.specs.declared.own.OwnHeard.TheVariants.{Refuted, Raised, Ousted, Ignored}
-use Rattle.lg_rules.specs.Own.{Oneself, own_of, own_answer, answered, own_heard, own_record}
+use Rattle.lg_rules.specs.Own.{Oneself, own_answer, answered, own_heard, own_record}
 use Rattle.lg_rules.specs.Rows.{name_cmp, is_same, is_among, put_key}
 use Rattle.lg_rules.specs.Table.{takes}
 use Rattle.lg_rules.proofs.Cases.{Missing, Holding, held, held_once}

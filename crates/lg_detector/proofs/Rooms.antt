@@ -1,12 +1,9 @@
 -- In a state that some log has, each claim can be said.
-use Rattle.std.proofs.Common.{◌≡◌, ◌≢◌, ℕ, ◌<◌, ◌≤◌, Bool, true, false, cond, List, [], ◌∷◌, length, Option, Some, None, inl, inr, refl, sym, ◌∙◌, ap, subst, arith}
-use Rattle.std.specs.Prelude.{filter_map}
+use Rattle.std.proofs.Common.{◌≡◌, ℕ, ◌<◌, ◌≤◌, Bool, cond, List, ◌∷◌, length, Option, Some, None, refl, sym, ◌∙◌, ap, subst}
 use Rattle.lg_rules.specs.declared.claim.Claim.{Claim}
 use Rattle.lg_rules.specs.Rows.{name_cmp, is_same, row_at}
-use Rattle.lg_rules.proofs.Cases.{Missing, Holding, held}
 use Rattle.lg_rules.proofs.KeyOrder.{names_order}
 use Rattle.lg_rules.specs.Own.{own_answer, own_heard}
-use Rattle.lg_rules.proofs.Rises.{put-there}
 use Rattle.lg_rules.proofs.RowLaws.{rows_room}
 use Rattle.lg_rules.specs.Claim.{name_of}
 use Rattle.lg_rules.specs.Table.{record_of}
@@ -48,8 +45,8 @@ pub is_ordered : (log : Log) → IsOrdered (state_of log)
 is_ordered log = record {
   rises = rises-table (me log) (said log);
   others =
-    ap (λ (n : List ℕ). row_at name_cmp name_of n (table log)) (own_name log)
-    ∙ row_at-table (me log) (said log) (me log)
-    ∙ ap (λ b. cond b (record_of (said log) (me log)) None) (own_unknown (me log) (said log));
+      ap (λ (n : List ℕ). row_at name_cmp name_of n (table log)) (own_name log)
+      ∙ row_at-table (me log) (said log) (me log)
+      ∙ ap (λ b. cond b (record_of (said log) (me log)) None) (own_unknown (me log) (said log));
   few = length_table-le (me log) (said log);
 }

@@ -11,7 +11,6 @@ use Rattle.lg_timing.specs.declared.config.Config.{Config}
 use Rattle.lg_timing.specs.declared.config.Seed.{Seed}
 use Rattle.lg_timing.specs.Config.{check_of}
 use Rattle.lg_gossip.specs.Queue.{taken_of, fill_of}
-use Rattle.lg_packet.specs.declared.packet.Packet.{Packet}
 use Rattle.lg_packet.specs.declared.packet.Body.{Body}
 use Rattle.lg_packet.specs.declared.packet.Body.TheVariants.{Ping, Ack}
 use Rattle.lg_detector.specs.declared.event.Event.{Event}
@@ -20,7 +19,7 @@ use Rattle.lg_detector.specs.declared.reply.Answer.{Answer}
 use Rattle.lg_detector.specs.declared.reply.Answer.TheVariants.{Status}
 use Rattle.lg_detector.specs.declared.reply.Outgoing.{Outgoing}
 use Rattle.lg_detector.specs.declared.reply.Reply.{Reply}
-use Rattle.lg_detector.specs.Marks.{Mark, Came, Opened, Said, Sent, Log, config, me, own, members, queue, round_start, view}
+use Rattle.lg_detector.specs.Marks.{Came, Opened, Said, Sent, Log, config, me, own, members, queue, round_start, view}
 
 -- a seed, as a claim
 abbrev pub alive_seed : Seed → Claim

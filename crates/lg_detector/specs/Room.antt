@@ -1,5 +1,5 @@
 -- What a state needs so that a claim can be said: oneself has one name, and what is put has a place in the queue.
-use Rattle.std.specs.Prelude.{◌≡◌, ℕ, ◌<◌, ⊤, ◌≤◌, map, Bool, length, Option, Some, None}
+use Rattle.std.specs.Prelude.{◌≡◌, ◌<◌, ⊤, ◌≤◌, map, Bool, length, Option, Some, None}
 use Rattle.lg_rules.specs.declared.claim.Claim.{Claim}
 use Rattle.lg_rules.specs.Claim.{name_of}
 use Rattle.lg_rules.specs.Rows.{name_cmp, row_at}

@@ -10,8 +10,8 @@ ghost use Rattle.lg_detector.specs.State.{state_of, come, open_with, tell, tell_
 ghost use Rattle.lg_detector.specs.Answers.{accepts_of, next, out, react, state_after, answer_after, view_after, deadline_of, deadline_after, shown_of, hear, respond, ack_out, sends_out, changed_out, answer_out};
 ghost use Rattle.lg_detector.specs.declared.event.Event.{Event as Happened};
 
-use crate::parts::{Parts, is_same_name};
 use crate::event::Event;
+use crate::parts::{Parts, is_same_name};
 use crate::reply::{Answer, MAX_CHANGED, MAX_SENDS, Outgoing, Reply};
 use crate::showing::{self, MAX_MEMBERS};
 use arrayvec::ArrayVec;
@@ -378,8 +378,7 @@ fn opens_well(event: &Event) -> bool
 pub fn states_lead_on()
     ensures next { (f : List Happened) (e : Happened) → IsTrue (accepts_of (state_after f) e) → next (state_after f) e ≡ state_after (f ++ e ∷ []) }
     ensures out { (f : List Happened) (e : Happened) → out (state_after f) e ≡ answer_after f e }
-{
-}
+{}
 
 /// The number of the Ack that a body asks of a member: a Ping for it does (SWIM, section 3.1).
 fn asked_of(config: &Option<Config>, body: &Body) -> Option<u32>

@@ -98,7 +98,10 @@ impl Queue {
         requires { lambda ≤ 10 }
         ensures { self.new ≡ record { lambda = lambda; rows = [] } }
     {
-        let Queue { lambda: factor, rows } = self;
+        let Queue {
+            lambda: factor,
+            rows,
+        } = self;
         *factor = lambda;
         rows.clear();
     }

@@ -1,4 +1,4 @@
-use Rattle.std.proofs.Common.{◌≡◌, Bool, true, false, cond, Option, Some, sym, ap, ◌∙◌}
+use Rattle.std.proofs.Common.{◌≡◌, true, false, cond, Some, sym, ap, ◌∙◌}
 use Rattle.lg_rules.specs.declared.claim.Claim.{Claim}
 use Rattle.lg_rules.specs.Claim.{name_of}
 use Rattle.lg_rules.specs.Own.{own_record}
@@ -12,7 +12,7 @@ returns-then-is_same_name c =
     let rest = row_at name_cmp name_of c.args.name.now c.args.parts.now.members.table in
     let found = found-opened c.args.parts.now.config own c.args.parts.now.members.table c.args.name.now c.if-is_none.ensures in
     let hit : is_same name_cmp own.name c.args.name.now ≡ true =
-        ap (λ (r : Claim). is_same name_cmp r.name c.args.name.now) (sym c.record-own.ensures) ∙ sym c.is_same_name.ensures ∙ c.if-is_same_name.true in
+    ap (λ (r : Claim). is_same name_cmp r.name c.args.name.now) (sym c.record-own.ensures) ∙ sym c.is_same_name.ensures ∙ c.if-is_same_name.true in
     ap (λ (r : Claim). Some r) c.record-own.ensures ∙ sym (found ∙ ap (λ b. cond b (Some (own_record own)) rest) hit)
 
 pub returns : goal.returns
@@ -21,5 +21,5 @@ returns c =
     let rest = row_at name_cmp name_of c.args.name.now c.args.parts.now.members.table in
     let found = found-opened c.args.parts.now.config own c.args.parts.now.members.table c.args.name.now c.if-is_none.ensures in
     let miss : is_same name_cmp own.name c.args.name.now ≡ false =
-        ap (λ (r : Claim). is_same name_cmp r.name c.args.name.now) (sym c.record-own.ensures) ∙ sym c.is_same_name.ensures ∙ c.if-is_same_name.false in
+    ap (λ (r : Claim). is_same name_cmp r.name c.args.name.now) (sym c.record-own.ensures) ∙ sym c.is_same_name.ensures ∙ c.if-is_same_name.false in
     c.copied.ensures ∙ c.get.ensures ∙ sym (found ∙ ap (λ b. cond b (Some (own_record own)) rest) miss)

@@ -9,6 +9,6 @@ push-requires c =
     let p : Claim → Bool = λ r. is_among name_cmp r.name c.args.names.now in
     let this = c.claim-item.result in
     let hit : p (get_or c.args.records.now c.loop-claim.claim-index this) ≡ true =
-        ap p (sym c.claim-item.is) ∙ sym c.is_among.ensures ∙ c.if-is_among.true in
+    ap p (sym c.claim-item.is) ∙ sym c.is_among.ensures ∙ c.if-is_among.true in
     let room = filter_room p c.args.records.now c.loop-claim.claim-index this c.loop-claim-test.true hit in
     (omega arith, omega (arith, ap length c.loop-claim.invariant, room, c.requires))

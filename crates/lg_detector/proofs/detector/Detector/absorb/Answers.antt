@@ -7,7 +7,7 @@ use Rattle.lg_detector.proofs.detector.Detector.absorb.Goals as goal
 pub returns-then-can_come-clause-after : goal.returns-then-can_come-clause-after
 returns-then-can_come-clause-after c =
     λ f is accepted.
-      c.react.ensures.state
-      ∙ sym (next-accepted c.args.self.now c.args.event.now accepted)
-      ∙ ap (λ (s : State). next s c.args.event.now) is
-      ∙ next-after f c.args.event.now (subst (λ (s : State). IsTrue (accepts_of s c.args.event.now)) is accepted)
+    c.react.ensures.state
+    ∙ sym (next-accepted c.args.self.now c.args.event.now accepted)
+    ∙ ap (λ (s : State). next s c.args.event.now) is
+    ∙ next-after f c.args.event.now (subst (λ (s : State). IsTrue (accepts_of s c.args.event.now)) is accepted)

@@ -9,8 +9,8 @@ pub invariant_of-self : goal.invariant_of-self
 invariant_of-self c = record {
   log = Came c.args.now ∷ c.self.invariant.log;
   is =
-    c.come.ensures
-    ∙ ap (λ parts. come c.args.now (state_in parts)) c.deref_mut.ensures.value
-    ∙ ap (come c.args.now) c.self.invariant.is
-    ∙ come-state c.args.now c.self.invariant.log;
+      c.come.ensures
+      ∙ ap (λ parts. come c.args.now (state_in parts)) c.deref_mut.ensures.value
+      ∙ ap (come c.args.now) c.self.invariant.is
+      ∙ come-state c.args.now c.self.invariant.log;
 }

@@ -13,8 +13,8 @@ invariant_of-self c =
     record {
       log = Sent _ ∷ c.self.invariant.log;
       is =
-        c.fill.ensures.state
-        ∙ ap (λ parts. sent (state_in parts)) c.deref_mut.ensures.value
-        ∙ ap sent c.self.invariant.is
-        ∙ send-state _ c.self.invariant.log;
+          c.fill.ensures.state
+          ∙ ap (λ parts. sent (state_in parts)) c.deref_mut.ensures.value
+          ∙ ap sent c.self.invariant.is
+          ∙ send-state _ c.self.invariant.log;
     }

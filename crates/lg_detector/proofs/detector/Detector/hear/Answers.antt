@@ -1,8 +1,6 @@
-use Rattle.std.proofs.Common.{◌≡◌, false, List, ℕ, sym, ap, ◌∙◌}
-use Rattle.std.specs.Prelude.{filter}
-use Rattle.lg_rules.specs.Rows.{name_cmp, is_among}
-use Rattle.lg_rules.specs.View.{news, view}
-use Rattle.lg_detector.specs.State.{State, membership, come, tell_all}
+use Rattle.std.proofs.Common.{false, sym, ap, ◌∙◌}
+use Rattle.lg_rules.specs.View.{news}
+use Rattle.lg_detector.specs.State.{State, membership, tell_all}
 use Rattle.lg_detector.proofs.Differing.{shown_few, shown_differing}
 use Rattle.lg_detector.proofs.detector.Detector.hear.Goals as goal
 

@@ -9,8 +9,8 @@ pub invariant_of-self : goal.invariant_of-self
 invariant_of-self c = record {
   log = Opened c.args.config.now ∷ c.self.invariant.log;
   is =
-    c.open_with.ensures
-    ∙ ap (λ parts. open_with c.args.config.now (state_in parts)) c.deref_mut.ensures.value
-    ∙ ap (open_with c.args.config.now) c.self.invariant.is
-    ∙ open-state c.args.config.now c.self.invariant.log;
+      c.open_with.ensures
+      ∙ ap (λ parts. open_with c.args.config.now (state_in parts)) c.deref_mut.ensures.value
+      ∙ ap (open_with c.args.config.now) c.self.invariant.is
+      ∙ open-state c.args.config.now c.self.invariant.log;
 }

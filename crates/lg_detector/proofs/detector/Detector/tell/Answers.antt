@@ -16,8 +16,8 @@ pub invariant_of-self : goal.invariant_of-self
 invariant_of-self c = record {
   log = Said c.args.seed c.args.claim.now ∷ c.self.invariant.log;
   is =
-    c.tell.ensures.state
-    ∙ ap (λ parts. tell c.args.seed c.args.claim.now (state_in parts)) c.deref_mut.ensures.value
-    ∙ ap (tell c.args.seed c.args.claim.now) c.self.invariant.is
-    ∙ tell-state c.args.seed c.args.claim.now c.self.invariant.log;
+      c.tell.ensures.state
+      ∙ ap (λ parts. tell c.args.seed c.args.claim.now (state_in parts)) c.deref_mut.ensures.value
+      ∙ ap (tell c.args.seed c.args.claim.now) c.self.invariant.is
+      ∙ tell-state c.args.seed c.args.claim.now c.self.invariant.log;
 }

@@ -1,4 +1,3 @@
-use Rattle.std.proofs.Common.{◌≤◌, length}
 use Rattle.lg_detector.proofs.HearingLoop.{IsOnTheWay}
 use Rattle.lg_detector.proofs.detector.Detector.tell_all.Given as goal
 

@@ -8,5 +8,5 @@ tell_own-requires-clause-own c = key_is names_order c.args.claim.now.name c.name
 pub tell_other-requires-clause-other : goal.tell_other-requires-clause-other
 tell_other-requires-clause-other c =
     λ same.
-      apart names_order c.args.claim.now.name c.name.result (sym c.is_same_name.ensures ∙ c.if-is_same_name.false)
-      (same ∙ sym c.requires.one_name ∙ sym c.name.ensures)
+    apart names_order c.args.claim.now.name c.name.result (sym c.is_same_name.ensures ∙ c.if-is_same_name.false)
+    (same ∙ sym c.requires.one_name ∙ sym c.name.ensures)
