@@ -133,6 +133,14 @@ impl Timers {
         self.timers.len() < before
     }
 
+    /// Cancels all timers: none is set then.
+    #[tactic(auto, unfolding(crate::specs::Timers::in_turn))]
+    pub fn clear(&mut self)
+        ensures { self.new ≡ [] }
+    {
+        self.timers.clear();
+    }
+
     /// The timer that fires first, if any is set.
     pub fn least(&self) -> Option<Timer>
         ensures least { result ≡ least_of self.now }
