@@ -149,16 +149,25 @@ impl Timers {
         least_of(&self.timers)
     }
 
+    /// The first of the timers that are due, those whose deadline isn't after `now`; none where none is
+    /// due. It stays set.
+    pub fn due(&self, now: Moment) -> Option<Timer>
+        ensures { result ≡ due_of now self.now }
+    {
+        let timer = self.least()?;
+        if timer.deadline > now.milliseconds() {
+            return None;
+        }
+        Some(timer)
+    }
+
     /// Takes out the first of the timers that are due, those whose deadline isn't after `now`, and no
     /// other; where none is due, `None` is answered and nothing changes.
     pub fn take_due(&mut self, now: Moment) -> Option<Timer>
         ensures due { result ≡ due_of now self.old }
         ensures left { self.new ≡ left_by result self.old }
     {
-        let timer = self.least()?;
-        if timer.deadline > now.milliseconds() {
-            return None;
-        }
+        let timer = self.due(now)?;
         self.cancel(&timer.id);
         Some(timer)
     }
