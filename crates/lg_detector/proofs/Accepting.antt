@@ -5,9 +5,10 @@ use Rattle.std.proofs.lemmas.List.{length-reverse}
 use Rattle.std.proofs.lemmas.List.Folds.{list_any-append}
 use Rattle.lg_rules.specs.declared.claim.Claim.{Claim}
 use Rattle.lg_detector.specs.declared.event.Event.{Event}
-use Rattle.lg_detector.specs.declared.event.Event.TheVariants.{Open, Heard, Ask}
-use Rattle.lg_detector.specs.Marks.{Log, Came, Opened, Said, events, config}
-use Rattle.lg_detector.specs.Events.{log_of, alive_seed, say, told, acked, asked_in, is_open, opens_well, is_accepted}
+use Rattle.lg_detector.specs.declared.event.Event.TheVariants.{Open, Tick, Heard, Ask, Health}
+use Rattle.lg_timers.specs.declared.timer.Timer.{Timer}
+use Rattle.lg_detector.specs.Marks.{Log, Came, Opened, Said, Fired, events, config, table}
+use Rattle.lg_detector.specs.Events.{log_of, alive_seed, say, told, acked, asked_in, due, fired, fired_claims, is_open, opens_well, is_accepted}
 use Rattle.lg_detector.specs.Answers.{state_after, accepts_of}
 
 events-say : (seed : Bool) (cs : List Claim) (log : Log) → events (say seed cs log) ≡ events log
@@ -17,6 +18,10 @@ events-say seed (c ∷ cs) log = events-say seed cs (Said seed c ∷ log)
 events-acked : (o : Option ℕ) (log : Log) → events (acked o log) ≡ events log
 events-acked None log = refl
 events-acked (Some number) log = refl
+
+events-fired : (o : Option Timer) (log : Log) → events (fired o log) ≡ events log
+events-fired None log = refl
+events-fired (Some timer) log = events-say false (fired_claims timer.id (table log)) (Fired timer ∷ log)
 
 events-log_of : (past : List Event) → events (log_of past) ≡ length past
 events-log_of [] = refl
@@ -30,7 +35,12 @@ events-log_of (Heard now source packet ∷ past) =
   where
     one_more : events (log_of past) ≡ length past → events (log_of past) + 1 ≡ suc (length past)
     one_more e = omega arith
+events-log_of (Tick now words ∷ past) = events-fired (due (Came now ∷ log_of past)) (Came now ∷ log_of past) ∙ one_more (events-log_of past)
+  where
+    one_more : events (log_of past) ≡ length past → events (log_of past) + 1 ≡ suc (length past)
+    one_more e = omega arith
 events-log_of (Ask now name ∷ past) = rw (events-log_of past) (omega arith)
+events-log_of (Health now ∷ past) = rw (events-log_of past) (omega arith)
 
 pub events-after : (f : List Event) → (state_after f).events ≡ length f
 events-after f = events-log_of (reverse f) ∙ length-reverse f

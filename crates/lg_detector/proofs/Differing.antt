@@ -6,12 +6,12 @@ use Rattle.lg_rules.specs.Rows.{name_cmp, is_same, is_among}
 use Rattle.lg_rules.specs.View.{Membership, view, told_all, news, changed}
 use Rattle.lg_rules.proofs.Changes.{changed-told, length-told}
 use Rattle.lg_detector.specs.Marks.{Log, config, me, said, addr_in}
-use Rattle.lg_detector.specs.State.{State, state_of, come, tell_own, tell_other, tell, tell_all, membership}
-use Rattle.lg_detector.specs.Answers.{shown_of, hear}
+use Rattle.lg_detector.specs.State.{State, state_of, tell_own, tell_other, tell, tell_all, membership}
+use Rattle.lg_detector.specs.Answers.{shown_of}
 use Rattle.lg_detector.proofs.Hearing.{membership-tell_all}
 use Rattle.lg_detector.proofs.Shown.{view-opened}
 
-config-tell : (seed : Bool) (c : Claim) (s : State) → (tell seed c s).config ≡ s.config
+pub config-tell : (seed : Bool) (c : Claim) (s : State) → (tell seed c s).config ≡ s.config
 unfolding tell
 config-tell seed c s = either (is_same name_cmp c.name s.own.name)
   where
@@ -30,26 +30,26 @@ shown-view s opened = view-opened s.config s.own s.members.table opened
 abbrev among : List (List ℕ) → Claim → Bool
 among names r = is_among name_cmp r.name names
 
-pub membership-heard : (s after : State) (now : ℕ) (cs : List Claim) → after ≡ hear cs now s → membership after ≡ told_all (membership s) cs
-membership-heard s after now cs e = ap membership e ∙ membership-tell_all false cs (come now s)
+pub membership-said : (s after : State) (cs : List Claim) → after ≡ tell_all false cs s → membership after ≡ told_all (membership s) cs
+membership-said s after cs e = ap membership e ∙ membership-tell_all false cs s
 
-pub shown_few : (s after : State) (log : Log) (now : ℕ) (cs : List Claim) (names : List (List ℕ)) → s ≡ state_of log → after ≡ hear cs now s → names ≡ news (membership s) cs
+pub shown_few : (s after : State) (log : Log) (cs : List Claim) (names : List (List ℕ)) → s ≡ state_of log → after ≡ tell_all false cs s → names ≡ news (membership s) cs
     → length cs ≤ 6 → length (filter (among names) (view (membership after))) ≤ 6
-shown_few s after log now cs names is e named few =
+shown_few s after log cs names is e named few =
     let long = length-told (me log) (addr_in (config log)) (said log) cs (membership s) (ap membership is) in
     let whole : length (filter (among (news (membership s) cs)) (view (told_all (membership s) cs))) ≤ 6 = omega (arith, long) in
     subst (λ (ns : List (List ℕ)). length (filter (among ns) (view (membership after))) ≤ 6) (sym named)
-    (subst (λ (m : Membership). length (filter (among (news (membership s) cs)) (view m)) ≤ 6) (sym (membership-heard s after now cs e)) whole)
+    (subst (λ (m : Membership). length (filter (among (news (membership s) cs)) (view m)) ≤ 6) (sym (membership-said s after cs e)) whole)
 
-pub shown_differing : (s after : State) (log : Log) (now : ℕ) (cs : List Claim) (names : List (List ℕ)) → s ≡ state_of log → after ≡ hear cs now s → names ≡ news (membership s) cs
-    → is_some after.config ≡ true → filter (among names) (view (membership after)) ≡ changed (shown_of s) (shown_of (hear cs now s))
-shown_differing s after log now cs names is e named opened =
+pub shown_differing : (s after : State) (log : Log) (cs : List Claim) (names : List (List ℕ)) → s ≡ state_of log → after ≡ tell_all false cs s → names ≡ news (membership s) cs
+    → is_some after.config ≡ true → filter (among names) (view (membership after)) ≡ changed (shown_of s) (shown_of (tell_all false cs s))
+shown_differing s after log cs names is e named opened =
     let differ = changed-told (me log) (addr_in (config log)) (said log) cs (membership s) (ap membership is) in
-    let was : is_some s.config ≡ true = ap is_some (sym (ap (λ (t : State). t.config) e ∙ config-tell_all false cs (come now s))) ∙ opened in
-    let then : is_some (hear cs now s).config ≡ true = ap (λ (t : State). is_some t.config) (sym e) ∙ opened in
+    let was : is_some s.config ≡ true = ap is_some (sym (ap (λ (t : State). t.config) e ∙ config-tell_all false cs s)) ∙ opened in
+    let then : is_some (tell_all false cs s).config ≡ true = ap (λ (t : State). is_some t.config) (sym e) ∙ opened in
     ap (λ ns. filter (among ns) (view (membership after))) named
-    ∙ ap (λ m. filter (among (news (membership s) cs)) (view m)) (membership-heard s after now cs e)
+    ∙ ap (λ m. filter (among (news (membership s) cs)) (view m)) (membership-said s after cs e)
     ∙ sym differ
-    ∙ ap (λ m. changed (view (membership s)) (view m)) (sym (membership-tell_all false cs (come now s)))
-    ∙ ap (λ rows. changed rows (view (membership (hear cs now s)))) (sym (shown-view s was))
-    ∙ ap (changed (shown_of s)) (sym (shown-view (hear cs now s) then))
+    ∙ ap (λ m. changed (view (membership s)) (view m)) (sym (membership-tell_all false cs s))
+    ∙ ap (λ rows. changed rows (view (membership (tell_all false cs s)))) (sym (shown-view s was))
+    ∙ ap (changed (shown_of s)) (sym (shown-view (tell_all false cs s) then))

@@ -3,13 +3,14 @@ use Rattle.std.proofs.Common.{◌≡◌, ℕ, Bool, true, false, List, [], ◌�
 use Rattle.std.proofs.lemmas.List.{reverse-append}
 use Rattle.lg_rules.specs.declared.claim.Claim.{Claim}
 use Rattle.lg_detector.specs.declared.event.Event.{Event}
-use Rattle.lg_detector.specs.declared.event.Event.TheVariants.{Open, Heard, Ask}
+use Rattle.lg_detector.specs.declared.event.Event.TheVariants.{Open, Tick, Heard, Ask, Health}
 use Rattle.lg_rules.specs.View.{changed}
-use Rattle.lg_detector.specs.Marks.{Log, Came, Opened, Said, config, view}
+use Rattle.lg_timers.specs.declared.timer.Timer.{Timer}
+use Rattle.lg_detector.specs.Marks.{Log, Came, Opened, Said, Fired, config, table, view}
 use Rattle.lg_detector.specs.State.{State, state_of, open_with, tell_all}
-use Rattle.lg_detector.specs.Events.{alive_seed, say, told, asked_in, acked, after, log_of, answer, ack_with, answer_by}
-use Rattle.lg_detector.specs.Answers.{state_after, answer_after, accepts_of, shown_of, hear, ack, respond, react, next, ack_out, out}
-use Rattle.lg_detector.proofs.MarkLaws.{come-state, open-state, tell-state, send-state}
+use Rattle.lg_detector.specs.Events.{alive_seed, say, told, asked_in, acked, fired_claims, due, fired, or_zero, after, log_of, answer, ack_with, answer_by}
+use Rattle.lg_detector.specs.Answers.{state_after, answer_after, deadline_of, accepts_of, shown_of, hear, ack, respond, due_in, claims_of, fire_due, tick, react, next, ack_out, out}
+use Rattle.lg_detector.proofs.MarkLaws.{come-state, open-state, tell-state, send-state, fire-state}
 
 pub tell_all-state : (seed : Bool) (cs : List Claim) (log : Log) → tell_all seed cs (state_of log) ≡ state_of (say seed cs log)
 tell_all-state seed [] log = refl
@@ -22,6 +23,19 @@ pub ack-state : (o : Option ℕ) (log : Log) → ack o (state_of log) ≡ state_
 ack-state None log = refl
 ack-state (Some number) log = send-state _ log
 
+-- a timer fires, if one is due
+fired-state : (o : Option Timer) (log : Log) → tell_all false (claims_of o (table log)) (fire_due o (state_of log)) ≡ state_of (fired o log)
+fired-state None log = refl
+fired-state (Some timer) log =
+    ap (tell_all false (fired_claims timer.id (table log))) (fire-state timer log) ∙ tell_all-state false (fired_claims timer.id (table log)) (Fired timer ∷ log)
+
+expire : State → State
+expire s = tell_all false (claims_of (due_in s) s.members.table) (fire_due (due_in s) s)
+
+pub tick-state : (now : ℕ) (log : Log) → tick now (state_of log) ≡ state_of (fired (due (Came now ∷ log)) (Came now ∷ log))
+unfolding expire
+tick-state now log = ap expire (come-state now log) ∙ fired-state (due (Came now ∷ log)) (Came now ∷ log)
+
 pub react-state : (log : Log) (e : Event) → react (state_of log) e ≡ state_of (after e log)
 unfolding react
 react-state log (Open now opening) =
@@ -31,7 +45,9 @@ react-state log (Open now opening) =
 react-state log (Heard now source packet) =
     let heard = told packet.claims.items now log in
     ap (respond packet.body) (hear-state packet.claims.items now log) ∙ ack-state (asked_in (config heard) packet.body) heard
+react-state log (Tick now words) = tick-state now log
 react-state log (Ask now name) = come-state now log
+react-state log (Health now) = come-state now log
 
 ack_out-log : (source : _) (o : Option ℕ) (log : Log) → ack_out source o (state_of log) ≡ ack_with log source o
 ack_out-log source None log = refl
@@ -40,29 +56,48 @@ ack_out-log source (Some number) log = refl
 pub out-state : (log : Log) (e : Event) → out (state_of log) e ≡ answer log e
 unfolding out
 out-state log (Open now opening) = λ i. record {
+  fired = None;
   sends = record { items = [] };
   changed = record { items = [] };
   answer = None;
   ousted = (react-state log (Open now opening) i).own.ousted;
-  next = (react-state log (Open now opening) i).round_start;
+  next = or_zero (deadline_of (react-state log (Open now opening) i));
 }
 out-state log (Heard now source packet) =
     let heard = told packet.claims.items now log in
     let heard-is = hear-state packet.claims.items now log in
     let sends-is = ap (λ s. ack_out source (asked_in s.config packet.body) s) heard-is ∙ ack_out-log source (asked_in (config heard) packet.body) heard in
     λ i. record {
+      fired = None;
       sends = record { items = sends-is i };
       changed = record { items = changed (view log) (shown_of (heard-is i)) };
       answer = None;
       ousted = (react-state log (Heard now source packet) i).own.ousted;
-      next = (react-state log (Heard now source packet) i).round_start;
+      next = or_zero (deadline_of (react-state log (Heard now source packet) i));
     }
 out-state log (Ask now name) = λ i. record {
+  fired = None;
   sends = record { items = [] };
   changed = record { items = [] };
   answer = answer_by log (Ask now name);
   ousted = (react-state log (Ask now name) i).own.ousted;
-  next = (react-state log (Ask now name) i).round_start;
+  next = or_zero (deadline_of (react-state log (Ask now name) i));
+}
+out-state log (Health now) = λ i. record {
+  fired = None;
+  sends = record { items = [] };
+  changed = record { items = [] };
+  answer = answer_by log (Health now);
+  ousted = (react-state log (Health now) i).own.ousted;
+  next = or_zero (deadline_of (react-state log (Health now) i));
+}
+out-state log (Tick now words) = λ i. record {
+  fired = due_in (come-state now log i);
+  sends = record { items = [] };
+  changed = record { items = changed (view log) (shown_of (tick-state now log i)) };
+  answer = answer_by log (Tick now words);
+  ousted = (react-state log (Tick now words) i).own.ousted;
+  next = or_zero (deadline_of (react-state log (Tick now words) i));
 }
 
 -- an event that is accepted is reacted to

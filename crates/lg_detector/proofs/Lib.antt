@@ -11,3 +11,10 @@ pub mod Hearing
 pub mod HearingLoop
 pub mod Differing
 pub mod Openings
+pub mod AccusedLaws
+pub mod SuspectedLaws
+pub mod SuspicionLaws
+pub mod TimerLaws
+pub mod ScoreLaws
+pub mod Reaching
+pub mod Ticking

@@ -1,10 +1,9 @@
 -- The queue, when a claim is said or a packet is sent.
-use Rattle.std.proofs.Common.{◌≡◌, ◌≢◌, ℕ, Bool, false, List, [], ◌∷◌, map, Option, Some, None, inl, inr, refl, sym, ◌∙◌, ap}
+use Rattle.std.proofs.Common.{◌≡◌, ◌≢◌, ℕ, Bool, List, [], ◌∷◌, map, Option, Some, None, inl, inr, refl, sym, ◌∙◌, ap}
 use Rattle.std.specs.Prelude.{filter_map, option_map}
 use Rattle.std.proofs.lemmas.Bool.{cases_Bool}
 use Rattle.lg_rules.specs.declared.claim.Claim.{Claim}
 use Rattle.lg_rules.specs.Own.{own_answer, own_heard}
-use Rattle.lg_rules.specs.Table.{takes}
 use Rattle.lg_timing.specs.declared.config.Config.{Config}
 use Rattle.lg_rules.specs.Rows.{name_cmp, is_among, put_key, put_row}
 use Rattle.lg_rules.proofs.Cases.{Missing, Holding, held}
@@ -13,22 +12,25 @@ use Rattle.lg_rules.proofs.Rises.{put-there}
 use Rattle.lg_rules.proofs.RowLaws.{rows_equal, rows-put, rows-skip}
 use Rattle.lg_rules.proofs.Tables.{Taken, Kept, Out, heard_cases}
 use Rattle.lg_gossip.specs.Queue.{fresh, queued_name, sent_once}
-use Rattle.lg_detector.specs.Marks.{Log, Opened, Said, Sent, config, lambda_in, me, said, own, table, known, put_of_own, put_of_other, put_by, queued, queue_rows, queue}
+use Rattle.lg_timers.specs.declared.timer.Timer.{Timer}
+use Rattle.lg_detector.specs.Marks.{Log, Came, Opened, Said, Sent, Fired, config, lambda_in, me, said, own, table, known}
+use Rattle.lg_detector.specs.Suspicions.{suspicions}
+use Rattle.lg_detector.specs.Gossip.{put_of_own, put_of_other, put_by, queued, queue_rows, queue}
 use Rattle.lg_detector.specs.State.{put_in}
-use Rattle.lg_detector.proofs.KnownLaws.{rises-known, own_known, known-own, known-taken, known-passed}
-use Rattle.lg_detector.proofs.QueuedLaws.{queued-sent, put_by-own, put_by-other, own_put_name, queued_keyed, queued_unknown, queued-put, queued-put_other, queued-no_put, passed_none, put_is}
+use Rattle.lg_detector.proofs.KnownLaws.{rises-known, known-own, known-taken, known-passed}
+use Rattle.lg_detector.proofs.QueuedLaws.{queued-sent, put_by-own, put_by-other, put_by-grows, queued_keyed, queued_unknown, queued-put, queued-put_other, queued-no_put}
 
 abbrev names_after : Bool → Log → Claim → List (List ℕ)
 names_after seed log c = known (Said seed c ∷ log)
 
--- a claim is put, and no other name than its own becomes known
-rows-told : (seed : Bool) (log : Log) (c p : Claim) → put_by seed log c ≡ Some p → names_after seed log c ≡ put_key name_cmp p.name (known log)
+-- a claim is put
+rows-told : (seed : Bool) (log : Log) (c p : Claim) → put_by seed log c ≡ Some p
     → put_row name_cmp queued_name (fresh p) (queue_rows log) ≡ queue_rows (Said seed c ∷ log)
 unfolding queue_rows
-rows-told seed log c p put names =
+rows-told seed log c p put =
     rows-put names_order queued_name (queued log) (queued (Said seed c ∷ log)) (fresh p) (known log) (rises-known log) (queued_keyed log)
     (queued-put seed log c p put) (queued-put_other seed log c p put)
-    ∙ ap (filter_map (queued (Said seed c ∷ log))) (sym names)
+    ∙ ap (filter_map (queued (Said seed c ∷ log))) (sym (put_by-grows seed log c p put))
 
 -- none is put, and no name becomes known
 rows-stay : (seed : Bool) (log : Log) (c : Claim) → put_by seed log c ≡ None → names_after seed log c ≡ known log → queue_rows log ≡ queue_rows (Said seed c ∷ log)
@@ -62,30 +64,18 @@ pub queue-own : (seed : Bool) (log : Log) (c : Claim) → c.name ≡ me log
 queue-own seed log c same =
     let put = put_of_own (own_answer c.status c.incarnation (own log).number) (own_heard (own log) c) in
     let says = put_by-own seed log c same in
-    let names = known-own seed log c same in
-    let there = put-there names_order (me log) (known log) (rises-known log) (own_known log) in
-    queue-by seed log c put (λ e. rows-stay seed log c (says ∙ e) names)
-    (λ p e. rows-told seed log c p (says ∙ e) (names ∙ sym (ap (λ n. put_key name_cmp n (known log)) (own_put_name log c p e) ∙ there)))
+    queue-by seed log c put (λ e. rows-stay seed log c (says ∙ e) (known-own seed log c same)) (λ p e. rows-told seed log c p (says ∙ e))
 
 -- the queue once a claim about another is said
-passed : (seed : Bool) (log : Log) (c : Claim) → c.name ≢ me log → takes (table log) c ≡ false → names_after seed log c ≡ known log
-    → put_in (put_of_other seed (table log) c) (queue log) ≡ queue (Said seed c ∷ log)
-passed seed log c other test names =
-    let none = passed_none seed (table log) c test in
-    let says = put_by-other seed log c other in
-    queue-by seed log c (put_of_other seed (table log) c) (λ e. rows-stay seed log c (says ∙ e) names)
-    (λ p e. (let bad : None ≡ Some p = sym none ∙ e in absurd cc))
-
-pub queue-other : (seed : Bool) (log : Log) (c : Claim) → c.name ≢ me log → put_in (put_of_other seed (table log) c) (queue log) ≡ queue (Said seed c ∷ log)
+pub queue-other : (seed : Bool) (log : Log) (c : Claim) → c.name ≢ me log → put_in (put_of_other seed (table log) (suspicions log) c) (queue log) ≡ queue (Said seed c ∷ log)
 queue-other seed log c other =
+    let put = put_of_other seed (table log) (suspicions log) c in
     let says = put_by-other seed log c other in
+    let told : (p : Claim) → put ≡ Some p → put_row name_cmp queued_name (fresh p) (queue_rows log) ≡ queue_rows (Said seed c ∷ log) = λ p e. rows-told seed log c p (says ∙ e) in
     elim (heard_cases (me log) c (said log) other) [
-      | Taken t ↦ (
-          let names = known-taken seed log c t in
-          queue-by seed log c (put_of_other seed (table log) c) (λ e. rows-join seed log c (says ∙ e) names)
-          (λ p e. rows-told seed log c p (says ∙ e) (names ∙ ap (λ (q : Claim). put_key name_cmp q.name (known log)) (put_is seed (table log) c p e))))
-      | Kept k ↦ passed seed log c other k.taken (known-passed seed log c k.names)
-      | Out o ↦ passed seed log c other o.taken (known-passed seed log c o.names)
+      | Taken t ↦ queue-by seed log c put (λ e. rows-join seed log c (says ∙ e) (known-taken seed log c t)) told
+      | Kept k ↦ queue-by seed log c put (λ e. rows-stay seed log c (says ∙ e) (known-passed seed log c k.names)) told
+      | Out o ↦ queue-by seed log c put (λ e. rows-stay seed log c (says ∙ e) (known-passed seed log c o.names)) told
     ]
 
 -- rows that are mapped
@@ -101,12 +91,29 @@ pub queue-sent : (log : Log) (taken : List Claim) → map (sent_once taken) (que
 unfolding queue_rows
 queue-sent log taken = rows-map (sent_once taken) (queued log) (queued (Sent taken ∷ log)) (known log) (queued-sent log taken)
 
+-- an event that comes and a timer that fires leave the queue
+queued-came : (now : ℕ) (log : Log) (m : List ℕ) → queued (Came now ∷ log) m ≡ queued log m
+unfolding queued
+queued-came now log m = refl
+
+pub queue-came : (now : ℕ) (log : Log) → queue_rows log ≡ queue_rows (Came now ∷ log)
+unfolding queue_rows
+queue-came now log = rows_equal (queued (Came now ∷ log)) (queued log) (known log) (λ m. sym (queued-came now log m))
+
+queued-fired : (timer : Timer) (log : Log) (m : List ℕ) → queued (Fired timer ∷ log) m ≡ queued log m
+unfolding queued
+queued-fired timer log m = refl
+
+pub queue-fired : (timer : Timer) (log : Log) → queue_rows log ≡ queue_rows (Fired timer ∷ log)
+unfolding queue_rows
+queue-fired timer log = rows_equal (queued (Fired timer ∷ log)) (queued log) (known log) (λ m. sym (queued-fired timer log m))
+
 -- the queue of a detector that was just opened
 queued-opened : (opening : Config) (log : Log) (m : List ℕ) → queued (Opened opening ∷ log) m ≡ None
 unfolding queued
 queued-opened opening log m = refl
 
-none_rows : {K R : Type 0} (f : K → Option R) (ns : List K) → ((n : K) → f n ≡ None) → filter_map f ns ≡ []
+pub none_rows : {K R : Type 0} (f : K → Option R) (ns : List K) → ((n : K) → f n ≡ None) → filter_map f ns ≡ []
 none_rows f [] h = refl
 none_rows f (n ∷ ns) h = rw (h n) (none_rows f ns h)
 

@@ -1,5 +1,5 @@
 -- What is queued about one name, when a claim is said.
-use Rattle.std.proofs.Common.{◌≡◌, ◌≢◌, ℕ, ◌+◌, Bool, true, false, cond, map, List, [], ◌∷◌, Option, Some, None, inl, inr, refl, sym, ◌∙◌, ap}
+use Rattle.std.proofs.Common.{◌≡◌, ◌≢◌, ℕ, ◌+◌, Bool, true, false, ◌||◌, cond, map, List, [], ◌∷◌, Option, Some, None, inl, inr, refl, sym, ◌∙◌, ap}
 use Rattle.std.specs.Prelude.{option_map}
 use Rattle.std.proofs.lemmas.Bool.{cases_Bool}
 use Rattle.lg_rules.specs.Claim.{name_of}
@@ -7,18 +7,22 @@ use Rattle.lg_rules.specs.declared.claim.Claim.{Claim}
 use Rattle.lg_rules.specs.declared.own.OwnHeard.{OwnHeard}
 use Rattle.lg_rules.specs.declared.own.OwnHeard.TheVariants.{Refuted, Raised, Ousted, Ignored}
 use Rattle.lg_rules.specs.Own.{Oneself, own_answer, answered, own_heard, own_record}
-use Rattle.lg_rules.specs.Rows.{name_cmp, is_same, is_among, put_key}
-use Rattle.lg_rules.specs.Table.{takes}
+use Rattle.lg_rules.specs.Rows.{name_cmp, is_same, is_among, put_key, row_at}
+use Rattle.lg_rules.specs.Table.{takes, roster}
 use Rattle.lg_rules.proofs.Cases.{Missing, Holding, held, held_once}
 use Rattle.lg_rules.proofs.KeyOrder.{names_order, cases_key, same_key, other_key, key_is}
 use Rattle.lg_rules.proofs.OwnLaws.{own_of_name}
 use Rattle.lg_rules.proofs.Rises.{among-put_same, put-there}
 use Rattle.lg_rules.proofs.RowLaws.{Keyed, AgreeBut}
-use Rattle.lg_rules.proofs.Tables.{IsTaken, Taken, Kept, Out, heard_cases}
+use Rattle.lg_rules.proofs.Tables.{Taken, Kept, Out, heard_cases, row_at-table}
+use Rattle.lg_rules.specs.Table.{record_of}
 use Rattle.lg_gossip.specs.declared.queued.Queued.{Queued}
 use Rattle.lg_gossip.specs.Queue.{fresh, queued_name, sent_once}
-use Rattle.lg_detector.specs.Marks.{Log, Came, Opened, Said, Sent, me, said, own, table, known, put_of_own, put_of_other, put_by, put_or, put_last, sends, queued}
-use Rattle.lg_detector.proofs.KnownLaws.{rises-known, own_known, known-own, known-taken, known-grows}
+use Rattle.lg_detector.specs.declared.suspected.Suspected.{Suspected}
+use Rattle.lg_detector.specs.Marks.{Log, Came, Opened, Said, Sent, Fired, me, said, own, table, known}
+use Rattle.lg_detector.specs.Suspicions.{suspicions, confirms}
+use Rattle.lg_detector.specs.Gossip.{put_of_own, put_of_other, put_by, put_or, put_last, sends, queued}
+use Rattle.lg_detector.proofs.KnownLaws.{rises-known, own_known, known-own, known-taken, known-passed, known-grows, roster_known}
 
 -- What a claim puts into the queue, about oneself or another.
 pub put_by-own : (seed : Bool) (log : Log) (c : Claim) → c.name ≡ me log
@@ -26,7 +30,7 @@ pub put_by-own : (seed : Bool) (log : Log) (c : Claim) → c.name ≡ me log
 unfolding put_by
 put_by-own seed log c same = rw (same_key names_order c.name (me log) same) refl
 
-pub put_by-other : (seed : Bool) (log : Log) (c : Claim) → c.name ≢ me log → put_by seed log c ≡ put_of_other seed (table log) c
+pub put_by-other : (seed : Bool) (log : Log) (c : Claim) → c.name ≢ me log → put_by seed log c ≡ put_of_other seed (table log) (suspicions log) c
 unfolding put_by
 put_by-other seed log c other = rw (other_key names_order c.name (me log) other) refl
 
@@ -62,6 +66,7 @@ last_name (Came now ∷ log) m p e = last_name log m p e
 last_name (Opened opening ∷ log) m p e = absurd cc
 last_name (Said seed c ∷ log) m p e = put_or_name (put_by seed log c) (put_last log m) m p (last_name log m p) e
 last_name (Sent taken ∷ log) m p e = last_name log m p e
+last_name (Fired timer ∷ log) m p e = last_name log m p e
 
 queued_last : (log : Log) (m : List ℕ) → put_last log m ≡ None → queued log m ≡ None
 unfolding queued
@@ -74,42 +79,50 @@ queued_keyed log m r e = elim (held (put_last log m)) [
   | Holding p is ↦ ap queued_name (sym (held_once _ r (rw is at e))) ∙ last_name log m p is
 ]
 
--- What is queued is known.
-taken_known : (seed : Bool) (log : Log) (c p : Claim) → takes (table log) c ≡ true → IsTaken (me log) c (said log) → put_of_other seed (table log) c ≡ Some p
-    → is_among name_cmp p.name (known (Said seed c ∷ log)) ≡ true
-taken_known true log c p test taken e = absurd cc
-taken_known false log c p test taken e =
-    let is : c ≡ p = held_once c p (rw test at e) in
-    ap (λ (q : Claim). is_among name_cmp q.name (known (Said false c ∷ log))) (sym is)
-    ∙ ap (is_among name_cmp c.name) (known-taken false log c taken)
-    ∙ among-put_same names_order c.name (known log)
-
-pub passed_none : (seed : Bool) (rows : List Claim) (c : Claim) → takes rows c ≡ false → put_of_other seed rows c ≡ None
-passed_none true rows c test = refl
-passed_none false rows c test = rw test refl
-
-pub put_is : (seed : Bool) (rows : List Claim) (c p : Claim) → put_of_other seed rows c ≡ Some p → c ≡ p
-put_is true rows c p e = absurd cc
-put_is false rows c p e = elim (cases_Bool (takes rows c)) [
+-- What a claim about another puts is the claim.
+pub put_is : (seed : Bool) (rows : List Claim) (suspects : List Suspected) (c p : Claim) → put_of_other seed rows suspects c ≡ Some p → c ≡ p
+put_is true rows suspects c p e = absurd cc
+put_is false rows suspects c p e = elim (cases_Bool (takes rows c || confirms rows suspects c)) [
   | inl t ↦ held_once c p (rw t at e)
   | inr f ↦ (let bad : None ≡ Some p = rw f at e in absurd cc)
 ]
 
-put_other_known : (seed : Bool) (log : Log) (c p : Claim) → c.name ≢ me log → put_of_other seed (table log) c ≡ Some p
-    → is_among name_cmp p.name (known (Said seed c ∷ log)) ≡ true
-put_other_known seed log c p other e = elim (heard_cases (me log) c (said log) other) [
-  | Taken t ↦ taken_known seed log c p t.taken t e
-  | Kept k ↦ (let bad : None ≡ Some p = sym (passed_none seed (table log) c k.taken) ∙ e in absurd cc)
-  | Out o ↦ (let bad : None ≡ Some p = sym (passed_none seed (table log) c o.taken) ∙ e in absurd cc)
-]
+put_none : (seed : Bool) (rows : List Claim) (suspects : List Suspected) (c : Claim) → (takes rows c || confirms rows suspects c) ≡ false → put_of_other seed rows suspects c ≡ None
+put_none true rows suspects c test = refl
+put_none false rows suspects c test = rw test refl
 
-put_by_known : (seed : Bool) (log : Log) (c p : Claim) → put_by seed log c ≡ Some p → is_among name_cmp p.name (known (Said seed c ∷ log)) ≡ true
-put_by_known seed log c p e = elim (cases_key names_order c.name (me log)) [
+-- A claim about a name for which there is no room puts nothing.
+out_none : (seed : Bool) (rows : List Claim) (suspects : List Suspected) (c : Claim) → takes rows c ≡ false → row_at name_cmp name_of c.name rows ≡ None → put_of_other seed rows suspects c ≡ None
+out_none seed rows suspects c test missing = put_none seed rows suspects c (rw (test, missing) refl)
+
+pub row_out : (log : Log) (m : List ℕ) → is_among name_cmp m (roster (me log) (said log)) ≡ false → row_at name_cmp name_of m (table log) ≡ None
+row_out log m out = row_at-table (me log) (said log) m ∙ ap (λ b. cond b (record_of (said log) m) None) out
+
+-- What is put is about oneself or about the claim's member: the names that are known then are those before and this one.
+put_other_name : (seed : Bool) (log : Log) (c p : Claim) → put_of_other seed (table log) (suspicions log) c ≡ Some p → c.name ≢ me log
+    → known (Said seed c ∷ log) ≡ put_key name_cmp p.name (known log)
+put_other_name seed log c p e other =
+    let name = ap (λ (q : Claim). put_key name_cmp q.name (known log)) (put_is seed (table log) (suspicions log) c p e) in
+    elim (heard_cases (me log) c (said log) other) [
+      | Taken t ↦ known-taken seed log c t ∙ name
+      | Kept k ↦ known-passed seed log c k.names ∙ sym (put-there names_order c.name (known log) (rises-known log) (roster_known log c.name k.among)) ∙ name
+      | Out o ↦ (
+          let bad : None ≡ Some p = sym (out_none seed (table log) (suspicions log) c o.taken (row_out log c.name o.out)) ∙ e in
+          absurd cc)
+    ]
+
+pub put_by-grows : (seed : Bool) (log : Log) (c p : Claim) → put_by seed log c ≡ Some p → known (Said seed c ∷ log) ≡ put_key name_cmp p.name (known log)
+put_by-grows seed log c p e = elim (cases_key names_order c.name (me log)) [
   | inl same ↦ (
       let name = own_put_name log c p (sym (put_by-own seed log c same) ∙ e) in
-      ap (λ n. is_among name_cmp n (known (Said seed c ∷ log))) name ∙ ap (is_among name_cmp (me log)) (known-own seed log c same) ∙ own_known log)
-  | inr other ↦ put_other_known seed log c p other (sym (put_by-other seed log c other) ∙ e)
+      let there = put-there names_order (me log) (known log) (rises-known log) (own_known log) in
+      known-own seed log c same ∙ sym (ap (λ n. put_key name_cmp n (known log)) name ∙ there))
+  | inr other ↦ put_other_name seed log c p (sym (put_by-other seed log c other) ∙ e) other
 ]
+
+-- What is queued is known.
+put_by_known : (seed : Bool) (log : Log) (c p : Claim) → put_by seed log c ≡ Some p → is_among name_cmp p.name (known (Said seed c ∷ log)) ≡ true
+put_by_known seed log c p e = ap (is_among name_cmp p.name) (put_by-grows seed log c p e) ∙ among-put_same names_order p.name (known log)
 
 or_known : (o before : Option Claim) (m : List ℕ) (p : Claim) (names : List (List ℕ)) → ((q : Claim) → o ≡ Some q → is_among name_cmp q.name names ≡ true)
     → (before ≡ Some p → is_among name_cmp m names ≡ true) → put_or o m before ≡ Some p → is_among name_cmp m names ≡ true
@@ -126,6 +139,7 @@ last_known (Opened opening ∷ log) m p e = absurd cc
 last_known (Said seed c ∷ log) m p e =
     or_known (put_by seed log c) (put_last log m) m p (known (Said seed c ∷ log)) (put_by_known seed log c) (λ before. known-grows seed log c m (last_known log m p before)) e
 last_known (Sent taken ∷ log) m p e = last_known log m p e
+last_known (Fired timer ∷ log) m p e = last_known log m p e
 
 -- so nothing is queued about a name that isn't known
 pub queued_unknown : (log : Log) (m : List ℕ) → is_among name_cmp m (known log) ≡ false → queued log m ≡ None
@@ -159,20 +173,3 @@ queued-sent log taken m = elim (held (put_last log m)) [
   where
     counted : Claim → Bool → ℕ → Option Queued
     counted p holds n = Some record { claim = p; sends = cond holds (n + 1) n }
-
--- What is put is about oneself or about the claim's member: the names that are known then are those before and this one.
-put_other_name : (seed : Bool) (log : Log) (c p : Claim) → put_of_other seed (table log) c ≡ Some p → c.name ≢ me log → known (Said seed c ∷ log) ≡ put_key name_cmp p.name (known log)
-put_other_name seed log c p e other = elim (heard_cases (me log) c (said log) other) [
-  | Taken t ↦ known-taken seed log c t ∙ ap (λ (q : Claim). put_key name_cmp q.name (known log)) (put_is seed (table log) c p e)
-  | Kept k ↦ (let bad : None ≡ Some p = sym (passed_none seed (table log) c k.taken) ∙ e in absurd cc)
-  | Out o ↦ (let bad : None ≡ Some p = sym (passed_none seed (table log) c o.taken) ∙ e in absurd cc)
-]
-
-pub put_by-grows : (seed : Bool) (log : Log) (c p : Claim) → put_by seed log c ≡ Some p → known (Said seed c ∷ log) ≡ put_key name_cmp p.name (known log)
-put_by-grows seed log c p e = elim (cases_key names_order c.name (me log)) [
-  | inl same ↦ (
-      let name = own_put_name log c p (sym (put_by-own seed log c same) ∙ e) in
-      let there = put-there names_order (me log) (known log) (rises-known log) (own_known log) in
-      known-own seed log c same ∙ sym (ap (λ n. put_key name_cmp n (known log)) name ∙ there))
-  | inr other ↦ put_other_name seed log c p (sym (put_by-other seed log c other) ∙ e) other
-]

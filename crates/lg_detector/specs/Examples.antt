@@ -17,7 +17,9 @@ use Rattle.lg_detector.specs.declared.event.Event.{Event}
 use Rattle.lg_detector.specs.declared.event.Event.TheVariants.{Open, Heard, Ask}
 use Rattle.lg_detector.specs.declared.reply.Answer.TheVariants.{Status as answered}
 use Rattle.lg_detector.specs.declared.reply.Outgoing.{Outgoing}
-use Rattle.lg_detector.specs.Marks.{put_by, queued, queue_rows}
+use Rattle.lg_timers.specs.Timers.{in_turn}
+use Rattle.lg_detector.specs.Suspicions.{suspicions}
+use Rattle.lg_detector.specs.Gossip.{put_by, queued, queue_rows}
 use Rattle.lg_detector.specs.Events.{is_accepted}
 use Rattle.lg_detector.specs.Answers.{state_after, answer_after, view_after, deadline_after}
 
@@ -131,12 +133,15 @@ greatest : (state_after (opening 5000 ∷ pings 4000 1 98 [] ∷ [])).moment ≡
 greatest = refl
 
 deadline : (answer_after (opening 5000 ∷ []) (pings 4000 1 98 [])).next ≡ 5000
+unfolding in_turn suspicions roster
 deadline = refl
 
 later_deadline : deadline_after (opening 5000 ∷ pings 6000 1 98 [] ∷ []) ≡ Some 5000
+unfolding in_turn suspicions roster
 later_deadline = refl
 
 no_deadline : deadline_after [] ≡ None
+unfolding in_turn suspicions roster
 no_deadline = refl
 
 -- b is asked for c, for itself and for a stranger.

@@ -10,5 +10,7 @@ state_in parts = record {
   own = parts.own;
   members = parts.members;
   queue = parts.queue;
-  round_start = parts.round_start;
+  score = parts.score;
+  suspicions = parts.suspicions.items;
+  timers = parts.timers;
 }

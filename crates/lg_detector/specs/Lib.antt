@@ -1,4 +1,8 @@
 pub mod Marks
+pub mod Suspicions
+pub mod Gossip
+pub mod Timing
+pub mod Changes
 pub mod State
 pub mod Events
 pub mod Answers

@@ -1,17 +1,13 @@
 -- What happens to a detector, in marks, and what is read off them.
-use Rattle.std.specs.Prelude.{ℕ, ◌+◌, max, Bool, ◌&&◌, not, List, [], ◌∷◌, map, Option, Some, None, option_map, if◌then◌else◌}
-use Rattle.std.specs.List.{filter_map}
+use Rattle.std.specs.Prelude.{ℕ, ◌+◌, max, Bool, List, [], ◌∷◌, Option, Some, None}
 use Rattle.lg_rules.specs.declared.addr.Addr.{Addr}
 use Rattle.lg_rules.specs.declared.claim.Claim.{Claim}
 use Rattle.lg_rules.specs.Claim.{name_of}
-use Rattle.lg_rules.specs.Rows.{name_cmp, is_same, is_among, put_key, put_row}
-use Rattle.lg_rules.specs.Table.{roster, table_of, takes, members_in}
-use Rattle.lg_rules.specs.declared.own.OwnHeard.{OwnHeard}
-use Rattle.lg_rules.specs.declared.own.OwnHeard.TheVariants.{Refuted, Raised, Ousted, Ignored}
-use Rattle.lg_rules.specs.Own.{Oneself, own_of, own_answer, own_heard, own_record}
+use Rattle.lg_rules.specs.Rows.{name_cmp, put_key, put_row}
+use Rattle.lg_rules.specs.Table.{roster, table_of, members_in}
+use Rattle.lg_rules.specs.Own.{Oneself, own_of, own_record}
 use Rattle.lg_timing.specs.declared.config.Config.{Config}
-use Rattle.lg_gossip.specs.declared.queued.Queued.{Queued}
-use Rattle.lg_gossip.specs.Queue.{GossipQueue}
+use Rattle.lg_timers.specs.declared.timer.Timer.{Timer}
 
 -- A log tells what happened in marks, the latest first: an event came at a moment, the detector was opened, a claim was
 -- said (by the opening or not), a packet was sent that holds these claims of the queue, or a timer fired.

@@ -15,6 +15,13 @@ pub enum Event {
         /// What it is opened with.
         config: Config,
     },
+    /// Time has passed: the first of the timers that are due fires, if one is due, and no other.
+    Tick {
+        /// When.
+        now: Moment,
+        /// Random words, by which members will be chosen. So far nobody is chosen.
+        words: [u32; 8],
+    },
     /// A packet is heard.
     Heard {
         /// When.
@@ -31,6 +38,11 @@ pub enum Event {
         /// Whose record.
         name: Name,
     },
+    /// The health score, the own number and the number of members are asked for.
+    Health {
+        /// When.
+        now: Moment,
+    },
 }
 
 impl Event {
@@ -42,6 +54,10 @@ impl Event {
             Event::Open { now, config } => Event::Open {
                 now: *now,
                 config: config.copy(),
+            },
+            Event::Tick { now, words } => Event::Tick {
+                now: *now,
+                words: *words,
             },
             Event::Heard {
                 now,
@@ -56,6 +72,7 @@ impl Event {
                 now: *now,
                 name: *name,
             },
+            Event::Health { now } => Event::Health { now: *now },
         }
     }
 }

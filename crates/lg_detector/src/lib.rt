@@ -6,6 +6,9 @@ mod event;
 mod parts;
 mod reply;
 mod showing;
+mod suspected;
+mod suspecting;
+mod suspicions;
 
 pub use detector::{Detector, MAX_EVENTS, NoMemory, states_lead_on};
 pub use event::Event;

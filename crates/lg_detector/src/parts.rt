@@ -1,15 +1,19 @@
 //! What a detector keeps.
-ghost use Rattle.std.specs.Prelude.{◌≡◌, Some, None};
+ghost use Rattle.std.specs.Prelude.{◌≡◌, Some, None, [], ◌∷◌};
 ghost use Rattle.lg_rules.specs.Rows.{name_cmp, is_same};
-ghost use Rattle.lg_detector.specs.Marks.{put_of_own};
 ghost use Rattle.lg_rules.specs.View.{is_rise};
+ghost use Rattle.lg_detector.specs.Gossip.{put_of_own};
+ghost use Rattle.lg_detector.specs.Timing.{is_round_start};
+ghost use Rattle.lg_detector.specs.Events.{failed_of};
 ghost use Rattle.lg_detector.specs.Room.{HasPlace};
-ghost use Rattle.lg_detector.specs.State.{put_in};
+ghost use Rattle.lg_detector.specs.State.{put_in, marked_by};
 
+use crate::suspicions::Suspicions;
 use arrayvec::ArrayVec;
 use lg_gossip::{MAX_CLAIMS, Queue};
-use lg_rules::{Addr, Claim, Heard, Members, Name, Own, OwnHeard};
-use lg_timing::{Config, Moment};
+use lg_rules::{Addr, Claim, Heard, Members, Name, Own, OwnHeard, Record, Status};
+use lg_timers::{Timer, TimerId, Timers};
+use lg_timing::{Config, Moment, Score};
 
 /// What a detector keeps, on the heap.
 #[derive(Debug, Drop)]
@@ -26,8 +30,12 @@ pub struct Parts {
     pub members: Members,
     /// The claims to be sent.
     pub queue: Queue,
-    /// When the next round starts.
-    pub round_start: Moment,
+    /// The health score.
+    pub score: Score,
+    /// The suspicions of the others.
+    pub suspicions: Suspicions,
+    /// The timers that are set: the start of the next round, and one for each suspicion.
+    pub timers: Timers,
 }
 
 /// Whether two names are one.
@@ -37,6 +45,23 @@ pub fn is_same_name(name: &Name, other: &Name) -> bool
     name.cmp(other).is_eq()
 }
 
+/// Whether a timer starts a round.
+fn is_round_start(id: &TimerId) -> bool
+    ensures { result ≡ is_round_start id.now }
+{
+    matches!(id, TimerId::RoundStart)
+}
+
+/// The claim that the member of a record has failed.
+fn failed(record: &Record) -> Claim
+    ensures { result ∷ [] ≡ failed_of (Some «record».now) }
+{
+    Claim {
+        status: Status::Failed,
+        ..*record
+    }
+}
+
 /// Puts a claim into the queue, if there is one.
 fn put(queue: &mut Queue, claim: Option<Claim>)
     requires { HasPlace claim queue.old }
@@ -44,6 +69,15 @@ fn put(queue: &mut Queue, claim: Option<Claim>)
 {
     if let Some(claim) = claim {
         queue.put(claim);
+    }
+}
+
+/// Marks the score where a claim that oneself is suspected was refuted (Lifeguard, local health aware probe).
+fn mark(score: &mut Score, heard: OwnHeard)
+    ensures { score.new ≡ marked_by heard score.old }
+{
+    if matches!(heard, OwnHeard::Refuted) {
+        score.mark(1);
     }
 }
 
@@ -66,16 +100,22 @@ fn put_of_own(heard: OwnHeard, own: &Own) -> Option<Claim>
 }
 
 impl Parts {
-    ghost use Rattle.std.specs.Prelude.{◌≡◌, ◌≢◌, ◌<◌, ◌≤◌, []};
+    ghost use Rattle.std.specs.Prelude.{◌≡◌, ◌≢◌, ◌<◌, ◌≤◌, ◌||◌, [], None, length, true, false};
     ghost use Rattle.lg_rules.specs.Own.{own_answer, own_heard};
     ghost use Rattle.lg_rules.specs.Table.{takes, members_in};
-    ghost use Rattle.lg_gossip.specs.Queue.{taken_of, fill_of};
-    ghost use Rattle.std.specs.Prelude.{None};
     ghost use Rattle.lg_rules.specs.View.{is_news, is_rise};
+    ghost use Rattle.lg_timing.specs.Config.{IsChecked};
+    ghost use Rattle.lg_gossip.specs.Queue.{taken_of, fill_of};
     ghost use Rattle.lg_detector.specs.Kept.{state_in};
-    ghost use Rattle.lg_detector.specs.Marks.{put_of_own, put_of_other};
-    ghost use Rattle.lg_detector.specs.Room.{HasPlace, HasRoom};
-    ghost use Rattle.lg_detector.specs.State.{state_of, come, open_with, tell, tell_own, tell_other, send, membership};
+    ghost use Rattle.lg_detector.specs.Gossip.{put_of_own, put_of_other};
+    ghost use Rattle.lg_timers.specs.declared.timer.TimerId.TheVariants.{RoundStart};
+    ghost use Rattle.lg_timers.specs.Timers.{is_set, with_timer};
+    ghost use Rattle.lg_detector.specs.Timing.{period_in, start_timer};
+    ghost use Rattle.lg_detector.specs.Events.{fired_claims};
+    ghost use Rattle.lg_detector.specs.Reached.{IsGood};
+    ghost use Rattle.lg_detector.specs.Room.{HasPlace, HasSeat, HasRoom};
+    ghost use Rattle.lg_detector.specs.State.{state_of, come, open_with, tell, tell_own, tell_other, send, restart, fire, membership};
+    ghost use Rattle.lg_detector.specs.Answers.{due_in};
 
     /// What is kept before anything happened.
     pub fn new() -> Parts
@@ -89,7 +129,9 @@ impl Parts {
             own: Own::new(name, Addr::new([0; 4], 0)),
             members: Members::new(&name),
             queue: Queue::new(1),
-            round_start: Moment::default(),
+            score: Score::new(0),
+            suspicions: Suspicions::new(),
+            timers: Timers::new(),
         }
     }
 
@@ -104,13 +146,17 @@ impl Parts {
 
     /// The detector is opened.
     pub fn open_with(&mut self, config: &Config)
-        requires { config.now.lambda ≤ 10 }
+        requires { IsChecked config.now }
         ensures { state_in self.new ≡ open_with config.now (state_in self.old) }
     {
         self.own = Own::new(config.name, config.addr);
         self.members.restart(&config.name);
         self.queue.restart(config.lambda);
-        self.round_start = self.moment;
+        self.score = Score::new(config.max_score);
+        self.suspicions.clear();
+        self.timers.clear();
+        let start = self.moment.milliseconds();
+        self.set_round_start(start);
         self.config = Some(config.copy());
     }
 
@@ -137,18 +183,24 @@ impl Parts {
     {
         let heard = self.own.hear(claim);
         put(&mut self.queue, put_of_own(heard, &self.own));
+        mark(&mut self.score, heard);
         is_raising(heard)
     }
 
     /// A claim about another is said.
     fn tell_other(&mut self, seed: bool, claim: &Claim) -> bool
         requires other { claim.now.name ≢ self.old.members.own }
-        requires place { HasPlace (put_of_other seed self.old.members.table claim.now) self.old.queue }
+        requires place { HasPlace (put_of_other seed self.old.members.table self.old.suspicions.items claim.now) self.old.queue }
+        requires seat { takes self.old.members.table claim.now ≡ true → HasSeat claim.now.name self.old.suspicions.items }
+        requires few { length self.old.timers < 400 }
+        requires good { IsGood self.old.config }
         ensures state { state_in self.new ≡ tell_other seed claim.now (state_in self.old) }
         ensures news { result ≡ takes self.old.members.table claim.now }
     {
-        let taken = self.members.hear(claim) == Heard::Overrode;
-        if taken && !seed {
+        let heard = self.members.hear(claim);
+        let taken = heard == Heard::Overrode;
+        let confirmed = self.suspect(heard, claim);
+        if (taken || confirmed) && !seed {
             self.queue.put(*claim);
         }
         taken
@@ -160,5 +212,72 @@ impl Parts {
         ensures state { state_in self.new ≡ send (taken_of self.old.queue None (members_in self.old.members.table)) (state_in self.old) }
     {
         self.queue.fill(None, self.members.live())
+    }
+
+    /// Sets the timer of the next round, which isn't set.
+    fn set_round_start(&mut self, deadline: u64)
+        requires few { length self.old.timers < 400 }
+        requires apart { is_set RoundStart self.old.timers ≡ false }
+        ensures { self.new ≡ record self.old { timers = with_timer (start_timer deadline) self.old.timers } }
+    {
+        self.timers.set(Timer {
+            deadline,
+            id: TimerId::RoundStart,
+        });
+    }
+
+    /// The protocol period, by the score, in milliseconds.
+    fn period(&self) -> u64
+        requires { IsGood self.now.config }
+        ensures period { result ≡ period_in self.now.config self.now.score }
+        ensures within { result ≤ 1260000 }
+    {
+        match &self.config {
+            Some(config) => self.score.interval(config),
+            None => 0,
+        }
+    }
+
+    /// The first of the timers that are due, if one is.
+    pub fn due(&self) -> Option<Timer>
+        ensures { result ≡ due_in (state_in self.now) }
+    {
+        self.timers.due(self.moment)
+    }
+
+    /// A round starts, chooses nobody, and the next one starts a period later.
+    fn restart(&mut self)
+        requires few { length self.old.timers < 400 }
+        requires good { IsGood self.old.config }
+        ensures { state_in self.new ≡ restart (state_in self.old) }
+    {
+        let deadline = self.moment.milliseconds() + self.period();
+        self.timers.cancel(&TimerId::RoundStart);
+        self.set_round_start(deadline);
+    }
+
+    /// A timer fires. What it says is said by the caller.
+    #[tactic(auto, unfolding(crate::specs::State::fire))]
+    pub fn fire(&mut self, timer: &Timer)
+        requires few { length self.old.timers < 400 }
+        requires good { IsGood self.old.config }
+        ensures { state_in self.new ≡ fire timer.now (state_in self.old) }
+    {
+        if is_round_start(&timer.id) {
+            self.restart();
+        }
+    }
+
+    /// The claims that a timer says when it fires.
+    pub fn fired_claims(&self, id: &TimerId) -> ArrayVec<Claim, MAX_CLAIMS>
+        ensures { result.items ≡ fired_claims id.now self.now.members.table }
+    {
+        let mut claims = ArrayVec::new();
+        if let TimerId::Suspicion(member) = id {
+            if let Some(record) = self.members.get(member) {
+                claims.push(failed(record));
+            }
+        }
+        claims
     }
 }

@@ -4,7 +4,8 @@ ghost use Rattle.arrayvec.specs.ArrayVec.{array_vec_len};
 
 use arrayvec::ArrayVec;
 use lg_packet::Packet;
-use lg_rules::{Addr, Record};
+use lg_rules::{Addr, Incarnation, Record};
+use lg_timers::Timer;
 
 /// The most packets that a reply has room for (this project's choice). So far an event sends one at the most.
 pub const MAX_SENDS: usize = 8;
@@ -38,11 +39,22 @@ impl Outgoing {
 pub enum Answer {
     /// To [`Event::Ask`](crate::Event::Ask): the record of the name, or none where it isn't known.
     Status(Option<Record>),
+    /// To [`Event::Health`](crate::Event::Health).
+    Health {
+        /// The health score, 0 to the configuration's greatest score (Lifeguard, local health aware probe).
+        score: u64,
+        /// The own incarnation.
+        number: Incarnation,
+        /// How many members haven't failed, oneself included: 1 to 256.
+        members: u64,
+    },
 }
 
 /// What a detector answers to an event. It is of fixed size, so it always has room.
 #[derive(Debug, Drop)]
 pub struct Reply {
+    /// The timer that fired; only a tick fires one.
+    pub fired: Option<Timer>,
     /// The packets to be sent, in order.
     pub sends: ArrayVec<Outgoing, MAX_SENDS>,
     /// The records that differ from those before the event, in the order of their names; none for the opening.
@@ -51,14 +63,20 @@ pub struct Reply {
     pub answer: Option<Answer>,
     /// Whether a claim about this member came that nothing can refute.
     pub ousted: bool,
-    /// The least open deadline after the event, in milliseconds: so far the start of the first round.
+    /// The least open deadline after the event, in milliseconds. After the opening there always is one.
     pub next: u64,
 }
 
 /// Says nothing, and the deadline is 0: a place for the first reply.
 impl Default for Reply {
+    ghost use Rattle.std.specs.Prelude.{◌≡◌, [], None, false};
+
+    ghost is_default = { λ r. r
+        ≡ record { fired = None; sends = record { items = [] }; changed = record { items = [] }; answer = None; ousted = false; next = 0 } };
+
     fn default() -> Self {
         Reply {
+            fired: None,
             sends: ArrayVec::new(),
             changed: ArrayVec::new(),
             answer: None,
@@ -93,10 +111,11 @@ fn copy_records(records: &[Record]) -> ArrayVec<Record, MAX_CHANGED>
 }
 
 impl Reply {
-    /// Drops what was to be sent, what changed and the answer.
-    pub fn say_nothing(&mut self)
-        ensures { self.new ≡ record self.old { sends = record { items = [] }; changed = record { items = [] }; answer = None } }
+    /// Drops the timer, what was to be sent, what changed and the answer.
+    pub(crate) fn say_nothing(&mut self)
+        ensures { self.new ≡ record self.old { fired = None; sends = record { items = [] }; changed = record { items = [] }; answer = None } }
     {
+        self.fired = None;
         self.sends.clear();
         self.changed.clear();
         self.answer = None;
@@ -107,6 +126,7 @@ impl Reply {
         ensures { result ≡ self.now }
     {
         Reply {
+            fired: self.fired,
             sends: copy_sends(self.sends.as_slice()),
             changed: copy_records(self.changed.as_slice()),
             answer: self.answer,

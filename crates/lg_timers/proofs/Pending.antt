@@ -185,7 +185,7 @@ module _ {R : Type 0} (key : R → List ℕ) (timer : R → Timer) (ids : (r : R
   ]
 
   -- no row gives the timer of the start of a round
-  rows-not_start : (rows : List R) → is_set RoundStart (map timer rows) ≡ false
+  pub rows-not_start : (rows : List R) → is_set RoundStart (map timer rows) ≡ false
   rows-not_start [] = refl
   rows-not_start (r ∷ rows) =
       let other : has_id RoundStart (timer r) ≡ false = ap (λ id. is_same name_cmp (id_key id) (id_key RoundStart)) (ids r) in

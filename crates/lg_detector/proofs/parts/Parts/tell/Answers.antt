@@ -10,3 +10,10 @@ tell_other-requires-clause-other c =
     λ same.
     apart names_order c.args.claim.now.name c.name.result (sym c.is_same_name.ensures ∙ c.if-is_same_name.false)
     (same ∙ sym c.requires.one_name ∙ sym c.name.ensures)
+
+pub tell_other-requires-clause-seat : goal.tell_other-requires-clause-seat
+tell_other-requires-clause-seat c =
+    c.requires.seat
+    (λ same.
+    apart names_order c.args.claim.now.name c.name.result (sym c.is_same_name.ensures ∙ c.if-is_same_name.false)
+    (same ∙ sym c.requires.one_name ∙ sym c.name.ensures))

@@ -1,0 +1,78 @@
+//! The suspicions that run, and their timers.
+ghost use Rattle.std.specs.Prelude.{◌≡◌, ◌<◌, ◌≤◌, Bool, Option, Some, None, length, IsTrue};
+ghost use Rattle.arrayvec.specs.ArrayVec.{array_vec_len};
+ghost use Rattle.lg_rules.specs.Rows.{name_cmp, put_row, row_at, without_row};
+ghost use Rattle.lg_timing.specs.Config.{IsChecked};
+ghost use Rattle.lg_timers.specs.declared.timer.TimerId.TheVariants.{Suspicion as SuspicionOf};
+ghost use Rattle.lg_timers.specs.Timers.{with_timer, without_timer};
+ghost use Rattle.lg_detector.specs.Suspicions.{suspected_name, counts_in};
+ghost use Rattle.lg_detector.specs.Timing.{suspicion_timer};
+ghost use Rattle.lg_detector.specs.Changes.{Stands, accusing, suspicions_after, timers_after};
+
+use crate::parts::is_same_name;
+use crate::suspected::Suspected;
+use arrayvec::ArrayVec;
+use lg_rules::{MAX_OTHERS, Name, seat_of};
+use lg_timers::{Timer, TimerId, Timers};
+
+/// The suspicions of the others, in the order of their names.
+pub type Suspicions = ArrayVec<Suspected, MAX_OTHERS>;
+
+/// Sets the timer of a suspicion anew.
+fn set_timer(timers: &mut Timers, name: &Name, deadline: u64)
+    requires { length timers.old < 400 }
+    ensures { timers.new ≡ with_timer (record { deadline = deadline; id = SuspicionOf name.now }) (without_timer (SuspicionOf name.now) timers.old) }
+{
+    let id = TimerId::Suspicion(*name);
+    timers.cancel(&id);
+    timers.set(Timer { deadline, id });
+}
+
+/// Puts a suspicion in the place of its member.
+fn put(suspicions: &mut Suspicions, suspected: Suspected)
+    requires { (row_at name_cmp suspected_name suspected.name suspicions.old.items ≡ None) → array_vec_len suspicions.old < 255 }
+    ensures { suspicions.new.items ≡ put_row name_cmp suspected_name suspected suspicions.old.items }
+{
+    match seat_of(suspicions.as_slice(), &suspected.name) {
+        Ok(at) => suspicions[at] = suspected,
+        Err(at) => suspicions.insert(at, suspected),
+    }
+}
+
+/// A suspicion is raised, in the place of an older one of its member.
+pub fn stand(suspicions: &mut Suspicions, timers: &mut Timers, suspected: Suspected)
+    requires room { (row_at name_cmp suspected_name suspected.name suspicions.old.items ≡ None) → array_vec_len suspicions.old < 255 }
+    requires few { length timers.old < 400 }
+    ensures suspicions { suspicions.new.items ≡ suspicions_after (Stands suspected) suspicions.old.items }
+    ensures timers { timers.new ≡ timers_after (Stands suspected) timers.old }
+{
+    set_timer(timers, &suspected.name, suspected.suspicion.deadline());
+    put(suspicions, suspected);
+}
+
+/// The suspicion of a member ends, if there is one.
+pub fn end(suspicions: &mut Suspicions, timers: &mut Timers, name: &Name)
+    ensures suspicions { suspicions.new.items ≡ without_row name_cmp suspected_name name.now suspicions.old.items }
+    ensures timers { timers.new ≡ without_timer (SuspicionOf name.now) timers.old }
+{
+    suspicions.retain(|suspected| !is_same_name(&suspected.name, name));
+    timers.cancel(&TimerId::Suspicion(*name));
+}
+
+/// One more accuses a suspected member. Answers whether that counts.
+pub fn accuse(suspicions: &mut Suspicions, timers: &mut Timers, name: &Name, accuser: &Name) -> bool
+    requires few { length timers.old < 400 }
+    ensures counted { result ≡ counts_in (Some accuser.now) (row_at name_cmp suspected_name name.now suspicions.old.items) }
+    ensures suspicions { suspicions.new.items ≡ suspicions_after (accusing (Some accuser.now) (row_at name_cmp suspected_name name.now suspicions.old.items)) suspicions.old.items }
+    ensures timers { timers.new ≡ timers_after (accusing (Some accuser.now) (row_at name_cmp suspected_name name.now suspicions.old.items)) timers.old }
+{
+    let Ok(at) = seat_of(suspicions.as_slice(), name) else {
+        return false;
+    };
+    let suspected = &mut suspicions[at];
+    let counted = suspected.suspicion.accuse(accuser);
+    if counted {
+        set_timer(timers, name, suspected.suspicion.deadline());
+    }
+    counted
+}
