@@ -141,6 +141,7 @@ impl Members {
     }
 
     /// Forgets all that was heard, and begins anew under an own name.
+    #[tactic(auto, unfolding(crate::specs::Table::table_of, crate::specs::Table::roster))]
     pub fn restart(&mut self, own: &Name)
         ensures { self.new ≡ members_of own.now [] }
     {

@@ -66,6 +66,18 @@ fn one_of_an_id(rt: HostRuntime) {
 }
 
 #[test]
+fn none_after_all_are_cancelled(rt: HostRuntime) {
+    let mut timers = Timers::new();
+    put(&mut timers, timer(500, TimerId::RelayNack(7)));
+    put(&mut timers, timer(600, TimerId::RoundStart));
+    timers.clear();
+    assert!(rt; timers.is_empty());
+    assert_eq!(rt; timers.take_due(moment(600)), None);
+    put(&mut timers, timer(700, TimerId::RoundStart));
+    assert_eq!(rt; timers.least(), Some(timer(700, TimerId::RoundStart)));
+}
+
+#[test]
 fn four_hundred_timers(rt: HostRuntime) {
     let mut timers = Timers::new();
     for number in 0..400u32 {
