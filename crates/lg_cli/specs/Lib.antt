@@ -6,3 +6,4 @@ pub mod Input
 pub mod Lines
 pub mod Running
 pub mod Said
+pub mod Timeouts

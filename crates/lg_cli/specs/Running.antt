@@ -1,9 +1,11 @@
--- A run of the command `answer` that ends without a read, write or memory fault.
+-- Runs of the commands that end without a read, write or memory fault.
 use Rattle.std.specs.Prelude.{◌≡◌, ℕ, ◌≤◌, List, length, Option}
 use Rattle.std.specs.Io.KnownBytes.{Appends, Consumes, IsAtEnd}
 use Rattle.lg_cli.specs.Answering.{answer_end, answer_text}
+use Rattle.lg_cli.specs.Timeouts.{timeouts_text}
 use Rattle.lg_cli.specs.declared.answer.End.{End}
 use Rattle.lg_cli.specs.declared.answer.End.TheVariants.{Done, Faulty}
+use Rattle.lg_cli.specs.declared.timeouts.Numbers.{Numbers}
 
 -- An input of at most 1,048,576 bytes is read to its end, and the answer to it is written.
 pub record AnswersInput (left rest held holds : Option (List ℕ)) (name : List ℕ) (end : End) : Type 0 where
@@ -23,3 +25,8 @@ pub record RunsAnswer (left rest held holds : Option (List ℕ)) (name : List �
   pub end : End
   pub is : status ≡ status_of end
   pub answers : AnswersInput left rest held holds name end
+
+-- The timeouts for some numbers are written, and the status is 0.
+pub record RunsTimeouts (held holds : Option (List ℕ)) (numbers : Numbers) (status : ℕ) : Type 0 where
+  pub is : status ≡ 0
+  pub written : Appends held holds (timeouts_text numbers)

@@ -1,10 +1,18 @@
 //! The command line of the program.
-ghost use Rattle.std.specs.Prelude.{◌≡◌, IfOk, map, false};
+ghost use Rattle.std.specs.Prelude.{◌≡◌, IfOk, map, true, false};
 ghost use Rattle.clap.specs.Kinds.{FailsBy};
+ghost use Rattle.clap.specs.Matches.{found_of};
 ghost use Rattle.clap.specs.Simple.{app_of, subcommand_rows_of};
+ghost use Rattle.clap.specs.Walk.{rows_of, rule_of};
 ghost use Rattle.clap.specs.declared.builder.command.Command.TheViews.{out-Command as fields_of};
-ghost use Rattle.lg_cli.specs.Commands.{answer_app, asked_name, asked_text, name_of_rows, lg_app, line_faults};
+ghost use Rattle.lg_cli.specs.Commands.{answer_app, asked, lg_app, line_faults, name_of_rows, number_in, number_rule, numbers_in, request_faults, request_of, request_of_rows, timeouts_app, IfTimeouts};
+ghost use Rattle.lg_cli.specs.Timeouts.{are_good};
 
+use crate::timeouts::{
+    MAX_CONFIRMATIONS, MAX_FACTOR, MAX_INTERVAL_MS, MAX_MEMBERS, MIN_INTERVAL_MS, Numbers,
+};
+use clap::builder::ValueParser;
+use clap::error::ErrorKind;
 use clap::{Arg, ArgAction, ArgMatches, Command, Error};
 use std::alloc::{AllocError, Global};
 use std::convert::AsStr;
@@ -16,6 +24,11 @@ pub enum Asked<'a> {
     Answer {
         /// The text, which may be no name.
         name: &'a str,
+    },
+    /// The command `timeouts`.
+    Timeouts {
+        /// Its numbers.
+        numbers: Numbers,
     },
 }
 
@@ -35,33 +48,146 @@ fn answer_command<'a>(alloc: Global) -> Result<Command<'a>, AllocError>
         .arg(name)
 }
 
+/// The option `--ID N`, a number between two others, which count.
+fn number_option<'a>(alloc: Global, id: &'a str, help: &'a str, least: u64, most: u64) -> Arg<'a>
+    ensures rule { rule_of result ≡ number_rule id.entry.now least most }
+    ensures local { result.global ≡ false }
+{
+    Arg::new(alloc, id)
+        .long(id)
+        .value_name("N")
+        .help(help)
+        .value_parser(ValueParser::unsigned(least, most))
+        .action(ArgAction::Set)
+}
+
+/// The command `timeouts --members N`, with the options of the other numbers.
+fn timeouts_command<'a>(alloc: Global) -> Result<Command<'a>, AllocError>
+    ensures app { IfOk result (λ command. app_of command ≡ timeouts_app) }
+    ensures local { IfOk result (λ command. (fields_of command).has_globals ≡ false) }
+{
+    let members = number_option(
+        alloc,
+        "members",
+        "How many members there are, oneself among them",
+        1,
+        MAX_MEMBERS,
+    );
+    let confirmations = number_option(
+        alloc,
+        "confirmations",
+        "After how many confirmations the timeout is the least",
+        0,
+        MAX_CONFIRMATIONS,
+    );
+    let alpha = number_option(
+        alloc,
+        "alpha",
+        "The factor of the least timeout",
+        1,
+        MAX_FACTOR,
+    );
+    let beta = number_option(
+        alloc,
+        "beta",
+        "The greatest timeout over the least",
+        1,
+        MAX_FACTOR,
+    );
+    let interval = number_option(
+        alloc,
+        "interval-ms",
+        "The protocol period, in milliseconds",
+        MIN_INTERVAL_MS,
+        MAX_INTERVAL_MS,
+    );
+    Command::new(alloc, "timeouts")
+        .about("Writes the timeouts of a suspicion, in milliseconds")
+        .arg(members.required(true))?
+        .arg(confirmations.default_value("3"))?
+        .arg(alpha.default_value("5"))?
+        .arg(beta.default_value("6"))?
+        .arg(interval.default_value("1000"))
+}
+
 /// The program with its commands, one of which has to be named.
 fn lg_command<'a>(alloc: Global) -> Result<Command<'a>, AllocError>
     ensures { IfOk result (λ command. app_of command ≡ lg_app) }
 {
     let answer = answer_command(alloc)?;
+    let timeouts = timeouts_command(alloc)?;
     let lg = Command::new(alloc, "lg")
         .about("A SWIM failure detector with Lifeguard's extensions")
         .subcommand_required(true)
-        .subcommand(answer)?;
+        .subcommand(answer)?
+        .subcommand(timeouts)?;
     Ok(lg)
 }
 
 /// What the words of a command line ask for, of which the first is the program's name.
 ///
-/// The error is clap's: memory was refused, or the words ask for help or aren't a command of the
-/// program; its text is for the user.
+/// The numbers of `timeouts` are good. The error is clap's: memory was refused, or the words ask for
+/// help or aren't a command of the program; its text is for the user.
 pub fn read_words<'a, S: AsStr>(alloc: Global, words: &'a [S]) -> Result<Asked<'a>, Error>
-    ensures asked { IfOk result (λ asked. asked_text asked ≡ asked_name (map S.text words.entry.now)) }
+    ensures asked { IfOk result (λ found. request_of found ≡ asked (map S.text words.entry.now)) }
+    ensures good { IfOk result (λ found. IfTimeouts (request_of found) (λ numbers. are_good numbers ≡ true)) }
     ensures refused { FailsBy (line_faults (map S.text words.entry.now)) result }
 {
-    let command = lg_command(alloc)?;
-    match command.try_get_matches_from(words) {
-        Ok(matches) => Ok(Asked::Answer {
-            name: name_in(&matches),
-        }),
+    let mut lg = lg_command(alloc)?;
+    match lg.try_get_matches_from_mut(words) {
+        Ok(matches) => checked(asked_in(&matches), &mut lg),
         Err(error) => Err(error),
     }
+}
+
+/// What a command line asks for, where its numbers are good.
+///
+/// The options take no number out of its range, so that none comes this far: this is the proof's
+/// hold on them.
+fn checked<'a>(asked: Asked<'a>, lg: &mut Command) -> Result<Asked<'a>, Error>
+    ensures kept { IfOk result (λ found. request_of found ≡ request_of asked.entry) }
+    ensures refused { FailsBy (request_faults (request_of asked.entry)) result }
+{
+    match asked {
+        Asked::Timeouts { numbers } if !numbers.are_good() => {
+            Err(lg.error(ErrorKind::ValueValidation, "a number is out of its range")?)
+        }
+        _ => Ok(asked),
+    }
+}
+
+/// What the matches of a command line ask for.
+fn asked_in<'a>(matches: &ArgMatches<'a>) -> Asked<'a>
+    ensures { request_of result ≡ request_of_rows (subcommand_rows_of matches.now) }
+{
+    match matches.subcommand_matches("timeouts") {
+        Some(found) => Asked::Timeouts {
+            numbers: numbers_in(found),
+        },
+        None => Asked::Answer {
+            name: name_in(matches),
+        },
+    }
+}
+
+/// The numbers of the options of `timeouts`.
+fn numbers_in(found: &ArgMatches) -> Numbers
+    ensures { result ≡ numbers_in (rows_of (found_of found.now)) }
+{
+    Numbers {
+        members: number_in(found, "members"),
+        confirmations: number_in(found, "confirmations"),
+        alpha: number_in(found, "alpha"),
+        beta: number_in(found, "beta"),
+        interval_ms: number_in(found, "interval-ms"),
+    }
+}
+
+/// The number of an option, or 0 where it has none.
+fn number_in(found: &ArgMatches, id: &str) -> u64
+    ensures { result ≡ number_in (rows_of (found_of found.now)) id.now }
+{
+    found.get_one(id).unwrap_or(0)
 }
 
 /// The text of the option `--name` of the command that was met, or an empty one where there is none.

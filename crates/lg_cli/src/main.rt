@@ -11,6 +11,7 @@ mod program;
 mod run;
 #[cfg(test)]
 mod tests;
+mod timeouts;
 
 use std::env::Env;
 use std::process::ExitCode;

@@ -4,12 +4,14 @@ ghost use Rattle.std.specs.Result.{is_err};
 ghost use Rattle.std.specs.IoError.{error_kind};
 ghost use Rattle.clap.specs.Values.{kind_of};
 ghost use Rattle.lg_rules.specs.Name.{name_of_text};
-ghost use Rattle.lg_cli.specs.Running.{RunsAnswer};
-ghost use Rattle.lg_cli.specs.Commands.{asked_name, line_faults, status_of_kind, RefusesLine};
+ghost use Rattle.lg_cli.specs.Running.{RunsAnswer, RunsTimeouts};
+ghost use Rattle.lg_cli.specs.Commands.{asked, line_faults, status_of_kind, IfAnswer, IfTimeouts, RefusesLine};
+ghost use Rattle.lg_cli.specs.Timeouts.{are_good};
 
 use crate::command::{Asked, read_words};
 use crate::fault::RunFault;
-use crate::run::answer_run;
+use crate::run::{answer_run, timeouts_run};
+use crate::timeouts::Numbers;
 use clap::Error;
 use clap::error::ErrorKind;
 use lg_rules::Name;
@@ -35,7 +37,7 @@ const BAD_INPUT: u8 = 3;
 /// read or a write failed, told as `lg: memory`, `lg: read` or `lg: write`; 2 where the command
 /// line is refused, told by a text of the command line's own; 3 for bad input: `lg: bad names`
 /// where the text of `--name` is no name, and nothing is then read, or a faulty line of the input
-/// of `answer`, of which nothing is told. A line that `faults` doesn't take is dropped.
+/// of `answer`, of which nothing is told. `timeouts` reads nothing. A line that `faults` doesn't take is dropped.
 pub fn run_words<S: AsStr, R: Read, W: Write, F: Write>(
     alloc: Global,
     words: &[S],
@@ -43,14 +45,18 @@ pub fn run_words<S: AsStr, R: Read, W: Write, F: Write>(
     writer: &mut W,
     faults: &mut F,
 ) -> u8
-    // A command line that is taken runs its command, for a text of `--name` that is a name.
+    // A command line that is taken runs its command: `answer` for a text of `--name` that is a name.
     ensures answered { let line = map S.text words.now in line_faults line ≡ [] → result ≢ FAILED
-        → IfOk (name_of_text (asked_name line)) (λ name. RunsAnswer (R.remaining reader.old) (R.remaining reader.new)
-        (W.contents writer.old) (W.contents writer.new) name result) }
+        → IfAnswer (asked line) (λ text. IfOk (name_of_text text) (λ name. RunsAnswer (R.remaining reader.old)
+        (R.remaining reader.new) (W.contents writer.old) (W.contents writer.new) name result)) }
     ensures bad_name { let line = map S.text words.now in line_faults line ≡ [] → result ≢ FAILED
-        → is_err (name_of_text (asked_name line)) ≡ true → result ≡ BAD_INPUT }
-    ensures unread { let line = map S.text words.now in is_err (name_of_text (asked_name line)) ≡ true
-        → reader.new ≡ reader.old }
+        → IfAnswer (asked line) (λ text. is_err (name_of_text text) ≡ true → result ≡ BAD_INPUT) }
+    ensures unread { let line = map S.text words.now in line_faults line ≡ []
+        → IfAnswer (asked line) (λ text. is_err (name_of_text text) ≡ true → reader.new ≡ reader.old) }
+    ensures timed { let line = map S.text words.now in line_faults line ≡ [] → result ≢ FAILED
+        → IfTimeouts (asked line) (λ numbers. RunsTimeouts (W.contents writer.old) (W.contents writer.new) numbers result) }
+    ensures timed_unread { let line = map S.text words.now in line_faults line ≡ []
+        → IfTimeouts (asked line) (λ numbers. reader.new ≡ reader.old) }
 
     // Any other is refused, or asks for help.
     ensures refused { let line = map S.text words.now in line_faults line ≢ [] → result ≢ FAILED
@@ -60,6 +66,7 @@ pub fn run_words<S: AsStr, R: Read, W: Write, F: Write>(
 {
     match read_words(alloc, words) {
         Ok(Asked::Answer { name }) => answer_named(alloc, name, reader, writer, faults),
+        Ok(Asked::Timeouts { numbers }) => timeouts_of(alloc, &numbers, writer, faults),
         Err(error) => tell_refusal(&error, writer, faults),
     }
 }
@@ -87,6 +94,26 @@ fn answer_named<R: Read, W: Write, F: Write>(
     };
     match answer_run(alloc, reader, writer, &name) {
         Ok(end) => end as u8,
+        Err(fault) => {
+            tell(faults, fault.text());
+            FAILED
+        }
+    }
+}
+
+/// Carries `timeouts` for good numbers.
+fn timeouts_of<W: Write, F: Write>(
+    alloc: Global,
+    numbers: &Numbers,
+    writer: &mut W,
+    faults: &mut F,
+) -> u8
+    requires { are_good numbers.now ≡ true }
+    ensures timed { result ≢ FAILED → RunsTimeouts (W.contents writer.old) (W.contents writer.new) numbers.now result }
+    ensures run { result ≢ USAGE }
+{
+    match timeouts_run(alloc, writer, numbers) {
+        Ok(()) => 0,
         Err(fault) => {
             tell(faults, fault.text());
             FAILED

@@ -1,13 +1,15 @@
-//! Runs the command `answer` over a reader and a writer.
-ghost use Rattle.std.specs.Prelude.{◌≡◌, ◌≢◌, ◌+◌, ◌≤◌, IfErr, IfOk, IfSome, OnOk, length};
+//! Runs the commands over a reader and a writer.
+ghost use Rattle.std.specs.Prelude.{◌≡◌, ◌≢◌, ◌⊎◌, ◌+◌, ◌≤◌, true, IfErr, IfOk, IfSome, OnOk, length};
 ghost use Rattle.std.specs.Io.KnownBytes.{Appends, Keeps};
 ghost use Rattle.lg_cli.specs.Answering.{answer_end, answer_text};
 ghost use Rattle.lg_cli.specs.Input.{TakesAtMost};
 ghost use Rattle.lg_cli.specs.Running.{AnswersInput};
+ghost use Rattle.lg_cli.specs.Timeouts.{are_good, timeouts_text};
 
 use crate::answer::{End, answer};
 use crate::fault::RunFault;
 use crate::input::{MAX_INPUT, read_input};
+use crate::timeouts::{Numbers, timeouts};
 use lg_rules::Name;
 use std::alloc::Global;
 use std::io::{Read, Write};
@@ -47,6 +49,26 @@ pub fn answer_run<R: Read, W: Write>(
     let answered = answer(alloc, name, &input)?;
     write_whole(writer, &answered.text)?;
     Ok(answered.end)
+}
+
+/// Carries the command `timeouts`: writes the timeouts of a suspicion for some numbers, and nothing
+/// else.
+///
+/// The lines are `min MS`, `max MS`, and `C MS` for each number C of confirmations from 0 to all that
+/// count, in milliseconds. The whole text is made before its first byte is written: with
+/// [`RunFault::Memory`] nothing is. Time and memory are bounded: the text has at most 8 lines.
+pub fn timeouts_run<W: Write>(
+    alloc: Global,
+    writer: &mut W,
+    numbers: &Numbers,
+) -> Result<(), RunFault>
+    requires { are_good numbers.now ≡ true }
+    ensures text { OnOk result (Appends (W.contents writer.old) (W.contents writer.new) (timeouts_text numbers.now)) }
+    ensures refused { IfErr result (λ fault. (fault ≡ RunFault.Memory) ⊎ (fault ≡ RunFault.Write)) }
+    ensures kept { IfErr result (λ fault. fault ≢ RunFault.Write → writer.new ≡ writer.old) }
+{
+    let text = timeouts(alloc, numbers)?;
+    write_whole(writer, text.as_bytes())
 }
 
 /// Writes a text and hands it on. Where that fails, a beginning of the text may be written.

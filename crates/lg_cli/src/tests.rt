@@ -7,4 +7,5 @@ mod readers;
 mod refused_memory;
 mod rows;
 mod scripted;
+mod timeouts;
 mod writers;

@@ -3,7 +3,8 @@ use super::scripted::Room;
 use crate::answer::End;
 use crate::fault::RunFault;
 use crate::program::run_words;
-use crate::run::answer_run;
+use crate::run::{answer_run, timeouts_run};
+use crate::timeouts::Numbers;
 use lg_rules::Name;
 
 #[test]
@@ -51,6 +52,60 @@ fn tells_refused_memory(rt: HostRuntime) {
             assert_eq!(rt; status, 1);
             assert_eq!(rt; writer.calls, 0);
             assert_eq!(rt; faults.text(), b"lg: memory\n".as_slice());
+        }
+    }
+    assert!(rt; answered);
+}
+
+#[test]
+fn tells_refused_memory_of_timeouts(rt: HostRuntime) {
+    let words = ["lg", "timeouts", "--members", "4"];
+    let mut answered = false;
+    for _ in 0..2 {
+        let mut reader = b"".as_slice();
+        let mut writer = Room::failing(0);
+        let mut faults = Room::failing(0);
+        let status = run_words(
+            rt.alloc(),
+            words.as_slice(),
+            &mut reader,
+            &mut writer,
+            &mut faults,
+        );
+        if status == 0 {
+            answered = true;
+            assert_eq!(rt; writer.text(), b"min 5000\nmax 30000\n0 5000\n".as_slice());
+            assert_eq!(rt; faults.calls, 0);
+        } else {
+            assert_eq!(rt; status, 1);
+            assert_eq!(rt; writer.calls, 0);
+            assert_eq!(rt; faults.text(), b"lg: memory\n".as_slice());
+        }
+    }
+    assert!(rt; answered);
+}
+
+#[test]
+fn writes_no_timeouts_where_memory_is_refused(rt: HostRuntime) {
+    let numbers = Numbers {
+        members: 4,
+        confirmations: 3,
+        alpha: 5,
+        beta: 6,
+        interval_ms: 1000,
+    };
+    let mut answered = false;
+    for _ in 0..2 {
+        let mut writer = Room::failing(0);
+        match timeouts_run(rt.alloc(), &mut writer, &numbers) {
+            Ok(()) => {
+                answered = true;
+                assert_eq!(rt; writer.text(), b"min 5000\nmax 30000\n0 5000\n".as_slice());
+            }
+            Err(fault) => {
+                assert_eq!(rt; fault, RunFault::Memory);
+                assert_eq!(rt; writer.calls, 0);
+            }
         }
     }
     assert!(rt; answered);

@@ -9,4 +9,6 @@ pub returns : goal.returns
 returns c =
     let named : app_of c.about.result ≡ app_of c.new.result = ap app_of_fields c.about.ensures in
     let top : app_of c.subcommand_required.result ≡ requiring (app_of c.about.result) = ap app_of_fields c.subcommand_required.ensures in
-    c.in_ok-lg.ensures.shape c.in_ok-answer.ensures.local ∙ ap₂ with_subcommand (top ∙ ap requiring (named ∙ c.new.ensures.app)) (ap (λ (a : App). a.top) c.in_ok-answer.ensures.app)
+    let answers = c.in_ok-subcommand.ensures.shape c.in_ok-answer.ensures.local
+    ∙ ap₂ with_subcommand (top ∙ ap requiring (named ∙ c.new.ensures.app)) (ap (λ (a : App). a.top) c.in_ok-answer.ensures.app) in
+    c.in_ok-lg.ensures.shape c.in_ok-timeouts.ensures.local ∙ ap₂ with_subcommand answers (ap (λ (a : App). a.top) c.in_ok-timeouts.ensures.app)

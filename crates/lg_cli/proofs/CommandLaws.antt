@@ -1,0 +1,84 @@
+-- The numbers of a command line, by what reading them gives.
+use Rattle.std.proofs.Common.{◌≡◌, ℕ, ◌<◌, ◌^◌, Bool, true, false, ◌||◌, cond, [], ◌∷◌, Option, Some, None, Result, Ok, Err, inl, inr, refl, sym, ap, ap₂, ◌∙◌, arith}
+use Rattle.std.specs.Prelude.{unwrap_or}
+use Rattle.std.specs.Option.{option_map_or}
+use Rattle.std.specs.Str.Parse.{IsNumeral, ParsesUnsigned, digits_value, without_leading_plus}
+use Rattle.clap.specs.Built.{AddsArg}
+use Rattle.clap.specs.Kinds.{Kinds, HasKind, IsAmong, or_else}
+use Rattle.clap.specs.Matches.{ReadsOne}
+use Rattle.clap.specs.Simple.{App, app_of, with_rule}
+use Rattle.clap.specs.ValueTests.{accepts}
+use Rattle.clap.specs.Walk.{Rule, Text, rule_of}
+use Rattle.clap.specs.declared.builder.arg.Arg.{Arg}
+use Rattle.clap.specs.declared.builder.command.Command.{Command}
+use Rattle.clap.specs.declared.builder.command.Command.TheViews.{out-Command}
+use Rattle.clap.specs.declared.error.Error.{Error}
+use Rattle.clap.specs.declared.error.kind.ErrorKind.{ErrorKind}
+use Rattle.clap.specs.declared.error.kind.ErrorKind.TheVariants.{ValueValidation}
+use Rattle.clap.specs.declared.builder.value_parser.ValueParser.{ValueParser}
+use Rattle.clap.specs.declared.builder.value_parser.ValueParser.TheVariants.{Unsigned}
+use Rattle.clap.proofs.ValueTestLemmas.{accepts-Accepts, Accepts-accepts}
+use Rattle.lg_cli.specs.Commands.{Request, answer, timeouts, number_of, request_faults, IfTimeouts}
+use Rattle.lg_cli.specs.Timeouts.{are_good}
+
+abbrev any_number : ValueParser
+any_number = Unsigned 0 18446744073709551615
+
+abbrev value_of : Text → ℕ
+value_of text = digits_value 10 (without_leading_plus text)
+
+spells : (text : Text) → IsNumeral 10 (without_leading_plus text) × (value_of text < 2 ^ 64) → number_of text ≡ value_of text
+spells text is = ap (λ (b : Bool). cond b (value_of text) 0) (Accepts-accepts false any_number text (is.0, is.1, omega arith, omega arith))
+
+spells_none : (text : Text) → (IsNumeral 10 (without_leading_plus text) × (value_of text < 2 ^ 64) → ⊥) → number_of text ≡ 0
+spells_none text isnt = go (accepts false any_number text) refl
+  where
+    go : (b : Bool) → accepts false any_number text ≡ b → number_of text ≡ 0
+    go true it = let is = accepts-Accepts false any_number text it in absurd (isnt (is.0, is.1))
+    go false it = ap (λ (b : Bool). cond b (value_of text) 0) it
+
+-- the number that is read of a text, if there is one
+pub number_read : {E : Type 0} (G : Text → Result ℕ E → Type 0) (one : Option Text) (r : Option ℕ)
+    → (one ≡ None → r ≡ None) → ((text : Text) → one ≡ Some text → ReadsOne G text r) → ((text : Text) (x : Result ℕ E) → G text x → ParsesUnsigned 64 10 text x)
+    → unwrap_or r 0 ≡ option_map_or number_of one 0
+number_read G None r none some only = ap (λ (o : Option ℕ). unwrap_or o 0) (none refl)
+number_read G (Some text) r none some only = go r (some text refl)
+  where
+    go : (o : Option ℕ) → ReadsOne G text o → unwrap_or o 0 ≡ number_of text
+    go (Some n) h = let parsed = only text (Ok n) h in parsed.1 ∙ sym (spells text parsed.0)
+    go None h = sym (spells_none text (only text (Err h.0) h.1))
+
+-- ---- the command as it is built
+
+-- A command has these options, and none of them is global.
+pub record MakesApp (command : Command) (app : App) : Type 0 where
+  pub is : app_of command ≡ app
+  pub local : (out-Command command).has_globals ≡ false
+
+-- one option more
+pub adds_rule : (old new : Command) (arg : Arg) (app : App) (rule : Rule) → AddsArg old arg new → arg.global ≡ false → rule_of arg ≡ rule → MakesApp old app
+    → MakesApp new (with_rule app rule)
+adds_rule old new arg app rule adds local is made = record {
+  is = adds.shape local ∙ ap₂ with_rule made.is is;
+  local = adds.globals ∙ ap₂ (λ (a b : Bool). a || b) made.local local;
+}
+
+-- ---- why a command line is refused
+
+among_more : (kind : ErrorKind) (first next : Kinds) → IsAmong kind first → IsAmong kind (or_else first next)
+among_more kind [] next among = absurd among
+among_more kind (k ∷ ks) next among = among
+
+-- an error for a first reason has one of all reasons
+pub kind_of_first : (error : Error) (first next : Kinds) → HasKind first error → HasKind (or_else first next) error
+kind_of_first error first next (inl memory) = inl memory
+kind_of_first error first next (inr among) = inr (among_more _ first next among)
+
+-- a request with no fault has good numbers
+pub faultless_is_good : (request : Request) → request_faults request ≡ [] → IfTimeouts request (λ numbers. are_good numbers ≡ true)
+faultless_is_good (answer text) none = tt
+faultless_is_good (timeouts numbers) none = go (are_good numbers) refl
+  where
+    go : (b : Bool) → are_good numbers ≡ b → are_good numbers ≡ true
+    go true it = it
+    go false it = let bad : ValueValidation ∷ [] ≡ [] = sym (ap (λ (b : Bool). cond b [] (ValueValidation ∷ [])) it) ∙ none in absurd cc
