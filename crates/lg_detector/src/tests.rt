@@ -1,16 +1,21 @@
 //! Worked events of the detector b at 127.0.0.1:7000, which hears from port 1.
+mod accusers;
 mod copies;
+mod health;
 mod hearing;
 mod many;
 mod oneself;
 mod openings;
 mod questions;
 mod refused_memory;
+mod suspicions;
+mod ticks;
 
 use crate::{Detector, Event, MAX_MEMBERS, Outgoing, Reply};
 use arrayvec::ArrayVec;
 use lg_packet::{Body, Packet};
 use lg_rules::{Addr, Claim, Incarnation, Name, Record, Status};
+use lg_timers::{Timer, TimerId};
 use lg_timing::{Config, Moment, Seed};
 use std::process::Abort;
 use std::test::Fail;
@@ -18,6 +23,17 @@ use std::test::Fail;
 /// The name of one letter.
 fn letter(byte: u8) -> Name {
     Name::new(&[byte]).unwrap_or_default()
+}
+
+/// The last decimal digit of a number.
+fn digit(number: u32) -> u8 {
+    b'0' + (number % 10) as u8
+}
+
+/// The name `m` with three decimal digits.
+fn numbered_name(number: u32) -> Name {
+    let text = [b'm', digit(number / 100), digit(number / 10), digit(number)];
+    Name::new(&text).unwrap_or_default()
 }
 
 /// A port of this machine.
@@ -43,6 +59,11 @@ fn claim(name: Name, status: Status, incarnation: u32) -> Claim {
 /// The claim that the member of a letter is alive.
 fn alive(member: u8, incarnation: u32) -> Claim {
     claim(letter(member), Status::Alive, incarnation)
+}
+
+/// The claim that the member of a letter has failed.
+fn failed(member: u8, incarnation: u32) -> Claim {
+    claim(letter(member), Status::Failed, incarnation)
 }
 
 /// The claim that the member of a letter is suspected by another.
@@ -100,6 +121,35 @@ fn ask(now: u64, member: u8) -> Event {
     }
 }
 
+/// A tick. Its words choose nobody.
+fn tick(now: u64) -> Event {
+    Event::Tick {
+        now: at(now),
+        words: [0, 1, 2, 3, 4, 5, 6, 7],
+    }
+}
+
+/// The question for the health.
+fn ask_health(now: u64) -> Event {
+    Event::Health { now: at(now) }
+}
+
+/// The timer of the next round.
+fn round_start(deadline: u64) -> Timer {
+    Timer {
+        deadline,
+        id: TimerId::RoundStart,
+    }
+}
+
+/// The timer of a suspicion.
+fn suspicion(deadline: u64, member: Name) -> Timer {
+    Timer {
+        deadline,
+        id: TimerId::Suspicion(member),
+    }
+}
+
 /// The reply to an event that is accepted.
 fn reply_to(detector: &mut Detector, event: &Event) -> Result<Reply, Fail> {
     let mut reply = Reply::default();
@@ -139,7 +189,8 @@ fn is_same_outgoing(one: &Outgoing, other: &Outgoing) -> bool {
 
 /// Whether two replies are one.
 fn is_same_reply(one: &Reply, other: &Reply) -> bool {
-    one.sends.len() == other.sends.len()
+    one.fired == other.fired
+        && one.sends.len() == other.sends.len()
         && one
             .sends
             .iter()

@@ -1,18 +1,24 @@
 //! Copies, and events that are absorbed.
-use super::{alive, ask, heard, is_same_reply, opening, ping, reply_to, suspect, table_of};
+use super::{
+    alive, ask, ask_health, heard, is_same_reply, opening, ping, reply_to, suspect, table_of, tick,
+};
 use crate::{Detector, Event};
 use lg_packet::Body;
 use std::test::Fail;
 
-/// An opening, claims, answers and a question.
-fn events() -> [Event; 6] {
+/// An opening, claims, answers, questions, and ticks that fire a round-start and a suspicion.
+fn events() -> [Event; 10] {
     [
         opening(50),
         ping(60, 1, b'c', &[alive(b'c', 0), suspect(b'd', 2, b'a')]),
         ping(40, 2, b'b', &[suspect(b'b', 0, b'c'), alive(b'c', 1)]),
         heard(70, Body::Ack { number: 3 }, &[alive(b'a', 9)]),
+        tick(75),
         ask(80, b'd'),
+        ask_health(85),
         ping(90, 4, b'b', &[suspect(b'b', 1_000_000_000, b'c')]),
+        tick(6000),
+        tick(6000),
     ]
 }
 
@@ -51,7 +57,8 @@ fn absorbs_as_it_steps(rt: HostRuntime) -> Result<(), Fail> {
     let reply = reply_to(&mut detector, &last)?;
     assert!(rt; is_same_reply(&reply, &reply_to(&mut absorbing, &last)?));
     assert_eq!(rt; reply.sends.len(), 1);
-    assert_eq!(rt; reply.next, 50);
+    // The score was 1 when the last round-start fired, at 6000.
+    assert_eq!(rt; reply.next, 8000);
     assert!(rt; reply.ousted);
     Ok(())
 }

@@ -1,18 +1,12 @@
 //! More names than a table holds.
-use super::{alive, assert_ack, claim, letter, opening, ping, reply_to, table_of};
+use super::{alive, assert_ack, claim, letter, numbered_name, opening, ping, reply_to, table_of};
 use crate::{Detector, MAX_MEMBERS};
-use lg_rules::{Claim, Name, Status};
+use lg_rules::{Claim, Status};
 use std::test::Fail;
-
-/// The last decimal digit of a number.
-fn digit(number: u32) -> u8 {
-    b'0' + (number % 10) as u8
-}
 
 /// The claim that the member `m` with three decimal digits is alive.
 fn numbered(number: u32) -> Claim {
-    let text = [b'm', digit(number / 100), digit(number / 10), digit(number)];
-    claim(Name::new(&text).unwrap_or_default(), Status::Alive, 0)
+    claim(numbered_name(number), Status::Alive, 0)
 }
 
 /// Six members, the one with the greatest number first.

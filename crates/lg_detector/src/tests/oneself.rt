@@ -1,7 +1,7 @@
 //! Claims about oneself.
-use super::{alive, assert_ack, claim, letter, opening, ping, reply_to, suspect};
+use super::{alive, assert_ack, failed, letter, opening, ping, reply_to, suspect};
 use crate::{Detector, Reply};
-use lg_rules::{Claim, Record, Status};
+use lg_rules::{Claim, Record};
 use std::alloc::Global;
 use std::test::Fail;
 
@@ -51,7 +51,7 @@ fn keeps_its_number(rt: HostRuntime) -> Result<(), Fail> {
         (alive(b'b', 0), false),
         (alive(b'b', 1_000_000_000), true),
         (suspect(b'b', 1_000_000_000, b'a'), true),
-        (claim(letter(b'b'), Status::Failed, 0), true),
+        (failed(b'b', 0), true),
     ];
     for (said, ousted) in rows {
         let (reply, record) = said_of_itself(rt.alloc(), said)?;
@@ -67,7 +67,7 @@ fn keeps_its_number(rt: HostRuntime) -> Result<(), Fail> {
 fn stays_ousted(rt: HostRuntime) -> Result<(), Fail> {
     let mut detector = Detector::blank(rt.alloc())?;
     reply_to(&mut detector, &opening(0))?;
-    let failed = claim(letter(b'b'), Status::Failed, 0);
+    let failed = failed(b'b', 0);
     let reply = reply_to(&mut detector, &ping(0, 1, b'b', &[failed]))?;
     assert_eq!(rt; reply.ousted, true);
     let reply = reply_to(&mut detector, &ping(0, 2, b'b', &[suspect(b'b', 5, b'a')]))?;

@@ -1,0 +1,145 @@
+//! The health score, and what it scales.
+use super::{
+    alive, ask_health, assert_ack, at, config, failed, opening, ping, reply_to, round_start,
+    suspect, table_of, tick,
+};
+use crate::{Answer, Detector, Event};
+use lg_rules::{Claim, Incarnation};
+use std::test::Fail;
+
+/// The answer to the question for the health.
+fn answer(score: u64, number: u32, members: u64) -> Option<Answer> {
+    Some(Answer::Health {
+        score,
+        number: Incarnation::new(number).unwrap_or_default(),
+        members,
+    })
+}
+
+/// The opening of b at 0 with a greatest score.
+fn opening_up_to(max_score: u64) -> Event {
+    let mut config = config();
+    config.max_score = max_score;
+    Event::Open { now: at(0), config }
+}
+
+#[test]
+fn marks_a_refutation_once(rt: HostRuntime) -> Result<(), Fail> {
+    let mut detector = Detector::blank(rt.alloc())?;
+    assert!(rt;
+        !detector.accepts(&ask_health(0)),
+        "nothing comes before the opening"
+    );
+    reply_to(&mut detector, &opening(0))?;
+    let reply = reply_to(&mut detector, &ask_health(0))?;
+    assert_eq!(rt; reply.answer, answer(0, 0, 1));
+    let said = [suspect(b'b', 0, b'a'), suspect(b'b', 0, b'c')];
+    let reply = reply_to(&mut detector, &ping(0, 9, b'b', &said))?;
+    assert_ack(&rt, &reply, 9, &[alive(b'b', 1)]);
+    assert_eq!(rt; reply.answer, None);
+    let reply = reply_to(&mut detector, &ask_health(0))?;
+    assert_eq!(rt; reply.answer, answer(1, 1, 1));
+    Ok(())
+}
+
+/// Claims in one packet, and the answer after it.
+#[test]
+fn tells_score_number_and_members(rt: HostRuntime) -> Result<(), Fail> {
+    let rows: [(&str, &[Claim], Option<Answer>); 8] = [
+        (
+            "two refutations",
+            &[suspect(b'b', 0, b'a'), suspect(b'b', 1, b'a')],
+            answer(2, 2, 1),
+        ),
+        (
+            "a refutation at a greater number",
+            &[suspect(b'b', 7, b'a')],
+            answer(1, 8, 1),
+        ),
+        (
+            "a number that is raised",
+            &[alive(b'b', 3)],
+            answer(0, 4, 1),
+        ),
+        (
+            "a claim of before",
+            &[alive(b'b', 3), suspect(b'b', 3, b'a')],
+            answer(0, 4, 1),
+        ),
+        ("oneself as failed", &[failed(b'b', 0)], answer(0, 0, 1)),
+        (
+            "beyond refuting",
+            &[suspect(b'b', 1_000_000_000, b'a')],
+            answer(0, 0, 1),
+        ),
+        (
+            "another as suspect",
+            &[suspect(b'c', 0, b'b')],
+            answer(0, 0, 2),
+        ),
+        (
+            "others, one of them failed",
+            &[alive(b'a', 0), failed(b'd', 0), suspect(b'c', 0, b'a')],
+            answer(0, 0, 3),
+        ),
+    ];
+    for (case, said, wanted) in &rows {
+        let mut detector = Detector::blank(rt.alloc())?;
+        reply_to(&mut detector, &opening(0))?;
+        reply_to(&mut detector, &ping(0, 1, b'c', said))?;
+        let reply = reply_to(&mut detector, &ask_health(0))?;
+        assert_eq!(rt; reply.answer, *wanted, "{case}");
+    }
+    Ok(())
+}
+
+/// Refutations, one a packet, up to the greatest score.
+#[test]
+fn holds_the_greatest_score(rt: HostRuntime) -> Result<(), Fail> {
+    for (max_score, refutations, score) in [(1, 3, 1), (0, 2, 0), (8, 8, 8), (8, 10, 8)] {
+        let mut detector = Detector::blank(rt.alloc())?;
+        reply_to(&mut detector, &opening_up_to(max_score))?;
+        for number in 0..refutations {
+            let said = [suspect(b'b', number, b'a')];
+            reply_to(&mut detector, &ping(0, 1, b'b', &said))?;
+        }
+        let reply = reply_to(&mut detector, &ask_health(0))?;
+        assert_eq!(rt; reply.answer, answer(score, refutations, 1), "{max_score}");
+        let reply = reply_to(&mut detector, &tick(0))?;
+        assert_eq!(rt; reply.next, 1000 * (score + 1), "{max_score}");
+    }
+    Ok(())
+}
+
+/// The score is taken when a round starts.
+#[test]
+fn scales_the_interval(rt: HostRuntime) -> Result<(), Fail> {
+    let mut detector = Detector::blank(rt.alloc())?;
+    reply_to(&mut detector, &opening(0))?;
+    let reply = reply_to(&mut detector, &tick(0))?;
+    assert_eq!(rt; reply.next, 1000);
+    let said = [suspect(b'b', 0, b'a'), suspect(b'b', 1, b'a')];
+    let reply = reply_to(&mut detector, &ping(500, 1, b'b', &said))?;
+    assert_eq!(rt; reply.next, 1000, "the round that runs stays as it is");
+    let reply = reply_to(&mut detector, &tick(1000))?;
+    assert_eq!(rt; reply.fired, Some(round_start(1000)));
+    assert_eq!(rt; reply.next, 4000);
+    Ok(())
+}
+
+#[test]
+fn asking_changes_nothing(rt: HostRuntime) -> Result<(), Fail> {
+    let mut detector = Detector::blank(rt.alloc())?;
+    reply_to(&mut detector, &opening(0))?;
+    reply_to(&mut detector, &ping(0, 1, b'c', &[suspect(b'c', 0, b'a')]))?;
+    let before = table_of(&detector);
+    let reply = reply_to(&mut detector, &ask_health(40_000))?;
+    assert_eq!(rt; reply.answer, answer(0, 0, 2));
+    assert_eq!(rt; reply.fired, None, "two timers are due");
+    assert_eq!(rt; reply.sends.len(), 0);
+    assert_eq!(rt; reply.changed.len(), 0);
+    assert_eq!(rt; reply.ousted, false);
+    assert_eq!(rt; reply.next, 0);
+    assert_eq!(rt; table_of(&detector).as_slice(), before.as_slice());
+    Ok(())
+}
