@@ -70,7 +70,8 @@ impl Detector {
         }
     }
 
-    /// Leads the state on by an event, and writes the reply to it in the place of what `reply` held.
+    /// Leads the state on by an event that is accepted, and writes the reply to it in the place of what `reply` held. It takes
+    /// no memory, and always succeeds.
     pub fn step(&mut self, event: &Event, reply: &mut Reply)
         requires { IsTrue (accepts_of self.old event.now) }
         ensures state { self.new ≡ next self.old event.now }
@@ -82,7 +83,8 @@ impl Detector {
         self.react(event, reply);
     }
 
-    /// Leads the state on by an event, without a reply. An event that isn't accepted changes nothing.
+    /// Leads the state on by an event, without a reply. An event that isn't accepted changes nothing. It takes no memory, and
+    /// always succeeds.
     pub fn absorb(&mut self, event: &Event)
         ensures state { self.new ≡ next self.old event.now }
         ensures after { (f : List Happened) → self.old ≡ state_after f → IsTrue (accepts_of self.old event.now) → self.new ≡ state_after (f ++ event.now ∷ []) }

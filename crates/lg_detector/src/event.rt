@@ -46,7 +46,7 @@ pub enum Event {
 }
 
 impl Event {
-    /// An equal event.
+    /// An equal event. It takes no memory.
     pub fn copy(&self) -> Event
         ensures { result ≡ self.now }
     {

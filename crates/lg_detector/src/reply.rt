@@ -23,7 +23,7 @@ pub struct Outgoing {
 }
 
 impl Outgoing {
-    /// An equal packet to the same address.
+    /// An equal packet to the same address. It takes no memory.
     pub fn copy(&self) -> Outgoing
         ensures { result ≡ self.now }
     {
@@ -121,7 +121,7 @@ impl Reply {
         self.answer = None;
     }
 
-    /// An equal reply.
+    /// An equal reply. It takes no memory.
     pub fn copy(&self) -> Reply
         ensures { result ≡ self.now }
     {

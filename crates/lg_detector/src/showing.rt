@@ -10,6 +10,7 @@ ghost use Rattle.lg_detector.specs.State.{membership};
 ghost use Rattle.arrayvec.specs.ArrayVec.{array_vec_len};
 
 use crate::parts::{Parts, is_same_name};
+use crate::reply::MAX_CHANGED;
 use arrayvec::ArrayVec;
 use lg_rules::{Name, Record, seat_of};
 
@@ -35,7 +36,7 @@ fn put<const N: usize>(records: &mut ArrayVec<Record, N>, own: Record)
 }
 
 /// Writes the records of these names, in the place of what the row held.
-fn put_among(records: &[Record], names: &[Name], chosen: &mut ArrayVec<Record, 6>)
+fn put_among(records: &[Record], names: &[Name], chosen: &mut ArrayVec<Record, MAX_CHANGED>)
     requires { length (filter (λ r. is_among name_cmp r.name names.now) records.now) ≤ 6 }
     ensures { chosen.new.items ≡ filter (λ r. is_among name_cmp r.name names.now) records.now }
 {
@@ -48,7 +49,7 @@ fn put_among(records: &[Record], names: &[Name], chosen: &mut ArrayVec<Record, 6
 }
 
 /// Writes the records of these names, oneself included, in the place of what the row held.
-pub fn put_changed(parts: &Parts, names: &[Name], changed: &mut ArrayVec<Record, 6>)
+pub fn put_changed(parts: &Parts, names: &[Name], changed: &mut ArrayVec<Record, MAX_CHANGED>)
     requires ordered { IsOrdered (state_in parts.now) }
     requires few { length (filter (λ r. is_among name_cmp r.name names.now) (view (membership (state_in parts.now)))) ≤ 6 }
     ensures { changed.new.items ≡ filter (λ r. is_among name_cmp r.name names.now) (view (membership (state_in parts.now))) }

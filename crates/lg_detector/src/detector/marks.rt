@@ -65,7 +65,7 @@ impl Detector {
     }
 
     /// Claims are said one after another. Answers the names of those that change a record.
-    fn tell_all(&mut self, claims: &[Claim]) -> ArrayVec<Name, 6>
+    fn tell_all(&mut self, claims: &[Claim]) -> ArrayVec<Name, MAX_CLAIMS>
         requires { length claims.now ≤ 6 }
         ensures state { self.new ≡ tell_all false claims.now self.old }
         ensures names { result.items ≡ news (membership self.old) claims.now }

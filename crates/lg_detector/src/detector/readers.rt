@@ -30,7 +30,7 @@ impl Detector {
         self.parts.members.own()
     }
 
-    /// The record of a name, oneself included, where it is known.
+    /// The record of a name, oneself included, where it is known. It takes no memory.
     pub fn record_of(&self, name: &Name) -> Option<Record>
         ensures state { result ≡ row_at name_cmp name_of name.now (shown_of self.now) }
         // After any list of events, it is that of the list's table.
@@ -40,7 +40,7 @@ impl Detector {
     }
 
     /// Writes the records of all members, oneself included, in the order of their names, in the place of what the row
-    /// held. Nothing is known before the opening.
+    /// held. Nothing is known before the opening. It takes no memory.
     pub fn put_table(&self, row: &mut ArrayVec<Record, MAX_MEMBERS>)
         ensures state { row.new.items ≡ shown_of self.now }
         ensures list { (f : List Happened) → self.now ≡ state_after f → row.new.items ≡ view_after f }
