@@ -7,19 +7,14 @@ use lg_rules::Claim;
 use std::alloc::Global;
 use std::test::Fail;
 
-/// What b hears: the moment and the claims of a packet.
-type Packet<'a> = (u64, &'a [Claim]);
-
-/// b is opened at 0, learns of others and then hears these packets.
-fn heard_all(alloc: Global, others: &[u8], packets: &[Packet]) -> Result<Detector, Fail> {
+/// b is opened at 0, learns of others, and hears these claims in one packet at 2000.
+fn told(alloc: Global, others: &[u8], said: &[Claim]) -> Result<Detector, Fail> {
     let mut detector = Detector::blank(alloc)?;
     reply_to(&mut detector, &opening(0))?;
     for other in others {
         reply_to(&mut detector, &ping(0, 1, b'z', &[alive(*other, 0)]))?;
     }
-    for (now, said) in packets {
-        reply_to(&mut detector, &ping(*now, 1, b'z', said))?;
-    }
+    reply_to(&mut detector, &ping(2000, 1, b'z', said))?;
     Ok(detector)
 }
 
@@ -70,7 +65,7 @@ fn accusers_bring_the_deadline_nearer(rt: HostRuntime) -> Result<(), Fail> {
         ),
     ];
     for (case, others, said, deadline) in &rows {
-        let mut detector = heard_all(rt.alloc(), others, &[])?;
+        let mut detector = told(rt.alloc(), others, &[])?;
         for claim in said.iter() {
             reply_to(&mut detector, &ping(2000, 1, b'z', &[*claim]))?;
         }
@@ -91,7 +86,7 @@ fn members_count_once_they_are_known(rt: HostRuntime) -> Result<(), Fail> {
         ("one of six failed", b"acdef", &[failed(b'e', 0), d], 32_000),
     ];
     for (case, others, said, deadline) in &rows {
-        let mut detector = heard_all(rt.alloc(), others, &[(2000, said)])?;
+        let mut detector = told(rt.alloc(), others, said)?;
         assert_eq!(rt; next_of(&mut detector)?, *deadline, "{case}");
     }
     Ok(())
@@ -119,8 +114,8 @@ fn claims_renew_or_end_a_suspicion(rt: HostRuntime) -> Result<(), Fail> {
         ("failed, and suspected", &[failed(b'c', 0), d], 41_000),
     ];
     for (case, said, deadline) in &rows {
-        let packets: [Packet; 2] = [(2000, &raised), (3000, said)];
-        let mut detector = heard_all(rt.alloc(), b"ade", &packets)?;
+        let mut detector = told(rt.alloc(), b"ade", &raised)?;
+        reply_to(&mut detector, &ping(3000, 1, b'z', said))?;
         assert_eq!(rt; next_of(&mut detector)?, *deadline, "{case}");
         let fired = reply_to(&mut detector, &tick(40_000))?.fired;
         let wanted = if *deadline == 41_000 {
@@ -136,16 +131,16 @@ fn claims_renew_or_end_a_suspicion(rt: HostRuntime) -> Result<(), Fail> {
 /// No tick fires a suspicion that was ended.
 #[test]
 fn an_ended_suspicion_never_fires(rt: HostRuntime) -> Result<(), Fail> {
-    for said in [alive(b'c', 1), failed(b'c', 0)] {
-        let packets: [Packet; 2] = [(2000, &[suspect(b'c', 0, b'd')]), (3000, &[said])];
-        let mut detector = heard_all(rt.alloc(), b"", &packets)?;
+    for said in &[[alive(b'c', 1)], [failed(b'c', 0)]] {
+        let mut detector = told(rt.alloc(), b"", &[suspect(b'c', 0, b'd')])?;
+        reply_to(&mut detector, &ping(3000, 1, b'z', said))?;
         for (now, start) in [(6500, 0), (7500, 7500), (8500, 8500)] {
             let reply = reply_to(&mut detector, &tick(now))?;
             assert_eq!(rt; reply.fired, Some(round_start(start)), "{said:?}");
             assert_eq!(rt; reply.changed.len(), 0, "{said:?}");
             assert_eq!(rt; reply.next, now + 1000, "{said:?}");
         }
-        assert_eq!(rt; detector.record_of(&letter(b'c')), Some(said));
+        assert_eq!(rt; detector.record_of(&letter(b'c')), said.first().copied());
     }
     Ok(())
 }
