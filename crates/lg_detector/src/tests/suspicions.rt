@@ -18,57 +18,62 @@ fn told(alloc: Global, others: &[u8], said: &[Claim]) -> Result<Detector, Fail> 
     Ok(detector)
 }
 
+/// The same, but each claim comes in a packet of its own.
+fn told_apart(alloc: Global, others: &[u8], said: &[Claim]) -> Result<Detector, Fail> {
+    let mut detector = told(alloc, others, &[])?;
+    for claim in said {
+        reply_to(&mut detector, &ping(2000, 1, b'z', &[*claim]))?;
+    }
+    Ok(detector)
+}
+
 /// The next deadline once the first round-start has fired, at 40,000: that of the suspicion, or 41,000, the next
 /// round-start, where there is none.
 fn next_of(detector: &mut Detector) -> Result<u64, Fail> {
     Ok(reply_to(detector, &tick(40_000))?.next)
 }
 
-/// c is suspected at 2000, in packets of one claim each.
 #[test]
 fn accusers_bring_the_deadline_nearer(rt: HostRuntime) -> Result<(), Fail> {
     let (d, e) = (suspect(b'c', 0, b'd'), suspect(b'c', 0, b'e'));
     let (a, z) = (suspect(b'c', 0, b'a'), suspect(b'c', 0, b'z'));
-    let rows: [(&str, &[u8], &[Claim], u64); 13] = [
-        ("d, among five", b"ade", &[d], 32_000),
-        ("d again", b"ade", &[d, d], 32_000),
-        ("then e", b"ade", &[d, d, e], 19_500),
-        ("then a", b"ade", &[d, d, e, a], 12_200),
-        ("then z, a stranger", b"ade", &[d, d, e, a, z], 7000),
+    let (b, c) = (suspect(b'c', 0, b'b'), suspect(b'c', 0, b'c'));
+    let rows: [(&str, &[Claim], u64); 8] = [
+        ("d", &[d], 32_000),
+        ("d again", &[d, d], 32_000),
+        ("then e", &[d, d, e], 19_500),
+        ("then a", &[d, d, e, a], 12_200),
+        ("then z, a stranger", &[d, d, e, a, z], 7000),
+        ("one more", &[d, e, a, z, b], 7000),
+        ("in another order", &[z, e, d, a], 7000),
+        ("c itself", &[d, c], 19_500),
+    ];
+    for (case, said, deadline) in &rows {
+        let mut detector = told_apart(rt.alloc(), b"ade", said)?;
+        assert_eq!(rt; next_of(&mut detector)?, *deadline, "{case}");
+    }
+    Ok(())
+}
+
+/// How many confirmations count is settled when the suspicion is raised, and the score doesn't scale it.
+#[test]
+fn a_suspicion_keeps_its_timeouts(rt: HostRuntime) -> Result<(), Fail> {
+    let (d, e) = (suspect(b'c', 0, b'd'), suspect(b'c', 0, b'e'));
+    let refuted = suspect(b'b', 0, b'a');
+    let rows: [(&str, &[u8], &[Claim], u64); 5] = [
+        ("among four", b"de", &[d], 7000),
+        ("e confirms it", b"de", &[d, e], 7000),
+        ("a fifth comes first", b"de", &[d, alive(b'a', 0), e], 7000),
         (
-            "one more",
-            b"ade",
-            &[d, e, a, z, suspect(b'c', 0, b'b')],
-            7000,
-        ),
-        ("in another order", b"ade", &[z, e, d, a], 7000),
-        ("c itself", b"ade", &[d, suspect(b'c', 0, b'c')], 19_500),
-        ("d, among four", b"de", &[d], 7000),
-        ("then e, among four", b"de", &[d, e], 7000),
-        (
-            "then a fifth member and e",
-            b"de",
-            &[d, alive(b'a', 0), e],
-            7000,
-        ),
-        (
-            "one of five fails, and then e",
+            "one of five fails",
             b"ade",
             &[d, failed(b'a', 0), e],
             19_500,
         ),
-        (
-            "after a refutation",
-            b"ade",
-            &[suspect(b'b', 0, b'a'), d],
-            32_000,
-        ),
+        ("at a score of 1", b"ade", &[refuted, d], 32_000),
     ];
     for (case, others, said, deadline) in &rows {
-        let mut detector = told(rt.alloc(), others, &[])?;
-        for claim in said.iter() {
-            reply_to(&mut detector, &ping(2000, 1, b'z', &[*claim]))?;
-        }
+        let mut detector = told_apart(rt.alloc(), others, said)?;
         assert_eq!(rt; next_of(&mut detector)?, *deadline, "{case}");
     }
     Ok(())
