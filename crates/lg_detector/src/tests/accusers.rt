@@ -67,7 +67,8 @@ fn sends_what_it_heard(rt: HostRuntime) -> Result<(), Fail> {
         let reply = reply_to(&mut detector, &ping(2000, 2, b'b', said))?;
         assert_eq!(rt; sent_of(&reply, b'c'), said.first().copied());
     }
-    assert_eq!(rt; detector.record_of(&letter(b'c')), Some(first));
+    let kept = Some(suspect(b'c', 3, b'd'));
+    assert_eq!(rt; detector.record_of(&letter(b'c')), kept);
     reply_to(&mut detector, &tick(40_000))?;
     let reply = reply_to(&mut detector, &tick(40_000))?;
     assert_eq!(rt; reply.fired, Some(suspicion(19_500, letter(b'c'))));
