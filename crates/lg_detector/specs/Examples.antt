@@ -9,16 +9,22 @@ use Rattle.lg_rules.specs.Table.{record_of, roster, table_of, takes}
 use Rattle.lg_timing.specs.declared.config.Config.{Config}
 use Rattle.lg_timing.specs.declared.config.Seed.{Seed}
 use Rattle.lg_timing.specs.Config.{check_of}
+use Rattle.lg_timing.specs.Tables.{log10_of, ratio_of}
+use Rattle.lg_timing.specs.Timeouts.{range_of, timeout_of}
+use Rattle.lg_suspicion.specs.Accusers.{kept_of}
 use Rattle.lg_gossip.specs.Queue.{taken_of}
 use Rattle.std.specs.Fmt.{digits}
 use Rattle.lg_packet.specs.declared.packet.Body.{Body}
 use Rattle.lg_packet.specs.declared.packet.Body.TheVariants.{Ping, Ack}
 use Rattle.lg_detector.specs.declared.event.Event.{Event}
-use Rattle.lg_detector.specs.declared.event.Event.TheVariants.{Open, Heard, Ask}
-use Rattle.lg_detector.specs.declared.reply.Answer.TheVariants.{Status as answered}
+use Rattle.lg_detector.specs.declared.event.Event.TheVariants.{Open, Tick, Heard, Ask, Health}
+use Rattle.lg_detector.specs.declared.reply.Answer.TheVariants.{Status as answered, Health as Healthy}
 use Rattle.lg_detector.specs.declared.reply.Outgoing.{Outgoing}
+use Rattle.lg_timers.specs.declared.timer.Timer.{Timer}
+use Rattle.lg_timers.specs.declared.timer.TimerId.TheVariants.{Suspicion, RoundStart}
 use Rattle.lg_timers.specs.Timers.{in_turn}
-use Rattle.lg_detector.specs.Suspicions.{suspicions}
+use Rattle.lg_detector.specs.Suspicions.{suspicions, suspected}
+use Rattle.lg_detector.specs.Timing.{mark_by}
 use Rattle.lg_detector.specs.Gossip.{put_by, queued, queue_rows}
 use Rattle.lg_detector.specs.Events.{is_accepted}
 use Rattle.lg_detector.specs.Answers.{state_after, answer_after, view_after, deadline_after}
@@ -175,6 +181,90 @@ overridden_seed = refl
 
 opening_changes_nothing : (answer_after [] seeded).changed.items ≡ []
 opening_changes_nothing = refl
+
+-- c is suspected by d in a Ping at 2000. There are two members then, so that the suspicion runs out at 7000.
+abbrev c_by : ℕ → Claim
+c_by accuser = on 99 (Suspect (accuser ∷ [])) 0
+
+abbrev accusing : ℕ → ℕ → Event
+accusing now accuser = pings now 1 98 (c_by accuser ∷ [])
+
+abbrev ticks : ℕ → Event
+ticks now = Tick now (0 ∷ 1 ∷ 2 ∷ 3 ∷ 4 ∷ 5 ∷ 6 ∷ 7 ∷ [])
+
+abbrev start_at : ℕ → Timer
+start_at deadline = record { deadline = deadline; id = RoundStart }
+
+abbrev end_of_c : ℕ → Timer
+end_of_c deadline = record { deadline = deadline; id = Suspicion (99 ∷ []) }
+
+starts_a_round : (answer_after (opening 0 ∷ accusing 2000 100 ∷ []) (ticks 2000)).fired ≡ Some (start_at 0)
+unfolding table_of record_of roster suspicions suspected in_turn range_of timeout_of log10_of ratio_of kept_of
+starts_a_round = refl
+
+next_round : (answer_after (opening 0 ∷ accusing 2000 100 ∷ []) (ticks 2000)).next ≡ 3000
+unfolding own_of table_of record_of roster suspicions suspected in_turn range_of timeout_of log10_of ratio_of kept_of mark_by
+next_round = refl
+
+starts_the_next : (answer_after (opening 0 ∷ accusing 2000 100 ∷ ticks 2000 ∷ []) (ticks 7000)).fired ≡ Some (start_at 3000)
+unfolding own_of table_of record_of roster suspicions suspected in_turn range_of timeout_of log10_of ratio_of kept_of mark_by
+starts_the_next = refl
+
+next_is_the_suspicion : (answer_after (opening 0 ∷ accusing 2000 100 ∷ ticks 2000 ∷ []) (ticks 7000)).next ≡ 7000
+unfolding own_of table_of record_of roster suspicions suspected in_turn range_of timeout_of log10_of ratio_of kept_of mark_by
+next_is_the_suspicion = refl
+
+suspicion_runs_out : (answer_after (opening 0 ∷ accusing 2000 100 ∷ ticks 2000 ∷ ticks 7000 ∷ []) (ticks 7000)).fired ≡ Some (end_of_c 7000)
+unfolding own_of table_of record_of roster suspicions suspected in_turn range_of timeout_of log10_of ratio_of kept_of mark_by
+suspicion_runs_out = refl
+
+gives_up_c : (answer_after (opening 0 ∷ accusing 2000 100 ∷ ticks 2000 ∷ ticks 7000 ∷ []) (ticks 7000)).changed.items ≡ on 99 Failed 0 ∷ []
+unfolding own_of table_of record_of roster suspicions suspected in_turn range_of timeout_of log10_of ratio_of kept_of mark_by takes
+gives_up_c = refl
+
+next_is_the_round : (answer_after (opening 0 ∷ accusing 2000 100 ∷ ticks 2000 ∷ ticks 7000 ∷ []) (ticks 7000)).next ≡ 8000
+unfolding own_of table_of record_of roster suspicions suspected in_turn range_of timeout_of log10_of ratio_of kept_of mark_by
+next_is_the_round = refl
+
+-- Nothing is due, and nothing changes.
+idle : (answer_after (opening 0 ∷ ticks 0 ∷ []) (ticks 999)).fired ≡ None
+unfolding own_of roster suspicions in_turn mark_by
+idle = refl
+
+idle_changes_nothing : (answer_after (opening 0 ∷ ticks 0 ∷ []) (ticks 999)).changed.items ≡ []
+unfolding own_of roster suspicions in_turn mark_by table_of takes
+idle_changes_nothing = refl
+
+idle_next : (answer_after (opening 0 ∷ ticks 0 ∷ []) (ticks 999)).next ≡ 1000
+unfolding own_of roster suspicions in_turn mark_by
+idle_next = refl
+
+-- A claim that overrides ends the suspicion.
+ended : (answer_after (opening 0 ∷ accusing 2000 100 ∷ pings 3000 2 98 (on 99 Alive 1 ∷ []) ∷ []) (ticks 6500)).next ≡ 7500
+unfolding own_of table_of record_of roster suspicions suspected in_turn range_of timeout_of log10_of ratio_of kept_of mark_by
+ended = refl
+
+-- c is suspected at 2000 among five members, by d, by d again, and by e. The round starts at 31500.
+abbrev alive_others : List Claim
+alive_others = on 97 Alive 0 ∷ on 100 Alive 0 ∷ on 101 Alive 0 ∷ []
+
+accused_twice_by_d : (answer_after (opening 0 ∷ says 0 (Ack 7) alive_others ∷ accusing 2000 100 ∷ accusing 2000 100 ∷ []) (ticks 31500)).next ≡ 32000
+unfolding own_of table_of record_of roster suspicions suspected in_turn range_of timeout_of log10_of ratio_of kept_of mark_by
+accused_twice_by_d = refl
+
+accused_by_d_and_e : (answer_after (opening 0 ∷ says 0 (Ack 7) alive_others ∷ accusing 2000 100 ∷ accusing 2000 100 ∷ accusing 2000 101 ∷ []) (ticks 31500)).next ≡ 19500
+unfolding own_of table_of record_of roster suspicions suspected in_turn range_of timeout_of log10_of ratio_of kept_of mark_by
+accused_by_d_and_e = refl
+
+-- The accusation of e counts, and is sent with the claims that an earlier Ack held.
+sends_the_accusation : (answer_after (opening 0 ∷ says 0 (Ack 7) alive_others ∷ accusing 2000 100 ∷ []) (accusing 2000 101)).sends.items ≡ acks 1 (c_by 101 ∷ alive_others)
+unfolding own_of table_of record_of roster suspicions suspected in_turn range_of timeout_of log10_of ratio_of kept_of mark_by takes put_by queued queue_rows taken_of digits
+sends_the_accusation = refl
+
+-- Of two accusations b refuted one: the score and the number are 1.
+health : (answer_after (opening 0 ∷ pings 0 9 98 (on 98 (Suspect (97 ∷ [])) 0 ∷ on 98 (Suspect (99 ∷ [])) 0 ∷ []) ∷ []) (Health 0)).answer ≡ Some (Healthy 1 1 1)
+unfolding own_of table_of record_of roster mark_by
+health = refl
 
 -- An accepted list begins with its one opening.
 nothing_yet : is_accepted [] ≡ true

@@ -1,5 +1,7 @@
 //! Worked events of the detector b at 127.0.0.1:7000, which hears from port 1.
 mod accusers;
+mod claims;
+mod comparing;
 mod copies;
 mod health;
 mod hearing;
@@ -11,68 +13,19 @@ mod refused_memory;
 mod suspicions;
 mod ticks;
 
-use crate::{Detector, Event, MAX_MEMBERS, Outgoing, Reply};
+use crate::{Detector, Event, MAX_MEMBERS, Reply};
 use arrayvec::ArrayVec;
+use claims::{alive, claim, failed, letter, local, numbered_name, suspect};
+use comparing::{assert_ack, is_same_reply};
 use lg_packet::{Body, Packet};
-use lg_rules::{Addr, Claim, Incarnation, Name, Record, Status};
+use lg_rules::{Claim, Name, Record};
 use lg_timers::{Timer, TimerId};
-use lg_timing::{Config, Moment, Seed};
-use std::process::Abort;
+use lg_timing::{Config, Moment};
 use std::test::Fail;
-
-/// The name of one letter.
-fn letter(byte: u8) -> Name {
-    Name::new(&[byte]).unwrap_or_default()
-}
-
-/// The last decimal digit of a number.
-fn digit(number: u32) -> u8 {
-    b'0' + (number % 10) as u8
-}
-
-/// The name `m` with three decimal digits.
-fn numbered_name(number: u32) -> Name {
-    let text = [b'm', digit(number / 100), digit(number / 10), digit(number)];
-    Name::new(&text).unwrap_or_default()
-}
-
-/// A port of this machine.
-fn local(port: u16) -> Addr {
-    Addr::new([127, 0, 0, 1], port)
-}
 
 /// A moment in milliseconds.
 fn at(milliseconds: u64) -> Moment {
     Moment::new(milliseconds).unwrap_or_default()
-}
-
-/// A claim about a member at port 7000.
-fn claim(name: Name, status: Status, incarnation: u32) -> Claim {
-    Claim {
-        name,
-        addr: local(7000),
-        status,
-        incarnation: Incarnation::new(incarnation).unwrap_or_default(),
-    }
-}
-
-/// The claim that the member of a letter is alive.
-fn alive(member: u8, incarnation: u32) -> Claim {
-    claim(letter(member), Status::Alive, incarnation)
-}
-
-/// The claim that the member of a letter has failed.
-fn failed(member: u8, incarnation: u32) -> Claim {
-    claim(letter(member), Status::Failed, incarnation)
-}
-
-/// The claim that the member of a letter is suspected by another.
-fn suspect(member: u8, incarnation: u32, accuser: u8) -> Claim {
-    claim(
-        letter(member),
-        Status::Suspect(letter(accuser)),
-        incarnation,
-    )
 }
 
 /// The configuration of b with the default numbers.
@@ -167,37 +120,4 @@ fn table_of(detector: &Detector) -> ArrayVec<Record, MAX_MEMBERS> {
     let mut row = ArrayVec::new();
     detector.put_table(&mut row);
     row
-}
-
-/// Asks that a reply sends one packet: an Ack of b to port 1, with this number and these claims.
-fn assert_ack(rt: &impl Abort, reply: &Reply, number: u32, claims: &[Claim]) {
-    assert_eq!(rt; reply.sends.len(), 1);
-    for sent in &reply.sends {
-        assert_eq!(rt; sent.to, local(1));
-        assert_eq!(rt; sent.packet.sender, letter(b'b'));
-        assert_eq!(rt; sent.packet.body, Body::Ack { number });
-        assert_eq!(rt; sent.packet.claims.as_slice(), claims);
-    }
-}
-
-fn is_same_outgoing(one: &Outgoing, other: &Outgoing) -> bool {
-    one.to == other.to
-        && one.packet.sender == other.packet.sender
-        && one.packet.body == other.packet.body
-        && one.packet.claims.as_slice() == other.packet.claims.as_slice()
-}
-
-/// Whether two replies are one.
-fn is_same_reply(one: &Reply, other: &Reply) -> bool {
-    one.fired == other.fired
-        && one.sends.len() == other.sends.len()
-        && one
-            .sends
-            .iter()
-            .zip(other.sends.iter())
-            .all(|(sent, copy)| is_same_outgoing(sent, copy))
-        && one.changed.as_slice() == other.changed.as_slice()
-        && one.answer == other.answer
-        && one.ousted == other.ousted
-        && one.next == other.next
 }

@@ -63,11 +63,12 @@ fn sends_what_it_heard(rt: HostRuntime) -> Result<(), Fail> {
         addr: local(7002),
         ..suspect(b'c', 3, b'e')
     };
-    for said in [first, second] {
-        let reply = reply_to(&mut detector, &ping(2000, 2, b'b', &[said]))?;
-        assert_eq!(rt; sent_of(&reply, b'c'), Some(said));
+    for said in &[[first], [second]] {
+        let reply = reply_to(&mut detector, &ping(2000, 2, b'b', said))?;
+        assert_eq!(rt; sent_of(&reply, b'c'), said.first().copied());
     }
-    assert_eq!(rt; detector.record_of(&letter(b'c')), Some(first));
+    let kept = Some(suspect(b'c', 3, b'd'));
+    assert_eq!(rt; detector.record_of(&letter(b'c')), kept);
     reply_to(&mut detector, &tick(40_000))?;
     let reply = reply_to(&mut detector, &tick(40_000))?;
     assert_eq!(rt; reply.fired, Some(suspicion(19_500, letter(b'c'))));
@@ -83,9 +84,9 @@ fn sends_what_moves_nothing(rt: HostRuntime) -> Result<(), Fail> {
     let opened = Event::Open { now: at(0), config };
     let mut detector = among_five(rt.alloc(), &opened)?;
     for accuser in [b'd', b'e'] {
-        let said = suspect(b'c', 0, accuser);
-        let reply = reply_to(&mut detector, &ping(2000, 2, b'b', &[said]))?;
-        assert_eq!(rt; sent_of(&reply, b'c'), Some(said));
+        let said = [suspect(b'c', 0, accuser)];
+        let reply = reply_to(&mut detector, &ping(2000, 2, b'b', &said))?;
+        assert_eq!(rt; sent_of(&reply, b'c'), said.first().copied());
     }
     let reply = reply_to(&mut detector, &tick(40_000))?;
     assert_eq!(rt; reply.next, 7000);
@@ -99,10 +100,10 @@ fn sends_one_accusation_among_four(rt: HostRuntime) -> Result<(), Fail> {
     reply_to(&mut detector, &opening(0))?;
     let said = [alive(b'd', 0), alive(b'e', 0)];
     reply_to(&mut detector, &ping(0, 1, b'z', &said))?;
-    let first = suspect(b'c', 0, b'd');
-    for said in [first, suspect(b'c', 0, b'e')] {
-        let reply = reply_to(&mut detector, &ping(2000, 2, b'b', &[said]))?;
-        assert_eq!(rt; sent_of(&reply, b'c'), Some(first));
+    for accuser in [b'd', b'e'] {
+        let said = [suspect(b'c', 0, accuser)];
+        let reply = reply_to(&mut detector, &ping(2000, 2, b'b', &said))?;
+        assert_eq!(rt; sent_of(&reply, b'c'), Some(suspect(b'c', 0, b'd')));
     }
     Ok(())
 }

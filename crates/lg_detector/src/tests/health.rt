@@ -5,6 +5,7 @@ use super::{
 };
 use crate::{Answer, Detector, Event};
 use lg_rules::{Claim, Incarnation};
+use std::alloc::Global;
 use std::test::Fail;
 
 /// The answer to the question for the health.
@@ -42,53 +43,46 @@ fn marks_a_refutation_once(rt: HostRuntime) -> Result<(), Fail> {
     Ok(())
 }
 
-/// Claims in one packet, and the answer after it.
+/// The answer to the question for the health after claims in one packet.
+fn answer_after(alloc: Global, said: &[Claim]) -> Result<Option<Answer>, Fail> {
+    let mut detector = Detector::blank(alloc)?;
+    reply_to(&mut detector, &opening(0))?;
+    reply_to(&mut detector, &ping(0, 1, b'c', said))?;
+    Ok(reply_to(&mut detector, &ask_health(0))?.answer)
+}
+
 #[test]
-fn tells_score_number_and_members(rt: HostRuntime) -> Result<(), Fail> {
-    let rows: [(&str, &[Claim], Option<Answer>); 8] = [
-        (
-            "two refutations",
-            &[suspect(b'b', 0, b'a'), suspect(b'b', 1, b'a')],
-            answer(2, 2, 1),
-        ),
-        (
-            "a refutation at a greater number",
-            &[suspect(b'b', 7, b'a')],
-            answer(1, 8, 1),
-        ),
-        (
-            "a number that is raised",
-            &[alive(b'b', 3)],
-            answer(0, 4, 1),
-        ),
-        (
-            "a claim of before",
-            &[alive(b'b', 3), suspect(b'b', 3, b'a')],
-            answer(0, 4, 1),
-        ),
-        ("oneself as failed", &[failed(b'b', 0)], answer(0, 0, 1)),
-        (
-            "beyond refuting",
-            &[suspect(b'b', 1_000_000_000, b'a')],
-            answer(0, 0, 1),
-        ),
-        (
-            "another as suspect",
-            &[suspect(b'c', 0, b'b')],
-            answer(0, 0, 2),
-        ),
-        (
-            "others, one of them failed",
-            &[alive(b'a', 0), failed(b'd', 0), suspect(b'c', 0, b'a')],
-            answer(0, 0, 3),
-        ),
+fn marks_refutations_alone(rt: HostRuntime) -> Result<(), Fail> {
+    let beyond = suspect(b'b', 1_000_000_000, b'a');
+    let (first, second) = (suspect(b'b', 0, b'a'), suspect(b'b', 1, b'a'));
+    let (raised, before) = (alive(b'b', 3), suspect(b'b', 3, b'a'));
+    let rows: [(&str, &[Claim], u64, u32); 6] = [
+        ("two refutations", &[first, second], 2, 2),
+        ("at a greater number", &[suspect(b'b', 7, b'a')], 1, 8),
+        ("a number that is raised", &[raised], 0, 4),
+        ("an accusation of before", &[raised, before], 0, 4),
+        ("oneself as failed", &[failed(b'b', 0)], 0, 0),
+        ("beyond refuting", &[beyond], 0, 0),
     ];
-    for (case, said, wanted) in &rows {
-        let mut detector = Detector::blank(rt.alloc())?;
-        reply_to(&mut detector, &opening(0))?;
-        reply_to(&mut detector, &ping(0, 1, b'c', said))?;
-        let reply = reply_to(&mut detector, &ask_health(0))?;
-        assert_eq!(rt; reply.answer, *wanted, "{case}");
+    for (case, said, score, number) in &rows {
+        let wanted = answer(*score, *number, 1);
+        assert_eq!(rt; answer_after(rt.alloc(), said)?, wanted, "{case}");
+    }
+    Ok(())
+}
+
+#[test]
+fn counts_who_has_not_failed(rt: HostRuntime) -> Result<(), Fail> {
+    let (c, d) = (suspect(b'c', 0, b'b'), failed(b'd', 0));
+    let rows: [(&[Claim], u64); 4] = [
+        (&[], 1),
+        (&[c], 2),
+        (&[d], 1),
+        (&[alive(b'a', 0), d, c, alive(b'd', 1)], 3),
+    ];
+    for (said, members) in &rows {
+        let wanted = answer(0, 0, *members);
+        assert_eq!(rt; answer_after(rt.alloc(), said)?, wanted, "{members}");
     }
     Ok(())
 }

@@ -7,18 +7,22 @@ use lg_rules::Claim;
 use std::alloc::Global;
 use std::test::Fail;
 
-/// What b hears: the moment and the claims of a packet.
-type Packet<'a> = (u64, &'a [Claim]);
-
-/// b is opened at 0, learns of others and then hears these packets.
-fn heard_all(alloc: Global, others: &[u8], packets: &[Packet]) -> Result<Detector, Fail> {
+/// b is opened at 0, learns of others, and hears these claims in one packet at 2000.
+fn told(alloc: Global, others: &[u8], said: &[Claim]) -> Result<Detector, Fail> {
     let mut detector = Detector::blank(alloc)?;
     reply_to(&mut detector, &opening(0))?;
     for other in others {
         reply_to(&mut detector, &ping(0, 1, b'z', &[alive(*other, 0)]))?;
     }
-    for (now, said) in packets {
-        reply_to(&mut detector, &ping(*now, 1, b'z', said))?;
+    reply_to(&mut detector, &ping(2000, 1, b'z', said))?;
+    Ok(detector)
+}
+
+/// The same, but each claim comes in a packet of its own.
+fn told_apart(alloc: Global, others: &[u8], said: &[Claim]) -> Result<Detector, Fail> {
+    let mut detector = told(alloc, others, &[])?;
+    for claim in said {
+        reply_to(&mut detector, &ping(2000, 1, b'z', &[*claim]))?;
     }
     Ok(detector)
 }
@@ -29,51 +33,47 @@ fn next_of(detector: &mut Detector) -> Result<u64, Fail> {
     Ok(reply_to(detector, &tick(40_000))?.next)
 }
 
-/// c is suspected at 2000, in packets of one claim each.
 #[test]
 fn accusers_bring_the_deadline_nearer(rt: HostRuntime) -> Result<(), Fail> {
     let (d, e) = (suspect(b'c', 0, b'd'), suspect(b'c', 0, b'e'));
     let (a, z) = (suspect(b'c', 0, b'a'), suspect(b'c', 0, b'z'));
-    let rows: [(&str, &[u8], &[Claim], u64); 13] = [
-        ("d, among five", b"ade", &[d], 32_000),
-        ("d again", b"ade", &[d, d], 32_000),
-        ("then e", b"ade", &[d, d, e], 19_500),
-        ("then a", b"ade", &[d, d, e, a], 12_200),
-        ("then z, a stranger", b"ade", &[d, d, e, a, z], 7000),
+    let (b, c) = (suspect(b'c', 0, b'b'), suspect(b'c', 0, b'c'));
+    let rows: [(&str, &[Claim], u64); 8] = [
+        ("d", &[d], 32_000),
+        ("d again", &[d, d], 32_000),
+        ("then e", &[d, d, e], 19_500),
+        ("then a", &[d, d, e, a], 12_200),
+        ("then z, a stranger", &[d, d, e, a, z], 7000),
+        ("one more", &[d, e, a, z, b], 7000),
+        ("in another order", &[z, e, d, a], 7000),
+        ("c itself", &[d, c], 19_500),
+    ];
+    for (case, said, deadline) in &rows {
+        let mut detector = told_apart(rt.alloc(), b"ade", said)?;
+        assert_eq!(rt; next_of(&mut detector)?, *deadline, "{case}");
+    }
+    Ok(())
+}
+
+/// How many confirmations count is settled when the suspicion is raised, and the score doesn't scale it.
+#[test]
+fn a_suspicion_keeps_its_timeouts(rt: HostRuntime) -> Result<(), Fail> {
+    let (d, e) = (suspect(b'c', 0, b'd'), suspect(b'c', 0, b'e'));
+    let refuted = suspect(b'b', 0, b'a');
+    let rows: [(&str, &[u8], &[Claim], u64); 5] = [
+        ("among four", b"de", &[d], 7000),
+        ("e confirms it", b"de", &[d, e], 7000),
+        ("a fifth comes first", b"de", &[d, alive(b'a', 0), e], 7000),
         (
-            "one more",
-            b"ade",
-            &[d, e, a, z, suspect(b'c', 0, b'b')],
-            7000,
-        ),
-        ("in another order", b"ade", &[z, e, d, a], 7000),
-        ("c itself", b"ade", &[d, suspect(b'c', 0, b'c')], 19_500),
-        ("d, among four", b"de", &[d], 7000),
-        ("then e, among four", b"de", &[d, e], 7000),
-        (
-            "then a fifth member and e",
-            b"de",
-            &[d, alive(b'a', 0), e],
-            7000,
-        ),
-        (
-            "one of five fails, and then e",
+            "one of five fails",
             b"ade",
             &[d, failed(b'a', 0), e],
             19_500,
         ),
-        (
-            "after a refutation",
-            b"ade",
-            &[suspect(b'b', 0, b'a'), d],
-            32_000,
-        ),
+        ("at a score of 1", b"ade", &[refuted, d], 32_000),
     ];
     for (case, others, said, deadline) in &rows {
-        let mut detector = heard_all(rt.alloc(), others, &[])?;
-        for claim in said.iter() {
-            reply_to(&mut detector, &ping(2000, 1, b'z', &[*claim]))?;
-        }
+        let mut detector = told_apart(rt.alloc(), others, said)?;
         assert_eq!(rt; next_of(&mut detector)?, *deadline, "{case}");
     }
     Ok(())
@@ -91,7 +91,7 @@ fn members_count_once_they_are_known(rt: HostRuntime) -> Result<(), Fail> {
         ("one of six failed", b"acdef", &[failed(b'e', 0), d], 32_000),
     ];
     for (case, others, said, deadline) in &rows {
-        let mut detector = heard_all(rt.alloc(), others, &[(2000, said)])?;
+        let mut detector = told(rt.alloc(), others, said)?;
         assert_eq!(rt; next_of(&mut detector)?, *deadline, "{case}");
     }
     Ok(())
@@ -119,8 +119,8 @@ fn claims_renew_or_end_a_suspicion(rt: HostRuntime) -> Result<(), Fail> {
         ("failed, and suspected", &[failed(b'c', 0), d], 41_000),
     ];
     for (case, said, deadline) in &rows {
-        let packets: [Packet; 2] = [(2000, &raised), (3000, said)];
-        let mut detector = heard_all(rt.alloc(), b"ade", &packets)?;
+        let mut detector = told(rt.alloc(), b"ade", &raised)?;
+        reply_to(&mut detector, &ping(3000, 1, b'z', said))?;
         assert_eq!(rt; next_of(&mut detector)?, *deadline, "{case}");
         let fired = reply_to(&mut detector, &tick(40_000))?.fired;
         let wanted = if *deadline == 41_000 {
@@ -136,16 +136,16 @@ fn claims_renew_or_end_a_suspicion(rt: HostRuntime) -> Result<(), Fail> {
 /// No tick fires a suspicion that was ended.
 #[test]
 fn an_ended_suspicion_never_fires(rt: HostRuntime) -> Result<(), Fail> {
-    for said in [alive(b'c', 1), failed(b'c', 0)] {
-        let packets: [Packet; 2] = [(2000, &[suspect(b'c', 0, b'd')]), (3000, &[said])];
-        let mut detector = heard_all(rt.alloc(), b"", &packets)?;
+    for said in &[[alive(b'c', 1)], [failed(b'c', 0)]] {
+        let mut detector = told(rt.alloc(), b"", &[suspect(b'c', 0, b'd')])?;
+        reply_to(&mut detector, &ping(3000, 1, b'z', said))?;
         for (now, start) in [(6500, 0), (7500, 7500), (8500, 8500)] {
             let reply = reply_to(&mut detector, &tick(now))?;
             assert_eq!(rt; reply.fired, Some(round_start(start)), "{said:?}");
             assert_eq!(rt; reply.changed.len(), 0, "{said:?}");
             assert_eq!(rt; reply.next, now + 1000, "{said:?}");
         }
-        assert_eq!(rt; detector.record_of(&letter(b'c')), Some(said));
+        assert_eq!(rt; detector.record_of(&letter(b'c')), said.first().copied());
     }
     Ok(())
 }
