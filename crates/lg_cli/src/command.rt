@@ -49,14 +49,13 @@ fn answer_command<'a>(alloc: Global) -> Result<Command<'a>, AllocError>
 }
 
 /// The option `--ID N`, a number between two others, which count.
-fn number_option<'a>(alloc: Global, id: &'a str, help: &'a str, least: u64, most: u64) -> Arg<'a>
+fn number_option<'a>(alloc: Global, id: &'a str, least: u64, most: u64) -> Arg<'a>
     ensures rule { rule_of result ≡ number_rule id.entry.now least most }
     ensures local { result.global ≡ false }
 {
     Arg::new(alloc, id)
         .long(id)
         .value_name("N")
-        .help(help)
         .value_parser(ValueParser::unsigned(least, most))
         .action(ArgAction::Set)
 }
@@ -66,40 +65,20 @@ fn timeouts_command<'a>(alloc: Global) -> Result<Command<'a>, AllocError>
     ensures app { IfOk result (λ command. app_of command ≡ timeouts_app) }
     ensures local { IfOk result (λ command. (fields_of command).has_globals ≡ false) }
 {
-    let members = number_option(
-        alloc,
-        "members",
+    let members = number_option(alloc, "members", 1, MAX_MEMBERS).help(
         "How many members there are, oneself among them",
-        1,
-        MAX_MEMBERS,
     );
-    let confirmations = number_option(
-        alloc,
-        "confirmations",
+    let confirmations = number_option(alloc, "confirmations", 0, MAX_CONFIRMATIONS).help(
         "After how many confirmations the timeout is the least",
-        0,
-        MAX_CONFIRMATIONS,
     );
-    let alpha = number_option(
-        alloc,
-        "alpha",
+    let alpha = number_option(alloc, "alpha", 1, MAX_FACTOR).help(
         "The factor of the least timeout",
-        1,
-        MAX_FACTOR,
     );
-    let beta = number_option(
-        alloc,
-        "beta",
+    let beta = number_option(alloc, "beta", 1, MAX_FACTOR).help(
         "The greatest timeout over the least",
-        1,
-        MAX_FACTOR,
     );
-    let interval = number_option(
-        alloc,
-        "interval-ms",
+    let interval = number_option(alloc, "interval-ms", MIN_INTERVAL_MS, MAX_INTERVAL_MS).help(
         "The protocol period, in milliseconds",
-        MIN_INTERVAL_MS,
-        MAX_INTERVAL_MS,
     );
     Command::new(alloc, "timeouts")
         .about("Writes the timeouts of a suspicion, in milliseconds")
