@@ -37,7 +37,8 @@ const BAD_INPUT: u8 = 3;
 /// read or a write failed, told as `lg: memory`, `lg: read` or `lg: write`; 2 where the command
 /// line is refused, told by a text of the command line's own; 3 for bad input: `lg: bad names`
 /// where the text of `--name` is no name, and nothing is then read, or a faulty line of the input
-/// of `answer`, of which nothing is told. `timeouts` reads nothing. A line that `faults` doesn't take is dropped.
+/// of `answer`, of which nothing is told. `timeouts` reads nothing. A line that `faults` doesn't
+/// take is dropped.
 pub fn run_words<S: AsStr, R: Read, W: Write, F: Write>(
     alloc: Global,
     words: &[S],
@@ -51,12 +52,10 @@ pub fn run_words<S: AsStr, R: Read, W: Write, F: Write>(
         (R.remaining reader.new) (W.contents writer.old) (W.contents writer.new) name result)) }
     ensures bad_name { let line = map S.text words.now in line_faults line ≡ [] → result ≢ FAILED
         → IfAnswer (asked line) (λ text. is_err (name_of_text text) ≡ true → result ≡ BAD_INPUT) }
-    ensures unread { let line = map S.text words.now in line_faults line ≡ []
-        → IfAnswer (asked line) (λ text. is_err (name_of_text text) ≡ true → reader.new ≡ reader.old) }
+    ensures unread { IfAnswer (asked (map S.text words.now)) (λ text. is_err (name_of_text text) ≡ true → reader.new ≡ reader.old) }
     ensures timed { let line = map S.text words.now in line_faults line ≡ [] → result ≢ FAILED
         → IfTimeouts (asked line) (λ numbers. RunsTimeouts (W.contents writer.old) (W.contents writer.new) numbers result) }
-    ensures timed_unread { let line = map S.text words.now in line_faults line ≡ []
-        → IfTimeouts (asked line) (λ numbers. reader.new ≡ reader.old) }
+    ensures timed_unread { IfTimeouts (asked (map S.text words.now)) (λ _. reader.new ≡ reader.old) }
 
     // Any other is refused, or asks for help.
     ensures refused { let line = map S.text words.now in line_faults line ≢ [] → result ≢ FAILED
