@@ -4,10 +4,10 @@ use Rattle.std.specs.Prelude.{filter}
 use Rattle.std.specs.declared.cmp.Ordering.{Ordering}
 use Rattle.std.specs.declared.cmp.Ordering.TheVariants.{Greater}
 use Rattle.std.proofs.lemmas.Bool.{cases_Bool}
-use Rattle.lg_rules.specs.Rows.{put_row, row_at}
+use Rattle.lg_rules.specs.Rows.{put_row, row_at, AreAbove, Rises}
 use Rattle.lg_rules.proofs.Cases.{Below, Tied, Above, compared}
 use Rattle.lg_rules.proofs.KeyOrder.{IsKeyOrder}
-use Rattle.lg_rules.proofs.Rises.{AreAbove, Rises, above_lower}
+use Rattle.lg_rules.proofs.Rises.{above_lower}
 
 module _ {K : Type 0} {cmp : K → K → Ordering} (order : IsKeyOrder cmp) {R : Type 0} (key : R → K) where
   -- a row below all others is put before them

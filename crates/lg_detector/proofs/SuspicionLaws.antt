@@ -8,11 +8,11 @@ use Rattle.lg_rules.specs.declared.claim.Status.TheVariants.{Alive, Suspect, Fai
 use Rattle.lg_rules.specs.declared.members.Heard.{Heard}
 use Rattle.lg_rules.specs.declared.members.Heard.TheVariants.{Overrode, Accused, Same, Ignored, NoRoom}
 use Rattle.lg_rules.specs.Claim.{accuser_of}
-use Rattle.lg_rules.specs.Rows.{name_cmp, is_same, is_among, put_key, put_row, row_at, without_row}
+use Rattle.lg_rules.specs.Rows.{name_cmp, is_same, is_among, put_key, put_row, row_at, without_row, Rises}
 use Rattle.lg_rules.specs.Table.{roster, record_of, takes, kept_answer, answer_of, heard, members_in}
 use Rattle.lg_rules.proofs.Cases.{Missing, Holding, held, held_once}
 use Rattle.lg_rules.proofs.KeyOrder.{names_order, cases_key}
-use Rattle.lg_rules.proofs.Rises.{Rises, put-there}
+use Rattle.lg_rules.proofs.Rises.{put-there}
 use Rattle.lg_rules.proofs.Roster.{rises-roster, roster-nil, roster-own, own_unknown, length-roster}
 use Rattle.lg_rules.proofs.RowLaws.{AgreeBut, rows_equal, rows_same, rows-skip, rows-put, rows-without, row_at-rows, rises-rows, rows_room, length_rows-le}
 use Rattle.lg_rules.proofs.Tables.{IsTaken, IsKept, Taken, Kept, Out, heard_cases, heard-table, row_at-table}

@@ -1,7 +1,6 @@
 -- The timers that are set, when suspicions change.
 use Rattle.std.proofs.Common.{◌≡◌, ℕ, suc, ◌≤◌, List, [], ◌∷◌, length, map, Option, Some, None, refl, sym, ◌∙◌, ap, arith}
-use Rattle.lg_rules.specs.Rows.{name_cmp}
-use Rattle.lg_rules.proofs.Rises.{Rises}
+use Rattle.lg_rules.specs.Rows.{name_cmp, Rises}
 use Rattle.lg_timers.specs.declared.timer.TimerId.TheVariants.{RoundStart}
 use Rattle.lg_timers.specs.Timers.{with_timer, without_timer, in_turn}
 use Rattle.lg_timers.proofs.Pending.{NoSuspicion, no_suspicion-nil, no_suspicion-start, rows-not_start, without-in_turn, without-none, firsts-without, firsts-put, pending-first, length_in_turn-le}

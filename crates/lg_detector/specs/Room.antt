@@ -2,8 +2,7 @@
 use Rattle.std.specs.Prelude.{ℕ, ◌≡◌, ◌≢◌, ◌<◌, ⊤, ◌≤◌, map, Bool, true, List, length, Option, Some, None}
 use Rattle.lg_rules.specs.declared.claim.Claim.{Claim}
 use Rattle.lg_rules.specs.Claim.{name_of}
-use Rattle.lg_rules.specs.Rows.{name_cmp, row_at}
-use Rattle.lg_rules.proofs.Rises.{Rises}
+use Rattle.lg_rules.specs.Rows.{name_cmp, row_at, Rises}
 use Rattle.lg_rules.specs.Table.{takes}
 use Rattle.lg_gossip.specs.Queue.{GossipQueue, queued_name}
 use Rattle.lg_detector.specs.declared.suspected.Suspected.{Suspected}

@@ -1,5 +1,5 @@
 //! What a detector keeps.
-ghost use Rattle.std.specs.Prelude.{◌≡◌, Some, None, [], ◌∷◌};
+ghost use Rattle.std.specs.Prelude.{◌≡◌, ◌&&◌, ◌||◌, not, Some, None, [], ◌∷◌, if◌then◌else◌};
 ghost use Rattle.lg_rules.specs.Rows.{name_cmp, is_same};
 ghost use Rattle.lg_rules.specs.View.{is_rise};
 ghost use Rattle.lg_detector.specs.Gossip.{put_of_own};
@@ -52,13 +52,13 @@ fn is_round_start(id: &TimerId) -> bool
     matches!(id, TimerId::RoundStart)
 }
 
-/// The claim that the member of a record has failed.
-fn failed(record: &Record) -> Claim
-    ensures { result ∷ [] ≡ failed_of (Some «record».now) }
+/// The claim that a member has failed, by its current record.
+fn failed(current: &Record) -> Claim
+    ensures { result ∷ [] ≡ failed_of (Some current.now) }
 {
     Claim {
         status: Status::Failed,
-        ..*record
+        ..*current
     }
 }
 
@@ -94,6 +94,18 @@ fn put_of_own(heard: OwnHeard, own: &Own) -> Option<Claim>
 {
     if is_raising(heard) {
         Some(own.record())
+    } else {
+        None
+    }
+}
+
+/// What a claim about another puts into the queue: the claim itself, where the opening doesn't say it and it makes or
+/// replaces a record, or confirms a suspicion.
+fn put_of_other(seed: bool, taken: bool, confirmed: bool, claim: &Claim) -> Option<Claim>
+    ensures { result ≡ if not seed && (taken || confirmed) then Some claim.now else None }
+{
+    if !seed && (taken || confirmed) {
+        Some(*claim)
     } else {
         None
     }
@@ -200,9 +212,7 @@ impl Parts {
         let heard = self.members.hear(claim);
         let taken = heard == Heard::Overrode;
         let confirmed = self.suspect(heard, claim);
-        if (taken || confirmed) && !seed {
-            self.queue.put(*claim);
-        }
+        put(&mut self.queue, put_of_other(seed, taken, confirmed, claim));
         taken
     }
 
@@ -274,8 +284,8 @@ impl Parts {
     {
         let mut claims = ArrayVec::new();
         if let TimerId::Suspicion(member) = id {
-            if let Some(record) = self.members.get(member) {
-                claims.push(failed(record));
+            if let Some(current) = self.members.get(member) {
+                claims.push(failed(current));
             }
         }
         claims

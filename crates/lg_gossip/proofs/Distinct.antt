@@ -6,9 +6,8 @@ use Rattle.std.specs.List.{AllByRecursion, IsDistinct}
 use Rattle.std.proofs.lemmas.Bool.{cases_Bool, false≢true}
 use Rattle.lg_rules.specs.declared.claim.Claim.{Claim}
 use Rattle.lg_rules.specs.Claim.{name_of}
-use Rattle.lg_rules.specs.Rows.{name_cmp, is_same}
+use Rattle.lg_rules.specs.Rows.{name_cmp, is_same, AreAbove}
 use Rattle.lg_rules.proofs.KeyOrder.{names_order, other_key, same_back, less_apart}
-use Rattle.lg_rules.proofs.Rises.{AreAbove}
 use Rattle.lg_rules.proofs.Tests.{both}
 use Rattle.lg_gossip.specs.declared.queued.Queued.{Queued}
 use Rattle.lg_gossip.specs.Queue.{queued_name, queued_claim, is_sooner, put_in_turn, in_turn, is_beside, may_go, room_beside, rows_taken}

@@ -7,10 +7,9 @@ use Rattle.std.proofs.lemmas.Bool.{ltb-true}
 use Rattle.std.proofs.lemmas.List.{length-map, length-take}
 use Rattle.lg_rules.specs.declared.claim.Claim.{Claim}
 use Rattle.lg_rules.specs.Claim.{name_of}
-use Rattle.lg_rules.specs.Rows.{name_cmp, is_same, is_among, put_key, row_at}
+use Rattle.lg_rules.specs.Rows.{name_cmp, is_same, is_among, put_key, row_at, Rises}
 use Rattle.lg_rules.proofs.Cases.{Missing, Holding, held, held_once}
 use Rattle.lg_rules.proofs.KeyOrder.{names_order}
-use Rattle.lg_rules.proofs.Rises.{Rises}
 use Rattle.lg_rules.proofs.RowLaws.{Keyed, AgreeBut, rows-put, rises-rows}
 use Rattle.lg_rules.proofs.Tests.{both}
 use Rattle.lg_gossip.specs.declared.queued.Queued.{Queued}

@@ -3,13 +3,13 @@ use Rattle.std.proofs.Common.{◌≡◌, ℕ, true, Option, inl, inr, ◌*◌, �
 use Rattle.std.specs.List.{AllByRecursion}
 use Rattle.lg_rules.specs.declared.claim.Claim.{Claim}
 use Rattle.lg_rules.specs.Claim.{name_of}
-use Rattle.lg_rules.specs.Rows.{name_cmp, is_among, put_row, put_key}
+use Rattle.lg_rules.specs.Rows.{name_cmp, is_among, put_row, put_key, Rises}
 use Rattle.lg_rules.proofs.Tests.{both}
 use Rattle.std.proofs.lemmas.Bool.{cases_Bool, ltb-true}
 use Rattle.std.specs.Prelude.{nat_lt}
 use Rattle.lg_rules.proofs.Cases.{Below, Tied, Above, compared}
 use Rattle.lg_rules.proofs.KeyOrder.{names_order}
-use Rattle.lg_rules.proofs.Rises.{Rises, rises-put}
+use Rattle.lg_rules.proofs.Rises.{rises-put}
 use Rattle.lg_gossip.specs.declared.queued.Queued.{Queued}
 use Rattle.lg_gossip.specs.Queue.{queued_name, queued_claim, fresh, is_beside, may_go, rows_taken, sent_once}
 use Rattle.lg_gossip.proofs.Each.{all-both}

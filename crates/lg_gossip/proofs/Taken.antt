@@ -6,10 +6,10 @@ use Rattle.std.specs.declared.cmp.Ordering.TheVariants.{Less}
 use Rattle.std.proofs.lemmas.Bool.{cases_Bool, false≢true}
 use Rattle.lg_rules.specs.declared.claim.Claim.{Claim}
 use Rattle.lg_rules.specs.Claim.{name_of}
-use Rattle.lg_rules.specs.Rows.{name_cmp, is_among, row_at}
+use Rattle.lg_rules.specs.Rows.{name_cmp, is_among, row_at, AreAbove}
 use Rattle.lg_rules.proofs.KeyOrder.{names_order, tied, turned, cases_key}
 use Rattle.lg_rules.proofs.Cases.{held_once}
-use Rattle.lg_rules.proofs.Rises.{AreAbove, among-cons_other}
+use Rattle.lg_rules.proofs.Rises.{among-cons_other}
 use Rattle.lg_gossip.specs.declared.queued.Queued.{Queued}
 use Rattle.lg_gossip.specs.Queue.{queued_name, queued_claim, in_turn, may_go, room_beside, rows_taken}
 use Rattle.lg_gossip.proofs.Each.{all-filter, all-in_turn, all-take, all-both, passed}

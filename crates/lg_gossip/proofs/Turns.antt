@@ -7,8 +7,7 @@ use Rattle.std.proofs.lemmas.Bool.{cases_Bool, false≢true, cases_lt, lt-ltb, l
 use Rattle.std.proofs.Math.Seq.{take-suc}
 use Rattle.std.proofs.lemmas.List.{append-nil}
 use Rattle.std.proofs.lemmas.List.Elements.{filter-append}
-use Rattle.lg_rules.specs.Rows.{name_cmp}
-use Rattle.lg_rules.proofs.Rises.{AreAbove}
+use Rattle.lg_rules.specs.Rows.{name_cmp, AreAbove}
 use Rattle.lg_gossip.specs.declared.queued.Queued.{Queued}
 use Rattle.lg_gossip.specs.Queue.{queued_name, is_sooner, put_in_turn, in_turn}
 use Rattle.lg_gossip.proofs.Each.{all-filter}

@@ -1,8 +1,7 @@
 -- What holds of every queue.
 use Rattle.std.specs.Prelude.{ℕ, ◌*◌, ◌≤◌, List, map}
 use Rattle.std.specs.List.{AllByRecursion}
-use Rattle.lg_rules.specs.Rows.{name_cmp}
-use Rattle.lg_rules.proofs.Rises.{Rises}
+use Rattle.lg_rules.specs.Rows.{name_cmp, Rises}
 use Rattle.lg_gossip.specs.declared.queued.Queued.{Queued}
 use Rattle.lg_gossip.specs.Queue.{queued_name}
 

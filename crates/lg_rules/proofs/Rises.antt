@@ -1,21 +1,12 @@
 -- Keys in rising order.
 use Rattle.std.proofs.Common.{◌≡◌, suc, ◌≤◌, Bool, true, false, ◌||◌, ◌&&◌, List, [], ◌∷◌, length, inl, inr, refl, sym, ◌∙◌, ap, subst, arith}
-use Rattle.std.specs.Prelude.{filter, ⊤}
+use Rattle.std.specs.Prelude.{filter}
 use Rattle.std.specs.declared.cmp.Ordering.{Ordering}
 use Rattle.std.specs.declared.cmp.Ordering.TheVariants.{Less, Greater}
 use Rattle.std.proofs.lemmas.Bool.{cases_Bool, false≢true}
-use Rattle.lg_rules.specs.Rows.{is_same, is_among, put_key, in_order, distinct}
+use Rattle.lg_rules.specs.Rows.{is_same, is_among, put_key, in_order, distinct, AreAbove, Rises}
 use Rattle.lg_rules.proofs.Cases.{Below, Tied, Above, compared}
 use Rattle.lg_rules.proofs.KeyOrder.{IsKeyOrder, turned, same_key, other_key, cases_key, less_apart}
-
--- each key is above this one
-abbrev pub AreAbove : {K : Type 0} → (K → K → Ordering) → K → List K → Type 0
-AreAbove cmp n [] = ⊤
-AreAbove cmp n (m ∷ ms) = (cmp n m ≡ Less) × AreAbove cmp n ms
-
-abbrev pub Rises : {K : Type 0} → (K → K → Ordering) → List K → Type 0
-Rises cmp [] = ⊤
-Rises cmp (n ∷ ns) = AreAbove cmp n ns × Rises cmp ns
 
 or_later : (a : Bool) {b : Bool} → b ≡ true → (a || b) ≡ true
 or_later true e = refl

@@ -5,10 +5,10 @@ use Rattle.std.specs.List.{AllByRecursion}
 use Rattle.std.specs.declared.cmp.Ordering.{Ordering}
 use Rattle.std.specs.declared.cmp.Ordering.TheVariants.{Less, Equal, Greater}
 use Rattle.std.proofs.lemmas.Bool.{cases_Bool, false≢true}
-use Rattle.lg_rules.specs.Rows.{is_same, is_among, put_row, put_key, row_at, without_row}
+use Rattle.lg_rules.specs.Rows.{is_same, is_among, put_row, put_key, row_at, without_row, AreAbove, Rises}
 use Rattle.lg_rules.proofs.Cases.{Below, Tied, Above, compared}
 use Rattle.lg_rules.proofs.KeyOrder.{IsKeyOrder, turned, tied, same_key, other_key, cases_key, less_apart}
-use Rattle.lg_rules.proofs.Rises.{AreAbove, Rises, rises-put, among-cons_other}
+use Rattle.lg_rules.proofs.Rises.{rises-put, among-cons_other}
 
 -- tests that agree where P holds keep the same
 pub filter_same : {R : Type 0} (p q : R → Bool) (P : R → Type 0) (rows : List R) → ((x : R) → P x → p x ≡ q x) → AllByRecursion P rows → filter p rows ≡ filter q rows

@@ -1,5 +1,5 @@
 -- Rows in rising order of their keys, for any order of keys.
-use Rattle.std.specs.Prelude.{ℕ, ◌≡◌, ◌<◌, ◌≤◌, Bool, not, List, [], ◌∷◌, length, filter, insert, slice_index_or, slice_set, Option, Some, None, if◌then◌else◌}
+use Rattle.std.specs.Prelude.{ℕ, ⊤, ◌≡◌, ◌<◌, ◌≤◌, Bool, not, List, [], ◌∷◌, length, filter, insert, slice_index_or, slice_set, Option, Some, None, if◌then◌else◌}
 use Rattle.std.specs.List.{list_any}
 use Rattle.std.specs.declared.cmp.Ordering.{Ordering}
 use Rattle.std.specs.declared.cmp.Ordering.TheVariants.{Less, Equal, Greater}
@@ -15,6 +15,15 @@ by_order Greater less same more = more
 -- the order of names: by their bytes, a name before those that it begins
 abbrev pub name_cmp : List ℕ → List ℕ → Ordering
 name_cmp = slice_cmp nat_cmp
+
+-- Keys in rising order: each is above those before it.
+abbrev pub AreAbove : {K : Type 0} → (K → K → Ordering) → K → List K → Type 0
+AreAbove cmp n [] = ⊤
+AreAbove cmp n (m ∷ ms) = (cmp n m ≡ Less) × AreAbove cmp n ms
+
+abbrev pub Rises : {K : Type 0} → (K → K → Ordering) → List K → Type 0
+Rises cmp [] = ⊤
+Rises cmp (n ∷ ns) = AreAbove cmp n ns × Rises cmp ns
 
 module _ {K : Type 0} (cmp : K → K → Ordering) where
   -- whether two keys are one

@@ -78,14 +78,14 @@ fn find<'a>(records: &'a [Record], name: &Name) -> Option<&'a Record>
     }
 }
 
-/// What is answered to a claim that doesn't override the record of its member.
-fn keep(claim: &Claim, record: &Record) -> Heard
-    ensures { result ≡ kept_answer claim.now (Some record.now) }
+/// What is answered to a claim that doesn't override the current record of its member.
+fn keep(claim: &Claim, current: &Record) -> Heard
+    ensures { result ≡ kept_answer claim.now (Some current.now) }
 {
-    if claim.incarnation != record.incarnation {
+    if claim.incarnation != current.incarnation {
         return Heard::Ignored;
     }
-    match (claim.status, record.status) {
+    match (claim.status, current.status) {
         (Status::Alive, Status::Alive) | (Status::Failed, Status::Failed) => Heard::Same,
         (Status::Suspect(_), Status::Suspect(_)) => Heard::Accused,
         _ => Heard::Ignored,
@@ -98,8 +98,8 @@ fn judge(records: &ArrayVec<Record, MAX_OTHERS>, claim: &Claim) -> Heard
     ensures { result ≡ answer_of records.now.items claim.now }
 {
     match find(records.as_slice(), &claim.name) {
-        Some(record) if beats(claim, record) => Heard::Overrode,
-        Some(record) => keep(claim, record),
+        Some(current) if beats(claim, current) => Heard::Overrode,
+        Some(current) => keep(claim, current),
         None if records.is_full() => Heard::NoRoom,
         None => Heard::Overrode,
     }

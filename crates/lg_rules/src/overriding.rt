@@ -4,7 +4,7 @@ ghost use Rattle.lg_rules.specs.Beats.{beats_of};
 
 use crate::claim::{Claim, Record, Status};
 
-/// Whether a claim overrides the record of its member; both are about one member (SWIM, section 4.2,
+/// Whether a claim overrides the current record of its member; both are about one member (SWIM, section 4.2,
 /// whose Confirm is called Failed here).
 ///
 /// | Claim | overrides |
@@ -14,12 +14,12 @@ use crate::claim::{Claim, Record, Status};
 /// | Failed(i) | Alive(j) and Suspect(j), for every j |
 ///
 /// Nothing else overrides: Failed is final.
-pub fn beats(claim: &Claim, record: &Record) -> bool
-    ensures { result ≡ beats_of claim.now record.now }
+pub fn beats(claim: &Claim, current: &Record) -> bool
+    ensures { result ≡ beats_of claim.now current.now }
 {
     let heard = claim.incarnation.number();
-    let standing = record.incarnation.number();
-    match (claim.status, record.status) {
+    let standing = current.incarnation.number();
+    match (claim.status, current.status) {
         (_, Status::Failed) => false,
         (Status::Failed, _) => true,
         (Status::Suspect(_), Status::Alive) => heard >= standing,

@@ -1,7 +1,6 @@
 -- What holds of each set of timers.
 use Rattle.std.specs.Prelude.{List, map, reverse, IsTrue}
-use Rattle.lg_rules.specs.Rows.{name_cmp}
-use Rattle.lg_rules.proofs.Rises.{Rises}
+use Rattle.lg_rules.specs.Rows.{name_cmp, Rises}
 use Rattle.lg_timers.specs.declared.timer.Timer.{Timer}
 use Rattle.lg_timers.specs.Timers.{timer_key, have_distinct_ids}
 
