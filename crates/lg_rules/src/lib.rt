@@ -19,4 +19,4 @@ pub use members::{Heard, MAX_OTHERS, Members};
 pub use name::{MAX_NAME, Name, NameFault, is_name_byte};
 pub use overriding::beats;
 pub use own::{Own, OwnHeard};
-pub use rows::{Keyed, seat_of};
+pub use rows::{Keyed, put_row, seat_of};

@@ -57,17 +57,6 @@ fn is_failed(status: Status) -> bool
     matches!(status, Status::Failed)
 }
 
-/// Makes a claim the record of its member.
-fn put(records: &mut ArrayVec<Record, MAX_OTHERS>, claim: Claim)
-    requires { (row_at name_cmp name_of claim.name records.old.items ≡ None) → array_vec_len records.old < 255 }
-    ensures { records.new.items ≡ put_row name_cmp name_of claim records.old.items }
-{
-    match seat_of(records.as_slice(), &claim.name) {
-        Ok(at) => records[at] = claim,
-        Err(at) => records.insert(at, claim),
-    }
-}
-
 /// The record of a member.
 fn find<'a>(records: &'a [Record], name: &Name) -> Option<&'a Record>
     ensures { option_copied result ≡ row_at name_cmp name_of name.now records.now }
@@ -92,30 +81,24 @@ fn keep(claim: &Claim, current: &Record) -> Heard
     }
 }
 
-/// What is answered to a claim, where the records stand as they do.
-#[tactic(auto, unfolding(crate::specs::Table::takes))]
-fn judge(records: &ArrayVec<Record, MAX_OTHERS>, claim: &Claim) -> Heard
-    ensures { result ≡ answer_of records.now.items claim.now }
-{
-    match find(records.as_slice(), &claim.name) {
-        Some(current) if beats(claim, current) => Heard::Overrode,
-        Some(current) => keep(claim, current),
-        None if records.is_full() => Heard::NoRoom,
-        None => Heard::Overrode,
-    }
-}
-
 /// Hears a claim about another member.
 #[tactic(auto, unfolding(crate::specs::Table::takes))]
 fn hear_in(records: &mut ArrayVec<Record, MAX_OTHERS>, claim: &Claim) -> Heard
     ensures answer { result ≡ answer_of records.old.items claim.now }
     ensures table { records.new.items ≡ heard records.old.items claim.now }
 {
-    let answer = judge(records, claim);
-    if answer == Heard::Overrode {
-        put(records, *claim);
+    match seat_of(records.as_slice(), &claim.name) {
+        Ok(at) if beats(claim, &records[at]) => {
+            records[at] = *claim;
+            Heard::Overrode
+        }
+        Ok(at) => keep(claim, &records[at]),
+        Err(_) if records.is_full() => Heard::NoRoom,
+        Err(at) => {
+            records.insert(at, *claim);
+            Heard::Overrode
+        }
     }
-    answer
 }
 
 /// How many members haven't failed, oneself included.
