@@ -13,7 +13,7 @@ use Rattle.lg_detector.specs.Marks.{Log, Came, Opened, Said, Sent, Fired, events
 use Rattle.lg_detector.specs.Suspicions.{suspicions}
 use Rattle.lg_detector.specs.Timing.{score, round_start, pending_of, pending, period_in, is_round_start}
 use Rattle.lg_detector.specs.Changes.{change_of, timers_after}
-use Rattle.lg_detector.specs.State.{state_of, come, open_with, tell_own, tell_other, tell, send, restart, fire}
+use Rattle.lg_detector.specs.State.{state_of, come, open_with, tell_own, tell_other, tell, send, start_round, fire}
 use Rattle.lg_detector.proofs.QueueLaws.{queue-own, queue-other, queue-sent, queue-came, queue-fired, queue-opened}
 use Rattle.lg_detector.proofs.ScoreLaws.{score-own, score-other}
 use Rattle.lg_detector.proofs.SuspicionLaws.{suspicions-came, suspicions-sent, suspicions-fired, suspicions-opened, suspicions-own, suspicions-other, rises-suspicions}
@@ -118,7 +118,7 @@ left-state timer log other = λ i. record {
     next : Log → ℕ
     next log = moment log + period_in (config log) (score log)
 
-restart-state : (timer : Timer) (log : Log) → is_round_start timer.id ≡ true → restart (state_of log) ≡ state_of (Fired timer ∷ log)
+restart-state : (timer : Timer) (log : Log) → is_round_start timer.id ≡ true → start_round (state_of log) ≡ state_of (Fired timer ∷ log)
 restart-state timer log starts = λ i. record {
   events = events log;
   moment = moment log;
@@ -140,6 +140,6 @@ restart-state timer log starts = λ i. record {
 pub fire-state : (timer : Timer) (log : Log) → fire timer (state_of log) ≡ state_of (Fired timer ∷ log)
 unfolding fire
 fire-state timer log = elim (cases_Bool (is_round_start timer.id)) [
-  | inl t ↦ ap (λ b. cond b (restart (state_of log)) (state_of log)) t ∙ restart-state timer log t
-  | inr f ↦ ap (λ b. cond b (restart (state_of log)) (state_of log)) f ∙ left-state timer log f
+  | inl t ↦ ap (λ b. cond b (start_round (state_of log)) (state_of log)) t ∙ restart-state timer log t
+  | inr f ↦ ap (λ b. cond b (start_round (state_of log)) (state_of log)) f ∙ left-state timer log f
 ]

@@ -6,7 +6,7 @@ use Rattle.lg_timing.specs.Config.{IsChecked}
 use Rattle.lg_timers.specs.declared.timer.Timer.{Timer}
 use Rattle.lg_detector.specs.Marks.{Came, Opened, Said, Sent, Fired}
 use Rattle.lg_detector.specs.Timing.{is_round_start}
-use Rattle.lg_detector.specs.State.{State, come, open_with, tell, send, restart, fire}
+use Rattle.lg_detector.specs.State.{State, come, open_with, tell, send, start_round, fire}
 use Rattle.lg_detector.specs.Reached.{IsGood, IsReached}
 use Rattle.lg_detector.proofs.MarkLaws.{come-state, open-state, tell-state, send-state, fire-state}
 use Rattle.lg_detector.proofs.Differing.{config-tell}
@@ -42,7 +42,7 @@ pub config-fire : (timer : Timer) (s : State) → (fire timer s).config ≡ s.co
 unfolding fire
 config-fire timer s = either (is_round_start timer.id)
   where
-    either : (b : Bool) → (cond b (restart s) s).config ≡ s.config
+    either : (b : Bool) → (cond b (start_round s) s).config ≡ s.config
     either true = refl
     either false = refl
 

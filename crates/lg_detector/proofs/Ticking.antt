@@ -4,14 +4,14 @@ use Rattle.lg_rules.specs.declared.claim.Claim.{Claim}
 use Rattle.lg_rules.specs.View.{changed}
 use Rattle.lg_timers.specs.declared.timer.Timer.{Timer}
 use Rattle.lg_detector.specs.Timing.{is_round_start}
-use Rattle.lg_detector.specs.State.{State, come, tell_all, restart, fire}
+use Rattle.lg_detector.specs.State.{State, come, tell_all, start_round, fire}
 use Rattle.lg_detector.specs.Answers.{shown_of, due_in, claims_of, fire_due, tick}
 
 shown-fire : (timer : Timer) (s : State) → shown_of (fire timer s) ≡ shown_of s
 unfolding fire
 shown-fire timer s = either (is_round_start timer.id)
   where
-    either : (b : Bool) → shown_of (cond b (restart s) s) ≡ shown_of s
+    either : (b : Bool) → shown_of (cond b (start_round s) s) ≡ shown_of s
     either true = refl
     either false = refl
 

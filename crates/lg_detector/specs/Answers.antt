@@ -29,7 +29,7 @@ state_after f = state_of (log_of (reverse f))
 abbrev pub answer_after : List Event → Event → Reply
 answer_after f e = answer (log_of (reverse f)) e
 
--- the table and the least open deadline after them
+-- the table and the least deadline after them
 abbrev pub view_after : List Event → List Claim
 view_after f = view (log_of (reverse f))
 

@@ -127,7 +127,7 @@ fired_by log (Heard now source packet) = None
 fired_by log (Ask now name) = None
 fired_by log (Health now) = None
 
--- the least open deadline; none before the opening, where 0 stands for it
+-- the least deadline of the timers that are set; none before the opening, where 0 stands for it
 abbrev pub deadline_in : List Timer → Option ℕ
 deadline_in timers = option_map (λ t. t.deadline) (least_of timers)
 

@@ -101,7 +101,7 @@ changes_its_record : (answer_after (opening 0 ∷ []) (pings 0 9 98 (on 98 (Susp
 unfolding own_of table_of record_of roster takes
 changes_its_record = refl
 
--- It is given up, and suspected beyond refuting: the number stays, nothing changes, and no claim is sent.
+-- It is claimed to have failed, and suspected beyond refuting: the number stays, nothing changes, and no claim is sent.
 failed : (answer_after (opening 0 ∷ []) (pings 0 1 98 (on 98 Failed 0 ∷ []))).ousted ≡ true
 unfolding own_of
 failed = refl

@@ -97,8 +97,8 @@ tell_own c s = record s {
   score = marked_by (own_answer c.status c.incarnation s.own.number) s.score;
 }
 
-abbrev pub changed_by : Change → State → State
-changed_by change s = record s { suspicions = suspicions_after change s.suspicions; timers = timers_after change s.timers }
+abbrev pub with_change : Change → State → State
+with_change change s = record s { suspicions = suspicions_after change s.suspicions; timers = timers_after change s.timers }
 
 abbrev pub tell_other : Bool → Claim → State → State
 tell_other seed c s = record s {
@@ -120,8 +120,8 @@ abbrev pub send : List Claim → State → State
 send taken s = record s { queue = record { lambda = s.queue.lambda; rows = map (sent_once taken) s.queue.rows } }
 
 -- a timer fires: a round that starts chooses nobody so far, and the next one starts a period later
-abbrev pub restart : State → State
-restart s = record s { timers = with_timer (start_timer (s.moment + period_in s.config s.score)) (without_timer RoundStart s.timers) }
+abbrev pub start_round : State → State
+start_round s = record s { timers = with_timer (start_timer (s.moment + period_in s.config s.score)) (without_timer RoundStart s.timers) }
 
 unfoldable pub fire : Timer → State → State
-fire timer s = if is_round_start timer.id then restart s else s
+fire timer s = if is_round_start timer.id then start_round s else s

@@ -20,7 +20,7 @@ pub type NoMemory = AllocError;
 /// The most events that a detector accepts: 4,000,000,000 (this project's choice).
 pub const MAX_EVENTS: u64 = 4_000_000_000;
 
-/// A failure detector of one member.
+/// The failure detector of one member (SWIM, sections 3 and 4; Lifeguard). So far it doesn't probe.
 ///
 /// A contract sees it as its state, which is a function of the list of the events that it accepted.
 #[derive(Drop)]
@@ -41,7 +41,8 @@ impl Model for Detector {
 }
 
 impl Detector {
-    /// A detector that nothing has happened to. It takes all the memory that the detector will ever keep, in one box.
+    /// A detector that nothing has happened to. It takes all the memory that the detector will ever keep,
+    /// in one box; the only error is that memory was refused.
     pub fn blank(alloc: Global) -> Result<Detector, NoMemory>
         ensures { IfOk result (λ detector. detector ≡ state_after []) }
     {

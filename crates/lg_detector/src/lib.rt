@@ -7,7 +7,7 @@ mod parts;
 mod reply;
 mod showing;
 mod suspected;
-mod suspecting;
+mod suspicion_changes;
 mod suspicions;
 
 pub use detector::{Detector, MAX_EVENTS, NoMemory, states_lead_on};

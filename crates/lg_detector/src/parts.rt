@@ -126,7 +126,7 @@ impl Parts {
     ghost use Rattle.lg_detector.specs.Events.{fired_claims};
     ghost use Rattle.lg_detector.specs.Reached.{IsGood};
     ghost use Rattle.lg_detector.specs.Room.{HasPlace, HasSeat, HasRoom};
-    ghost use Rattle.lg_detector.specs.State.{state_of, come, open_with, tell, tell_own, tell_other, send, restart, fire, membership};
+    ghost use Rattle.lg_detector.specs.State.{state_of, come, open_with, tell, tell_own, tell_other, send, start_round, fire, membership};
     ghost use Rattle.lg_detector.specs.Answers.{due_in};
 
     /// What is kept before anything happened.
@@ -216,7 +216,7 @@ impl Parts {
         taken
     }
 
-    /// A packet is sent that is no Ping: what it takes of the queue.
+    /// The claims of the next packet that is no Ping; those of the queue are counted as sent.
     pub fn fill(&mut self) -> ArrayVec<Claim, MAX_CLAIMS>
         ensures claims { result.items ≡ fill_of self.old.queue None (members_in self.old.members.table) }
         ensures state { state_in self.new ≡ send (taken_of self.old.queue None (members_in self.old.members.table)) (state_in self.old) }
@@ -256,10 +256,10 @@ impl Parts {
     }
 
     /// A round starts, chooses nobody, and the next one starts a period later.
-    fn restart(&mut self)
+    fn start_round(&mut self)
         requires few { length self.old.timers < 400 }
         requires good { IsGood self.old.config }
-        ensures { state_in self.new ≡ restart (state_in self.old) }
+        ensures { state_in self.new ≡ start_round (state_in self.old) }
     {
         let deadline = self.moment.milliseconds() + self.period();
         self.timers.cancel(&TimerId::RoundStart);
@@ -274,7 +274,7 @@ impl Parts {
         ensures { state_in self.new ≡ fire timer.now (state_in self.old) }
     {
         if is_round_start(&timer.id) {
-            self.restart();
+            self.start_round();
         }
     }
 

@@ -3,7 +3,7 @@ ghost use Rattle.std.specs.Prelude.{◌≡◌, ◌<◌, ◌≤◌, length, [], N
 ghost use Rattle.arrayvec.specs.ArrayVec.{array_vec_len};
 
 use arrayvec::ArrayVec;
-use lg_packet::Packet;
+use lg_packet::{MAX_CLAIMS, Packet};
 use lg_rules::{Addr, Incarnation, Record};
 use lg_timers::Timer;
 
@@ -11,7 +11,7 @@ use lg_timers::Timer;
 pub const MAX_SENDS: usize = 8;
 
 /// The most records that one event changes: those of the 6 claims of a packet (this project's choice).
-pub const MAX_CHANGED: usize = 6;
+pub const MAX_CHANGED: usize = MAX_CLAIMS;
 
 /// A packet to be sent.
 #[derive(Debug, Drop, Default)]
@@ -63,7 +63,7 @@ pub struct Reply {
     pub answer: Option<Answer>,
     /// Whether a claim about this member came that nothing can refute.
     pub ousted: bool,
-    /// The least open deadline after the event, in milliseconds. After the opening there always is one.
+    /// The least deadline of the timers that are set after the event, in milliseconds. After the opening one always is.
     pub next: u64,
 }
 

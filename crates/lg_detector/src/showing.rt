@@ -12,27 +12,16 @@ ghost use Rattle.arrayvec.specs.ArrayVec.{array_vec_len};
 use crate::parts::{Parts, is_same_name};
 use crate::reply::MAX_CHANGED;
 use arrayvec::ArrayVec;
-use lg_rules::{Name, Record, seat_of};
+use lg_rules::{MAX_OTHERS, Name, Record, put_row};
 
 /// The most members that a table shows, oneself included: 256 (this project's choice).
-pub const MAX_MEMBERS: usize = 256;
+pub const MAX_MEMBERS: usize = MAX_OTHERS + 1;
 
 /// Whether a name is one of these.
 fn is_among(name: &Name, names: &[Name]) -> bool
     ensures { result ≡ is_among name_cmp name.now names.now }
 {
     names.iter().any(|other| is_same_name(other, name))
-}
-
-/// Adds a record in the place of its name.
-fn put<const N: usize>(records: &mut ArrayVec<Record, N>, own: Record)
-    requires { (row_at name_cmp name_of own.name records.old.items ≡ None) → array_vec_len records.old < N }
-    ensures { records.new.items ≡ put_row name_cmp name_of own records.old.items }
-{
-    match seat_of(records.as_slice(), &own.name) {
-        Ok(at) => records[at] = own,
-        Err(at) => records.insert(at, own),
-    }
 }
 
 /// Writes the records of these names, in the place of what the row held.
@@ -57,7 +46,7 @@ pub fn put_changed(parts: &Parts, names: &[Name], changed: &mut ArrayVec<Record,
     put_among(parts.members.records(), names, changed);
     let own = parts.own.record();
     if is_among(&own.name, names) {
-        put(changed, own);
+        put_row(changed, own);
     }
 }
 
@@ -69,7 +58,7 @@ pub fn put_view(parts: &Parts, row: &mut ArrayVec<Record, MAX_MEMBERS>)
     row.clear();
     if parts.config.is_some() {
         copy_all(parts.members.records(), row);
-        put(row, parts.own.record());
+        put_row(row, parts.own.record());
     }
 }
 

@@ -1,7 +1,8 @@
 //! The suspicions that run, and their timers.
 ghost use Rattle.std.specs.Prelude.{◌≡◌, ◌<◌, ◌≤◌, Bool, Option, Some, None, length, IsTrue};
+ghost use Rattle.std.specs.List.{list_any};
 ghost use Rattle.arrayvec.specs.ArrayVec.{array_vec_len};
-ghost use Rattle.lg_rules.specs.Rows.{name_cmp, put_row, row_at, without_row};
+ghost use Rattle.lg_rules.specs.Rows.{name_cmp, is_same, row_at, without_row};
 ghost use Rattle.lg_timing.specs.Config.{IsChecked};
 ghost use Rattle.lg_timers.specs.declared.timer.TimerId.TheVariants.{Suspicion as SuspicionOf};
 ghost use Rattle.lg_timers.specs.Timers.{with_timer, without_timer};
@@ -12,7 +13,7 @@ ghost use Rattle.lg_detector.specs.Changes.{Stands, accusing, suspicions_after, 
 use crate::parts::is_same_name;
 use crate::suspected::Suspected;
 use arrayvec::ArrayVec;
-use lg_rules::{MAX_OTHERS, Name, seat_of};
+use lg_rules::{MAX_OTHERS, Name, put_row, seat_of};
 use lg_timers::{Timer, TimerId, Timers};
 
 /// The suspicions of the others, in the order of their names.
@@ -28,17 +29,6 @@ fn set_timer(timers: &mut Timers, name: &Name, deadline: u64)
     timers.set(Timer { deadline, id });
 }
 
-/// Puts a suspicion in the place of its member.
-fn put(suspicions: &mut Suspicions, suspected: Suspected)
-    requires { (row_at name_cmp suspected_name suspected.name suspicions.old.items ≡ None) → array_vec_len suspicions.old < 255 }
-    ensures { suspicions.new.items ≡ put_row name_cmp suspected_name suspected suspicions.old.items }
-{
-    match seat_of(suspicions.as_slice(), &suspected.name) {
-        Ok(at) => suspicions[at] = suspected,
-        Err(at) => suspicions.insert(at, suspected),
-    }
-}
-
 /// A suspicion is raised, in the place of an older one of its member.
 pub fn stand(suspicions: &mut Suspicions, timers: &mut Timers, suspected: Suspected)
     requires room { (row_at name_cmp suspected_name suspected.name suspicions.old.items ≡ None) → array_vec_len suspicions.old < 255 }
@@ -47,7 +37,25 @@ pub fn stand(suspicions: &mut Suspicions, timers: &mut Timers, suspected: Suspec
     ensures timers { timers.new ≡ timers_after (Stands suspected) timers.old }
 {
     set_timer(timers, &suspected.name, suspected.suspicion.deadline());
-    put(suspicions, suspected);
+    put_row(suspicions, suspected);
+}
+
+/// Whether one of these suspicions is of a member.
+fn is_suspected(suspicions: &[Suspected], name: &Name) -> bool
+    ensures { result ≡ list_any (λ r. is_same name_cmp r.name name.now) suspicions.now }
+{
+    suspicions
+        .iter()
+        .any(|suspected| is_same_name(&suspected.name, name))
+}
+
+/// Takes out the suspicion of a member. Where there is none, as for most claims, no other is moved.
+fn remove(suspicions: &mut Suspicions, name: &Name)
+    ensures { suspicions.new.items ≡ without_row name_cmp suspected_name name.now suspicions.old.items }
+{
+    if is_suspected(suspicions.as_slice(), name) {
+        suspicions.retain(|suspected| !is_same_name(&suspected.name, name));
+    }
 }
 
 /// The suspicion of a member ends, if there is one.
@@ -55,7 +63,7 @@ pub fn end(suspicions: &mut Suspicions, timers: &mut Timers, name: &Name)
     ensures suspicions { suspicions.new.items ≡ without_row name_cmp suspected_name name.now suspicions.old.items }
     ensures timers { timers.new ≡ without_timer (SuspicionOf name.now) timers.old }
 {
-    suspicions.retain(|suspected| !is_same_name(&suspected.name, name));
+    remove(suspicions, name);
     timers.cancel(&TimerId::Suspicion(*name));
 }
 

@@ -36,7 +36,7 @@ pub struct Packet {
 }
 
 impl Packet {
-    /// An equal packet.
+    /// An equal packet. It takes no memory.
     pub fn copy(&self) -> Packet
         ensures { result ≡ self.now }
     {

@@ -9,8 +9,8 @@ use crate::packet::{Body, Packet};
 use arrayvec::ArrayVec;
 use lg_rules::{Addr, Claim, Name, Status};
 
-/// The room for the bytes of a packet: 4 of head, 33 of the sender's name, 43 of the body, 1 of the
-/// count, and 6 claims of at most 77. The longest body so far is a Ping's, of 37.
+/// The room for the bytes of a packet, 543 (this project's choice): 4 of head, 33 of the sender's name,
+/// 43 of the body, 1 of the count, and 6 claims of at most 77. The longest body so far is a Ping's, of 37.
 pub const MAX_PACKET: usize = 4 + 33 + 43 + 1 + 6 * 77;
 
 /// Bytes that are being written.

@@ -1,7 +1,7 @@
 -- Rows whose keys rise: each is found by its key, and few have keys among a few.
-use Rattle.std.proofs.Common.{◌≡◌, ◌≢◌, ℕ, zero, suc, ◌<◌, ◌≤◌, Bool, true, ◌||◌, List, [], ◌∷◌, length, map, get_or, take, Some, inl, inr, refl, sym, ◌∙◌, ap, subst, arith}
+use Rattle.std.proofs.Common.{◌≡◌, ◌≢◌, ℕ, zero, suc, ◌<◌, ◌≤◌, Bool, true, false, not, ◌||◌, List, [], ◌∷◌, length, map, get_or, take, Some, inl, inr, refl, sym, ◌∙◌, ap, subst, arith}
 use Rattle.std.specs.Prelude.{filter}
-use Rattle.std.specs.List.{AllByRecursion}
+use Rattle.std.specs.List.{AllByRecursion, list_any}
 use Rattle.std.specs.declared.cmp.Ordering.{Ordering}
 use Rattle.std.specs.declared.cmp.Ordering.TheVariants.{Less, Equal, Greater}
 use Rattle.std.proofs.lemmas.Bool.{cases_Bool, false≢true}
@@ -14,6 +14,14 @@ use Rattle.lg_rules.proofs.Rises.{rises-put, among-cons_other}
 pub filter_same : {R : Type 0} (p q : R → Bool) (P : R → Type 0) (rows : List R) → ((x : R) → P x → p x ≡ q x) → AllByRecursion P rows → filter p rows ≡ filter q rows
 filter_same p q P [] h a = refl
 filter_same p q P (x ∷ xs) h a = rw (h x a.0, filter_same p q P xs h a.1)
+
+-- where a test finds none, the rows that it doesn't find are all
+pub filter-none : {R : Type 0} (p : R → Bool) (rows : List R) → list_any p rows ≡ false → filter (λ r. not (p r)) rows ≡ rows
+filter-none p [] e = refl
+filter-none p (x ∷ xs) e = elim (cases_Bool (p x)) [
+  | inl t ↦ absurd (false≢true (sym e ∙ ap (λ b. b || list_any p xs) t))
+  | inr f ↦ rw f (ap (λ rs. x ∷ rs) (filter-none p xs (sym (ap (λ b. b || list_any p xs) f) ∙ e)))
+]
 
 -- where a row of a front is to be kept too, what is kept of the front leaves room for it
 pub filter_room : {R : Type 0} (p : R → Bool) (rows : List R) (k : ℕ) (d : R) → k < length rows → p (get_or rows k d) ≡ true → length (filter p (take k rows)) < length (filter p rows)

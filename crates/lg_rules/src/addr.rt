@@ -4,7 +4,7 @@ ghost use Rattle.std.specs.Prelude.{◌≡◌};
 /// Where a member is reached: an IPv4 address and a port.
 #[derive(Clone, Copy, Debug, Default, PartialEq, Eq)]
 pub struct Addr {
-    /// The four bytes of the IPv4 address, the first written first.
+    /// The four bytes of the IPv4 address, in the order in which they are written.
     pub octets: [u8; 4],
     /// The UDP port.
     pub port: u16,

@@ -6,18 +6,19 @@ use lg_rules::Name;
 /// the number (this project's choice).
 #[derive(Clone, Copy, Debug, Default, PartialEq, Eq, PartialOrd, Ord)]
 pub enum TimerId {
-    /// A round of probing ends.
+    /// A round of probing ends (SWIM, section 3.1).
     #[default]
     RoundEnd,
-    /// A suspected member is taken as failed.
+    /// A suspected member is taken as failed (SWIM, section 4.2).
     Suspicion(Name),
-    /// The target of a probe didn't answer in time, and helpers are asked.
+    /// The target of a probe didn't answer in time, and helpers are asked (SWIM, section 3.1).
     Direct,
-    /// A relay, by its number, tells its asker that the target hasn't answered.
+    /// A relay, by its number, tells its asker that the target hasn't answered (Lifeguard, local health
+    /// aware probe).
     RelayNack(u32),
-    /// A relay, by its number, is closed.
+    /// A relay, by its number, is closed (this project's choice).
     RelayEnd(u32),
-    /// A round of probing starts.
+    /// A round of probing starts (SWIM, section 3.1).
     RoundStart,
 }
 

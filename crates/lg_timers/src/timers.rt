@@ -128,9 +128,12 @@ impl Timers {
         ensures was_set { result ≡ is_set id.now self.old }
         ensures others { self.new ≡ without_timer id.now self.old }
     {
-        let before = self.timers.len();
-        self.timers.retain(|timer| !timer.has_id(id));
-        self.timers.len() < before
+        // Where none is set, no timer is moved.
+        let was_set = self.is_set(id);
+        if was_set {
+            self.timers.retain(|timer| !timer.has_id(id));
+        }
+        was_set
     }
 
     /// Cancels all timers: none is set then.

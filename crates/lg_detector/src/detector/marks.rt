@@ -1,4 +1,5 @@
-//! What happens inside an event: each of these leads the state on by its marks.
+//! What happens inside an event. Most of these only call the function of `Parts` of the same name: the invariant of a
+//! detector gives what that requires.
 ghost use Rattle.std.specs.Prelude.{◌≡◌, ◌<◌, ◌≤◌, ◌++◌, true, false, map, length, filter, None};
 ghost use Rattle.lg_rules.specs.Rows.{name_cmp, is_among};
 ghost use Rattle.lg_rules.specs.Table.{members_in};
@@ -103,7 +104,7 @@ impl Detector {
         }
     }
 
-    /// A packet is sent that is no Ping: what it takes of the queue.
+    /// The claims of the next packet that is no Ping; those of the queue are counted as sent.
     pub(super) fn fill(&mut self) -> ArrayVec<Claim, MAX_CLAIMS>
         ensures claims { result.items ≡ fill_of self.old.queue None (members_in self.old.members.table) }
         ensures state { self.new ≡ send (taken_of self.old.queue None (members_in self.old.members.table)) self.old }

@@ -48,7 +48,8 @@ impl Detector {
         showing::put_view(&self.parts, row);
     }
 
-    /// The records of all members, oneself included, in the order of their names. It takes memory for them alone.
+    /// The records of all members, oneself included, in the order of their names. It takes memory for them
+    /// alone, at most 256 records; the only error is that memory was refused.
     pub fn table(&self, alloc: Global) -> Result<Vec<Record>, NoMemory>
         ensures state { IfOk result (λ table. table.items ≡ shown_of self.now) }
         ensures list { (f : List Happened) → self.now ≡ state_after f → IfOk result (λ table. table.items ≡ view_after f) }
@@ -58,7 +59,7 @@ impl Detector {
         Vec::from_slice(alloc, row.as_slice())
     }
 
-    /// The least open deadline, in milliseconds; none before the opening.
+    /// The least deadline of the timers that are set, in milliseconds; none before the opening.
     pub fn next_deadline(&self) -> Option<u64>
         ensures state { result ≡ deadline_of self.now }
         ensures list { (f : List Happened) → self.now ≡ state_after f → result ≡ deadline_after f }
@@ -76,7 +77,7 @@ impl Detector {
         }
     }
 
-    /// The least open deadline, in milliseconds; 0 where none is.
+    /// The least deadline of the timers that are set, in milliseconds; 0 where none is.
     pub(super) fn next(&self) -> u64
         ensures { result ≡ or_zero (deadline_of self.now) }
     {
@@ -104,7 +105,7 @@ impl Detector {
         self.parts.own.ousted()
     }
 
-    /// How many events it accepted.
+    /// How many events it accepted, at most 4,000,000,000.
     pub fn events(&self) -> u64
         ensures state { result ≡ self.now.events }
         ensures list { (f : List Happened) → self.now ≡ state_after f → result ≡ length f }

@@ -13,8 +13,8 @@ put_among-requires c =
     subst (λ (rows : List Claim). length (filter (λ r. is_among name_cmp r.name c.args.names.now) rows) ≤ 6) (sym c.records.ensures.records)
     (shown-fits c.args.names.now (own_record c.args.parts.now.own) c.args.parts.now.members.table ordered.rises ordered.others c.requires.few)
 
-pub put-requires : goal.put-requires
-put-requires c =
+pub put_row-requires : goal.put_row-requires
+put_row-requires c =
     let ordered = c.requires.ordered in
     let own = own_record c.args.parts.now.own in
     let rows = c.args.parts.now.members.table in
@@ -39,7 +39,7 @@ returns-then-is_among c =
     c.put_among.ensures ∙ ap (filter (λ r. is_among name_cmp r.name c.args.names.now)) c.records.ensures.records in
     let hit : is_among name_cmp own.name c.args.names.now ≡ true =
     ap (λ (r : Claim). is_among name_cmp r.name c.args.names.now) (sym c.record-own.ensures) ∙ sym c.is_among.ensures ∙ c.if-is_among.true in
-    c.put.ensures ∙ ap (λ (r : Claim). put_row name_cmp name_of r c.put_among.new.chosen.items) c.record-own.ensures ∙ ap (put_row name_cmp name_of own) is
+    c.put_row.ensures ∙ ap (λ (r : Claim). put_row name_cmp name_of r c.put_among.new.chosen.items) c.record-own.ensures ∙ ap (put_row name_cmp name_of own) is
     ∙ shown-in c.args.names.now own rows ordered.rises ordered.others hit
 
 pub returns-else-is_among : goal.returns-else-is_among

@@ -17,7 +17,7 @@ impl Parts {
     ghost use Rattle.lg_detector.specs.Kept.{state_in};
     ghost use Rattle.lg_detector.specs.Reached.{IsGood};
     ghost use Rattle.lg_detector.specs.Room.{HasSeat};
-    ghost use Rattle.lg_detector.specs.State.{changed_by};
+    ghost use Rattle.lg_detector.specs.State.{with_change};
 
     /// A member is suspected, after the opening.
     fn raise(&mut self, name: &Name, accuser: &Name)
@@ -25,7 +25,7 @@ impl Parts {
         requires few { length self.old.timers < 400 }
         requires good { IsGood self.old.config }
         ensures { state_in self.new
-            ≡ changed_by (raised self.old.config self.old.moment (members_in self.old.members.table) name.now accuser.now) (state_in self.old) }
+            ≡ with_change (raised self.old.config self.old.moment (members_in self.old.members.table) name.now accuser.now) (state_in self.old) }
     {
         if let Some(config) = &self.config {
             let members = self.members.live() as u64;
@@ -44,7 +44,7 @@ impl Parts {
         requires few { length self.old.timers < 400 }
         requires good { IsGood self.old.config }
         ensures { state_in self.new
-            ≡ changed_by (overriding self.old.config self.old.moment (members_in self.old.members.table) claim.now.name claim.now.status) (state_in self.old) }
+            ≡ with_change (overriding self.old.config self.old.moment (members_in self.old.members.table) claim.now.name claim.now.status) (state_in self.old) }
     {
         match claim.status {
             Status::Suspect(accuser) => self.raise(&claim.name, &accuser),
@@ -59,7 +59,7 @@ impl Parts {
         requires few { length self.old.timers < 400 }
         ensures counted { result ≡ counts_in (accuser_of claim.now.status) (row_at name_cmp suspected_name claim.now.name self.old.suspicions.items) }
         ensures state { state_in self.new
-            ≡ changed_by (accusing (accuser_of claim.now.status) (row_at name_cmp suspected_name claim.now.name self.old.suspicions.items)) (state_in self.old) }
+            ≡ with_change (accusing (accuser_of claim.now.status) (row_at name_cmp suspected_name claim.now.name self.old.suspicions.items)) (state_in self.old) }
     {
         match claim.status {
             Status::Suspect(accuser) => {
@@ -82,7 +82,7 @@ impl Parts {
         ensures confirmed { result
             ≡ (is_accusation heard && counts_in (accuser_of claim.now.status) (row_at name_cmp suspected_name claim.now.name self.old.suspicions.items)) }
         ensures state { state_in self.new
-            ≡ changed_by (change_by heard self.old.config self.old.moment (members_in self.old.members.table) self.old.suspicions.items claim.now) (state_in self.old) }
+            ≡ with_change (change_by heard self.old.config self.old.moment (members_in self.old.members.table) self.old.suspicions.items claim.now) (state_in self.old) }
     {
         match heard {
             Heard::Overrode => {

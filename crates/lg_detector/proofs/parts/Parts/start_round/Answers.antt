@@ -3,7 +3,7 @@ use Rattle.lg_timers.specs.declared.timer.TimerId.TheVariants.{RoundStart}
 use Rattle.lg_timers.specs.Timers.{is_set}
 use Rattle.lg_timers.proofs.Pending.{length_without-le}
 use Rattle.lg_timers.proofs.TimerSets.{is_set-without}
-use Rattle.lg_detector.proofs.parts.Parts.restart.Goals as goal
+use Rattle.lg_detector.proofs.parts.Parts.start_round.Goals as goal
 
 pub set_round_start-requires-clause-few : goal.set_round_start-requires-clause-few
 set_round_start-requires-clause-few c =
