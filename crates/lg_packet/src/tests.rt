@@ -114,7 +114,7 @@ fn suspected(b: Name, accuser: Name) -> Claim {
 }
 
 #[test]
-fn claims(rt: HostRuntime) -> Result<(), Fail> {
+fn reads_claims(rt: HostRuntime) -> Result<(), Fail> {
     let (a, b, c) = (name(b"a")?, name(b"b")?, name(b"c")?);
     let packet = decode(SUSPECTS).ok().ok_or("the bytes are a packet")?;
     assert_eq!(rt; packet.sender, a);
@@ -146,7 +146,7 @@ fn claims(rt: HostRuntime) -> Result<(), Fail> {
 }
 
 #[test]
-fn longest(rt: HostRuntime) -> Result<(), Fail> {
+fn writes_and_reads_the_longest_packet(rt: HostRuntime) -> Result<(), Fail> {
     let long = name(b"ABCDEFGHIJKLMNOPabcdefghijklm._-")?;
     let mut claims = ArrayVec::new();
     assert!(rt;
@@ -176,7 +176,7 @@ fn longest(rt: HostRuntime) -> Result<(), Fail> {
 }
 
 #[test]
-fn values(rt: HostRuntime) -> Result<(), Fail> {
+fn reads_and_writes_a_ping_and_an_ack(rt: HostRuntime) -> Result<(), Fail> {
     let (a, b) = (name(b"a")?, name(b"b")?);
     let ping = decode(PING).ok().ok_or("the bytes are a Ping")?;
     assert_eq!(rt; ping.sender, a);
@@ -206,7 +206,7 @@ fn values(rt: HostRuntime) -> Result<(), Fail> {
 }
 
 #[test]
-fn faults(rt: HostRuntime) -> Result<(), Fail> {
+fn answers_the_first_fault(rt: HostRuntime) -> Result<(), Fail> {
     let rows: [(&[u8], Fault); 16] = [
         (b"", Fault::Short),
         (b"S", Fault::Short),

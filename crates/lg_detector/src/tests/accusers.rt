@@ -78,7 +78,7 @@ fn sends_what_it_heard(rt: HostRuntime) -> Result<(), Fail> {
 
 /// With a greatest timeout that is the least one, a new accuser counts and doesn't move the deadline.
 #[test]
-fn sends_what_moves_nothing(rt: HostRuntime) -> Result<(), Fail> {
+fn sends_an_accusation_that_moves_no_deadline(rt: HostRuntime) -> Result<(), Fail> {
     let mut config = config();
     config.beta = 1;
     let opened = Event::Open { now: at(0), config };

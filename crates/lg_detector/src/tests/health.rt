@@ -90,7 +90,9 @@ fn counts_who_has_not_failed(rt: HostRuntime) -> Result<(), Fail> {
 /// Refutations, one a packet, up to the greatest score.
 #[test]
 fn holds_the_greatest_score(rt: HostRuntime) -> Result<(), Fail> {
-    for (max_score, refutations, score) in [(1, 3, 1), (0, 2, 0), (8, 8, 8), (8, 10, 8)] {
+    // The greatest score, the refutations, the score, and when the next round starts.
+    let rows = [(1, 3, 1, 2000), (0, 2, 0, 1000), (8, 8, 8, 9000), (8, 10, 8, 9000)];
+    for (max_score, refutations, score, next) in rows {
         let mut detector = Detector::blank(rt.alloc())?;
         reply_to(&mut detector, &opening_up_to(max_score))?;
         for number in 0..refutations {
@@ -100,7 +102,7 @@ fn holds_the_greatest_score(rt: HostRuntime) -> Result<(), Fail> {
         let reply = reply_to(&mut detector, &ask_health(0))?;
         assert_eq!(rt; reply.answer, answer(score, refutations, 1), "{max_score}");
         let reply = reply_to(&mut detector, &tick(0))?;
-        assert_eq!(rt; reply.next, 1000 * (score + 1), "{max_score}");
+        assert_eq!(rt; reply.next, next, "{max_score}");
     }
     Ok(())
 }

@@ -139,11 +139,11 @@ fn an_ended_suspicion_never_fires(rt: HostRuntime) -> Result<(), Fail> {
     for said in &[[alive(b'c', 1)], [failed(b'c', 0)]] {
         let mut detector = told(rt.alloc(), b"", &[suspect(b'c', 0, b'd')])?;
         reply_to(&mut detector, &ping(3000, 1, b'z', said))?;
-        for (now, start) in [(6500, 0), (7500, 7500), (8500, 8500)] {
+        for (now, start, next) in [(6500, 0, 7500), (7500, 7500, 8500), (8500, 8500, 9500)] {
             let reply = reply_to(&mut detector, &tick(now))?;
             assert_eq!(rt; reply.fired, Some(round_start(start)), "{said:?}");
             assert_eq!(rt; reply.changed.len(), 0, "{said:?}");
-            assert_eq!(rt; reply.next, now + 1000, "{said:?}");
+            assert_eq!(rt; reply.next, next, "{said:?}");
         }
         assert_eq!(rt; detector.record_of(&letter(b'c')), said.first().copied());
     }

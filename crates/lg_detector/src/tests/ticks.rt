@@ -40,12 +40,12 @@ fn suspected(member: Name) -> Claim {
 }
 
 /// The claim that a member has failed.
-fn given_up(member: Name) -> Option<Claim> {
+fn failed_member(member: Name) -> Option<Claim> {
     Some(claim(member, Status::Failed, 0))
 }
 
 #[test]
-fn gives_up_a_suspect(rt: HostRuntime) -> Result<(), Fail> {
+fn takes_a_suspect_as_failed(rt: HostRuntime) -> Result<(), Fail> {
     let mut detector = Detector::blank(rt.alloc())?;
     reply_to(&mut detector, &opening(0))?;
     let said = [suspect(b'c', 0, b'd')];
@@ -53,11 +53,11 @@ fn gives_up_a_suspect(rt: HostRuntime) -> Result<(), Fail> {
     assert_ack(&rt, &reply, 1, &said);
     assert_eq!(rt; reply.fired, None);
     assert_eq!(rt; reply.next, 0);
-    let given_up = Some(failed(b'c', 0));
+    let c_failed = Some(failed(b'c', 0));
     let rows = [
         (2000, Some(round_start(0)), None, 3000),
         (7000, Some(round_start(3000)), None, 7000),
-        (7000, Some(suspicion(7000, letter(b'c'))), given_up, 8000),
+        (7000, Some(suspicion(7000, letter(b'c'))), c_failed, 8000),
         (7000, None, None, 8000),
         (8000, Some(round_start(8000)), None, 9000),
     ];
@@ -116,11 +116,11 @@ fn fires_ties_in_order(rt: HostRuntime) -> Result<(), Fail> {
         (
             5000,
             Some(suspicion(5000, capital)),
-            given_up(capital),
+            failed_member(capital),
             5000,
         ),
-        (5000, Some(suspicion(5000, short)), given_up(short), 5000),
-        (5000, Some(suspicion(5000, long)), given_up(long), 5000),
+        (5000, Some(suspicion(5000, short)), failed_member(short), 5000),
+        (5000, Some(suspicion(5000, long)), failed_member(long), 5000),
         (5000, Some(round_start(5000)), None, 6000),
     ];
     assert_ticks(&rt, &mut detector, &rows)
