@@ -9,9 +9,9 @@ use Rattle.lg_gossip.specs.Queue.{queued_name}
 abbrev pub AreInOrder : List Queued → Type 0
 AreInOrder rows = Rises name_cmp (map queued_name rows)
 
--- no claim was sent more often than some number of members allows: they are at most 256, so three digits
+-- no claim was sent more often than some number of members allows: a usize has at most twenty digits
 abbrev pub AreWithin : ℕ → List Queued → Type 0
-AreWithin lambda rows = AllByRecursion (λ q. q.sends ≤ lambda * 3) rows
+AreWithin lambda rows = AllByRecursion (λ q. q.sends ≤ lambda * 20) rows
 
 pub record IsSound (lambda : ℕ) (rows : List Queued) : Type 0 where
   pub often : lambda ≤ 10

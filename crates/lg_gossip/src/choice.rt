@@ -19,11 +19,8 @@ pub(crate) fn buddy_of(to: Option<&Record>) -> Option<Claim>
     ensures { result ≡ buddy_of (option_copied to.entry) }
 {
     match to {
-        Some(record) => match record.status {
-            Status::Suspect(_) => Some(*record),
-            Status::Alive | Status::Failed => None,
-        },
-        None => None,
+        Some(record) if matches!(record.status, Status::Suspect(_)) => Some(*record),
+        _ => None,
     }
 }
 

@@ -10,7 +10,7 @@ use crate::choice::{buddy_of, claims_of, rows_taken};
 use crate::limit::send_limit;
 use crate::queued::Queued;
 use arrayvec::ArrayVec;
-use lg_rules::{Claim, Record, seat_of};
+use lg_rules::{Claim, Record, put_row};
 use std::marker::Model;
 
 /// The most claims of a packet: 6 (this project's choice).
@@ -44,33 +44,14 @@ impl Model for Queue {
     ghost invariant = { λ q. IsSound q.lambda q.rows.items };
 }
 
-/// Puts a row in the place of its name.
-fn put_row(rows: &mut ArrayVec<Queued, MAX_QUEUED>, queued: Queued)
-    requires { (row_at name_cmp queued_name queued.claim.name rows.old.items ≡ None) → array_vec_len rows.old < 256 }
-    ensures { rows.new.items ≡ put_row name_cmp queued_name queued rows.old.items }
-{
-    match seat_of(rows.as_slice(), &queued.claim.name) {
-        Ok(at) => rows[at] = queued,
-        Err(at) => rows.insert(at, queued),
-    }
-}
-
 /// Counts a packet that took these rows.
-fn count(rows: &mut [Queued], taken: &[Queued])
-    requires { AllByRecursion (λ q. q.sends ≤ 30) rows.old }
-    ensures { rows.new ≡ map (sent_once (map queued_claim taken.now)) rows.old }
-{
-    for row in rows.iter_mut() {
-        row.count(taken);
-    }
-}
-
-/// Counts it in the queue.
-fn count_all(rows: &mut ArrayVec<Queued, MAX_QUEUED>, taken: &[Queued])
-    requires { AllByRecursion (λ q. q.sends ≤ 30) rows.old.items }
+fn count(rows: &mut ArrayVec<Queued, MAX_QUEUED>, taken: &[Queued])
+    requires { AllByRecursion (λ q. q.sends ≤ 200) rows.old.items }
     ensures { rows.new.items ≡ map (sent_once (map queued_claim taken.now)) rows.old.items }
 {
-    count(rows.as_mut_slice(), taken);
+    for row in rows.as_mut_slice() {
+        row.count(taken);
+    }
 }
 
 impl Queue {
@@ -116,14 +97,14 @@ impl Queue {
         put_row(&mut self.rows, Queued::fresh(claim));
     }
 
-    /// The claims of the next packet, where `members`, at most 256, haven't failed, oneself included.
+    /// The claims of the next packet. `members` is the number of members that haven't failed, oneself included.
+    /// It may be any number.
     ///
     /// They are the claims that were sent fewer times than the limit, by their sends and then by their
     /// names, the first six. Each of them counts as sent once more. Where `to` is the record of the member
     /// that a Ping goes to, and is Suspect, that record stands first (Lifeguard's buddy system). It doesn't
     /// count as sent, and the queue's claim about that member is passed over, so at most five others follow.
     pub fn fill(&mut self, to: Option<&Record>, members: usize) -> ArrayVec<Claim, MAX_CLAIMS>
-        requires { members ≤ 256 }
         ensures apart { IsDistinct (is_same name_cmp) (map name_of result.items) }
         ensures claims { result.items ≡ fill_of self.old (option_copied to.entry) members }
         ensures queue { self.new ≡ filled self.old (option_copied to.entry) members }
@@ -131,7 +112,7 @@ impl Queue {
         let buddy = buddy_of(to);
         let limit = send_limit(self.lambda, members);
         let taken = rows_taken(self.rows.as_slice(), &buddy, limit);
-        count_all(&mut self.rows, taken.as_slice());
+        count(&mut self.rows, taken.as_slice());
         claims_of(&buddy, taken.as_slice())
     }
 }

@@ -10,7 +10,8 @@ use lg_rules::{Claim, Keyed, Name};
 pub struct Queued {
     /// The claim.
     pub claim: Claim,
-    /// How many packets took it since it was queued. A packet that held it as a buddy isn't counted.
+    /// How many packets took it since it was queued. A packet that held it as a buddy isn't counted. At most
+    /// 200 in a queue.
     pub sends: u32,
 }
 
@@ -43,7 +44,7 @@ impl Queued {
 
     /// Counts a packet that took these rows.
     pub(crate) fn count(&mut self, taken: &[Queued])
-        requires { self.old.sends ≤ 30 }
+        requires { self.old.sends ≤ 200 }
         ensures { self.new ≡ sent_once (map queued_claim taken.now) self.old }
     {
         if holds(taken, &self.claim.name) {

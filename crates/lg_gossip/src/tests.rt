@@ -118,6 +118,23 @@ fn sends_up_to_the_limit(rt: HostRuntime) -> Result<(), Fail> {
 }
 
 #[test]
+fn takes_any_number_of_members(rt: HostRuntime) -> Result<(), Fail> {
+    let only = [alive(b'c')?];
+    for (members, sends) in [(999, 12), (1_000, 16), (usize::MAX, 80)] {
+        let mut queue = queue_of(&only);
+        for _ in 0..sends {
+            assert_eq!(rt;
+                queue.fill(None, members).as_slice(),
+                only.as_slice(),
+                "among {members}"
+            );
+        }
+        assert_eq!(rt; queue.fill(None, members).len(), 0, "among {members}");
+    }
+    Ok(())
+}
+
+#[test]
 fn puts_with_no_sends(rt: HostRuntime) -> Result<(), Fail> {
     let [c, d] = [alive(b'c')?, alive(b'd')?];
     let newer = claim(b'c', Status::Alive, 1)?;

@@ -3,4 +3,4 @@ use Rattle.lg_gossip.specs.Queue.{queued_claim, sent_once}
 use Rattle.lg_gossip.proofs.queue.count.Given as goal
 
 abbrev pub invariant-loop-row : goal.invariant-loop-row
-invariant-loop-row l = l.rows ≡ map (sent_once (map queued_claim l.taken)) (take l.row-index l.initial.rows) ++ drop l.row-index l.initial.rows
+invariant-loop-row l = l.row-items ≡ map (sent_once (map queued_claim l.taken)) (take l.row-index l.initial.row-items) ++ drop l.row-index l.initial.row-items

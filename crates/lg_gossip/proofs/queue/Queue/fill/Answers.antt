@@ -15,7 +15,7 @@ pub invariant_of-self : goal.invariant_of-self
 invariant_of-self c =
     let rows = c.self.inside.rows.items in
     let taken = c.as_slice-2.ensures.value ∙ c.rows_taken-taken.ensures.rows ∙ ap (rows_taken c.buddy_of-buddy.result c.send_limit-limit.result) c.as_slice.ensures.value in
-    subst (IsSound c.self.inside.lambda) (sym (c.count_all.ensures ∙ ap (λ t. map (sent_once (map queued_claim t)) rows) taken))
+    subst (IsSound c.self.inside.lambda) (sym (c.count.ensures ∙ ap (λ t. map (sent_once (map queued_claim t)) rows) taken))
     (sound-sent c.self.inside.lambda c.send_limit-limit.result c.buddy_of-buddy.result rows c.send_limit-limit.ensures.most c.self.invariant)
 
 pub returns-clause-apart : goal.returns-clause-apart
@@ -40,5 +40,5 @@ returns-clause-queue c =
     let to = option_copied c.args.to in
     let taken = c.as_slice-2.ensures.value ∙ c.rows_taken-taken.ensures.rows ∙ ap (rows_taken c.buddy_of-buddy.result c.send_limit-limit.result) c.as_slice.ensures.value in
     let chosen : IsChosen queue to c.args.members c.buddy_of-buddy.result c.send_limit-limit.result c.as_slice-2.result.now = record { buddy_is = c.buddy_of-buddy.ensures; limit_is = c.send_limit-limit.ensures.limit; taken_is = taken } in
-    let after : ◌≡◌ {A = GossipQueue} record { lambda = c.self.inside.lambda; rows = c.count_all.new.rows.items } record { lambda = c.self.inside.lambda; rows = map (sent_once (map queued_claim c.as_slice-2.result.now)) c.self.inside.rows.items } = λ i. record { lambda = c.self.inside.lambda; rows = c.count_all.ensures i } in
+    let after : ◌≡◌ {A = GossipQueue} record { lambda = c.self.inside.lambda; rows = c.count.new.rows.items } record { lambda = c.self.inside.lambda; rows = map (sent_once (map queued_claim c.as_slice-2.result.now)) c.self.inside.rows.items } = λ i. record { lambda = c.self.inside.lambda; rows = c.count.ensures i } in
     after ∙ counts queue to c.args.members _ _ _ chosen ∙ ap (λ q. filled q to c.args.members) c.self.view_is
