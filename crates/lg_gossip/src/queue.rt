@@ -10,7 +10,7 @@ use crate::choice::{buddy_of, claims_of, rows_taken};
 use crate::limit::send_limit;
 use crate::queued::Queued;
 use arrayvec::ArrayVec;
-use lg_rules::{Claim, Record, put_row};
+use lg_rules::{Claim, Record, seat_of};
 use std::marker::Model;
 
 /// The most claims of a packet: 6 (this project's choice).
@@ -42,6 +42,17 @@ impl Model for Queue {
     ghost view = { λ q. record { lambda = q.lambda; rows = q.rows.items } };
 
     ghost invariant = { λ q. IsSound q.lambda q.rows.items };
+}
+
+/// Puts a row in the place of its name.
+fn put_row(rows: &mut ArrayVec<Queued, MAX_QUEUED>, queued: Queued)
+    requires { (row_at name_cmp queued_name queued.claim.name rows.old.items ≡ None) → array_vec_len rows.old < 256 }
+    ensures { rows.new.items ≡ put_row name_cmp queued_name queued rows.old.items }
+{
+    match seat_of(rows.as_slice(), &queued.claim.name) {
+        Ok(at) => rows[at] = queued,
+        Err(at) => rows.insert(at, queued),
+    }
 }
 
 /// Counts a packet that took these rows.
