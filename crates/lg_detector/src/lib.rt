@@ -12,6 +12,7 @@ mod suspicions;
 
 pub use detector::{Detector, MAX_EVENTS, NoMemory, states_lead_on};
 pub use event::Event;
+pub use lg_timers::{Timer, TimerId};
 pub use reply::{Answer, MAX_CHANGED, MAX_SENDS, Outgoing, Reply};
 pub use showing::MAX_MEMBERS;
 

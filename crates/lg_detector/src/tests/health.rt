@@ -91,7 +91,12 @@ fn counts_who_has_not_failed(rt: HostRuntime) -> Result<(), Fail> {
 #[test]
 fn holds_the_greatest_score(rt: HostRuntime) -> Result<(), Fail> {
     // The greatest score, the refutations, the score, and when the next round starts.
-    let rows = [(1, 3, 1, 2000), (0, 2, 0, 1000), (8, 8, 8, 9000), (8, 10, 8, 9000)];
+    let rows = [
+        (1, 3, 1, 2000),
+        (0, 2, 0, 1000),
+        (8, 8, 8, 9000),
+        (8, 10, 8, 9000),
+    ];
     for (max_score, refutations, score, next) in rows {
         let mut detector = Detector::blank(rt.alloc())?;
         reply_to(&mut detector, &opening_up_to(max_score))?;

@@ -119,7 +119,12 @@ fn fires_ties_in_order(rt: HostRuntime) -> Result<(), Fail> {
             failed_member(capital),
             5000,
         ),
-        (5000, Some(suspicion(5000, short)), failed_member(short), 5000),
+        (
+            5000,
+            Some(suspicion(5000, short)),
+            failed_member(short),
+            5000,
+        ),
         (5000, Some(suspicion(5000, long)), failed_member(long), 5000),
         (5000, Some(round_start(5000)), None, 6000),
     ];
