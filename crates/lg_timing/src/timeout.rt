@@ -202,7 +202,7 @@ mod tests {
     }
 
     #[test]
-    fn one_call(rt: HostRuntime) {
+    fn the_timeout_among_four_members(rt: HostRuntime) {
         let config = Config::new(Name::default(), Addr::default());
         assert_eq!(rt; suspicion_ms(4, 0, &config), 5000);
     }
