@@ -17,7 +17,7 @@ use lg_timing::{Config, Moment};
 use std::alloc::Global;
 
 /// The most hex digits of a packet: two for each of its bytes.
-const MAX_DIGITS: usize = 1086;
+const MAX_DIGITS: usize = 2 * MAX_PACKET;
 
 /// The address of the machine itself.
 const LOCALHOST: [u8; 4] = [127, 0, 0, 1];

@@ -8,12 +8,11 @@ ghost use Rattle.clap.specs.declared.builder.command.Command.TheViews.{out-Comma
 ghost use Rattle.lg_cli.specs.Commands.{answer_app, asked, lg_app, line_faults, name_of_rows, number_in, number_rule, numbers_in, request_faults, request_of, request_of_rows, timeouts_app, IfTimeouts};
 ghost use Rattle.lg_cli.specs.Timeouts.{are_good};
 
-use crate::timeouts::{
-    MAX_CONFIRMATIONS, MAX_FACTOR, MAX_INTERVAL_MS, MAX_MEMBERS, MIN_INTERVAL_MS, Numbers,
-};
+use crate::timeouts::{MAX_MEMBERS, Numbers};
 use clap::builder::ValueParser;
 use clap::error::ErrorKind;
 use clap::{Arg, ArgAction, ArgMatches, Command, Error};
+use lg_timing::{MAX_CONFIRMATIONS, MAX_FACTOR, MAX_INTERVAL_MS, MIN_INTERVAL_MS};
 use std::alloc::{AllocError, Global};
 use std::convert::AsStr;
 

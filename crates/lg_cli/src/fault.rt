@@ -9,11 +9,11 @@ use std::alloc::AllocError;
 #[derive(Clone, Copy, Debug, PartialEq, Eq)]
 pub enum RunFault {
     /// Memory was refused; nothing was written.
-    Memory = 1,
+    Memory,
     /// The input was too long or couldn't be read; nothing was written.
-    Read = 2,
+    Read,
     /// The answer couldn't be written; a beginning of it may have been.
-    Write = 3,
+    Write,
 }
 
 impl RunFault {

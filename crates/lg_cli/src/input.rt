@@ -12,7 +12,7 @@ pub const MAX_INPUT: usize = 1_048_576;
 
 /// The most read calls for an input: two for each byte of one that is a byte too long, so that a
 /// reader that gives a byte at a time may be interrupted before each.
-const MAX_READS: usize = 2_097_154;
+const MAX_READS: usize = 2 * (MAX_INPUT + 1);
 
 /// The most bytes of one read call.
 const MAX_CHUNK: usize = 8192;

@@ -70,7 +70,7 @@ pub fn run_words<S: AsStr, R: Read, W: Write, F: Write>(
     }
 }
 
-/// Carries `answer` for a text that should be a name.
+/// Runs `answer` for a text that should be a name.
 fn answer_named<R: Read, W: Write, F: Write>(
     alloc: Global,
     name: &str,
@@ -100,7 +100,7 @@ fn answer_named<R: Read, W: Write, F: Write>(
     }
 }
 
-/// Carries `timeouts` for good numbers.
+/// Runs `timeouts` for good numbers.
 fn timeouts_of<W: Write, F: Write>(
     alloc: Global,
     numbers: &Numbers,

@@ -14,7 +14,7 @@ use lg_rules::Name;
 use std::alloc::Global;
 use std::io::{Read, Write};
 
-/// Carries the command `answer`: reads all that a reader has left, and writes what a detector of
+/// Runs the command `answer`: reads all that a reader has left, and writes what a detector of
 /// this name sends for it, and nothing else.
 ///
 /// The detector is opened with the default configuration, at moment 0 at 127.0.0.1:7000. Each line
@@ -51,7 +51,7 @@ pub fn answer_run<R: Read, W: Write>(
     Ok(answered.end)
 }
 
-/// Carries the command `timeouts`: writes the timeouts of a suspicion for some numbers, and nothing
+/// Runs the command `timeouts`: writes the timeouts of a suspicion for some numbers, and nothing
 /// else.
 ///
 /// The lines are `min MS`, `max MS`, and `C MS` for each number C of confirmations from 0 to all that

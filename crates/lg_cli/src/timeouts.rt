@@ -4,23 +4,13 @@ ghost use Rattle.lg_timing.specs.Config.{is_within};
 ghost use Rattle.lg_cli.specs.Timeouts.{after_lines, are_good, config_of, timeouts_text};
 
 use lg_rules::{Addr, Name};
-use lg_timing::{Config, SuspicionTimeout};
+use lg_timing::{
+    Config, MAX_CONFIRMATIONS, MAX_FACTOR, MAX_INTERVAL_MS, MIN_INTERVAL_MS, SuspicionTimeout,
+};
 use std::alloc::{AllocError, Global};
 
 /// The most members of a group, oneself among them: 256 (this project's choice).
 pub const MAX_MEMBERS: u64 = 256;
-
-/// The most confirmations that a suspicion may wait for (this project's choice).
-pub const MAX_CONFIRMATIONS: u64 = 5;
-
-/// The greatest factor of a timeout (this project's choice).
-pub const MAX_FACTOR: u64 = 20;
-
-/// The shortest protocol period, in milliseconds (this project's choice).
-pub const MIN_INTERVAL_MS: u64 = 10;
-
-/// The longest protocol period, in milliseconds (this project's choice).
-pub const MAX_INTERVAL_MS: u64 = 60_000;
 
 /// The numbers that the timeouts of a suspicion follow from (Lifeguard, arXiv 1707.00788, local
 /// health aware suspicion). The ranges are this project's choice.

@@ -5,6 +5,39 @@ ghost use Rattle.lg_timing.specs.Config.{is_within, is_seed, have_distinct_names
 use arrayvec::ArrayVec;
 use lg_rules::{Addr, Name};
 
+/// The shortest protocol period, in milliseconds: 10 (this project's choice).
+pub const MIN_INTERVAL_MS: u64 = 10;
+
+/// The longest protocol period, in milliseconds: 60,000 (this project's choice).
+pub const MAX_INTERVAL_MS: u64 = 60_000;
+
+/// The most helpers that are asked to ping a member: 8 (this project's choice).
+pub const MAX_INDIRECT: u64 = 8;
+
+/// The greatest health score that a configuration can allow: 20 (this project's choice).
+pub const MAX_SCORE: u64 = 20;
+
+/// The greatest factor of a suspicion timeout, `alpha` or `beta`: 20 (this project's choice).
+pub const MAX_FACTOR: u64 = 20;
+
+/// The most confirmations that a suspicion may wait for: 5 (this project's choice).
+pub const MAX_CONFIRMATIONS: u64 = 5;
+
+/// The greatest factor of the number of times that a claim is sent: 10 (this project's choice).
+pub const MAX_LAMBDA: u64 = 10;
+
+/// The earliest nack of a helper, in thousandths of `timeout_ms`: 1 (this project's choice).
+pub const MIN_NACK_THOUSANDTHS: u64 = 1;
+
+/// The latest nack of a helper, in thousandths of `timeout_ms`: 999 (this project's choice).
+pub const MAX_NACK_THOUSANDTHS: u64 = 999;
+
+/// The least limit on a stored history, in entries: 2 (this project's choice).
+pub const MIN_HISTORY_LIMIT: u64 = 2;
+
+/// The greatest limit on a stored history, in entries: 1,000,000 (this project's choice).
+pub const MAX_HISTORY_LIMIT: u64 = 1_000_000;
+
 /// The most seeds of a configuration: 16 (this project's choice).
 pub const MAX_SEEDS: usize = 16;
 
@@ -176,22 +209,32 @@ impl Config {
     {
         let rules = [
             (
-                is_within(10, 60000, self.interval_ms),
+                is_within(MIN_INTERVAL_MS, MAX_INTERVAL_MS, self.interval_ms),
                 ConfigFault::Interval,
             ),
             (
                 is_within(1, self.interval_ms.saturating_sub(1), self.timeout_ms),
                 ConfigFault::Timeout,
             ),
-            (self.indirect <= 8, ConfigFault::Indirect),
-            (self.max_score <= 20, ConfigFault::MaxScore),
-            (is_within(1, 20, self.alpha), ConfigFault::Alpha),
-            (is_within(1, 20, self.beta), ConfigFault::Beta),
-            (self.confirmations <= 5, ConfigFault::Confirmations),
-            (is_within(1, 10, self.lambda), ConfigFault::Lambda),
-            (is_within(1, 999, self.nack_thousandths), ConfigFault::Nack),
+            (self.indirect <= MAX_INDIRECT, ConfigFault::Indirect),
+            (self.max_score <= MAX_SCORE, ConfigFault::MaxScore),
+            (is_within(1, MAX_FACTOR, self.alpha), ConfigFault::Alpha),
+            (is_within(1, MAX_FACTOR, self.beta), ConfigFault::Beta),
             (
-                is_within(2, 1_000_000, self.history_limit),
+                self.confirmations <= MAX_CONFIRMATIONS,
+                ConfigFault::Confirmations,
+            ),
+            (is_within(1, MAX_LAMBDA, self.lambda), ConfigFault::Lambda),
+            (
+                is_within(
+                    MIN_NACK_THOUSANDTHS,
+                    MAX_NACK_THOUSANDTHS,
+                    self.nack_thousandths,
+                ),
+                ConfigFault::Nack,
+            ),
+            (
+                is_within(MIN_HISTORY_LIMIT, MAX_HISTORY_LIMIT, self.history_limit),
                 ConfigFault::History,
             ),
             (are_good_seeds(&self.name, &self.seeds), ConfigFault::Seeds),

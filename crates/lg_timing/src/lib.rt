@@ -7,8 +7,12 @@ mod score;
 mod tables;
 mod timeout;
 
-pub use config::{Config, ConfigFault, MAX_SEEDS, Seed};
+pub use config::{
+    Config, ConfigFault, MAX_CONFIRMATIONS, MAX_FACTOR, MAX_HISTORY_LIMIT, MAX_INDIRECT,
+    MAX_INTERVAL_MS, MAX_LAMBDA, MAX_NACK_THOUSANDTHS, MAX_SCORE, MAX_SEEDS, MIN_HISTORY_LIMIT,
+    MIN_INTERVAL_MS, MIN_NACK_THOUSANDTHS, Seed,
+};
 pub use moment::{MAX_MOMENT, Moment};
-pub use score::{MAX_SCORE, Score};
+pub use score::Score;
 pub use tables::{log10_thousandths, ratio, tables_are_logarithms};
 pub use timeout::{SuspicionTimeout, suspicion_ms};

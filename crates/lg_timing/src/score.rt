@@ -7,9 +7,6 @@ use crate::config::Config;
 use std::alloc::AllocError;
 use std::marker::Model;
 
-/// The greatest health score that a configuration can allow: 20 (this project's choice).
-pub const MAX_SCORE: u64 = 20;
-
 /// The health score of a member: the sum of the marks that it earned, held between 0 and a greatest
 /// score at every mark (Lifeguard, local health aware probe).
 ///

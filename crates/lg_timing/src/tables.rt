@@ -68,7 +68,7 @@ mod tests {
     }
 
     #[test]
-    fn some_quotients(rt: HostRuntime) {
+    fn quotients_of_confirmations(rt: HostRuntime) {
         assert_eq!(rt; ratio(0, 0), 1000);
         assert_eq!(rt; ratio(3, 2), 792);
         assert_eq!(rt; ratio(5, 4), 898);

@@ -90,14 +90,14 @@ impl SuspicionTimeout {
         }
     }
 
-    /// The least timeout, in milliseconds.
+    /// The least timeout, in milliseconds: 10 to 2,889,600, or 0 by default.
     pub fn min_ms(&self) -> u64
         ensures { result ≡ self.now.min }
     {
         self.min_ms
     }
 
-    /// The greatest timeout, in milliseconds, at most 57,792,000.
+    /// The greatest timeout, in milliseconds: 10 to 57,792,000, or 0 by default.
     pub fn max_ms(&self) -> u64
         ensures { result ≡ self.now.max }
     {
@@ -112,7 +112,8 @@ impl SuspicionTimeout {
         self.confirmations
     }
 
-    /// The timeout after some confirmations, at most as many as count, in milliseconds.
+    /// The timeout after some confirmations, at most as many as count, in milliseconds: 10 to
+    /// 57,792,000, or 0 by default.
     pub fn after(&self, confirmations: u64) -> u64
         requires { confirmations ≤ self.now.confirmations }
         ensures timeout { result ≡ timeout_of self.now confirmations }
@@ -124,7 +125,7 @@ impl SuspicionTimeout {
 }
 
 /// The timeout of a suspicion raised among `members` members, 1 to 256, after some confirmations, at
-/// most as many as count among so many members, in milliseconds.
+/// most as many as count among so many members, in milliseconds: 10 to 57,792,000.
 pub fn suspicion_ms(members: u64, confirmations: u64, config: &Config) -> u64
     requires checked { IsChecked config.now }
     requires some { 1 ≤ members }
@@ -201,7 +202,7 @@ mod tests {
     }
 
     #[test]
-    fn one_call(rt: HostRuntime) {
+    fn the_timeout_among_four_members(rt: HostRuntime) {
         let config = Config::new(Name::default(), Addr::default());
         assert_eq!(rt; suspicion_ms(4, 0, &config), 5000);
     }
