@@ -9,11 +9,11 @@ use std::alloc::AllocError;
 #[derive(Clone, Copy, Debug, PartialEq, Eq)]
 pub enum RunFault {
     /// Memory was refused; nothing was written.
-    Memory,
+    Memory = 1,
     /// The input was too long or couldn't be read; nothing was written.
-    Read,
+    Read = 2,
     /// The answer couldn't be written; a beginning of it may have been.
-    Write,
+    Write = 3,
 }
 
 impl RunFault {
