@@ -7,15 +7,15 @@ use Rattle.std.proofs.lemmas.List.Elements.{filter_map-append}
 use Rattle.std.proofs.lemmas.List.Folds.{list_any-append}
 use Rattle.lg_packet.specs.declared.packet.Packet.{Packet}
 use Rattle.lg_rules.specs.declared.addr.Addr.{Addr}
-use Rattle.lg_timing.specs.Config.{check_of, IsChecked}
-use Rattle.lg_detector.specs.Events.{is_accepted, is_open, opens_well}
-use Rattle.lg_detector.specs.Answers.{state_after, accepts_of}
-use Rattle.lg_detector.specs.State.{State}
+use Rattle.lg_timing.specs.Meaning.Config.{check_of, IsChecked}
+use Rattle.lg_detector.specs.Meaning.Events.{is_accepted, is_open, opens_well}
+use Rattle.lg_detector.specs.Support.Answers.{state_after, accepts_of}
+use Rattle.lg_detector.specs.Support.State.{State}
 use Rattle.lg_detector.specs.declared.event.Event.{Event}
 use Rattle.lg_detector.proofs.Accepting.{accepts-after}
-use Rattle.lg_cli.specs.Lines.{lines_of}
-use Rattle.lg_cli.specs.Said.{packet_in}
-use Rattle.lg_cli.specs.Answering.{local, defaults, opening, hearing, heard, events_of, told, line_text, text_from, answer_text, answer_end, is_faulty, with_heard, AcceptsHeard}
+use Rattle.lg_cli.specs.Meaning.Lines.{lines_of}
+use Rattle.lg_cli.specs.Meaning.Said.{packet_in}
+use Rattle.lg_cli.specs.Meaning.Answering.{local, defaults, opening, hearing, heard, events_of, told, line_text, text_from, answer_text, answer_end, is_faulty, with_heard, AcceptsHeard}
 use Rattle.lg_cli.specs.declared.answer.End.{End}
 use Rattle.lg_cli.specs.declared.answer.End.TheVariants.{Done, Faulty}
 use Rattle.lg_cli.specs.declared.line.LineFault.{LineFault}

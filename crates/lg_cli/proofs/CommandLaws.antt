@@ -18,8 +18,8 @@ use Rattle.clap.specs.declared.error.kind.ErrorKind.TheVariants.{ValueValidation
 use Rattle.clap.specs.declared.builder.value_parser.ValueParser.{ValueParser}
 use Rattle.clap.specs.declared.builder.value_parser.ValueParser.TheVariants.{Unsigned}
 use Rattle.clap.proofs.ValueTestLemmas.{accepts-Accepts, Accepts-accepts}
-use Rattle.lg_cli.specs.Commands.{Request, answer, timeouts, number_of, request_faults, IfTimeouts}
-use Rattle.lg_cli.specs.Timeouts.{are_good}
+use Rattle.lg_cli.specs.Meaning.Commands.{Request, answer, timeouts, number_of, request_faults, IfTimeouts}
+use Rattle.lg_cli.specs.Meaning.Timeouts.{are_good}
 
 abbrev any_number : ValueParser
 any_number = Unsigned 0 18446744073709551615

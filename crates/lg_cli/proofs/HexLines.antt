@@ -6,10 +6,10 @@ use Rattle.hex.specs.Hex.{decode_of, decode_sized}
 use Rattle.hex.specs.declared.error.FromHexError.{FromHexError}
 use Rattle.hex.specs.declared.error.FromHexError.TheVariants.{OddLength}
 use Rattle.hex.proofs.HexLemmas.{decode_of-odd, decode_sized-odd, decode_sized-twice}
-use Rattle.lg_packet.specs.Reading.{packet_of}
+use Rattle.lg_packet.specs.Meaning.Reading.{packet_of}
 use Rattle.lg_packet.specs.declared.fault.Fault.{Fault}
 use Rattle.lg_packet.specs.declared.packet.Packet.{Packet}
-use Rattle.lg_cli.specs.Said.{packet_in, of_bytes, of_packet}
+use Rattle.lg_cli.specs.Meaning.Said.{packet_in, of_bytes, of_packet}
 use Rattle.lg_cli.specs.declared.line.LineFault.TheVariants.{NotHex}
 
 -- what stands in the row, where decoding answered

@@ -1,7 +1,7 @@
 -- The first line of a text, by the place of its first newline.
 use Rattle.std.proofs.Common.{◌≡◌, ℕ, ◌+◌, ◌-◌, ◌<◌, ◌≤◌, suc, Bool, true, false, not, cond, eqb, ltb, List, [], ◌∷◌, length, take, drop, Option, Some, None, refl, arith, take_all, length-drop}
 use Rattle.std.specs.List.{position_or_len, position}
-use Rattle.lg_cli.specs.Lines.{lines_of, onto_first}
+use Rattle.lg_cli.specs.Meaning.Lines.{lines_of, onto_first}
 
 abbrev pub is_newline : ℕ → Bool
 is_newline b = eqb b 10

@@ -5,8 +5,8 @@ use Rattle.std.proofs.lemmas.List.Concat.{flat_map-append}
 use Rattle.std.proofs.lemmas.List.Folds.{flat_map-map}
 use Rattle.std.proofs.lemmas.List.FromFn.{map-range_with_len_more}
 use Rattle.std.proofs.lemmas.Bool.Decides.{nat_tests}
-use Rattle.lg_timing.specs.Config.{check_of, is_within, IsChecked}
-use Rattle.lg_cli.specs.Timeouts.{are_good, config_of}
+use Rattle.lg_timing.specs.Meaning.Config.{check_of, is_within, IsChecked}
+use Rattle.lg_cli.specs.Meaning.Timeouts.{are_good, config_of}
 use Rattle.lg_cli.specs.declared.timeouts.Numbers.{Numbers}
 
 -- one line more

@@ -1,9 +1,2 @@
-pub mod Answering
-pub mod Commands
-pub mod Examples
-pub mod Faults
-pub mod Input
-pub mod Lines
-pub mod Running
-pub mod Said
-pub mod Timeouts
+pub mod Meaning
+pub mod Support

@@ -1,10 +1,10 @@
 //! The command `answer`: what a detector sends for the packets of an input.
 ghost use Rattle.std.specs.Prelude.{◌≡◌, ◌+◌, ◌*◌, ◌≤◌, List, [], ◌∷◌, ◌++◌, IfOk, OnOk, length, vec_len};
 ghost use Rattle.std.specs.List.{flat_map};
-ghost use Rattle.lg_detector.specs.Answers.{state_after};
+ghost use Rattle.lg_detector.specs.Support.Answers.{state_after};
 ghost use Rattle.lg_detector.specs.declared.event.Event.{Event as Happened};
-ghost use Rattle.lg_cli.specs.Answering.{answer_end, answer_text, hearing, opening, sent_line, sent_text, told, with_heard, AcceptsHeard, newline};
-ghost use Rattle.lg_cli.specs.Said.{fault_text};
+ghost use Rattle.lg_cli.specs.Meaning.Answering.{answer_end, answer_text, hearing, opening, sent_line, sent_text, told, with_heard, AcceptsHeard, newline};
+ghost use Rattle.lg_cli.specs.Meaning.Said.{fault_text};
 
 use crate::input::MAX_INPUT;
 use crate::line::{LineFault, read_line};

@@ -5,8 +5,8 @@ ghost use Rattle.clap.specs.Matches.{found_of};
 ghost use Rattle.clap.specs.Simple.{app_of, subcommand_rows_of};
 ghost use Rattle.clap.specs.Walk.{rows_of, rule_of};
 ghost use Rattle.clap.specs.declared.builder.command.Command.TheViews.{out-Command as fields_of};
-ghost use Rattle.lg_cli.specs.Commands.{answer_app, asked, lg_app, line_faults, name_of_rows, number_in, number_rule, numbers_in, request_faults, request_of, request_of_rows, timeouts_app, IfTimeouts};
-ghost use Rattle.lg_cli.specs.Timeouts.{are_good};
+ghost use Rattle.lg_cli.specs.Meaning.Commands.{answer_app, asked, lg_app, line_faults, name_of_rows, number_in, number_rule, numbers_in, request_faults, request_of, request_of_rows, timeouts_app, IfTimeouts};
+ghost use Rattle.lg_cli.specs.Meaning.Timeouts.{are_good};
 
 use crate::timeouts::{MAX_MEMBERS, Numbers};
 use clap::builder::ValueParser;

@@ -1,6 +1,6 @@
 //! Why a run of a command over an input failed.
 ghost use Rattle.std.specs.Prelude.{◌≡◌};
-ghost use Rattle.lg_cli.specs.Faults.{run_fault_text};
+ghost use Rattle.lg_cli.specs.Meaning.Faults.{run_fault_text};
 ghost use Rattle.lg_cli.specs.declared.fault.RunFault.TheVariants.{Memory};
 
 use std::alloc::AllocError;

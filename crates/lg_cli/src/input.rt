@@ -1,7 +1,7 @@
 //! Reads the whole input of a command, up to a limit.
 ghost use Rattle.std.specs.Prelude.{◌≡◌, ◌+◌, ◌-◌, ◌*◌, ◌≤◌, ◌<◌, ℕ, List, ◌++◌, ◌⊎◌, IfOk, IfErr, OnOk, Ok, OnErr, length, vec_len};
 ghost use Rattle.std.specs.Io.KnownBytes.{Consumes, IsAtEnd};
-ghost use Rattle.lg_cli.specs.Input.{Grows, TakesAtMost};
+ghost use Rattle.lg_cli.specs.Support.Input.{Grows, TakesAtMost};
 
 use crate::fault::RunFault;
 use std::alloc::Global;

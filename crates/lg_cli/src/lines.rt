@@ -1,6 +1,6 @@
 //! Cuts a text into lines.
 ghost use Rattle.std.specs.Prelude.{◌≡◌, ◌<◌, ◌≤◌, ◌==◌, ◌∷◌, length, position};
-ghost use Rattle.lg_cli.specs.Lines.{lines_of};
+ghost use Rattle.lg_cli.specs.Meaning.Lines.{lines_of};
 
 /// The place of the first newline byte of a text.
 fn first_newline(text: &[u8]) -> Option<usize>

@@ -3,10 +3,10 @@ ghost use Rattle.std.specs.Prelude.{◌≡◌, ◌≢◌, ◌⊎◌, IfOk, [], m
 ghost use Rattle.std.specs.Result.{is_err};
 ghost use Rattle.std.specs.IoError.{error_kind};
 ghost use Rattle.clap.specs.Values.{kind_of};
-ghost use Rattle.lg_rules.specs.Name.{name_of_text};
-ghost use Rattle.lg_cli.specs.Running.{RunsAnswer, RunsTimeouts};
-ghost use Rattle.lg_cli.specs.Commands.{asked, line_faults, status_of_kind, IfAnswer, IfTimeouts, RefusesLine};
-ghost use Rattle.lg_cli.specs.Timeouts.{are_good};
+ghost use Rattle.lg_rules.specs.Meaning.Name.{name_of_text};
+ghost use Rattle.lg_cli.specs.Meaning.Running.{RunsAnswer, RunsTimeouts};
+ghost use Rattle.lg_cli.specs.Meaning.Commands.{asked, line_faults, status_of_kind, IfAnswer, IfTimeouts, RefusesLine};
+ghost use Rattle.lg_cli.specs.Meaning.Timeouts.{are_good};
 
 use crate::command::{Asked, read_words};
 use crate::fault::RunFault;

@@ -1,10 +1,10 @@
 //! Runs the commands over a reader and a writer.
 ghost use Rattle.std.specs.Prelude.{◌≡◌, ◌≢◌, ◌⊎◌, ◌+◌, ◌≤◌, true, IfErr, IfOk, IfSome, OnOk, length};
 ghost use Rattle.std.specs.Io.KnownBytes.{Appends, Keeps};
-ghost use Rattle.lg_cli.specs.Answering.{answer_end, answer_text};
-ghost use Rattle.lg_cli.specs.Input.{TakesAtMost};
-ghost use Rattle.lg_cli.specs.Running.{AnswersInput};
-ghost use Rattle.lg_cli.specs.Timeouts.{are_good, timeouts_text};
+ghost use Rattle.lg_cli.specs.Meaning.Answering.{answer_end, answer_text};
+ghost use Rattle.lg_cli.specs.Support.Input.{TakesAtMost};
+ghost use Rattle.lg_cli.specs.Meaning.Running.{AnswersInput};
+ghost use Rattle.lg_cli.specs.Meaning.Timeouts.{are_good, timeouts_text};
 
 use crate::answer::{End, answer};
 use crate::fault::RunFault;

@@ -1,7 +1,7 @@
 //! The command `timeouts`: how long a suspicion lasts among some members.
 ghost use Rattle.std.specs.Prelude.{◌≡◌, ◌++◌, true, IfOk, OnOk, string_bytes};
-ghost use Rattle.lg_timing.specs.Config.{is_within};
-ghost use Rattle.lg_cli.specs.Timeouts.{after_lines, are_good, config_of, timeouts_text};
+ghost use Rattle.lg_timing.specs.Meaning.Config.{is_within};
+ghost use Rattle.lg_cli.specs.Meaning.Timeouts.{after_lines, are_good, config_of, timeouts_text};
 
 use lg_rules::{Addr, Name};
 use lg_timing::{

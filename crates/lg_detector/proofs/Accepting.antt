@@ -7,9 +7,9 @@ use Rattle.lg_rules.specs.declared.claim.Claim.{Claim}
 use Rattle.lg_detector.specs.declared.event.Event.{Event}
 use Rattle.lg_detector.specs.declared.event.Event.TheVariants.{Open, Tick, Heard, Ask, Health}
 use Rattle.lg_timers.specs.declared.timer.Timer.{Timer}
-use Rattle.lg_detector.specs.Marks.{Log, Came, Opened, Said, Fired, events, config, table}
-use Rattle.lg_detector.specs.Events.{log_of, alive_seed, say, told, acked, asked_in, due, fired, fired_claims, is_open, opens_well, is_accepted}
-use Rattle.lg_detector.specs.Answers.{state_after, accepts_of}
+use Rattle.lg_detector.specs.Meaning.Marks.{Log, Came, Opened, Said, Fired, events, config, table}
+use Rattle.lg_detector.specs.Meaning.Events.{log_of, alive_seed, say, told, acked, asked_in, due, fired, fired_claims, is_open, opens_well, is_accepted}
+use Rattle.lg_detector.specs.Support.Answers.{state_after, accepts_of}
 
 events-say : (seed : Bool) (cs : List Claim) (log : Log) → events (say seed cs log) ≡ events log
 events-say seed [] log = refl

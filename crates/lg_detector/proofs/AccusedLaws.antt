@@ -5,17 +5,17 @@ use Rattle.std.proofs.lemmas.Bool.{cases_Bool, eq-eqb, eqb-true, not-true}
 use Rattle.lg_rules.specs.declared.claim.Claim.{Claim}
 use Rattle.lg_rules.specs.declared.claim.Status.{Status}
 use Rattle.lg_rules.specs.declared.claim.Status.TheVariants.{Alive, Suspect, Failed}
-use Rattle.lg_rules.specs.Beats.{overrides, beats_of}
-use Rattle.lg_rules.specs.Past.{or_else, earliest, is_unbeaten}
-use Rattle.lg_rules.specs.Rows.{name_cmp, is_same}
-use Rattle.lg_rules.specs.Table.{about, record_of}
+use Rattle.lg_rules.specs.Meaning.Beats.{overrides, beats_of}
+use Rattle.lg_rules.specs.Meaning.Past.{or_else, earliest, is_unbeaten}
+use Rattle.lg_rules.specs.Meaning.Rows.{name_cmp, is_same}
+use Rattle.lg_rules.specs.Meaning.Table.{about, record_of}
 use Rattle.lg_rules.proofs.Cases.{Missing, Holding, held, held_once}
 use Rattle.lg_rules.proofs.KeyOrder.{names_order, other_key}
 use Rattle.lg_rules.proofs.PastLaws.{earliest_passes, unbeaten_some}
 use Rattle.lg_rules.proofs.Ranks.{ranked}
-use Rattle.lg_gossip.specs.Queue.{is_suspect}
-use Rattle.lg_detector.specs.Marks.{Log, Came, Opened, Said, Sent, Fired, said}
-use Rattle.lg_detector.specs.Suspicions.{accuses, accusers_in, raise_of}
+use Rattle.lg_gossip.specs.Meaning.Queue.{is_suspect}
+use Rattle.lg_detector.specs.Meaning.Marks.{Log, Came, Opened, Said, Sent, Fired, said}
+use Rattle.lg_detector.specs.Meaning.Suspicions.{accuses, accusers_in, raise_of}
 
 -- whether some claim of a past accuses a member at an incarnation
 abbrev pub is_accused : List ℕ → ℕ → List Claim → Bool

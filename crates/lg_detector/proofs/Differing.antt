@@ -2,12 +2,12 @@
 use Rattle.std.proofs.Common.{◌≡◌, ℕ, ◌≤◌, Bool, true, false, cond, List, [], ◌∷◌, length, refl, sym, ap, ◌∙◌, subst, arith}
 use Rattle.std.specs.Prelude.{filter, is_some}
 use Rattle.lg_rules.specs.declared.claim.Claim.{Claim}
-use Rattle.lg_rules.specs.Rows.{name_cmp, is_same, is_among}
-use Rattle.lg_rules.specs.View.{Membership, view, told_all, news, changed}
+use Rattle.lg_rules.specs.Meaning.Rows.{name_cmp, is_same, is_among}
+use Rattle.lg_rules.specs.Meaning.View.{Membership, view, told_all, news, changed}
 use Rattle.lg_rules.proofs.Changes.{changed-told, length-told}
-use Rattle.lg_detector.specs.Marks.{Log, config, me, said, addr_in}
-use Rattle.lg_detector.specs.State.{State, state_of, tell_own, tell_other, tell, tell_all, membership}
-use Rattle.lg_detector.specs.Answers.{shown_of}
+use Rattle.lg_detector.specs.Meaning.Marks.{Log, config, me, said, addr_in}
+use Rattle.lg_detector.specs.Support.State.{State, state_of, tell_own, tell_other, tell, tell_all, membership}
+use Rattle.lg_detector.specs.Support.Answers.{shown_of}
 use Rattle.lg_detector.proofs.Hearing.{membership-tell_all}
 use Rattle.lg_detector.proofs.Shown.{view-opened}
 

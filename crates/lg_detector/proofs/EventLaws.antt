@@ -4,12 +4,12 @@ use Rattle.std.proofs.lemmas.List.{reverse-append}
 use Rattle.lg_rules.specs.declared.claim.Claim.{Claim}
 use Rattle.lg_detector.specs.declared.event.Event.{Event}
 use Rattle.lg_detector.specs.declared.event.Event.TheVariants.{Open, Tick, Heard, Ask, Health}
-use Rattle.lg_rules.specs.View.{changed}
+use Rattle.lg_rules.specs.Meaning.View.{changed}
 use Rattle.lg_timers.specs.declared.timer.Timer.{Timer}
-use Rattle.lg_detector.specs.Marks.{Log, Came, Opened, Said, Fired, config, table, view}
-use Rattle.lg_detector.specs.State.{State, state_of, open_with, tell_all}
-use Rattle.lg_detector.specs.Events.{alive_seed, say, told, asked_in, acked, fired_claims, due, fired, or_zero, after, log_of, answer, ack_with, answer_by}
-use Rattle.lg_detector.specs.Answers.{state_after, answer_after, deadline_of, accepts_of, shown_of, hear, ack, respond, due_in, claims_of, fire_due, tick, react, next, ack_out, out}
+use Rattle.lg_detector.specs.Meaning.Marks.{Log, Came, Opened, Said, Fired, config, table, view}
+use Rattle.lg_detector.specs.Support.State.{State, state_of, open_with, tell_all}
+use Rattle.lg_detector.specs.Meaning.Events.{alive_seed, say, told, asked_in, acked, fired_claims, due, fired, or_zero, after, log_of, answer, ack_with, answer_by}
+use Rattle.lg_detector.specs.Support.Answers.{state_after, answer_after, deadline_of, accepts_of, shown_of, hear, ack, respond, due_in, claims_of, fire_due, tick, react, next, ack_out, out}
 use Rattle.lg_detector.proofs.MarkLaws.{come-state, open-state, tell-state, send-state, fire-state}
 
 pub tell_all-state : (seed : Bool) (cs : List Claim) (log : Log) → tell_all seed cs (state_of log) ≡ state_of (say seed cs log)

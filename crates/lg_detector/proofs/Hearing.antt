@@ -1,11 +1,11 @@
 -- What is shown of the members, once claims are said.
 use Rattle.std.proofs.Common.{◌≡◌, Bool, true, false, cond, List, [], ◌∷◌, refl, ap, ◌∙◌}
 use Rattle.lg_rules.specs.declared.claim.Claim.{Claim}
-use Rattle.lg_rules.specs.Own.{own_heard}
-use Rattle.lg_rules.specs.Rows.{name_cmp, is_same}
-use Rattle.lg_rules.specs.Table.{heard}
-use Rattle.lg_rules.specs.View.{told, told_all}
-use Rattle.lg_detector.specs.State.{State, tell_own, tell_other, tell, tell_all, membership}
+use Rattle.lg_rules.specs.Meaning.Own.{own_heard}
+use Rattle.lg_rules.specs.Meaning.Rows.{name_cmp, is_same}
+use Rattle.lg_rules.specs.Meaning.Table.{heard}
+use Rattle.lg_rules.specs.Meaning.View.{told, told_all}
+use Rattle.lg_detector.specs.Support.State.{State, tell_own, tell_other, tell, tell_all, membership}
 
 pub membership-tell : (seed : Bool) (c : Claim) (s : State) → membership (tell seed c s) ≡ told (membership s) c
 unfolding tell told

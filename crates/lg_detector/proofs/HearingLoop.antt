@@ -2,8 +2,8 @@
 use Rattle.std.proofs.Common.{◌≡◌, ℕ, ◌+◌, ◌<◌, ◌≤◌, Bool, true, false, cond, List, [], ◌∷◌, ◌++◌, length, get_or, drop, refl, sym, ap, ◌∙◌, append_assoc, arith, length-append}
 use Rattle.std.proofs.lemmas.List.{drop_more, append-nil, drop_all}
 use Rattle.lg_rules.specs.declared.claim.Claim.{Claim}
-use Rattle.lg_rules.specs.View.{Membership, told, is_news, news}
-use Rattle.lg_detector.specs.State.{State, tell, tell_all, membership}
+use Rattle.lg_rules.specs.Meaning.View.{Membership, told, is_news, news}
+use Rattle.lg_detector.specs.Support.State.{State, tell, tell_all, membership}
 use Rattle.lg_detector.proofs.Hearing.{membership-tell}
 
 -- after the first so many claims, these names were news

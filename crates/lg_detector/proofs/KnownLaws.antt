@@ -1,13 +1,13 @@
 -- The names that are known, when a claim is said.
 use Rattle.std.proofs.Common.{◌≡◌, ℕ, ◌≤◌, Bool, true, false, ◌||◌, List, ◌∷◌, length, inl, inr, refl, sym, ◌∙◌, ap, arith}
 use Rattle.lg_rules.specs.declared.claim.Claim.{Claim}
-use Rattle.lg_rules.specs.Rows.{name_cmp, is_same, is_among, put_key, Rises}
-use Rattle.lg_rules.specs.Table.{roster}
+use Rattle.lg_rules.specs.Meaning.Rows.{name_cmp, is_same, is_among, put_key, Rises}
+use Rattle.lg_rules.specs.Meaning.Table.{roster}
 use Rattle.lg_rules.proofs.KeyOrder.{names_order, cases_key}
 use Rattle.lg_rules.proofs.Rises.{rises-put, among-put, among-put_same, same_members, length-put}
 use Rattle.lg_rules.proofs.Roster.{rises-roster, roster-own, length-roster, own_unknown}
 use Rattle.lg_rules.proofs.Tables.{IsTaken, Taken, Kept, Out, heard_cases}
-use Rattle.lg_detector.specs.Marks.{Log, Said, me, said, known}
+use Rattle.lg_detector.specs.Meaning.Marks.{Log, Said, me, said, known}
 
 pub rises-known : (log : Log) → Rises name_cmp (known log)
 rises-known log = rises-put names_order (me log) (roster (me log) (said log)) (rises-roster (me log) (said log))

@@ -2,18 +2,18 @@
 use Rattle.std.proofs.Common.{◌≡◌, ◌≢◌, ℕ, ◌+◌, Bool, true, false, cond, List, [], ◌∷◌, Some, inl, inr, sym, ◌∙◌, ap}
 use Rattle.std.proofs.lemmas.Bool.{cases_Bool}
 use Rattle.lg_rules.specs.declared.claim.Claim.{Claim}
-use Rattle.lg_rules.specs.Own.{own_of}
-use Rattle.lg_rules.specs.Table.{members_of}
+use Rattle.lg_rules.specs.Meaning.Own.{own_of}
+use Rattle.lg_rules.specs.Meaning.Table.{members_of}
 use Rattle.lg_rules.proofs.KeyOrder.{names_order, cases_key, same_key, other_key}
 use Rattle.lg_rules.proofs.OwnLaws.{own-same, own-other, own_of_name}
 use Rattle.lg_rules.proofs.Tables.{heard-table, table-own}
 use Rattle.lg_timing.specs.declared.config.Config.{Config}
 use Rattle.lg_timers.specs.declared.timer.Timer.{Timer}
-use Rattle.lg_detector.specs.Marks.{Log, Came, Opened, Said, Sent, Fired, events, moment, config, me, said, own, table, lambda_in, addr_in}
-use Rattle.lg_detector.specs.Suspicions.{suspicions}
-use Rattle.lg_detector.specs.Timing.{score, round_start, pending_of, pending, period_in, is_round_start}
-use Rattle.lg_detector.specs.Changes.{change_of, timers_after}
-use Rattle.lg_detector.specs.State.{state_of, come, open_with, tell_own, tell_other, tell, send, start_round, fire}
+use Rattle.lg_detector.specs.Meaning.Marks.{Log, Came, Opened, Said, Sent, Fired, events, moment, config, me, said, own, table, lambda_in, addr_in}
+use Rattle.lg_detector.specs.Meaning.Suspicions.{suspicions}
+use Rattle.lg_detector.specs.Meaning.Timing.{score, round_start, pending_of, pending, period_in, is_round_start}
+use Rattle.lg_detector.specs.Support.Changes.{change_of, timers_after}
+use Rattle.lg_detector.specs.Support.State.{state_of, come, open_with, tell_own, tell_other, tell, send, start_round, fire}
 use Rattle.lg_detector.proofs.QueueLaws.{queue-own, queue-other, queue-sent, queue-came, queue-fired, queue-opened}
 use Rattle.lg_detector.proofs.ScoreLaws.{score-own, score-other}
 use Rattle.lg_detector.proofs.SuspicionLaws.{suspicions-came, suspicions-sent, suspicions-fired, suspicions-opened, suspicions-own, suspicions-other, rises-suspicions}

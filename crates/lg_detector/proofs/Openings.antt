@@ -3,10 +3,10 @@ use Rattle.std.proofs.Common.{◌≡◌, ℕ, Bool, true, false, cond, eqb, ltb,
 use Rattle.std.specs.Prelude.{is_ok}
 use Rattle.lg_timing.specs.declared.config.Config.{Config}
 use Rattle.lg_timing.specs.declared.config.ConfigFault.{ConfigFault}
-use Rattle.lg_timing.specs.Config.{check_of, IsChecked}
+use Rattle.lg_timing.specs.Meaning.Config.{check_of, IsChecked}
 use Rattle.lg_detector.specs.declared.event.Event.TheVariants.{Open}
-use Rattle.lg_detector.specs.Answers.{accepts_of}
-use Rattle.lg_detector.specs.State.{State}
+use Rattle.lg_detector.specs.Support.Answers.{accepts_of}
+use Rattle.lg_detector.specs.Support.State.{State}
 
 checked : (r : Result (Unit {0}) ConfigFault) → is_ok r ≡ true → r ≡ Ok tt
 checked (Ok u) e = refl

@@ -3,20 +3,20 @@ use Rattle.std.proofs.Common.{◌≡◌, ◌≢◌, ℕ, Bool, List, [], ◌∷�
 use Rattle.std.specs.Prelude.{filter_map, option_map}
 use Rattle.std.proofs.lemmas.Bool.{cases_Bool}
 use Rattle.lg_rules.specs.declared.claim.Claim.{Claim}
-use Rattle.lg_rules.specs.Own.{own_answer, own_heard}
+use Rattle.lg_rules.specs.Meaning.Own.{own_answer, own_heard}
 use Rattle.lg_timing.specs.declared.config.Config.{Config}
-use Rattle.lg_rules.specs.Rows.{name_cmp, is_among, put_key, put_row}
+use Rattle.lg_rules.specs.Meaning.Rows.{name_cmp, is_among, put_key, put_row}
 use Rattle.lg_rules.proofs.Cases.{Missing, Holding, held}
 use Rattle.lg_rules.proofs.KeyOrder.{names_order}
 use Rattle.lg_rules.proofs.Rises.{put-there}
 use Rattle.lg_rules.proofs.RowLaws.{rows_equal, rows-put, rows-skip}
 use Rattle.lg_rules.proofs.Tables.{Taken, Kept, Out, heard_cases}
-use Rattle.lg_gossip.specs.Queue.{fresh, queued_name, sent_once}
+use Rattle.lg_gossip.specs.Meaning.Queue.{fresh, queued_name, sent_once}
 use Rattle.lg_timers.specs.declared.timer.Timer.{Timer}
-use Rattle.lg_detector.specs.Marks.{Log, Came, Opened, Said, Sent, Fired, config, lambda_in, me, said, own, table, known}
-use Rattle.lg_detector.specs.Suspicions.{suspicions}
-use Rattle.lg_detector.specs.Gossip.{put_of_own, put_of_other, put_by, queued, queue_rows, queue}
-use Rattle.lg_detector.specs.State.{put_in}
+use Rattle.lg_detector.specs.Meaning.Marks.{Log, Came, Opened, Said, Sent, Fired, config, lambda_in, me, said, own, table, known}
+use Rattle.lg_detector.specs.Meaning.Suspicions.{suspicions}
+use Rattle.lg_detector.specs.Meaning.Gossip.{put_of_own, put_of_other, put_by, queued, queue_rows, queue}
+use Rattle.lg_detector.specs.Support.State.{put_in}
 use Rattle.lg_detector.proofs.KnownLaws.{rises-known, known-own, known-taken, known-passed}
 use Rattle.lg_detector.proofs.QueuedLaws.{queued-sent, put_by-own, put_by-other, put_by-grows, queued_keyed, queued_unknown, queued-put, queued-put_other, queued-no_put}
 

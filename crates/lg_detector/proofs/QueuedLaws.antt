@@ -2,26 +2,26 @@
 use Rattle.std.proofs.Common.{◌≡◌, ◌≢◌, ℕ, ◌+◌, Bool, true, false, ◌||◌, cond, map, List, [], ◌∷◌, Option, Some, None, inl, inr, refl, sym, ◌∙◌, ap}
 use Rattle.std.specs.Prelude.{option_map}
 use Rattle.std.proofs.lemmas.Bool.{cases_Bool}
-use Rattle.lg_rules.specs.Claim.{name_of}
+use Rattle.lg_rules.specs.Meaning.Claim.{name_of}
 use Rattle.lg_rules.specs.declared.claim.Claim.{Claim}
 use Rattle.lg_rules.specs.declared.own.OwnHeard.{OwnHeard}
 use Rattle.lg_rules.specs.declared.own.OwnHeard.TheVariants.{Refuted, Raised, Ousted, Ignored}
-use Rattle.lg_rules.specs.Own.{Oneself, own_answer, answered, own_heard, own_record}
-use Rattle.lg_rules.specs.Rows.{name_cmp, is_same, is_among, put_key, row_at}
-use Rattle.lg_rules.specs.Table.{takes, roster}
+use Rattle.lg_rules.specs.Meaning.Own.{Oneself, own_answer, answered, own_heard, own_record}
+use Rattle.lg_rules.specs.Meaning.Rows.{name_cmp, is_same, is_among, put_key, row_at}
+use Rattle.lg_rules.specs.Meaning.Table.{takes, roster}
 use Rattle.lg_rules.proofs.Cases.{Missing, Holding, held, held_once}
 use Rattle.lg_rules.proofs.KeyOrder.{names_order, cases_key, same_key, other_key, key_is}
 use Rattle.lg_rules.proofs.OwnLaws.{own_of_name}
 use Rattle.lg_rules.proofs.Rises.{among-put_same, put-there}
 use Rattle.lg_rules.proofs.RowLaws.{Keyed, AgreeBut}
 use Rattle.lg_rules.proofs.Tables.{Taken, Kept, Out, heard_cases, row_at-table}
-use Rattle.lg_rules.specs.Table.{record_of}
+use Rattle.lg_rules.specs.Meaning.Table.{record_of}
 use Rattle.lg_gossip.specs.declared.queued.Queued.{Queued}
-use Rattle.lg_gossip.specs.Queue.{fresh, queued_name, sent_once}
+use Rattle.lg_gossip.specs.Meaning.Queue.{fresh, queued_name, sent_once}
 use Rattle.lg_detector.specs.declared.suspected.Suspected.{Suspected}
-use Rattle.lg_detector.specs.Marks.{Log, Came, Opened, Said, Sent, Fired, me, said, own, table, known}
-use Rattle.lg_detector.specs.Suspicions.{suspicions, confirms}
-use Rattle.lg_detector.specs.Gossip.{put_of_own, put_of_other, put_by, put_or, put_last, sends, queued}
+use Rattle.lg_detector.specs.Meaning.Marks.{Log, Came, Opened, Said, Sent, Fired, me, said, own, table, known}
+use Rattle.lg_detector.specs.Meaning.Suspicions.{suspicions, confirms}
+use Rattle.lg_detector.specs.Meaning.Gossip.{put_of_own, put_of_other, put_by, put_or, put_last, sends, queued}
 use Rattle.lg_detector.proofs.KnownLaws.{rises-known, own_known, known-own, known-taken, known-passed, known-grows, roster_known}
 
 -- What a claim puts into the queue, about oneself or another.

@@ -2,12 +2,12 @@
 use Rattle.std.proofs.Common.{◌≡◌, ℕ, Bool, true, false, cond, List, ◌∷◌, refl, sym, ◌∙◌, ap, subst}
 use Rattle.lg_rules.specs.declared.claim.Claim.{Claim}
 use Rattle.lg_timing.specs.declared.config.Config.{Config}
-use Rattle.lg_timing.specs.Config.{IsChecked}
+use Rattle.lg_timing.specs.Meaning.Config.{IsChecked}
 use Rattle.lg_timers.specs.declared.timer.Timer.{Timer}
-use Rattle.lg_detector.specs.Marks.{Came, Opened, Said, Sent, Fired}
-use Rattle.lg_detector.specs.Timing.{is_round_start}
-use Rattle.lg_detector.specs.State.{State, come, open_with, tell, send, start_round, fire}
-use Rattle.lg_detector.specs.Reached.{IsGood, IsReached}
+use Rattle.lg_detector.specs.Meaning.Marks.{Came, Opened, Said, Sent, Fired}
+use Rattle.lg_detector.specs.Meaning.Timing.{is_round_start}
+use Rattle.lg_detector.specs.Support.State.{State, come, open_with, tell, send, start_round, fire}
+use Rattle.lg_detector.specs.Support.Reached.{IsGood, IsReached}
 use Rattle.lg_detector.proofs.MarkLaws.{come-state, open-state, tell-state, send-state, fire-state}
 use Rattle.lg_detector.proofs.Differing.{config-tell}
 

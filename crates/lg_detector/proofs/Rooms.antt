@@ -1,23 +1,23 @@
 -- In a state that some log has, each claim can be said.
 use Rattle.std.proofs.Common.{◌≡◌, ◌≢◌, ℕ, ◌<◌, ◌≤◌, Bool, true, false, cond, List, ◌∷◌, length, Option, Some, None, refl, sym, ◌∙◌, ap, subst, arith}
 use Rattle.lg_rules.specs.declared.claim.Claim.{Claim}
-use Rattle.lg_rules.specs.Rows.{name_cmp, is_same, row_at}
+use Rattle.lg_rules.specs.Meaning.Rows.{name_cmp, is_same, row_at}
 use Rattle.lg_rules.proofs.KeyOrder.{names_order}
-use Rattle.lg_rules.specs.Own.{own_answer, own_heard}
+use Rattle.lg_rules.specs.Meaning.Own.{own_answer, own_heard}
 use Rattle.lg_rules.proofs.RowLaws.{rows_room}
-use Rattle.lg_rules.specs.Claim.{name_of}
-use Rattle.lg_rules.specs.Table.{record_of, takes}
+use Rattle.lg_rules.specs.Meaning.Claim.{name_of}
+use Rattle.lg_rules.specs.Meaning.Table.{record_of, takes}
 use Rattle.lg_rules.proofs.Views.{rises-table}
 use Rattle.lg_rules.proofs.Tables.{Taken, Kept, Out, heard_cases, row_at-table, length_table-le}
 use Rattle.lg_rules.proofs.Roster.{own_unknown}
-use Rattle.lg_gossip.specs.Queue.{queued_name}
-use Rattle.lg_detector.specs.Marks.{Log, Said, me, said, own, table, known, config}
-use Rattle.lg_detector.specs.Suspicions.{suspicions, suspected_name}
-use Rattle.lg_detector.specs.Gossip.{put_of_own, put_of_other, put_by, queued, queue_rows, queue}
-use Rattle.lg_detector.specs.Timing.{round_start, pending}
-use Rattle.lg_detector.specs.Reached.{IsGood}
-use Rattle.lg_detector.specs.State.{state_of, put_told}
-use Rattle.lg_detector.specs.Room.{HasPlace, HasRoom, IsOrdered}
+use Rattle.lg_gossip.specs.Meaning.Queue.{queued_name}
+use Rattle.lg_detector.specs.Meaning.Marks.{Log, Said, me, said, own, table, known, config}
+use Rattle.lg_detector.specs.Meaning.Suspicions.{suspicions, suspected_name}
+use Rattle.lg_detector.specs.Meaning.Gossip.{put_of_own, put_of_other, put_by, queued, queue_rows, queue}
+use Rattle.lg_detector.specs.Meaning.Timing.{round_start, pending}
+use Rattle.lg_detector.specs.Support.Reached.{IsGood}
+use Rattle.lg_detector.specs.Support.State.{state_of, put_told}
+use Rattle.lg_detector.specs.Support.Room.{HasPlace, HasRoom, IsOrdered}
 use Rattle.lg_detector.proofs.MarkLaws.{own_name}
 use Rattle.lg_detector.proofs.KnownLaws.{rises-known, length-known}
 use Rattle.lg_detector.proofs.SuspicionLaws.{seat_of, length-suspicions}

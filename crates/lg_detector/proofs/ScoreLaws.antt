@@ -4,12 +4,12 @@ use Rattle.std.specs.Prelude.{ℤ, List}
 use Rattle.lg_rules.specs.declared.claim.Claim.{Claim}
 use Rattle.lg_rules.specs.declared.own.OwnHeard.{OwnHeard}
 use Rattle.lg_rules.specs.declared.own.OwnHeard.TheVariants.{Refuted, Raised, Ousted, Ignored}
-use Rattle.lg_rules.specs.Own.{own_answer}
+use Rattle.lg_rules.specs.Meaning.Own.{own_answer}
 use Rattle.lg_rules.proofs.KeyOrder.{names_order, same_key, other_key}
-use Rattle.lg_timing.specs.Score.{ScoreValue, score_of}
-use Rattle.lg_detector.specs.Marks.{Log, Said, config, me, own}
-use Rattle.lg_detector.specs.Timing.{mark_of, mark_by, earned, max_in, score}
-use Rattle.lg_detector.specs.State.{marked_by}
+use Rattle.lg_timing.specs.Meaning.Score.{ScoreValue, score_of}
+use Rattle.lg_detector.specs.Meaning.Marks.{Log, Said, config, me, own}
+use Rattle.lg_detector.specs.Meaning.Timing.{mark_of, mark_by, earned, max_in, score}
+use Rattle.lg_detector.specs.Support.State.{marked_by}
 
 earned-own : (log : Log) (c : Claim) → c.name ≡ me log → mark_by log c (earned log) ≡ mark_of (own_answer c.status c.incarnation (own log).number) (earned log)
 unfolding mark_by

@@ -4,13 +4,13 @@ use Rattle.std.proofs.Common.{[], inl, inr}
 use Rattle.std.specs.Prelude.{filter, is_some}
 use Rattle.std.proofs.lemmas.Bool.{cases_Bool}
 use Rattle.lg_rules.specs.declared.claim.Claim.{Claim}
-use Rattle.lg_rules.specs.Claim.{name_of}
-use Rattle.lg_rules.specs.Own.{Oneself, own_record}
-use Rattle.lg_rules.specs.Rows.{name_cmp, is_same, is_among, put_row, row_at, Rises}
+use Rattle.lg_rules.specs.Meaning.Claim.{name_of}
+use Rattle.lg_rules.specs.Meaning.Own.{Oneself, own_record}
+use Rattle.lg_rules.specs.Meaning.Rows.{name_cmp, is_same, is_among, put_row, row_at, Rises}
 use Rattle.lg_rules.proofs.KeyOrder.{names_order}
 use Rattle.lg_rules.proofs.RowLaws.{row_at-put}
 use Rattle.lg_timing.specs.declared.config.Config.{Config}
-use Rattle.lg_detector.specs.Marks.{view_in}
+use Rattle.lg_detector.specs.Meaning.Marks.{view_in}
 use Rattle.lg_detector.proofs.ShownRows.{filter-put, length-put_new, length_put_row-ge}
 
 -- after the opening oneself is shown among the others

@@ -4,7 +4,7 @@ use Rattle.std.specs.Prelude.{filter}
 use Rattle.std.specs.declared.cmp.Ordering.{Ordering}
 use Rattle.std.specs.declared.cmp.Ordering.TheVariants.{Greater}
 use Rattle.std.proofs.lemmas.Bool.{cases_Bool}
-use Rattle.lg_rules.specs.Rows.{put_row, row_at, AreAbove, Rises}
+use Rattle.lg_rules.specs.Meaning.Rows.{put_row, row_at, AreAbove, Rises}
 use Rattle.lg_rules.proofs.Cases.{Below, Tied, Above, compared}
 use Rattle.lg_rules.proofs.KeyOrder.{IsKeyOrder}
 use Rattle.lg_rules.proofs.Rises.{above_lower}

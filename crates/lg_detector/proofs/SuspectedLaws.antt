@@ -2,22 +2,22 @@
 use Rattle.std.proofs.Common.{◌≡◌, ◌≢◌, ℕ, Bool, true, false, cond, List, [], ◌∷◌, Option, Some, None, inl, inr, refl, sym, ◌∙◌, ap}
 use Rattle.lg_rules.specs.declared.claim.Claim.{Claim}
 use Rattle.lg_rules.specs.declared.claim.Status.TheVariants.{Suspect}
-use Rattle.lg_rules.specs.Beats.{beats_of}
-use Rattle.lg_rules.specs.Past.{or_else}
-use Rattle.lg_rules.specs.Table.{record_of}
+use Rattle.lg_rules.specs.Meaning.Beats.{beats_of}
+use Rattle.lg_rules.specs.Meaning.Past.{or_else}
+use Rattle.lg_rules.specs.Meaning.Table.{record_of}
 use Rattle.lg_rules.proofs.Cases.{Missing, Holding, held, held_once}
 use Rattle.lg_rules.proofs.KeyOrder.{names_order, same_key}
 use Rattle.lg_rules.proofs.RowLaws.{Keyed}
 use Rattle.lg_rules.proofs.Tables.{record_of-other}
 use Rattle.lg_timing.specs.declared.config.Config.{Config}
-use Rattle.lg_timing.specs.Timeouts.{range_of}
-use Rattle.lg_suspicion.specs.Accusers.{suspicion_after, accused}
+use Rattle.lg_timing.specs.Meaning.Timeouts.{range_of}
+use Rattle.lg_suspicion.specs.Meaning.Accusers.{suspicion_after, accused}
 use Rattle.lg_suspicion.proofs.AccuserLaws.{kept-one, accused-after}
 use Rattle.std.proofs.lemmas.Bool.{cases_Bool, eq-eqb}
-use Rattle.lg_gossip.specs.Queue.{is_suspect}
+use Rattle.lg_gossip.specs.Meaning.Queue.{is_suspect}
 use Rattle.lg_detector.specs.declared.suspected.Suspected.{Suspected}
-use Rattle.lg_detector.specs.Marks.{Log, Said, moment, config, said, members}
-use Rattle.lg_detector.specs.Suspicions.{accuses, accusers_in, raise_of, suspicion_since, suspected_by, suspected_in, suspected, suspected_name}
+use Rattle.lg_detector.specs.Meaning.Marks.{Log, Said, moment, config, said, members}
+use Rattle.lg_detector.specs.Meaning.Suspicions.{accuses, accusers_in, raise_of, suspicion_since, suspected_by, suspected_in, suspected, suspected_name}
 use Rattle.lg_detector.proofs.AccusedLaws.{accuses-other, none_accuse, none_raises, one_raises, record_accused, not_accused}
 
 -- Where two logs were opened alike, and tell the same of a member, it is suspected alike.

@@ -7,9 +7,9 @@ use Rattle.lg_rules.specs.declared.claim.Status.{Status}
 use Rattle.lg_rules.specs.declared.claim.Status.TheVariants.{Alive, Suspect, Failed}
 use Rattle.lg_rules.specs.declared.members.Heard.{Heard}
 use Rattle.lg_rules.specs.declared.members.Heard.TheVariants.{Overrode, Accused, Same, Ignored, NoRoom}
-use Rattle.lg_rules.specs.Claim.{accuser_of}
-use Rattle.lg_rules.specs.Rows.{name_cmp, is_same, is_among, put_key, put_row, row_at, without_row, Rises}
-use Rattle.lg_rules.specs.Table.{roster, record_of, takes, kept_answer, answer_of, heard, members_in}
+use Rattle.lg_rules.specs.Meaning.Claim.{accuser_of}
+use Rattle.lg_rules.specs.Meaning.Rows.{name_cmp, is_same, is_among, put_key, put_row, row_at, without_row, Rises}
+use Rattle.lg_rules.specs.Meaning.Table.{roster, record_of, takes, kept_answer, answer_of, heard, members_in}
 use Rattle.lg_rules.proofs.Cases.{Missing, Holding, held, held_once}
 use Rattle.lg_rules.proofs.KeyOrder.{names_order, cases_key}
 use Rattle.lg_rules.proofs.Rises.{put-there}
@@ -18,12 +18,12 @@ use Rattle.lg_rules.proofs.RowLaws.{AgreeBut, rows_equal, rows_same, rows-skip, 
 use Rattle.lg_rules.proofs.Tables.{IsTaken, IsKept, Taken, Kept, Out, heard_cases, heard-table, row_at-table}
 use Rattle.lg_timing.specs.declared.config.Config.{Config}
 use Rattle.lg_timers.specs.declared.timer.Timer.{Timer}
-use Rattle.lg_suspicion.specs.Accusers.{SuspicionValue, counts, accused}
-use Rattle.lg_gossip.specs.Queue.{is_suspect}
+use Rattle.lg_suspicion.specs.Meaning.Accusers.{SuspicionValue, counts, accused}
+use Rattle.lg_gossip.specs.Meaning.Queue.{is_suspect}
 use Rattle.lg_detector.specs.declared.suspected.Suspected.{Suspected}
-use Rattle.lg_detector.specs.Marks.{Log, Came, Opened, Said, Sent, Fired, moment, config, me, said, table, members}
-use Rattle.lg_detector.specs.Suspicions.{suspected, suspicions, suspected_name, accuses}
-use Rattle.lg_detector.specs.Changes.{Change, Stays, Stands, accusing, overriding, change_by, change_of, suspicions_after}
+use Rattle.lg_detector.specs.Meaning.Marks.{Log, Came, Opened, Said, Sent, Fired, moment, config, me, said, table, members}
+use Rattle.lg_detector.specs.Meaning.Suspicions.{suspected, suspicions, suspected_name, accuses}
+use Rattle.lg_detector.specs.Support.Changes.{Change, Stays, Stands, accusing, overriding, change_by, change_of, suspicions_after}
 use Rattle.lg_detector.proofs.QueueLaws.{none_rows}
 use Rattle.lg_detector.proofs.QueuedLaws.{row_out}
 use Rattle.lg_detector.proofs.SuspectedLaws.{suspected-alike, suspected-quiet, suspected-other, suspected-unopened, suspected-ended, suspected-raised, raised_at, suspected-accused, suspected_keyed}

@@ -1,11 +1,11 @@
 -- What a tick changes of the records.
 use Rattle.std.proofs.Common.{◌≡◌, ℕ, Bool, true, false, cond, List, Option, Some, None, refl, ◌∙◌, ap}
 use Rattle.lg_rules.specs.declared.claim.Claim.{Claim}
-use Rattle.lg_rules.specs.View.{changed}
+use Rattle.lg_rules.specs.Meaning.View.{changed}
 use Rattle.lg_timers.specs.declared.timer.Timer.{Timer}
-use Rattle.lg_detector.specs.Timing.{is_round_start}
-use Rattle.lg_detector.specs.State.{State, come, tell_all, start_round, fire}
-use Rattle.lg_detector.specs.Answers.{shown_of, due_in, claims_of, fire_due, tick}
+use Rattle.lg_detector.specs.Meaning.Timing.{is_round_start}
+use Rattle.lg_detector.specs.Support.State.{State, come, tell_all, start_round, fire}
+use Rattle.lg_detector.specs.Support.Answers.{shown_of, due_in, claims_of, fire_due, tick}
 
 shown-fire : (timer : Timer) (s : State) → shown_of (fire timer s) ≡ shown_of s
 unfolding fire

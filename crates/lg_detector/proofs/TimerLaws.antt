@@ -1,13 +1,13 @@
 -- The timers that are set, when suspicions change.
 use Rattle.std.proofs.Common.{◌≡◌, ℕ, suc, ◌≤◌, List, [], ◌∷◌, length, map, Option, Some, None, refl, sym, ◌∙◌, ap, arith}
-use Rattle.lg_rules.specs.Rows.{name_cmp, Rises}
+use Rattle.lg_rules.specs.Meaning.Rows.{name_cmp, Rises}
 use Rattle.lg_timers.specs.declared.timer.TimerId.TheVariants.{RoundStart}
-use Rattle.lg_timers.specs.Timers.{with_timer, without_timer, in_turn}
+use Rattle.lg_timers.specs.Meaning.Timers.{with_timer, without_timer, in_turn}
 use Rattle.lg_timers.proofs.Pending.{NoSuspicion, no_suspicion-nil, no_suspicion-start, rows-not_start, without-in_turn, without-none, firsts-without, firsts-put, pending-first, length_in_turn-le}
 use Rattle.lg_detector.specs.declared.suspected.Suspected.{Suspected}
-use Rattle.lg_detector.specs.Suspicions.{suspected_name}
-use Rattle.lg_detector.specs.Timing.{start_timer, suspicion_timer, start_timers, pending_of}
-use Rattle.lg_detector.specs.Changes.{Change, Stays, Ends, Stands, suspicions_after, timers_after}
+use Rattle.lg_detector.specs.Meaning.Suspicions.{suspected_name}
+use Rattle.lg_detector.specs.Meaning.Timing.{start_timer, suspicion_timer, start_timers, pending_of}
+use Rattle.lg_detector.specs.Support.Changes.{Change, Stays, Ends, Stands, suspicions_after, timers_after}
 
 no_suspicion : (start : Option ℕ) → NoSuspicion (start_timers start)
 no_suspicion None = no_suspicion-nil

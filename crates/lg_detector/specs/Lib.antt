@@ -1,12 +1,2 @@
-pub mod Marks
-pub mod Suspicions
-pub mod Gossip
-pub mod Timing
-pub mod Changes
-pub mod State
-pub mod Events
-pub mod Answers
-pub mod Reached
-pub mod Room
-pub mod Kept
-pub mod Examples
+pub mod Meaning
+pub mod Support

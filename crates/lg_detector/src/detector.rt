@@ -1,7 +1,7 @@
 //! The detector.
 ghost use Rattle.std.specs.Prelude.{◌≡◌, ◌++◌, [], ◌∷◌, List, IfOk, IsTrue, true, false};
-ghost use Rattle.lg_detector.specs.Events.{is_accepted, is_open, opens_well};
-ghost use Rattle.lg_detector.specs.Answers.{accepts_of, next, out, react, state_after, answer_after, fired_out, sends_out, changed_out, answer_out};
+ghost use Rattle.lg_detector.specs.Meaning.Events.{is_accepted, is_open, opens_well};
+ghost use Rattle.lg_detector.specs.Support.Answers.{accepts_of, next, out, react, state_after, answer_after, fired_out, sends_out, changed_out, answer_out};
 ghost use Rattle.lg_detector.specs.declared.event.Event.{Event as Happened};
 
 use crate::event::Event;
@@ -29,9 +29,9 @@ pub struct Detector {
 }
 
 impl Model for Detector {
-    ghost use Rattle.lg_detector.specs.State.{State};
-    ghost use Rattle.lg_detector.specs.Reached.{IsReached};
-    ghost use Rattle.lg_detector.specs.Kept.{state_in};
+    ghost use Rattle.lg_detector.specs.Support.State.{State};
+    ghost use Rattle.lg_detector.specs.Support.Reached.{IsReached};
+    ghost use Rattle.lg_detector.specs.Support.Kept.{state_in};
 
     ghost Value = { State };
 

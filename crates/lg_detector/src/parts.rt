@@ -1,12 +1,12 @@
 //! What a detector keeps.
 ghost use Rattle.std.specs.Prelude.{◌≡◌, ◌&&◌, ◌||◌, not, Some, None, [], ◌∷◌, if◌then◌else◌};
-ghost use Rattle.lg_rules.specs.Rows.{name_cmp, is_same};
-ghost use Rattle.lg_rules.specs.View.{is_rise};
-ghost use Rattle.lg_detector.specs.Gossip.{put_of_own};
-ghost use Rattle.lg_detector.specs.Timing.{is_round_start};
-ghost use Rattle.lg_detector.specs.Events.{failed_of};
-ghost use Rattle.lg_detector.specs.Room.{HasPlace};
-ghost use Rattle.lg_detector.specs.State.{put_in, marked_by};
+ghost use Rattle.lg_rules.specs.Meaning.Rows.{name_cmp, is_same};
+ghost use Rattle.lg_rules.specs.Meaning.View.{is_rise};
+ghost use Rattle.lg_detector.specs.Meaning.Gossip.{put_of_own};
+ghost use Rattle.lg_detector.specs.Meaning.Timing.{is_round_start};
+ghost use Rattle.lg_detector.specs.Meaning.Events.{failed_of};
+ghost use Rattle.lg_detector.specs.Support.Room.{HasPlace};
+ghost use Rattle.lg_detector.specs.Support.State.{put_in, marked_by};
 
 use crate::suspicions::Suspicions;
 use arrayvec::ArrayVec;
@@ -113,21 +113,21 @@ fn put_of_other(seed: bool, taken: bool, confirmed: bool, claim: &Claim) -> Opti
 
 impl Parts {
     ghost use Rattle.std.specs.Prelude.{◌≡◌, ◌≢◌, ◌<◌, ◌≤◌, ◌||◌, [], None, length, true, false};
-    ghost use Rattle.lg_rules.specs.Own.{own_answer, own_heard};
-    ghost use Rattle.lg_rules.specs.Table.{takes, members_in};
-    ghost use Rattle.lg_rules.specs.View.{is_news, is_rise};
-    ghost use Rattle.lg_timing.specs.Config.{IsChecked};
-    ghost use Rattle.lg_gossip.specs.Queue.{taken_of, fill_of};
-    ghost use Rattle.lg_detector.specs.Kept.{state_in};
-    ghost use Rattle.lg_detector.specs.Gossip.{put_of_own, put_of_other};
+    ghost use Rattle.lg_rules.specs.Meaning.Own.{own_answer, own_heard};
+    ghost use Rattle.lg_rules.specs.Meaning.Table.{takes, members_in};
+    ghost use Rattle.lg_rules.specs.Meaning.View.{is_news, is_rise};
+    ghost use Rattle.lg_timing.specs.Meaning.Config.{IsChecked};
+    ghost use Rattle.lg_gossip.specs.Meaning.Queue.{taken_of, fill_of};
+    ghost use Rattle.lg_detector.specs.Support.Kept.{state_in};
+    ghost use Rattle.lg_detector.specs.Meaning.Gossip.{put_of_own, put_of_other};
     ghost use Rattle.lg_timers.specs.declared.timer.TimerId.TheVariants.{RoundStart};
-    ghost use Rattle.lg_timers.specs.Timers.{is_set, with_timer};
-    ghost use Rattle.lg_detector.specs.Timing.{period_in, start_timer};
-    ghost use Rattle.lg_detector.specs.Events.{fired_claims};
-    ghost use Rattle.lg_detector.specs.Reached.{IsGood};
-    ghost use Rattle.lg_detector.specs.Room.{HasPlace, HasSeat, HasRoom};
-    ghost use Rattle.lg_detector.specs.State.{state_of, come, open_with, tell, tell_own, tell_other, send, start_round, fire, membership};
-    ghost use Rattle.lg_detector.specs.Answers.{due_in};
+    ghost use Rattle.lg_timers.specs.Meaning.Timers.{is_set, with_timer};
+    ghost use Rattle.lg_detector.specs.Meaning.Timing.{period_in, start_timer};
+    ghost use Rattle.lg_detector.specs.Meaning.Events.{fired_claims};
+    ghost use Rattle.lg_detector.specs.Support.Reached.{IsGood};
+    ghost use Rattle.lg_detector.specs.Support.Room.{HasPlace, HasSeat, HasRoom};
+    ghost use Rattle.lg_detector.specs.Support.State.{state_of, come, open_with, tell, tell_own, tell_other, send, start_round, fire, membership};
+    ghost use Rattle.lg_detector.specs.Support.Answers.{due_in};
 
     /// What is kept before anything happened.
     pub fn new() -> Parts
@@ -173,7 +173,7 @@ impl Parts {
     }
 
     /// A claim is said, by the opening or not. Answers whether it makes or replaces a record, or raises the own number.
-    #[tactic(auto, unfolding(crate::specs::State::tell, lg_rules::specs::View::is_news))]
+    #[tactic(auto, unfolding(crate::specs::Support::State::tell, lg_rules::specs::Meaning::View::is_news))]
     pub fn tell(&mut self, seed: bool, claim: &Claim) -> bool
         requires { HasRoom seed claim.now (state_in self.old) }
         ensures state { state_in self.new ≡ tell seed claim.now (state_in self.old) }
@@ -267,7 +267,7 @@ impl Parts {
     }
 
     /// A timer fires. What it says is said by the caller.
-    #[tactic(auto, unfolding(crate::specs::State::fire))]
+    #[tactic(auto, unfolding(crate::specs::Support::State::fire))]
     pub fn fire(&mut self, timer: &Timer)
         requires few { length self.old.timers < 400 }
         requires good { IsGood self.old.config }

@@ -1,12 +1,12 @@
 //! What a detector shows of the members.
 ghost use Rattle.std.specs.Prelude.{◌≡◌, ◌<◌, ◌≤◌, length, filter, None, []};
-ghost use Rattle.lg_rules.specs.Claim.{name_of};
-ghost use Rattle.lg_rules.specs.Rows.{name_cmp, is_same, is_among, put_row, row_at};
-ghost use Rattle.lg_rules.specs.View.{view};
-ghost use Rattle.lg_detector.specs.Answers.{shown_of};
-ghost use Rattle.lg_detector.specs.Kept.{state_in};
-ghost use Rattle.lg_detector.specs.Room.{IsOrdered};
-ghost use Rattle.lg_detector.specs.State.{membership};
+ghost use Rattle.lg_rules.specs.Meaning.Claim.{name_of};
+ghost use Rattle.lg_rules.specs.Meaning.Rows.{name_cmp, is_same, is_among, put_row, row_at};
+ghost use Rattle.lg_rules.specs.Meaning.View.{view};
+ghost use Rattle.lg_detector.specs.Support.Answers.{shown_of};
+ghost use Rattle.lg_detector.specs.Support.Kept.{state_in};
+ghost use Rattle.lg_detector.specs.Support.Room.{IsOrdered};
+ghost use Rattle.lg_detector.specs.Support.State.{membership};
 ghost use Rattle.arrayvec.specs.ArrayVec.{array_vec_len};
 
 use crate::parts::{Parts, is_same_name};

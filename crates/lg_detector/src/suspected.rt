@@ -15,7 +15,7 @@ pub struct Suspected {
 
 /// Suspicions are kept in the order of the members' names.
 impl Keyed for Suspected {
-    ghost use Rattle.lg_detector.specs.Suspicions.{suspected_name};
+    ghost use Rattle.lg_detector.specs.Meaning.Suspicions.{suspected_name};
 
     ghost key_of = { suspected_name };
 

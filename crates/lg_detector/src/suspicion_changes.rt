@@ -1,8 +1,8 @@
 //! What claims about others change of the suspicions.
 ghost use Rattle.std.specs.Prelude.{◌≡◌, ◌≢◌, ◌<◌, ◌&&◌, length, true, Some};
-ghost use Rattle.lg_rules.specs.Claim.{accuser_of};
-ghost use Rattle.lg_rules.specs.Rows.{name_cmp, row_at};
-ghost use Rattle.lg_rules.specs.Table.{members_in};
+ghost use Rattle.lg_rules.specs.Meaning.Claim.{accuser_of};
+ghost use Rattle.lg_rules.specs.Meaning.Rows.{name_cmp, row_at};
+ghost use Rattle.lg_rules.specs.Meaning.Table.{members_in};
 ghost use Rattle.lg_rules.specs.declared.members.Heard.TheVariants.{Overrode};
 
 use crate::parts::Parts;
@@ -12,12 +12,12 @@ use lg_rules::{Claim, Heard, Name, Status};
 use lg_suspicion::Suspicion;
 
 impl Parts {
-    ghost use Rattle.lg_detector.specs.Suspicions.{is_accusation, counts_in, suspected_name};
-    ghost use Rattle.lg_detector.specs.Changes.{change_by, raised, overriding, accusing};
-    ghost use Rattle.lg_detector.specs.Kept.{state_in};
-    ghost use Rattle.lg_detector.specs.Reached.{IsGood};
-    ghost use Rattle.lg_detector.specs.Room.{HasSeat};
-    ghost use Rattle.lg_detector.specs.State.{with_change};
+    ghost use Rattle.lg_detector.specs.Meaning.Suspicions.{is_accusation, counts_in, suspected_name};
+    ghost use Rattle.lg_detector.specs.Support.Changes.{change_by, raised, overriding, accusing};
+    ghost use Rattle.lg_detector.specs.Support.Kept.{state_in};
+    ghost use Rattle.lg_detector.specs.Support.Reached.{IsGood};
+    ghost use Rattle.lg_detector.specs.Support.Room.{HasSeat};
+    ghost use Rattle.lg_detector.specs.Support.State.{with_change};
 
     /// A member is suspected, after the opening.
     fn raise(&mut self, name: &Name, accuser: &Name)

@@ -2,13 +2,13 @@
 ghost use Rattle.std.specs.Prelude.{◌≡◌, ◌<◌, ◌≤◌, Bool, Option, Some, None, length, IsTrue};
 ghost use Rattle.std.specs.List.{list_any};
 ghost use Rattle.arrayvec.specs.ArrayVec.{array_vec_len};
-ghost use Rattle.lg_rules.specs.Rows.{name_cmp, is_same, row_at, without_row};
-ghost use Rattle.lg_timing.specs.Config.{IsChecked};
+ghost use Rattle.lg_rules.specs.Meaning.Rows.{name_cmp, is_same, row_at, without_row};
+ghost use Rattle.lg_timing.specs.Meaning.Config.{IsChecked};
 ghost use Rattle.lg_timers.specs.declared.timer.TimerId.TheVariants.{Suspicion as SuspicionOf};
-ghost use Rattle.lg_timers.specs.Timers.{with_timer, without_timer};
-ghost use Rattle.lg_detector.specs.Suspicions.{suspected_name, counts_in};
-ghost use Rattle.lg_detector.specs.Timing.{suspicion_timer};
-ghost use Rattle.lg_detector.specs.Changes.{Stands, accusing, suspicions_after, timers_after};
+ghost use Rattle.lg_timers.specs.Meaning.Timers.{with_timer, without_timer};
+ghost use Rattle.lg_detector.specs.Meaning.Suspicions.{suspected_name, counts_in};
+ghost use Rattle.lg_detector.specs.Meaning.Timing.{suspicion_timer};
+ghost use Rattle.lg_detector.specs.Support.Changes.{Stands, accusing, suspicions_after, timers_after};
 
 use crate::parts::is_same_name;
 use crate::suspected::Suspected;

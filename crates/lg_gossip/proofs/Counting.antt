@@ -5,11 +5,11 @@ use Rattle.std.specs.List.{list_any}
 use Rattle.std.specs.Cmp.Lexicographic.{pointwise}
 use Rattle.std.proofs.lemmas.List.Edits.{map_over_more}
 use Rattle.lg_rules.specs.declared.claim.Claim.{Claim}
-use Rattle.lg_rules.specs.Claim.{name_of}
-use Rattle.lg_rules.specs.Rows.{name_cmp, is_among}
+use Rattle.lg_rules.specs.Meaning.Claim.{name_of}
+use Rattle.lg_rules.specs.Meaning.Rows.{name_cmp, is_among}
 use Rattle.lg_rules.proofs.KeyOrder.{names_eq}
 use Rattle.lg_gossip.specs.declared.queued.Queued.{Queued}
-use Rattle.lg_gossip.specs.Queue.{queued_claim, sent_once}
+use Rattle.lg_gossip.specs.Meaning.Queue.{queued_claim, sent_once}
 
 -- the names of the claims of some rows
 pub holds_among : (n : List ℕ) (rows : List Queued) → list_any (λ r. pointwise nat_eq r.claim.name n) rows ≡ is_among name_cmp n (map name_of (map queued_claim rows))

@@ -1,7 +1,7 @@
 -- How many decimal digits a number has.
 use Rattle.std.proofs.Common.{◌≡◌, ℕ, ◌+◌, ◌/◌, ◌%◌, ◌^◌, ◌<◌, ◌≤◌, [], ◌∷◌, length, decimal, ◌∙◌, ap, arith, length-append}
 use Rattle.std.proofs.lemmas.Fmt.{decimal_digit, decimal_step, length-decimal-le}
-use Rattle.lg_gossip.specs.Queue.{decimal_digits}
+use Rattle.lg_gossip.specs.Meaning.Queue.{decimal_digits}
 
 pub one_digit : (n : ℕ) → n < 10 → decimal_digits n ≡ 1
 one_digit n small = ap length (decimal_digit n small)

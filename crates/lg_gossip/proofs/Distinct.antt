@@ -5,13 +5,13 @@ use Rattle.std.specs.Option.{option_to_list}
 use Rattle.std.specs.List.{AllByRecursion, IsDistinct}
 use Rattle.std.proofs.lemmas.Bool.{cases_Bool, false≢true}
 use Rattle.lg_rules.specs.declared.claim.Claim.{Claim}
-use Rattle.lg_rules.specs.Claim.{name_of}
-use Rattle.lg_rules.specs.Rows.{name_cmp, is_same, AreAbove}
+use Rattle.lg_rules.specs.Meaning.Claim.{name_of}
+use Rattle.lg_rules.specs.Meaning.Rows.{name_cmp, is_same, AreAbove}
 use Rattle.lg_rules.proofs.KeyOrder.{names_order, other_key, same_back, less_apart}
 use Rattle.lg_rules.proofs.Tests.{both}
 use Rattle.lg_gossip.specs.declared.queued.Queued.{Queued}
-use Rattle.lg_gossip.specs.Queue.{queued_name, queued_claim, is_sooner, put_in_turn, in_turn, is_beside, may_go, room_beside, rows_taken}
-use Rattle.lg_gossip.specs.Sound.{AreInOrder}
+use Rattle.lg_gossip.specs.Meaning.Queue.{queued_name, queued_claim, is_sooner, put_in_turn, in_turn, is_beside, may_go, room_beside, rows_taken}
+use Rattle.lg_gossip.specs.Support.Sound.{AreInOrder}
 use Rattle.lg_gossip.proofs.Each.{all-put_in_turn, all-in_turn, all-take}
 use Rattle.lg_gossip.proofs.Taken.{IsTaken, are_taken, in_order-filter}
 

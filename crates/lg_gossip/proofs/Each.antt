@@ -4,7 +4,7 @@ use Rattle.std.specs.Prelude.{filter}
 use Rattle.std.specs.List.{AllByRecursion}
 use Rattle.std.proofs.lemmas.Bool.{cases_Bool}
 use Rattle.lg_gossip.specs.declared.queued.Queued.{Queued}
-use Rattle.lg_gossip.specs.Queue.{is_sooner, put_in_turn, in_turn}
+use Rattle.lg_gossip.specs.Meaning.Queue.{is_sooner, put_in_turn, in_turn}
 
 -- What holds of each of some rows holds of the one at a place,
 pub holds_at : (P : Queued → Type 0) (k : ℕ) (d : Queued) (rows : List Queued) → k < length rows → AllByRecursion P rows → P (get_or rows k d)

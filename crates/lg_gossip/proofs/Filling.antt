@@ -3,7 +3,7 @@ use Rattle.std.proofs.Common.{◌≡◌, ℕ, ◌++◌, List, map, Option, ◌�
 use Rattle.std.specs.Option.{option_to_list}
 use Rattle.lg_rules.specs.declared.claim.Claim.{Claim}
 use Rattle.lg_gossip.specs.declared.queued.Queued.{Queued}
-use Rattle.lg_gossip.specs.Queue.{GossipQueue, queued_claim, buddy_of, limit_of, rows_taken, taken_of, fill_of, sent_once, filled}
+use Rattle.lg_gossip.specs.Meaning.Queue.{GossipQueue, queued_claim, buddy_of, limit_of, rows_taken, taken_of, fill_of, sent_once, filled}
 
 -- what is chosen among the rows of a queue
 pub record IsChosen (queue : GossipQueue) (to : Option Claim) (n : ℕ) (buddy : Option Claim) (limit : ℕ) (taken : List Queued) : Type 0 where

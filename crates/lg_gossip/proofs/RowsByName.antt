@@ -6,15 +6,15 @@ use Rattle.std.specs.List.{AllByRecursion, IsDistinct}
 use Rattle.std.proofs.lemmas.Bool.{ltb-true}
 use Rattle.std.proofs.lemmas.List.{length-map, length-take}
 use Rattle.lg_rules.specs.declared.claim.Claim.{Claim}
-use Rattle.lg_rules.specs.Claim.{name_of}
-use Rattle.lg_rules.specs.Rows.{name_cmp, is_same, is_among, put_key, row_at, Rises}
+use Rattle.lg_rules.specs.Meaning.Claim.{name_of}
+use Rattle.lg_rules.specs.Meaning.Rows.{name_cmp, is_same, is_among, put_key, row_at, Rises}
 use Rattle.lg_rules.proofs.Cases.{Missing, Holding, held, held_once}
 use Rattle.lg_rules.proofs.KeyOrder.{names_order}
 use Rattle.lg_rules.proofs.RowLaws.{Keyed, AgreeBut, rows-put, rises-rows}
 use Rattle.lg_rules.proofs.Tests.{both}
 use Rattle.lg_gossip.specs.declared.queued.Queued.{Queued}
-use Rattle.lg_gossip.specs.Queue.{GossipQueue, queued_name, queued_claim, fresh, put_of, limit_of, buddy_of, room_beside, is_beside, rows_taken, taken_of, fill_of, sent_once, filled}
-use Rattle.lg_gossip.specs.Sound.{AreInOrder}
+use Rattle.lg_gossip.specs.Meaning.Queue.{GossipQueue, queued_name, queued_claim, fresh, put_of, limit_of, buddy_of, room_beside, is_beside, rows_taken, taken_of, fill_of, sent_once, filled}
+use Rattle.lg_gossip.specs.Support.Sound.{AreInOrder}
 use Rattle.lg_gossip.proofs.Distinct.{distinct-taken, distinct-packet}
 use Rattle.lg_gossip.proofs.Taken.{IsTaken, are_taken}
 

@@ -2,8 +2,8 @@
 use Rattle.std.proofs.Common.{◌≡◌, ℕ, true, Option, inl, inr, ◌*◌, ◌<◌, ◌≤◌, List, [], ◌∷◌, map, refl, sym, ap, subst, arith}
 use Rattle.std.specs.List.{AllByRecursion}
 use Rattle.lg_rules.specs.declared.claim.Claim.{Claim}
-use Rattle.lg_rules.specs.Claim.{name_of}
-use Rattle.lg_rules.specs.Rows.{name_cmp, is_among, put_row, put_key, Rises}
+use Rattle.lg_rules.specs.Meaning.Claim.{name_of}
+use Rattle.lg_rules.specs.Meaning.Rows.{name_cmp, is_among, put_row, put_key, Rises}
 use Rattle.lg_rules.proofs.Tests.{both}
 use Rattle.std.proofs.lemmas.Bool.{cases_Bool, ltb-true}
 use Rattle.std.specs.Prelude.{nat_lt}
@@ -11,10 +11,10 @@ use Rattle.lg_rules.proofs.Cases.{Below, Tied, Above, compared}
 use Rattle.lg_rules.proofs.KeyOrder.{names_order}
 use Rattle.lg_rules.proofs.Rises.{rises-put}
 use Rattle.lg_gossip.specs.declared.queued.Queued.{Queued}
-use Rattle.lg_gossip.specs.Queue.{queued_name, queued_claim, fresh, is_beside, may_go, rows_taken, sent_once}
+use Rattle.lg_gossip.specs.Meaning.Queue.{queued_name, queued_claim, fresh, is_beside, may_go, rows_taken, sent_once}
 use Rattle.lg_gossip.proofs.Each.{all-both}
 use Rattle.lg_gossip.proofs.Taken.{may_when_taken}
-use Rattle.lg_gossip.specs.Sound.{AreWithin, IsSound}
+use Rattle.lg_gossip.specs.Support.Sound.{AreWithin, IsSound}
 
 -- the names of rows with one put
 names-put : (r : Queued) (rows : List Queued) → map queued_name (put_row name_cmp queued_name r rows) ≡ put_key name_cmp (queued_name r) (map queued_name rows)

@@ -5,15 +5,15 @@ use Rattle.std.specs.List.{AllByRecursion}
 use Rattle.std.specs.declared.cmp.Ordering.TheVariants.{Less}
 use Rattle.std.proofs.lemmas.Bool.{cases_Bool, false≢true}
 use Rattle.lg_rules.specs.declared.claim.Claim.{Claim}
-use Rattle.lg_rules.specs.Claim.{name_of}
-use Rattle.lg_rules.specs.Rows.{name_cmp, is_among, row_at, AreAbove}
+use Rattle.lg_rules.specs.Meaning.Claim.{name_of}
+use Rattle.lg_rules.specs.Meaning.Rows.{name_cmp, is_among, row_at, AreAbove}
 use Rattle.lg_rules.proofs.KeyOrder.{names_order, tied, turned, cases_key}
 use Rattle.lg_rules.proofs.Cases.{held_once}
 use Rattle.lg_rules.proofs.Rises.{among-cons_other}
 use Rattle.lg_gossip.specs.declared.queued.Queued.{Queued}
-use Rattle.lg_gossip.specs.Queue.{queued_name, queued_claim, in_turn, may_go, room_beside, rows_taken}
+use Rattle.lg_gossip.specs.Meaning.Queue.{queued_name, queued_claim, in_turn, may_go, room_beside, rows_taken}
 use Rattle.lg_gossip.proofs.Each.{all-filter, all-in_turn, all-take, all-both, passed}
-use Rattle.lg_gossip.specs.Sound.{AreInOrder}
+use Rattle.lg_gossip.specs.Support.Sound.{AreInOrder}
 
 -- names above one
 pub above : (n : List ℕ) (rows : List Queued) → AreAbove name_cmp n (map queued_name rows) → AllByRecursion (λ q. name_cmp n (queued_name q) ≡ Less) rows

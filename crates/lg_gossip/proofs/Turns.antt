@@ -7,11 +7,11 @@ use Rattle.std.proofs.lemmas.Bool.{cases_Bool, false≢true, cases_lt, lt-ltb, l
 use Rattle.std.proofs.Math.Seq.{take-suc}
 use Rattle.std.proofs.lemmas.List.{append-nil}
 use Rattle.std.proofs.lemmas.List.Elements.{filter-append}
-use Rattle.lg_rules.specs.Rows.{name_cmp, AreAbove}
+use Rattle.lg_rules.specs.Meaning.Rows.{name_cmp, AreAbove}
 use Rattle.lg_gossip.specs.declared.queued.Queued.{Queued}
-use Rattle.lg_gossip.specs.Queue.{queued_name, is_sooner, put_in_turn, in_turn}
+use Rattle.lg_gossip.specs.Meaning.Queue.{queued_name, is_sooner, put_in_turn, in_turn}
 use Rattle.lg_gossip.proofs.Each.{all-filter}
-use Rattle.lg_gossip.specs.Sound.{AreInOrder}
+use Rattle.lg_gossip.specs.Support.Sound.{AreInOrder}
 
 -- a row put behind those that were sent as often
 abbrev pub put_last : Queued → List Queued → List Queued

@@ -1,3 +1,2 @@
-pub mod Examples
-pub mod Queue
-pub mod Sound
+pub mod Meaning
+pub mod Support

@@ -3,8 +3,8 @@ ghost use Rattle.std.specs.Prelude.{◌≡◌, ◌≤◌, ◌++◌, length, map,
 ghost use Rattle.std.specs.List.{prefix_len};
 ghost use Rattle.std.specs.Option.{option_to_list};
 ghost use Rattle.arrayvec.specs.ArrayVec.{array_vec_len};
-ghost use Rattle.lg_gossip.specs.Queue.{buddy_of, queued_claim, room_beside, rows_taken};
-ghost use Rattle.lg_gossip.specs.Sound.{AreInOrder};
+ghost use Rattle.lg_gossip.specs.Meaning.Queue.{buddy_of, queued_claim, room_beside, rows_taken};
+ghost use Rattle.lg_gossip.specs.Support.Sound.{AreInOrder};
 
 use crate::queue::MAX_CLAIMS;
 use crate::queued::Queued;

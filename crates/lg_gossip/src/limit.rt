@@ -1,6 +1,6 @@
 //! How often a claim may be sent.
 ghost use Rattle.std.specs.Prelude.{◌≡◌, ◌≤◌, ◌*◌};
-ghost use Rattle.lg_gossip.specs.Queue.{decimal_digits, limit_of};
+ghost use Rattle.lg_gossip.specs.Meaning.Queue.{decimal_digits, limit_of};
 
 /// How many decimal digits a number of members has.
 #[tactic(auto, using(crate::proofs::Digits::one_digit, crate::proofs::Digits::one_more, crate::proofs::Digits::at_most_twenty))]

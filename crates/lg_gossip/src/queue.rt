@@ -2,9 +2,9 @@
 ghost use Rattle.std.specs.Prelude.{◌≡◌, ◌≤◌, ◌<◌, [], length, map, None, option_copied};
 ghost use Rattle.std.specs.List.{AllByRecursion, IsDistinct};
 ghost use Rattle.arrayvec.specs.ArrayVec.{array_vec_len};
-ghost use Rattle.lg_rules.specs.Rows.{name_cmp, is_same, row_at, put_row};
-ghost use Rattle.lg_rules.specs.Claim.{name_of};
-ghost use Rattle.lg_gossip.specs.Queue.{queued_name, queued_claim, put_of, fill_of, filled, sent_once};
+ghost use Rattle.lg_rules.specs.Meaning.Rows.{name_cmp, is_same, row_at, put_row};
+ghost use Rattle.lg_rules.specs.Meaning.Claim.{name_of};
+ghost use Rattle.lg_gossip.specs.Meaning.Queue.{queued_name, queued_claim, put_of, fill_of, filled, sent_once};
 
 use crate::choice::{buddy_of, claims_of, rows_taken};
 use crate::limit::send_limit;
@@ -33,11 +33,11 @@ pub struct Queue {
 }
 
 impl Model for Queue {
-    ghost use Rattle.lg_gossip.specs.Queue.{GossipQueue};
+    ghost use Rattle.lg_gossip.specs.Meaning.Queue.{GossipQueue};
 
     ghost Value = { GossipQueue };
 
-    ghost use Rattle.lg_gossip.specs.Sound.{IsSound};
+    ghost use Rattle.lg_gossip.specs.Support.Sound.{IsSound};
 
     ghost view = { λ q. record { lambda = q.lambda; rows = q.rows.items } };
 

@@ -16,7 +16,7 @@ pub struct Queued {
 }
 
 impl Queued {
-    ghost use Rattle.lg_gossip.specs.Queue.{fresh, is_beside, may_go, queued_claim, sent_once};
+    ghost use Rattle.lg_gossip.specs.Meaning.Queue.{fresh, is_beside, may_go, queued_claim, sent_once};
 
     /// A claim that no packet took yet.
     pub(crate) fn fresh(claim: Claim) -> Queued
@@ -62,7 +62,7 @@ fn holds(rows: &[Queued], name: &Name) -> bool
 
 /// Claims wait in the order of the members that they are about.
 impl Keyed for Queued {
-    ghost use Rattle.lg_gossip.specs.Queue.{queued_name};
+    ghost use Rattle.lg_gossip.specs.Meaning.Queue.{queued_name};
 
     ghost key_of = { queued_name };
 

@@ -13,8 +13,8 @@ use Rattle.lg_rules.specs.declared.claim.Status.TheVariants.{Alive, Suspect, Fai
 use Rattle.lg_packet.specs.declared.fault.Fault.TheVariants as faults
 use Rattle.lg_packet.specs.declared.kind.ClaimKind.{ClaimKind}
 use Rattle.lg_packet.specs.declared.kind.ClaimKind.TheVariants as claims
-use Rattle.lg_packet.specs.Spelling.{claim_kind_of, byte_of_claim_kind, spelled_name, spelled_number, spelled_addr, spelled_accuser, spelled_claim, IsAddr, IsStatus, IsClaim}
-use Rattle.lg_packet.specs.Reading.{◌>>=◌, number_at, name_at, octets_at, addr_at, incarnation_at, claim_kind_before, claim_kind_at, status_at, claim_at, claims_at}
+use Rattle.lg_packet.specs.Meaning.Spelling.{claim_kind_of, byte_of_claim_kind, spelled_name, spelled_number, spelled_addr, spelled_accuser, spelled_claim, IsAddr, IsStatus, IsClaim}
+use Rattle.lg_packet.specs.Meaning.Reading.{◌>>=◌, number_at, name_at, octets_at, addr_at, incarnation_at, claim_kind_before, claim_kind_at, status_at, claim_at, claims_at}
 use Rattle.lg_packet.proofs.Outcomes.{step_ok, passed_by, same_ok}
 use Rattle.lg_packet.proofs.NameFields.{name_read, name_again}
 use Rattle.lg_packet.proofs.Fields.{AreBytes, behind, number_read, number_again}

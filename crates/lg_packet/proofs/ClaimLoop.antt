@@ -3,7 +3,7 @@ use Rattle.std.proofs.Common.{◌≡◌, ℕ, suc, ◌-◌, ◌+◌, ◌≤◌, 
 use Rattle.std.proofs.lemmas.List.{append-nil, length_push}
 use Rattle.lg_rules.specs.declared.claim.Claim.{Claim}
 use Rattle.lg_packet.specs.declared.fault.Fault.{Fault}
-use Rattle.lg_packet.specs.Reading.{◌>>=◌, claim_at, claims_at}
+use Rattle.lg_packet.specs.Meaning.Reading.{◌>>=◌, claim_at, claims_at}
 
 -- what is read, with the claims that were read before it
 abbrev pub behind_some : List Claim → Result (List Claim × List ℕ) Fault → Result (List Claim × List ℕ) Fault

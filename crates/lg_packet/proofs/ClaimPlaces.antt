@@ -9,9 +9,9 @@ use Rattle.lg_rules.specs.declared.claim.Status.TheVariants.{Suspect}
 use Rattle.lg_packet.specs.declared.fault.Fault.TheVariants as faults
 use Rattle.lg_packet.specs.declared.kind.ClaimKind.{ClaimKind}
 use Rattle.lg_packet.specs.declared.kind.ClaimKind.TheVariants as claims
-use Rattle.lg_packet.specs.Spelling.{byte_of_claim_kind}
-use Rattle.lg_packet.specs.Reading.{◌>>=◌, name_at, number_at, octets_at, addr_at, incarnation_at, claim_kind_at, status_at, claim_at, claims_at}
-use Rattle.lg_packet.specs.Fault.{Part, NumberByte, ClaimKindByte, IncarnationByte, number_parts, addr_parts, accuser_parts, claim_parts}
+use Rattle.lg_packet.specs.Meaning.Spelling.{byte_of_claim_kind}
+use Rattle.lg_packet.specs.Meaning.Reading.{◌>>=◌, name_at, number_at, octets_at, addr_at, incarnation_at, claim_kind_at, status_at, claim_at, claims_at}
+use Rattle.lg_packet.specs.Meaning.Fault.{Part, NumberByte, ClaimKindByte, IncarnationByte, number_parts, addr_parts, accuser_parts, claim_parts}
 use Rattle.lg_packet.proofs.Outcomes.{fault_or, fault_then}
 use Rattle.lg_packet.proofs.Fields.{number_there}
 use Rattle.lg_packet.proofs.ClaimFields.{octets_there, port_there}

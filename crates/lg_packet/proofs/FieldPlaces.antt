@@ -4,13 +4,13 @@ use Rattle.std.specs.List.{list_all}
 use Rattle.std.specs.Int.{w32}
 use Rattle.std.proofs.lemmas.Bool.{le-ltb, lt-ltb, ltb-true, ltb-false, le-leb, lt-leb, eqb-true, eqb-false}
 use Rattle.std.proofs.Math.Dec.{leb-suc-suc}
-use Rattle.lg_rules.specs.Name.{is_name_byte}
+use Rattle.lg_rules.specs.Meaning.Name.{is_name_byte}
 use Rattle.lg_packet.specs.declared.fault.Fault.{Fault}
 use Rattle.lg_packet.specs.declared.fault.Fault.TheVariants as faults
 use Rattle.lg_packet.specs.declared.kind.Kind.{Kind}
-use Rattle.lg_packet.specs.Spelling.{byte_of_kind}
-use Rattle.lg_packet.specs.Reading.{literal_at, kind_at, name_at, number_at, count_at}
-use Rattle.lg_packet.specs.Fault.{Part, KindByte, LengthByte, NameByte, CountByte, ClaimKindByte, is_allowed, fault_at, number_parts, body_parts, brought}
+use Rattle.lg_packet.specs.Meaning.Spelling.{byte_of_kind}
+use Rattle.lg_packet.specs.Meaning.Reading.{literal_at, kind_at, name_at, number_at, count_at}
+use Rattle.lg_packet.specs.Meaning.Fault.{Part, KindByte, LengthByte, NameByte, CountByte, ClaimKindByte, is_allowed, fault_at, number_parts, body_parts, brought}
 use Rattle.lg_packet.proofs.Outcomes.{fault_or}
 use Rattle.lg_packet.proofs.Fields.{number_there}
 use Rattle.lg_packet.proofs.Places.{fault_from}

@@ -9,8 +9,8 @@ use Rattle.lg_packet.specs.declared.kind.Kind.{Kind}
 use Rattle.lg_packet.specs.declared.kind.Kind.TheVariants as kinds
 use Rattle.lg_packet.specs.declared.packet.Body.{Body}
 use Rattle.lg_packet.specs.declared.packet.Body.TheVariants.{Ping, Ack}
-use Rattle.lg_packet.specs.Spelling.{kind_of, byte_of_kind, spelled_number, spelled_name, spelled_head, spelled_body, IsBody}
-use Rattle.lg_packet.specs.Reading.{◌>>=◌, literal_at, kind_before, kind_at, number_at, name_at, head_at, body_at, count_at}
+use Rattle.lg_packet.specs.Meaning.Spelling.{kind_of, byte_of_kind, spelled_number, spelled_name, spelled_head, spelled_body, IsBody}
+use Rattle.lg_packet.specs.Meaning.Reading.{◌>>=◌, literal_at, kind_before, kind_at, number_at, name_at, head_at, body_at, count_at}
 use Rattle.lg_packet.proofs.Outcomes.{step_ok, passed, passed_by, same_ok}
 use Rattle.lg_packet.proofs.NameFields.{name_read, name_again}
 

@@ -4,10 +4,10 @@ use Rattle.std.specs.List.{list_all}
 use Rattle.std.proofs.lemmas.Bool.{le-ltb, lt-ltb, ltb-false, le-leb, eqb-false, ne_eqb}
 use Rattle.std.proofs.lemmas.List.{take_min, drop_min, length-take, take-append-drop, take_at, drop_at}
 use Rattle.lg_rules.proofs.NameLemmas.{is_named}
-use Rattle.lg_rules.specs.Name.{is_name_byte, is_name, bad_byte, name_of_text}
+use Rattle.lg_rules.specs.Meaning.Name.{is_name_byte, is_name, bad_byte, name_of_text}
 use Rattle.lg_packet.specs.declared.fault.Fault.TheVariants as faults
-use Rattle.lg_packet.specs.Reading.{name_bytes_at, name_at}
-use Rattle.lg_packet.specs.Spelling.{spelled_name}
+use Rattle.lg_packet.specs.Meaning.Reading.{name_bytes_at, name_at}
+use Rattle.lg_packet.specs.Meaning.Spelling.{spelled_name}
 use Rattle.lg_packet.proofs.Outcomes.{passed, passed_by, same_ok}
 
 -- where each byte is good, none is bad

@@ -1,7 +1,7 @@
 -- What steps that may fail come to.
 use Rattle.std.proofs.Common.{◌≡◌, Bool, true, false, cond, Result, Ok, Err, refl}
 use Rattle.lg_packet.specs.declared.fault.Fault.{Fault}
-use Rattle.lg_packet.specs.Reading.{◌>>=◌}
+use Rattle.lg_packet.specs.Meaning.Reading.{◌>>=◌}
 
 -- the value of a step that didn't fail
 pub step_ok : {A B : Type 0} (r : Result A Fault) (f : A → Result B Fault) (y : B) → (r >>= f) ≡ Ok y → (x : A) × (r ≡ Ok x) × (f x ≡ Ok y)

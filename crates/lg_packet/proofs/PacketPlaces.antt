@@ -11,9 +11,9 @@ use Rattle.lg_packet.specs.declared.kind.Kind.TheVariants as kinds
 use Rattle.lg_packet.specs.declared.packet.Body.{Body}
 use Rattle.lg_packet.specs.declared.packet.Body.TheVariants.{Ping, Ack}
 use Rattle.lg_packet.specs.declared.packet.Packet.{Packet}
-use Rattle.lg_packet.specs.Spelling.{byte_of_kind}
-use Rattle.lg_packet.specs.Reading.{◌>>=◌, literal_at, kind_at, name_at, number_at, head_at, body_at, count_at, claims_at, packet_at, packet_of}
-use Rattle.lg_packet.specs.Fault.{Part, MarkByte, VersionByte, KindByte, LengthByte, CountByte, ClaimKindByte, body_parts, packet_parts, fault_of}
+use Rattle.lg_packet.specs.Meaning.Spelling.{byte_of_kind}
+use Rattle.lg_packet.specs.Meaning.Reading.{◌>>=◌, literal_at, kind_at, name_at, number_at, head_at, body_at, count_at, claims_at, packet_at, packet_of}
+use Rattle.lg_packet.specs.Meaning.Fault.{Part, MarkByte, VersionByte, KindByte, LengthByte, CountByte, ClaimKindByte, body_parts, packet_parts, fault_of}
 use Rattle.lg_packet.proofs.Outcomes.{fault_or, fault_then}
 use Rattle.lg_packet.proofs.Places.{fault_from, by_places}
 use Rattle.lg_packet.proofs.FieldPlaces.{literal_fault, kind_fault, name_fault, number_fault, count_fault}

@@ -8,8 +8,8 @@ use Rattle.lg_packet.specs.declared.fault.Fault.{Fault}
 use Rattle.lg_packet.specs.declared.fault.Fault.TheVariants as faults
 use Rattle.lg_packet.specs.declared.kind.Kind.{Kind}
 use Rattle.lg_packet.specs.declared.packet.Packet.{Packet}
-use Rattle.lg_packet.specs.Spelling.{kind_of, spelled_head, spelled_name, spelled_body, spelled_claim, spelling, IsPacket, Spells}
-use Rattle.lg_packet.specs.Reading.{◌>>=◌, head_at, name_at, body_at, count_at, claims_at, packet_at, packet_of}
+use Rattle.lg_packet.specs.Meaning.Spelling.{kind_of, spelled_head, spelled_name, spelled_body, spelled_claim, spelling, IsPacket, Spells}
+use Rattle.lg_packet.specs.Meaning.Reading.{◌>>=◌, head_at, name_at, body_at, count_at, claims_at, packet_at, packet_of}
 use Rattle.lg_packet.proofs.Outcomes.{step_ok, passed, same_ok}
 use Rattle.lg_packet.proofs.NameFields.{name_read, name_again}
 use Rattle.lg_packet.proofs.Fields.{AreBytes, behind, head_read, head_again, body_read, body_again, count_read, count_again}

@@ -4,7 +4,7 @@ use Rattle.std.specs.Prelude.{unwrap_or}
 use Rattle.std.proofs.lemmas.List.{append-nil}
 use Rattle.lg_packet.specs.declared.fault.Fault.{Fault}
 use Rattle.lg_packet.specs.declared.fault.Fault.TheVariants as faults
-use Rattle.lg_packet.specs.Fault.{Part, is_allowed, fault_at, brought, packet_parts, due_behind, due_after, fault_of_byte, fault_behind, first_fault, fault_of, Stands}
+use Rattle.lg_packet.specs.Meaning.Fault.{Part, is_allowed, fault_at, brought, packet_parts, due_behind, due_after, fault_of_byte, fault_behind, first_fault, fault_of, Stands}
 
 -- the first fault of bytes where these parts are due
 abbrev pub fault_from : List ℕ → List Part → Fault

@@ -2,7 +2,7 @@
 use Rattle.std.proofs.Common.{◌≡◌, ℕ, ◌+◌, ◌*◌, ◌≤◌, List, ◌∷◌, ◌++◌, length, take}
 use Rattle.std.specs.List.{flat_map}
 use Rattle.lg_rules.specs.declared.claim.Claim.{Claim}
-use Rattle.lg_packet.specs.Spelling.{spelled_claim}
+use Rattle.lg_packet.specs.Meaning.Spelling.{spelled_claim}
 
 -- the count of the claims and the first n of them stand behind what was there, and took no more than 77 bytes each
 pub record Wrote (before after : List ℕ) (claims : List Claim) (n : ℕ) : Type 0 where

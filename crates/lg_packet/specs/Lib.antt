@@ -1,4 +1,1 @@
-pub mod Spelling
-pub mod Reading
-pub mod Fault
-pub mod Examples
+pub mod Meaning

@@ -1,7 +1,7 @@
 //! Kinds of packets and of claims.
 ghost use Rattle.std.specs.Prelude.{◌≡◌};
-ghost use Rattle.lg_packet.specs.Reading.{kind_of_byte, claim_kind_of_byte};
-ghost use Rattle.lg_packet.specs.Spelling.{kind_of, claim_kind_of};
+ghost use Rattle.lg_packet.specs.Meaning.Reading.{kind_of_byte, claim_kind_of_byte};
+ghost use Rattle.lg_packet.specs.Meaning.Spelling.{kind_of, claim_kind_of};
 
 use crate::packet::Body;
 use lg_rules::Status;

@@ -2,8 +2,8 @@
 ghost use Rattle.std.specs.Prelude.{◌≡◌, ℕ, List, [], ◌∷◌, ◌++◌, Some};
 ghost use Rattle.lg_packet.specs.declared.packet.Packet.{Packet};
 ghost use Rattle.lg_packet.specs.declared.fault.Fault.{Fault};
-ghost use Rattle.lg_packet.specs.Fault.{Stands, fault_behind, fault_of};
-ghost use Rattle.lg_packet.specs.Spelling.{IsPacket, spelling};
+ghost use Rattle.lg_packet.specs.Meaning.Fault.{Stands, fault_behind, fault_of};
+ghost use Rattle.lg_packet.specs.Meaning.Spelling.{IsPacket, spelling};
 
 /// No two packets have one spelling, and no spelling begins another.
 pub fn one_spelling()

@@ -2,11 +2,11 @@
 ghost use Rattle.std.specs.Prelude.{◌≡◌, ◌≤◌, List, length, IfOk, IfErr, Ok, Err};
 ghost use Rattle.std.specs.Int.{w16, w32};
 ghost use Rattle.std.specs.List.{list_all};
-ghost use Rattle.lg_rules.specs.Name.{is_name_byte};
+ghost use Rattle.lg_rules.specs.Meaning.Name.{is_name_byte};
 ghost use Rattle.lg_packet.specs.declared.packet.Packet.{Packet};
-ghost use Rattle.lg_packet.specs.Fault.{fault_of};
-ghost use Rattle.lg_packet.specs.Reading.{Gives, literal_at, kind_at, name_at, name_bytes_at, number_at, head_at, body_at, octets_at, addr_at, incarnation_at, claim_kind_at, status_at, claim_at, count_at, claims_at, packet_at, packet_of};
-ghost use Rattle.lg_packet.specs.Spelling.{Spells};
+ghost use Rattle.lg_packet.specs.Meaning.Fault.{fault_of};
+ghost use Rattle.lg_packet.specs.Meaning.Reading.{Gives, literal_at, kind_at, name_at, name_bytes_at, number_at, head_at, body_at, octets_at, addr_at, incarnation_at, claim_kind_at, status_at, claim_at, count_at, claims_at, packet_at, packet_of};
+ghost use Rattle.lg_packet.specs.Meaning.Spelling.{Spells};
 
 use crate::fault::Fault;
 use crate::kind::{ClaimKind, Kind, claim_kind_of_byte, kind_of_byte};
@@ -52,7 +52,7 @@ impl Reader<'_> {
         kind_of_byte(*byte).ok_or(Fault::Kind)
     }
 
-    #[tactic(auto, unfolding(crate::specs::Reading::name_at))]
+    #[tactic(auto, unfolding(crate::specs::Meaning::Reading::name_at))]
     fn name(&mut self) -> Result<Name, Fault>
         ensures { Gives (λ x. (x, self.new.rest.now)) result (name_at self.old.rest.now) }
     {
@@ -94,7 +94,7 @@ impl Reader<'_> {
         Ok(u32::from_be_bytes([*a, *b, *c, *d]))
     }
 
-    #[tactic(auto, unfolding(crate::specs::Reading::head_at))]
+    #[tactic(auto, unfolding(crate::specs::Meaning::Reading::head_at))]
     fn head(&mut self) -> Result<Kind, Fault>
         ensures { Gives (λ x. (x, self.new.rest.now)) result (head_at self.old.rest.now) }
     {
@@ -104,7 +104,7 @@ impl Reader<'_> {
         self.kind()
     }
 
-    #[tactic(auto, unfolding(crate::specs::Reading::body_at))]
+    #[tactic(auto, unfolding(crate::specs::Meaning::Reading::body_at))]
     fn body(&mut self, kind: Kind) -> Result<Body, Fault>
         ensures { Gives (λ x. (x, self.new.rest.now)) result (body_at kind self.old.rest.now) }
     {
@@ -139,7 +139,7 @@ impl Reader<'_> {
         Ok(u16::from_be_bytes([*a, *b]))
     }
 
-    #[tactic(auto, unfolding(crate::specs::Reading::addr_at))]
+    #[tactic(auto, unfolding(crate::specs::Meaning::Reading::addr_at))]
     fn addr(&mut self) -> Result<Addr, Fault>
         ensures { Gives (λ x. (x, self.new.rest.now)) result (addr_at self.old.rest.now) }
     {
@@ -149,7 +149,7 @@ impl Reader<'_> {
     }
 
     /// An incarnation, judged once its four bytes are there.
-    #[tactic(auto, unfolding(crate::specs::Reading::incarnation_at))]
+    #[tactic(auto, unfolding(crate::specs::Meaning::Reading::incarnation_at))]
     fn incarnation(&mut self) -> Result<Incarnation, Fault>
         ensures { Gives (λ x. (x, self.new.rest.now)) result (incarnation_at self.old.rest.now) }
     {
@@ -168,7 +168,7 @@ impl Reader<'_> {
     }
 
     /// The status of a claim of a kind, with the accuser where it has one.
-    #[tactic(auto, unfolding(crate::specs::Reading::status_at))]
+    #[tactic(auto, unfolding(crate::specs::Meaning::Reading::status_at))]
     fn status(&mut self, kind: ClaimKind) -> Result<Status, Fault>
         ensures { Gives (λ x. (x, self.new.rest.now)) result (status_at kind self.old.rest.now) }
     {
@@ -179,7 +179,7 @@ impl Reader<'_> {
         }
     }
 
-    #[tactic(auto, unfolding(crate::specs::Reading::claim_at))]
+    #[tactic(auto, unfolding(crate::specs::Meaning::Reading::claim_at))]
     fn claim(&mut self) -> Result<Claim, Fault>
         ensures { Gives (λ x. (x, self.new.rest.now)) result (claim_at self.old.rest.now) }
     {
@@ -225,7 +225,7 @@ impl Reader<'_> {
         Ok(claims)
     }
 
-    #[tactic(auto, unfolding(crate::specs::Reading::packet_at))]
+    #[tactic(auto, unfolding(crate::specs::Meaning::Reading::packet_at))]
     fn packet(&mut self) -> Result<Packet, Fault>
         ensures { Gives (λ x. (x, self.new.rest.now)) result (packet_at self.old.rest.now) }
     {
@@ -242,7 +242,7 @@ impl Reader<'_> {
     }
 }
 
-#[tactic(auto, unfolding(crate::specs::Reading::packet_of))]
+#[tactic(auto, unfolding(crate::specs::Meaning::Reading::packet_of))]
 fn whole(bytes: &[u8]) -> Result<Packet, Fault>
     ensures { result ≡ packet_of bytes.now }
 {

@@ -2,7 +2,7 @@
 ghost use Rattle.std.specs.Prelude.{◌≡◌, ◌+◌, ◌≤◌, ◌++◌, length};
 ghost use Rattle.std.specs.Int.{w32, to_be_bytes};
 ghost use Rattle.arrayvec.specs.ArrayVec.{array_vec_len};
-ghost use Rattle.lg_packet.specs.Spelling.{spelled_name, spelled_body, spelled_addr, spelled_accuser, spelled_claim, spelled_claims, spelling};
+ghost use Rattle.lg_packet.specs.Meaning.Spelling.{spelled_name, spelled_body, spelled_addr, spelled_accuser, spelled_claim, spelled_claims, spelling};
 
 use crate::kind::{claim_kind_of, kind_of};
 use crate::packet::{Body, Packet};
@@ -94,7 +94,7 @@ fn put_claims(out: &mut Row, claims: &[Claim])
 /// Replaces the content of a row by the one spelling of a packet, of at most [`MAX_PACKET`] bytes.
 ///
 /// It is never refused, and allocates nothing.
-#[tactic(auto, unfolding(crate::specs::Spelling::spelling))]
+#[tactic(auto, unfolding(crate::specs::Meaning::Spelling::spelling))]
 pub fn encode(packet: &Packet, out: &mut ArrayVec<u8, MAX_PACKET>)
     ensures { out.new.items ≡ spelling packet.now }
 {

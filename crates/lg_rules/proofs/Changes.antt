@@ -8,10 +8,10 @@ use Rattle.lg_rules.specs.declared.addr.Addr.{Addr}
 use Rattle.lg_rules.specs.declared.claim.Claim.{Claim}
 use Rattle.lg_rules.specs.declared.claim.Status.{Status}
 use Rattle.lg_rules.specs.declared.claim.Status.TheVariants.{Alive, Suspect, Failed}
-use Rattle.lg_rules.specs.Beats.{beats_of}
-use Rattle.lg_rules.specs.Claim.{name_of}
-use Rattle.lg_rules.specs.Rows.{name_cmp, is_same, row_at}
-use Rattle.lg_rules.specs.View.{Membership, membership_of, view, told, told_all, is_news, news, is_same_status, is_same_addr, is_same_claim, is_row, changed}
+use Rattle.lg_rules.specs.Meaning.Beats.{beats_of}
+use Rattle.lg_rules.specs.Meaning.Claim.{name_of}
+use Rattle.lg_rules.specs.Meaning.Rows.{name_cmp, is_same, row_at}
+use Rattle.lg_rules.specs.Meaning.View.{Membership, membership_of, view, told, told_all, is_news, news, is_same_status, is_same_addr, is_same_claim, is_row, changed}
 use Rattle.lg_rules.proofs.Cases.{held_once}
 use Rattle.lg_rules.proofs.KeyOrder.{names_order, same_key, key_is, cases_key}
 use Rattle.lg_rules.proofs.Ranks.{ranked}

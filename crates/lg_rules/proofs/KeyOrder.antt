@@ -9,7 +9,7 @@ use Rattle.std.specs.Cmp.Lexicographic.{nat_list_cmp_total, pointwise}
 use Rattle.std.specs.Prelude.{nat_eq}
 use Rattle.std.proofs.lemmas.Slice.Eq.{bytes_eq-Decides}
 use Rattle.std.specs.FinMap.{nat_cmp-IsAntisymmetric, slice_cmp-IsAntisymmetric}
-use Rattle.lg_rules.specs.Rows.{name_cmp, is_same}
+use Rattle.lg_rules.specs.Meaning.Rows.{name_cmp, is_same}
 
 pub record IsKeyOrder {K : Type 0} (cmp : K → K → Ordering) : Type 0 where
   pub total : IsTotalOrder cmp

@@ -5,8 +5,8 @@ use Rattle.std.proofs.Math.Seq.{take-append_seam}
 use Rattle.std.proofs.lemmas.Bool.{le-leb, leb-true}
 use Rattle.std.proofs.lemmas.List.{drop-replicate, length-replicate}
 use Rattle.lg_rules.proofs.Tests.{both}
-use Rattle.lg_rules.specs.Name.{is_name_byte, is_name, bad_byte}
-use Rattle.lg_rules.specs.Padding.{padded, HoldsName}
+use Rattle.lg_rules.specs.Meaning.Name.{is_name_byte, is_name, bad_byte}
+use Rattle.lg_rules.specs.Support.Padding.{padded, HoldsName}
 
 -- where no byte is bad, each is good
 pub none_bad : (text : List ℕ) → bad_byte text ≡ None → list_all is_name_byte text ≡ true

@@ -7,8 +7,8 @@ use Rattle.lg_rules.specs.declared.claim.Status.{Status}
 use Rattle.lg_rules.specs.declared.claim.Status.TheVariants.{Alive, Suspect, Failed}
 use Rattle.lg_rules.specs.declared.own.OwnHeard.{OwnHeard}
 use Rattle.lg_rules.specs.declared.own.OwnHeard.TheVariants.{Refuted, Raised, Ousted, Ignored}
-use Rattle.lg_rules.specs.Table.{about}
-use Rattle.lg_rules.specs.Own.{Oneself, beyond, own_answer, answered, own_heard, own_after, own_of}
+use Rattle.lg_rules.specs.Meaning.Table.{about}
+use Rattle.lg_rules.specs.Meaning.Own.{Oneself, beyond, own_answer, answered, own_heard, own_after, own_of}
 use Rattle.lg_rules.proofs.KeyOrder.{names_order, same_key, other_key}
 
 pub own-nil : (name : List ℕ) (addr : Addr) → own_of name addr [] ≡ record { name = name; addr = addr; number = 0; ousted = false }

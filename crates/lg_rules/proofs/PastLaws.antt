@@ -2,7 +2,7 @@
 use Rattle.std.proofs.Common.{◌≡◌, ℕ, suc, ◌-◌, ◌≤◌, Bool, true, false, ◌||◌, not, cond, List, [], ◌∷◌, length, Option, Some, None, inl, inr, refl, sym, ◌∙◌, ap, subst, arith}
 use Rattle.std.specs.List.{list_any}
 use Rattle.std.proofs.lemmas.Bool.{not-true, cases_Bool, cases_lt, false≢true}
-use Rattle.lg_rules.specs.Past.{or_else, earliest, is_unbeaten, earliest_unbeaten, oldest}
+use Rattle.lg_rules.specs.Meaning.Past.{or_else, earliest, is_unbeaten, earliest_unbeaten, oldest}
 use Rattle.lg_rules.proofs.Cases.{Missing, Holding, held, held_once}
 
 -- Elements are ranked by what beats what: where c beats r, it stands above all that don't beat r.

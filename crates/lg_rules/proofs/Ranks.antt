@@ -3,7 +3,7 @@ use Rattle.std.proofs.Common.{◌≡◌, ℕ, true, false, arith}
 use Rattle.std.proofs.lemmas.Bool.Decides.{nat_tests}
 use Rattle.lg_rules.specs.declared.claim.Status.{Status}
 use Rattle.lg_rules.specs.declared.claim.Status.TheVariants.{Alive, Suspect, Failed}
-use Rattle.lg_rules.specs.Beats.{overrides, beats_of}
+use Rattle.lg_rules.specs.Meaning.Beats.{overrides, beats_of}
 use Rattle.lg_rules.proofs.PastLaws.{IsRanked}
 
 not_itself : (s : Status) (i : ℕ) → overrides s i s i ≡ false

@@ -4,7 +4,7 @@ use Rattle.std.specs.Prelude.{filter}
 use Rattle.std.specs.declared.cmp.Ordering.{Ordering}
 use Rattle.std.specs.declared.cmp.Ordering.TheVariants.{Less, Greater}
 use Rattle.std.proofs.lemmas.Bool.{cases_Bool, false≢true}
-use Rattle.lg_rules.specs.Rows.{is_same, is_among, put_key, in_order, distinct, AreAbove, Rises}
+use Rattle.lg_rules.specs.Meaning.Rows.{is_same, is_among, put_key, in_order, distinct, AreAbove, Rises}
 use Rattle.lg_rules.proofs.Cases.{Below, Tied, Above, compared}
 use Rattle.lg_rules.proofs.KeyOrder.{IsKeyOrder, turned, same_key, other_key, cases_key, less_apart}
 

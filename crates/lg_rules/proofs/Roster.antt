@@ -2,9 +2,9 @@
 use Rattle.std.proofs.Common.{◌≡◌, ◌≢◌, ℕ, ◌<◌, ◌≤◌, Bool, true, false, List, [], ◌∷◌, length, ◌⊎◌, inl, inr, refl, sym, ◌∙◌, ap, subst, arith}
 use Rattle.std.proofs.lemmas.Bool.{cases_Bool, cases_lt, false≢true}
 use Rattle.lg_rules.specs.declared.claim.Claim.{Claim}
-use Rattle.lg_rules.specs.Past.{oldest}
-use Rattle.lg_rules.specs.Rows.{name_cmp, is_among, put_key, in_order, distinct, Rises}
-use Rattle.lg_rules.specs.Table.{names_said, roster}
+use Rattle.lg_rules.specs.Meaning.Past.{oldest}
+use Rattle.lg_rules.specs.Meaning.Rows.{name_cmp, is_among, put_key, in_order, distinct, Rises}
+use Rattle.lg_rules.specs.Meaning.Table.{names_said, roster}
 use Rattle.lg_rules.proofs.KeyOrder.{names_order, same_key, other_key, cases_key}
 use Rattle.lg_rules.proofs.PastLaws.{oldest-all, oldest-more}
 use Rattle.lg_rules.proofs.Rises.{rises-in_order, among-put_same, among-put_other, among-cons_same, among-cons_other, among-later, length-put}

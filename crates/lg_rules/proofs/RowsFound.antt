@@ -5,7 +5,7 @@ use Rattle.std.specs.List.{AllByRecursion, list_any}
 use Rattle.std.specs.declared.cmp.Ordering.{Ordering}
 use Rattle.std.specs.declared.cmp.Ordering.TheVariants.{Less, Equal, Greater}
 use Rattle.std.proofs.lemmas.Bool.{cases_Bool, false≢true}
-use Rattle.lg_rules.specs.Rows.{is_same, is_among, put_row, put_key, row_at, without_row, AreAbove, Rises}
+use Rattle.lg_rules.specs.Meaning.Rows.{is_same, is_among, put_row, put_key, row_at, without_row, AreAbove, Rises}
 use Rattle.lg_rules.proofs.Cases.{Below, Tied, Above, compared}
 use Rattle.lg_rules.proofs.KeyOrder.{IsKeyOrder, turned, tied, same_key, other_key, cases_key, less_apart}
 use Rattle.lg_rules.proofs.Rises.{rises-put, among-cons_other}

@@ -2,10 +2,10 @@
 use Rattle.std.proofs.Common.{◌≡◌, ◌≢◌, ℕ, ◌<◌, ◌≤◌, true, false, cond, List, [], ◌∷◌, length, Option, Some, None, inl, inr, refl, sym, ◌∙◌, ap, subst, arith, ltb}
 use Rattle.std.proofs.lemmas.Bool.{cases_Bool, lt-ltb, le-ltb, false≢true}
 use Rattle.lg_rules.specs.declared.claim.Claim.{Claim}
-use Rattle.lg_rules.specs.Beats.{beats_of}
-use Rattle.lg_rules.specs.Claim.{name_of}
-use Rattle.lg_rules.specs.Rows.{name_cmp, put_row, put_key, row_at}
-use Rattle.lg_rules.specs.Table.{about, names_said, record_of, roster, table_of, takes, takes_over, heard}
+use Rattle.lg_rules.specs.Meaning.Beats.{beats_of}
+use Rattle.lg_rules.specs.Meaning.Claim.{name_of}
+use Rattle.lg_rules.specs.Meaning.Rows.{name_cmp, put_row, put_key, row_at}
+use Rattle.lg_rules.specs.Meaning.Table.{about, names_said, record_of, roster, table_of, takes, takes_over, heard}
 use Rattle.lg_rules.proofs.Cases.{Missing, Holding, held, held_once}
 use Rattle.lg_rules.proofs.KeyOrder.{names_order, same_key, other_key, cases_key}
 use Rattle.lg_rules.proofs.PastLaws.{after_hearing, unbeaten-cons}

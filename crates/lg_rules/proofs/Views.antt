@@ -8,12 +8,12 @@ use Rattle.lg_rules.specs.declared.claim.Status.{Status}
 use Rattle.lg_rules.specs.declared.claim.Status.TheVariants.{Alive, Suspect, Failed}
 use Rattle.lg_rules.specs.declared.own.OwnHeard.{OwnHeard}
 use Rattle.lg_rules.specs.declared.own.OwnHeard.TheVariants.{Refuted, Raised, Ousted, Ignored}
-use Rattle.lg_rules.specs.Beats.{beats_of}
-use Rattle.lg_rules.specs.Claim.{name_of}
-use Rattle.lg_rules.specs.Own.{Oneself, beyond, own_answer, answered, own_heard, own_of, own_record}
-use Rattle.lg_rules.specs.Rows.{name_cmp, is_same, put_row, row_at, Rises}
-use Rattle.lg_rules.specs.Table.{record_of, roster, table_of, takes, heard}
-use Rattle.lg_rules.specs.View.{Membership, membership_of, view_of, view, told, is_rise, is_news}
+use Rattle.lg_rules.specs.Meaning.Beats.{beats_of}
+use Rattle.lg_rules.specs.Meaning.Claim.{name_of}
+use Rattle.lg_rules.specs.Meaning.Own.{Oneself, beyond, own_answer, answered, own_heard, own_of, own_record}
+use Rattle.lg_rules.specs.Meaning.Rows.{name_cmp, is_same, put_row, row_at, Rises}
+use Rattle.lg_rules.specs.Meaning.Table.{record_of, roster, table_of, takes, heard}
+use Rattle.lg_rules.specs.Meaning.View.{Membership, membership_of, view_of, view, told, is_rise, is_news}
 use Rattle.lg_rules.proofs.Cases.{Missing, Holding, held}
 use Rattle.lg_rules.proofs.KeyOrder.{names_order, same_key, other_key, cases_key}
 use Rattle.lg_rules.proofs.OwnLaws.{own-same, own-other, own_of_name}

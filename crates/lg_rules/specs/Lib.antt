@@ -1,10 +1,2 @@
-pub mod Beats
-pub mod Claim
-pub mod Examples
-pub mod Name
-pub mod Own
-pub mod Padding
-pub mod Past
-pub mod Rows
-pub mod Table
-pub mod View
+pub mod Meaning
+pub mod Support

@@ -1,6 +1,6 @@
 //! Claims about members.
 ghost use Rattle.std.specs.Prelude.{◌≡◌};
-ghost use Rattle.lg_rules.specs.Claim.{accuser_of, name_of};
+ghost use Rattle.lg_rules.specs.Meaning.Claim.{accuser_of, name_of};
 
 use crate::addr::Addr;
 use crate::incarnation::Incarnation;

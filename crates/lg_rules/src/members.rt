@@ -1,10 +1,10 @@
 //! The table of members.
 ghost use Rattle.std.specs.Prelude.{◌≡◌, ◌≢◌, ◌≤◌, ◌<◌, ◌+◌, List, [], ◌∷◌, length, slice_get, option_copied, None, Some};
 ghost use Rattle.lg_rules.specs.declared.claim.Claim.{Claim as Said};
-ghost use Rattle.lg_rules.specs.Claim.{name_of};
-ghost use Rattle.lg_rules.specs.Rows.{name_cmp, put_row, row_at};
+ghost use Rattle.lg_rules.specs.Meaning.Claim.{name_of};
+ghost use Rattle.lg_rules.specs.Meaning.Rows.{name_cmp, put_row, row_at};
 ghost use Rattle.arrayvec.specs.ArrayVec.{array_vec_len};
-ghost use Rattle.lg_rules.specs.Table.{answer_of, heard, is_failed, kept_answer, members_in, members_of, takes};
+ghost use Rattle.lg_rules.specs.Meaning.Table.{answer_of, heard, is_failed, kept_answer, members_in, members_of, takes};
 
 use crate::claim::{Claim, Record, Status};
 use crate::name::Name;
@@ -43,7 +43,7 @@ pub struct Members {
 }
 
 impl Model for Members {
-    ghost use Rattle.lg_rules.specs.Table.{Known};
+    ghost use Rattle.lg_rules.specs.Meaning.Table.{Known};
 
     ghost Value = { Known };
 
@@ -82,7 +82,7 @@ fn keep(claim: &Claim, current: &Record) -> Heard
 }
 
 /// Hears a claim about another member.
-#[tactic(auto, unfolding(crate::specs::Table::takes))]
+#[tactic(auto, unfolding(crate::specs::Meaning::Table::takes))]
 fn hear_in(records: &mut ArrayVec<Record, MAX_OTHERS>, claim: &Claim) -> Heard
     ensures answer { result ≡ answer_of records.old.items claim.now }
     ensures table { records.new.items ≡ heard records.old.items claim.now }
@@ -124,7 +124,7 @@ impl Members {
     }
 
     /// Forgets all that was heard, and begins anew under an own name.
-    #[tactic(auto, unfolding(crate::specs::Table::table_of, crate::specs::Table::roster))]
+    #[tactic(auto, unfolding(crate::specs::Meaning::Table::table_of, crate::specs::Meaning::Table::roster))]
     pub fn restart(&mut self, own: &Name)
         ensures { self.new ≡ members_of own.now [] }
     {

@@ -2,7 +2,7 @@
 ghost use Rattle.std.specs.Prelude.{◌≡◌, nat_eq};
 ghost use Rattle.std.specs.Cmp.Lexicographic.{slice_cmp, pointwise};
 ghost use Rattle.std.specs.Ordering.{nat_cmp};
-ghost use Rattle.lg_rules.specs.Name.{is_name_byte, bad_byte};
+ghost use Rattle.lg_rules.specs.Meaning.Name.{is_name_byte, bad_byte};
 
 use std::alloc::AllocError;
 use std::cmp::Ordering;
@@ -35,7 +35,7 @@ pub struct Name {
 
 impl Model for Name {
     ghost use Rattle.std.specs.Prelude.{ℕ, List, length, take};
-    ghost use Rattle.lg_rules.specs.Padding.{HoldsName, padded, unpadded};
+    ghost use Rattle.lg_rules.specs.Support.Padding.{HoldsName, padded, unpadded};
 
     ghost Value = { List ℕ };
 
@@ -143,7 +143,7 @@ fn first_bad_byte(text: &[u8]) -> Option<u8>
 
 impl Name {
     ghost use Rattle.std.specs.Prelude.{◌≡◌, IsTrue};
-    ghost use Rattle.lg_rules.specs.Name.{is_name, name_of_text};
+    ghost use Rattle.lg_rules.specs.Meaning.Name.{is_name, name_of_text};
 
     /// The name that some bytes spell, or the first fault in the order of [`NameFault`].
     pub fn new(text: &[u8]) -> Result<Name, NameFault>

@@ -1,6 +1,6 @@
 //! Which claim overrides which.
 ghost use Rattle.std.specs.Prelude.{◌≡◌};
-ghost use Rattle.lg_rules.specs.Beats.{beats_of};
+ghost use Rattle.lg_rules.specs.Meaning.Beats.{beats_of};
 
 use crate::claim::{Claim, Record, Status};
 

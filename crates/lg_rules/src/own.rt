@@ -1,7 +1,7 @@
 //! The own number.
 ghost use Rattle.std.specs.Prelude.{◌≡◌, ◌≢◌, List, [], ◌∷◌, true};
 ghost use Rattle.lg_rules.specs.declared.claim.Claim.{Claim as Said};
-ghost use Rattle.lg_rules.specs.Own.{answered, own_answer, own_heard, own_of, own_record};
+ghost use Rattle.lg_rules.specs.Meaning.Own.{answered, own_answer, own_heard, own_of, own_record};
 
 use crate::addr::Addr;
 use crate::claim::{Claim, Record, Status};
@@ -37,7 +37,7 @@ pub struct Own {
 }
 
 impl Model for Own {
-    ghost use Rattle.lg_rules.specs.Own.{Oneself};
+    ghost use Rattle.lg_rules.specs.Meaning.Own.{Oneself};
 
     ghost Value = { Oneself };
 

@@ -3,17 +3,17 @@ use Rattle.std.proofs.Common.{◌≡◌, ℕ, suc, ◌+◌, ◌-◌, ◌≤◌, 
 use Rattle.std.proofs.lemmas.Bool.{cases_Bool, cases_lt, le-leb, leb-true}
 use Rattle.std.proofs.lemmas.List.{reverse-append, length-reverse, length-drop}
 use Rattle.std.proofs.lemmas.List.Folds.{list_any-append}
-use Rattle.lg_rules.specs.Past.{oldest}
-use Rattle.lg_rules.specs.Rows.{name_cmp, is_same, is_among, distinct, in_order}
+use Rattle.lg_rules.specs.Meaning.Past.{oldest}
+use Rattle.lg_rules.specs.Meaning.Rows.{name_cmp, is_same, is_among, distinct, in_order}
 use Rattle.std.specs.Prelude.{nat_eq}
 use Rattle.std.specs.List.{list_any}
 use Rattle.std.specs.Cmp.Lexicographic.{pointwise}
 use Rattle.lg_rules.proofs.KeyOrder.{names_order, names_eq}
 use Rattle.lg_rules.proofs.PastLaws.{oldest-all, oldest-more}
 use Rattle.lg_rules.proofs.Rises.{among-distinct, among-in_order, rises-in_order, put-there, length-put, same_members}
-use Rattle.lg_timing.specs.TimeoutRange.{TimeoutRange}
-use Rattle.lg_timing.specs.Timeouts.{timeout_of}
-use Rattle.lg_suspicion.specs.Accusers.{SuspicionValue, kept_of, suspicion_after, is_new, accused, deadline_of, deadline_by_set, set_of}
+use Rattle.lg_timing.specs.Meaning.TimeoutRange.{TimeoutRange}
+use Rattle.lg_timing.specs.Meaning.Timeouts.{timeout_of}
+use Rattle.lg_suspicion.specs.Meaning.Accusers.{SuspicionValue, kept_of, suspicion_after, is_new, accused, deadline_of, deadline_by_set, set_of}
 
 -- the latest of a list comes last in the order of arrival
 reverse-cons : {A : Type 0} (x : A) (xs : List A) → reverse (x ∷ xs) ≡ reverse xs ++ x ∷ []

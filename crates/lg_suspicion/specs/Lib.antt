@@ -1,2 +1,1 @@
-pub mod Accusers
-pub mod Examples
+pub mod Meaning

@@ -1,10 +1,10 @@
 //! Suspicions.
 ghost use Rattle.std.specs.Prelude.{◌≡◌, ℕ, ◌≤◌, List, [], ◌∷◌};
-ghost use Rattle.lg_rules.specs.Rows.{name_cmp, is_among};
-ghost use Rattle.lg_timing.specs.Config.{IsChecked};
-ghost use Rattle.lg_timing.specs.TimeoutRange.{TimeoutRange};
-ghost use Rattle.lg_timing.specs.Timeouts.{range_of};
-ghost use Rattle.lg_suspicion.specs.Accusers.{kept_of, suspicion_after, counts, accused, deadline_of, deadline_by_set, set_of};
+ghost use Rattle.lg_rules.specs.Meaning.Rows.{name_cmp, is_among};
+ghost use Rattle.lg_timing.specs.Meaning.Config.{IsChecked};
+ghost use Rattle.lg_timing.specs.Meaning.TimeoutRange.{TimeoutRange};
+ghost use Rattle.lg_timing.specs.Meaning.Timeouts.{range_of};
+ghost use Rattle.lg_suspicion.specs.Meaning.Accusers.{kept_of, suspicion_after, counts, accused, deadline_of, deadline_by_set, set_of};
 
 use arrayvec::ArrayVec;
 use lg_rules::Name;
@@ -29,7 +29,7 @@ pub struct Suspicion {
 }
 
 impl Model for Suspicion {
-    ghost use Rattle.lg_suspicion.specs.Accusers.{SuspicionValue, HasAccusers};
+    ghost use Rattle.lg_suspicion.specs.Meaning.Accusers.{SuspicionValue, HasAccusers};
 
     ghost Value = { SuspicionValue };
 

@@ -3,12 +3,12 @@ use Rattle.std.proofs.Common.{◌≡◌, ℕ, suc, ◌≤◌, ◌<◌, Bool, tru
 use Rattle.std.specs.List.{list_any}
 use Rattle.std.specs.Prelude.{filter}
 use Rattle.std.proofs.lemmas.Bool.{cases_Bool, lt-ltb, le-ltb, ltb-true, ltb-false, lt-leb, le-leb}
-use Rattle.lg_rules.specs.Rows.{name_cmp, Rises, AreAbove}
+use Rattle.lg_rules.specs.Meaning.Rows.{name_cmp, Rises, AreAbove}
 use Rattle.lg_rules.proofs.Cases.{Below, Tied, Above, compared}
 use Rattle.lg_rules.proofs.KeyOrder.{names_order}
 use Rattle.lg_rules.proofs.Rises.{above_lower}
 use Rattle.lg_timers.specs.declared.timer.Timer.{Timer}
-use Rattle.lg_timers.specs.Timers.{timer_key, timer_cmp, has_id, is_due, have_distinct_ids, with_timer, in_turn, least_of, due_of}
+use Rattle.lg_timers.specs.Meaning.Timers.{timer_key, timer_cmp, has_id, is_due, have_distinct_ids, with_timer, in_turn, least_of, due_of}
 use Rattle.lg_timers.proofs.KeyLaws.{less_deadline}
 use Rattle.lg_timers.proofs.TurnLaws.{IsFresh, untied, fresh, fresh_rest, rises-in_turn, apart_first, distinct_rest}
 

@@ -4,13 +4,13 @@ use Rattle.std.specs.Ordering.{nat_cmp}
 use Rattle.std.specs.declared.cmp.Ordering.TheVariants.{Less, Equal, Greater}
 use Rattle.std.proofs.lemmas.Bool.{cases_Bool}
 use Rattle.std.proofs.lemmas.Cmp.{ranked}
-use Rattle.lg_rules.specs.Rows.{name_cmp, is_same, is_among}
+use Rattle.lg_rules.specs.Meaning.Rows.{name_cmp, is_same, is_among}
 use Rattle.lg_rules.proofs.Cases.{Below, Tied, Above, compared}
 use Rattle.lg_rules.proofs.KeyOrder.{names_order, key_is, same_key}
 use Rattle.lg_timers.specs.declared.timer.Timer.{Timer}
 use Rattle.lg_timers.specs.declared.timer.TimerId.{TimerId}
 use Rattle.lg_timers.specs.declared.timer.TimerId.TheVariants.{RoundEnd, Suspicion, Direct, RelayNack, RelayEnd, RoundStart}
-use Rattle.lg_timers.specs.Timers.{id_key, timer_key, timer_cmp, has_id, is_set}
+use Rattle.lg_timers.specs.Meaning.Timers.{id_key, timer_key, timer_cmp, has_id, is_set}
 
 first : List ℕ → ℕ
 first [] = 0

@@ -7,14 +7,14 @@ use Rattle.std.proofs.lemmas.Bool.{cases_Bool}
 use Rattle.std.proofs.lemmas.List.Folds.{list_any-append}
 use Rattle.std.proofs.lemmas.List.Elements.{filter-append}
 use mathlib.Core.List.{map-append}
-use Rattle.lg_rules.specs.Rows.{name_cmp, is_same, is_among, put_row, without_row, Rises, AreAbove}
+use Rattle.lg_rules.specs.Meaning.Rows.{name_cmp, is_same, is_among, put_row, without_row, Rises, AreAbove}
 use Rattle.lg_rules.proofs.Cases.{Below, Tied, Above, compared}
 use Rattle.lg_rules.proofs.KeyOrder.{names_order, turned, same_key, other_key, less_apart}
 use Rattle.lg_rules.proofs.Rises.{above_lower, among-in_order, among-filter, same_members}
 use Rattle.lg_timers.specs.declared.timer.Timer.{Timer}
 use Rattle.lg_timers.specs.declared.timer.TimerId.{TimerId}
 use Rattle.lg_timers.specs.declared.timer.TimerId.TheVariants.{Suspicion, RoundStart}
-use Rattle.lg_timers.specs.Timers.{id_key, timer_key, timer_cmp, has_id, is_set, with_timer, without_timer, in_turn, least_of, earlier}
+use Rattle.lg_timers.specs.Meaning.Timers.{id_key, timer_key, timer_cmp, has_id, is_set, with_timer, without_timer, in_turn, least_of, earlier}
 use Rattle.lg_timers.proofs.KeyLaws.{timer_is}
 use Rattle.lg_timers.proofs.TurnLaws.{map-in_turn, rises-in_turn, least-with_timer}
 use Rattle.lg_timers.proofs.CancelLaws.{fewer}

@@ -8,8 +8,8 @@ use Rattle.std.proofs.lemmas.List.Folds.{list_any-append}
 use Rattle.std.proofs.lemmas.List.Elements.{filter-append}
 use Rattle.lg_timers.specs.declared.timer.Timer.{Timer}
 use Rattle.lg_timers.specs.declared.timer.TimerId.{TimerId}
-use Rattle.lg_timers.specs.Timers.{has_id, is_set, have_distinct_ids, with_timer, without_timer, in_turn, least_of, earlier}
-use Rattle.lg_timers.specs.InTurn.{IsTimerSet, AreKept}
+use Rattle.lg_timers.specs.Meaning.Timers.{has_id, is_set, have_distinct_ids, with_timer, without_timer, in_turn, least_of, earlier}
+use Rattle.lg_timers.specs.Support.InTurn.{IsTimerSet, AreKept}
 use Rattle.lg_timers.proofs.TurnLaws.{any-in_turn, length-in_turn, rises-in_turn, distinct-in_turn, least-with_timer}
 use Rattle.lg_timers.proofs.CancelLaws.{filter-in_turn, distinct-filter, fewer_left}
 

@@ -2,13 +2,13 @@
 use Rattle.std.proofs.Common.{◌≡◌, ℕ, Bool, false, not, ◌||◌, List, [], ◌∷◌, map, Option, Some, None, refl, sym, subst, inl, inr}
 use Rattle.std.specs.Prelude.{filter}
 use Rattle.std.proofs.lemmas.Bool.{cases_Bool}
-use Rattle.lg_rules.specs.Rows.{name_cmp, is_among, Rises}
+use Rattle.lg_rules.specs.Meaning.Rows.{name_cmp, is_among, Rises}
 use Rattle.lg_rules.proofs.KeyOrder.{names_order}
 use Rattle.lg_rules.proofs.Rises.{rises-put, same_members}
 use Rattle.lg_timers.specs.declared.timer.Timer.{Timer}
 use Rattle.lg_timers.specs.declared.timer.TimerId.{TimerId}
-use Rattle.lg_timers.specs.Timers.{timer_key, has_id, is_set, with_timer, without_timer, left_by}
-use Rattle.lg_timers.specs.InTurn.{IsTimerSet}
+use Rattle.lg_timers.specs.Meaning.Timers.{timer_key, has_id, is_set, with_timer, without_timer, left_by}
+use Rattle.lg_timers.specs.Support.InTurn.{IsTimerSet}
 use Rattle.lg_timers.proofs.KeyLaws.{not_set, timer_is}
 use Rattle.lg_timers.proofs.TurnLaws.{IsFresh, map-with_timer, any-with_timer, distinct-with_timer}
 use Rattle.lg_timers.proofs.CancelLaws.{above_filter, distinct-filter}

@@ -4,12 +4,12 @@ use Rattle.std.specs.List.{list_any}
 use Rattle.std.specs.declared.cmp.Ordering.TheVariants.{Less, Equal, Greater}
 use Rattle.std.proofs.lemmas.Bool.{false≢true}
 use Rattle.lg_rules.proofs.Tests.{both}
-use Rattle.lg_rules.specs.Rows.{name_cmp, is_same, is_among, put_key, in_order, Rises}
+use Rattle.lg_rules.specs.Meaning.Rows.{name_cmp, is_same, is_among, put_key, in_order, Rises}
 use Rattle.lg_rules.proofs.Cases.{Below, Tied, Above, compared}
 use Rattle.lg_rules.proofs.KeyOrder.{names_order, turned, same_back}
 use Rattle.lg_rules.proofs.Rises.{among-in_order, rises-in_order, among-cons_same}
 use Rattle.lg_timers.specs.declared.timer.Timer.{Timer}
-use Rattle.lg_timers.specs.Timers.{id_key, timer_key, timer_cmp, has_id, is_set, have_distinct_ids, with_timer, in_turn, least_of, earlier}
+use Rattle.lg_timers.specs.Meaning.Timers.{id_key, timer_key, timer_cmp, has_id, is_set, have_distinct_ids, with_timer, in_turn, least_of, earlier}
 use Rattle.lg_timers.proofs.KeyLaws.{not_set}
 
 -- no timer of these has the list of this one

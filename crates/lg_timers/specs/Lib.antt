@@ -1,3 +1,2 @@
-pub mod Examples
-pub mod InTurn
-pub mod Timers
+pub mod Meaning
+pub mod Support

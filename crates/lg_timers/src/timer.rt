@@ -35,7 +35,7 @@ pub struct Timer {
 impl Timer {
     ghost use Rattle.std.specs.Prelude.{◌≡◌};
     ghost use Rattle.std.specs.Ordering.{is_lt};
-    ghost use Rattle.lg_timers.specs.Timers.{timer_cmp, has_id};
+    ghost use Rattle.lg_timers.specs.Meaning.Timers.{timer_cmp, has_id};
 
     /// Whether it fires before another one, where both are due.
     pub(crate) fn is_before(&self, other: &Timer) -> bool

@@ -1,7 +1,7 @@
 //! The set of timers.
 ghost use Rattle.std.specs.Prelude.{◌≡◌, ◌<◌, ◌≤◌, ◌==◌, false, List, [], length, reverse};
-ghost use Rattle.lg_timers.specs.Timers.{in_turn, is_set, with_timer, without_timer, least_of, earlier, due_of, left_by};
-ghost use Rattle.lg_timers.specs.InTurn.{IsTimerSet};
+ghost use Rattle.lg_timers.specs.Meaning.Timers.{in_turn, is_set, with_timer, without_timer, least_of, earlier, due_of, left_by};
+ghost use Rattle.lg_timers.specs.Support.InTurn.{IsTimerSet};
 
 use crate::timer::{Timer, TimerId};
 use arrayvec::ArrayVec;
@@ -23,8 +23,8 @@ pub struct Timers {
 impl Model for Timers {
     ghost use Rattle.std.specs.Prelude.{List, reverse};
     ghost use Rattle.lg_timers.specs.declared.timer.Timer.{Timer as OneTimer};
-    ghost use Rattle.lg_timers.specs.Timers.{in_turn};
-    ghost use Rattle.lg_timers.specs.InTurn.{AreKept};
+    ghost use Rattle.lg_timers.specs.Meaning.Timers.{in_turn};
+    ghost use Rattle.lg_timers.specs.Support.InTurn.{AreKept};
 
     ghost Value = { List OneTimer };
 
@@ -73,7 +73,7 @@ fn holds(timers: &[Timer], id: &TimerId) -> bool
 
 impl Timers {
     /// No timer is set.
-    #[tactic(auto, unfolding(crate::specs::Timers::in_turn))]
+    #[tactic(auto, unfolding(crate::specs::Meaning::Timers::in_turn))]
     pub fn new() -> Timers
         ensures { result ≡ [] }
     {
@@ -137,7 +137,7 @@ impl Timers {
     }
 
     /// Cancels all timers: none is set then.
-    #[tactic(auto, unfolding(crate::specs::Timers::in_turn))]
+    #[tactic(auto, unfolding(crate::specs::Meaning::Timers::in_turn))]
     pub fn clear(&mut self)
         ensures { self.new ≡ [] }
     {

@@ -5,7 +5,7 @@ use Rattle.std.proofs.lemmas.Bool.{leb-true}
 use Rattle.lg_rules.proofs.Tests.{both}
 use Rattle.lg_timing.specs.declared.config.Config.{Config}
 use Rattle.lg_timing.specs.declared.config.ConfigFault.{ConfigFault}
-use Rattle.lg_timing.specs.Config.{is_within, is_seed, rules_of, first_broken, unless_broken, check_of, IsChecked, HasRanges}
+use Rattle.lg_timing.specs.Meaning.Config.{is_within, is_seed, rules_of, first_broken, unless_broken, check_of, IsChecked, HasRanges}
 
 -- where no rule is broken, each is kept
 pub all_kept : (rules : List (Bool × ConfigFault)) → unless_broken (first_broken rules) ≡ Ok tt → list_all (λ rule. rule.0) rules ≡ true

@@ -3,7 +3,7 @@ use Rattle.std.proofs.Common.{◌≡◌, ℕ, zero, suc, ◌+◌, ◌≤◌, ◌
 use Rattle.std.proofs.Math.Nat.{pow-le-pow_right}
 use Rattle.std.proofs.lemmas.Bool.{leb-true, leb-false}
 use Rattle.std.proofs.lemmas.Bool.Decides.{nat_tests}
-use Rattle.lg_timing.specs.Tables.{IsLog, range_end, log10_of, ratio_of}
+use Rattle.lg_timing.specs.Meaning.Tables.{IsLog, range_end, log10_of, ratio_of}
 
 -- t is the greatest where t + 1 is too great
 pub is_log : (base number t : ℕ) → 0 < base → base ^ t ≤ number ^ 1000 → number ^ 1000 < base ^ (t + 1) → IsLog base number t

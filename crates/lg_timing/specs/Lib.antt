@@ -1,6 +1,1 @@
-pub mod Config
-pub mod Examples
-pub mod Score
-pub mod Tables
-pub mod TimeoutRange
-pub mod Timeouts
+pub mod Meaning

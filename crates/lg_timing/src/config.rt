@@ -1,6 +1,6 @@
 //! The configuration of a member.
 ghost use Rattle.std.specs.Prelude.{◌≡◌, []};
-ghost use Rattle.lg_timing.specs.Config.{is_within, is_seed, have_distinct_names, are_good_seeds, first_broken};
+ghost use Rattle.lg_timing.specs.Meaning.Config.{is_within, is_seed, have_distinct_names, are_good_seeds, first_broken};
 
 use arrayvec::ArrayVec;
 use lg_rules::{Addr, Name};
@@ -153,10 +153,10 @@ fn first_broken(rules: &[(bool, ConfigFault)]) -> Option<(bool, ConfigFault)>
 
 impl Config {
     ghost use Rattle.std.specs.Prelude.{◌≡◌, []};
-    ghost use Rattle.lg_timing.specs.Config.{check_of, IsChecked};
+    ghost use Rattle.lg_timing.specs.Meaning.Config.{check_of, IsChecked};
 
     /// The configuration of a member with the default numbers and no seed. It passes its check.
-    #[tactic(auto, unfolding(crate::specs::Config::check_of))]
+    #[tactic(auto, unfolding(crate::specs::Meaning::Config::check_of))]
     pub fn new(name: Name, addr: Addr) -> Config
         ensures defaults { result ≡ record {
           interval_ms = 1000;
@@ -203,7 +203,7 @@ impl Config {
 
     /// Whether each field is in its range, or else the fault of the first that isn't, in the order of
     /// [`ConfigFault`].
-    #[tactic(auto, unfolding(crate::specs::Config::check_of))]
+    #[tactic(auto, unfolding(crate::specs::Meaning::Config::check_of))]
     pub fn check(&self) -> Result<(), ConfigFault>
         ensures { result ≡ check_of self.now }
     {

@@ -1,7 +1,7 @@
 //! The health score.
 ghost use Rattle.std.specs.Prelude.{◌≡◌, ◌≢◌, ◌≤◌, ℤ, pos, negsuc, ◌≤ℤ◌, ◌+◌, ◌*◌, List, ◌∷◌};
-ghost use Rattle.lg_timing.specs.Config.{IsChecked};
-ghost use Rattle.lg_timing.specs.Score.{score_of, marked};
+ghost use Rattle.lg_timing.specs.Meaning.Config.{IsChecked};
+ghost use Rattle.lg_timing.specs.Meaning.Score.{score_of, marked};
 
 use crate::config::Config;
 use std::alloc::AllocError;
@@ -19,7 +19,7 @@ pub struct Score {
 
 impl Model for Score {
     ghost use Rattle.std.specs.Prelude.{◌≤◌};
-    ghost use Rattle.lg_timing.specs.Score.{ScoreValue};
+    ghost use Rattle.lg_timing.specs.Meaning.Score.{ScoreValue};
 
     ghost Value = { ScoreValue };
 

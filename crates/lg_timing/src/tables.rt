@@ -1,6 +1,6 @@
 //! The tables of logarithms.
 ghost use Rattle.std.specs.Prelude.{◌≡◌, ℕ, ◌+◌, ◌≤◌};
-ghost use Rattle.lg_timing.specs.Tables.{IsLog, range_end, log10_of, ratio_of};
+ghost use Rattle.lg_timing.specs.Meaning.Tables.{IsLog, range_end, log10_of, ratio_of};
 
 // A row for each number of confirmations in all, a column for each number of those that came.
 const RATIOS: [[u64; 6]; 6] = [
@@ -15,7 +15,7 @@ const RATIOS: [[u64; 6]; 6] = [
 /// The base-ten logarithm that counts for `members` members, 1 to 256, in thousandths rounded down:
 /// that of the greatest number in the same one of the ranges up to 10, 16, 32, 64, 128 and 256 (the
 /// ranges are this project's choice).
-#[tactic(auto, unfolding(crate::specs::Tables::log10_of))]
+#[tactic(auto, unfolding(crate::specs::Meaning::Tables::log10_of))]
 pub fn log10_thousandths(members: u64) -> u64
     requires some { 1 ≤ members }
     requires within { members ≤ 256 }
@@ -34,7 +34,7 @@ pub fn log10_thousandths(members: u64) -> u64
 /// The quotient log(c + 1) / log(k + 1) in thousandths rounded down, for `c` of `k` confirmations, c at
 /// most k and k at most 5 (Lifeguard, local health aware suspicion). For k = 0 it is 1000 (this
 /// project's choice).
-#[tactic(auto, unfolding(crate::specs::Tables::ratio_of))]
+#[tactic(auto, unfolding(crate::specs::Meaning::Tables::ratio_of))]
 pub fn ratio(k: u64, c: u64) -> u64
     requires came { c ≤ k }
     requires within { k ≤ 5 }

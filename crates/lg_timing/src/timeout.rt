@@ -1,7 +1,7 @@
 //! How long a suspicion lasts.
 ghost use Rattle.std.specs.Prelude.{◌≡◌, ◌≤◌};
-ghost use Rattle.lg_timing.specs.Config.{IsChecked};
-ghost use Rattle.lg_timing.specs.Timeouts.{confirmations_of, range_of, timeout_of, suspicion_of};
+ghost use Rattle.lg_timing.specs.Meaning.Config.{IsChecked};
+ghost use Rattle.lg_timing.specs.Meaning.Timeouts.{confirmations_of, range_of, timeout_of, suspicion_of};
 
 use crate::config::Config;
 use crate::tables::{log10_thousandths, ratio};
@@ -22,7 +22,7 @@ pub struct SuspicionTimeout {
 
 impl Model for SuspicionTimeout {
     ghost use Rattle.std.specs.Prelude.{◌≤◌};
-    ghost use Rattle.lg_timing.specs.TimeoutRange.{TimeoutRange, HasTimeouts};
+    ghost use Rattle.lg_timing.specs.Meaning.TimeoutRange.{TimeoutRange, HasTimeouts};
 
     ghost Value = { TimeoutRange };
 

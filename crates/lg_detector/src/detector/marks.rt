@@ -1,14 +1,14 @@
 //! What happens inside an event. Most of these only call the function of `Parts` of the same name: the invariant of a
 //! detector gives what that requires.
 ghost use Rattle.std.specs.Prelude.{◌≡◌, ◌<◌, ◌≤◌, ◌++◌, true, false, map, length, filter, None};
-ghost use Rattle.lg_rules.specs.Rows.{name_cmp, is_among};
-ghost use Rattle.lg_rules.specs.Table.{members_in};
-ghost use Rattle.lg_rules.specs.View.{is_news, news, changed, view};
-ghost use Rattle.lg_timing.specs.Config.{IsChecked};
-ghost use Rattle.lg_gossip.specs.Queue.{taken_of, fill_of};
-ghost use Rattle.lg_detector.specs.Events.{alive_seed};
-ghost use Rattle.lg_detector.specs.State.{come, open_with, tell, tell_all, send, fire, membership};
-ghost use Rattle.lg_detector.specs.Answers.{shown_of, due_in, claims_of, fire_due};
+ghost use Rattle.lg_rules.specs.Meaning.Rows.{name_cmp, is_among};
+ghost use Rattle.lg_rules.specs.Meaning.Table.{members_in};
+ghost use Rattle.lg_rules.specs.Meaning.View.{is_news, news, changed, view};
+ghost use Rattle.lg_timing.specs.Meaning.Config.{IsChecked};
+ghost use Rattle.lg_gossip.specs.Meaning.Queue.{taken_of, fill_of};
+ghost use Rattle.lg_detector.specs.Meaning.Events.{alive_seed};
+ghost use Rattle.lg_detector.specs.Support.State.{come, open_with, tell, tell_all, send, fire, membership};
+ghost use Rattle.lg_detector.specs.Support.Answers.{shown_of, due_in, claims_of, fire_due};
 
 use super::Detector;
 use crate::reply::MAX_CHANGED;

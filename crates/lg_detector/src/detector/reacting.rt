@@ -1,12 +1,12 @@
 //! What each event does.
 ghost use Rattle.std.specs.Prelude.{◌≡◌, ◌<◌, ◌≤◌, length, [], None, Some, Option};
-ghost use Rattle.lg_rules.specs.Rows.{name_cmp};
-ghost use Rattle.lg_rules.specs.View.{changed};
-ghost use Rattle.lg_timing.specs.Config.{IsChecked};
-ghost use Rattle.lg_detector.specs.Events.{asked_in};
-ghost use Rattle.lg_detector.specs.State.{come};
+ghost use Rattle.lg_rules.specs.Meaning.Rows.{name_cmp};
+ghost use Rattle.lg_rules.specs.Meaning.View.{changed};
+ghost use Rattle.lg_timing.specs.Meaning.Config.{IsChecked};
+ghost use Rattle.lg_detector.specs.Meaning.Events.{asked_in};
+ghost use Rattle.lg_detector.specs.Support.State.{come};
 ghost use Rattle.lg_detector.specs.declared.event.Event.TheVariants.{Open};
-ghost use Rattle.lg_detector.specs.Answers.{react, shown_of, hear, tick, due_in, respond, ack_out};
+ghost use Rattle.lg_detector.specs.Support.Answers.{react, shown_of, hear, tick, due_in, respond, ack_out};
 
 use super::Detector;
 use crate::parts::is_same_name;

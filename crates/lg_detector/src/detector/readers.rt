@@ -1,10 +1,10 @@
 //! What a detector tells without an event.
 ghost use Rattle.std.specs.Prelude.{◌≡◌, List, IfOk, length, Some, is_some};
-ghost use Rattle.lg_rules.specs.Claim.{name_of};
-ghost use Rattle.lg_rules.specs.Rows.{name_cmp, row_at};
-ghost use Rattle.lg_rules.specs.Table.{members_in};
-ghost use Rattle.lg_detector.specs.Events.{or_zero};
-ghost use Rattle.lg_detector.specs.Answers.{state_after, view_after, deadline_of, deadline_after, shown_of};
+ghost use Rattle.lg_rules.specs.Meaning.Claim.{name_of};
+ghost use Rattle.lg_rules.specs.Meaning.Rows.{name_cmp, row_at};
+ghost use Rattle.lg_rules.specs.Meaning.Table.{members_in};
+ghost use Rattle.lg_detector.specs.Meaning.Events.{or_zero};
+ghost use Rattle.lg_detector.specs.Support.Answers.{state_after, view_after, deadline_of, deadline_after, shown_of};
 ghost use Rattle.lg_detector.specs.declared.event.Event.{Event as Happened};
 ghost use Rattle.lg_detector.specs.declared.reply.Answer.TheVariants.{Health as Healthy};
 

@@ -1,6 +1,6 @@
 use Rattle.std.proofs.Common.{◌≡◌, ◌++◌, take}
 use Rattle.std.specs.List.{flat_map}
-use Rattle.lg_cli.specs.Answering.{sent_line}
+use Rattle.lg_cli.specs.Meaning.Answering.{sent_line}
 use Rattle.lg_cli.proofs.answer.put_sends.Given as goal
 
 abbrev pub invariant-loop-outgoing : goal.invariant-loop-outgoing

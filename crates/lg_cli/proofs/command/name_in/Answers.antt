@@ -5,7 +5,7 @@ use Rattle.clap.specs.Walk.{Row, Text, first_of, rows_of}
 use Rattle.clap.specs.Matches.{found_of}
 use Rattle.clap.specs.Simple.{subcommand_rows_of}
 use Rattle.clap.proofs.WalkLemmas.{first_value-rows}
-use Rattle.lg_cli.specs.Commands.{name_of_rows}
+use Rattle.lg_cli.specs.Meaning.Commands.{name_of_rows}
 use Rattle.lg_cli.proofs.command.name_in.Goals as goal
 
 name_of_met : (met : Option (Text × List Row)) (rows : List Row) → Some rows ≡ option_map (λ p. p.1) met → unwrap_or (first_of (codes "name") rows) [] ≡ name_of_rows met

@@ -4,7 +4,7 @@ use Rattle.std.specs.Str.Parse.{ParsesUnsigned, ExplainsUnsignedError, HasUnsign
 use Rattle.clap.specs.Matches.{found_of, one_text}
 use Rattle.clap.specs.Walk.{Text}
 use Rattle.clap.proofs.WalkLemmas.{one_text-rows}
-use Rattle.lg_cli.specs.Commands.{number_of}
+use Rattle.lg_cli.specs.Meaning.Commands.{number_of}
 use Rattle.lg_cli.proofs.CommandLaws.{number_read}
 use Rattle.lg_cli.proofs.command.number_in.Goals as goal
 

@@ -5,7 +5,7 @@ use Rattle.clap.specs.Simple.{app_of_fields, new_app}
 use Rattle.clap.specs.Walk.{rule_of}
 use Rattle.clap.specs.declared.builder.arg.Arg.{Arg}
 use Rattle.clap.specs.declared.builder.command.Command.{Command}
-use Rattle.lg_cli.specs.Commands.{alpha_rule, beta_rule, confirmations_rule, default_rule, interval_rule, members_rule, required_rule}
+use Rattle.lg_cli.specs.Meaning.Commands.{alpha_rule, beta_rule, confirmations_rule, default_rule, interval_rule, members_rule, required_rule}
 use Rattle.lg_cli.proofs.CommandLaws.{MakesApp, adds_rule}
 use Rattle.lg_cli.proofs.command.timeouts_command.Goals as goal
 

@@ -1,7 +1,7 @@
 use Rattle.std.proofs.Common.{◌≡◌, ℕ, ◌-◌, ◌≤◌, List, length, Option, ◌++◌, arith, length-append, vec_len}
 use Rattle.std.proofs.KnownBytes.{Consumes-trans}
 use Rattle.std.specs.Io.KnownBytes.{Consumes}
-use Rattle.lg_cli.specs.Input.{TakesAtMost}
+use Rattle.lg_cli.specs.Support.Input.{TakesAtMost}
 use Rattle.lg_cli.proofs.input.read_input.Goals as goal
 
 takes_more : (a b c : Option (List ℕ)) (xs : List ℕ) (len n : ℕ) → Consumes a b xs → len ≡ length xs → len ≤ n → TakesAtMost (n - len) b c → TakesAtMost n a c

@@ -1,5 +1,5 @@
 use Rattle.std.proofs.Common.{ap, decimal}
-use Rattle.lg_cli.specs.Timeouts.{after_line, ms_line}
+use Rattle.lg_cli.specs.Meaning.Timeouts.{after_line, ms_line}
 use Rattle.lg_cli.proofs.TimeoutLaws.{with_line}
 use Rattle.lg_cli.proofs.timeouts.put_after.Goals as goal
 

@@ -1,6 +1,6 @@
 use Rattle.std.proofs.Common.{◌≡◌, ◌++◌, string_bytes}
 use Rattle.std.specs.List.{flat_map, range_with_len}
-use Rattle.lg_cli.specs.Timeouts.{after_line}
+use Rattle.lg_cli.specs.Meaning.Timeouts.{after_line}
 use Rattle.lg_cli.proofs.timeouts.put_after.Given as goal
 
 -- the lines so far

@@ -1,7 +1,7 @@
 use Rattle.std.proofs.Common.{◌≡◌, ◌++◌, ap, ◌∙◌, codes, string_bytes, ℕ}
-use Rattle.lg_timing.specs.Timeouts.{range_of}
+use Rattle.lg_timing.specs.Meaning.Timeouts.{range_of}
 use Rattle.lg_timing.specs.declared.config.Config.{Config}
-use Rattle.lg_cli.specs.Timeouts.{after_lines, config_of, ms_line, range_text, timeouts_text}
+use Rattle.lg_cli.specs.Meaning.Timeouts.{after_lines, config_of, ms_line, range_text, timeouts_text}
 use Rattle.lg_cli.proofs.TimeoutLaws.{good_is_checked, joined}
 use Rattle.lg_cli.proofs.timeouts.timeouts.Goals as goal
 

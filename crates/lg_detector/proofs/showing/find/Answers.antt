@@ -1,8 +1,8 @@
 use Rattle.std.proofs.Common.{◌≡◌, true, false, cond, Some, sym, ap, ◌∙◌}
 use Rattle.lg_rules.specs.declared.claim.Claim.{Claim}
-use Rattle.lg_rules.specs.Claim.{name_of}
-use Rattle.lg_rules.specs.Own.{own_record}
-use Rattle.lg_rules.specs.Rows.{name_cmp, is_same, row_at}
+use Rattle.lg_rules.specs.Meaning.Claim.{name_of}
+use Rattle.lg_rules.specs.Meaning.Own.{own_record}
+use Rattle.lg_rules.specs.Meaning.Rows.{name_cmp, is_same, row_at}
 use Rattle.lg_detector.proofs.Shown.{found-opened}
 use Rattle.lg_detector.proofs.showing.find.Goals as goal
 

@@ -1,6 +1,6 @@
 use Rattle.std.proofs.Common.{◌≡◌, Bool, true, get_or, length, ap, sym, ◌∙◌, arith}
 use Rattle.lg_rules.specs.declared.claim.Claim.{Claim}
-use Rattle.lg_rules.specs.Rows.{name_cmp, is_among}
+use Rattle.lg_rules.specs.Meaning.Rows.{name_cmp, is_among}
 use Rattle.lg_rules.proofs.RowsFound.{filter_room}
 use Rattle.lg_detector.proofs.showing.put_among.Goals as goal
 

@@ -1,6 +1,6 @@
 use Rattle.std.proofs.Common.{◌≡◌, take}
 use Rattle.std.specs.Prelude.{filter}
-use Rattle.lg_rules.specs.Rows.{name_cmp, is_among}
+use Rattle.lg_rules.specs.Meaning.Rows.{name_cmp, is_among}
 use Rattle.lg_detector.proofs.showing.put_among.Given as goal
 
 abbrev pub invariant-loop-claim : goal.invariant-loop-claim

@@ -1,9 +1,9 @@
 use Rattle.std.proofs.Common.{◌≡◌, ◌≤◌, List, length, true, false, None, subst, sym, ap, ◌∙◌, arith}
 use Rattle.std.specs.Prelude.{filter}
 use Rattle.lg_rules.specs.declared.claim.Claim.{Claim}
-use Rattle.lg_rules.specs.Claim.{name_of}
-use Rattle.lg_rules.specs.Own.{own_record}
-use Rattle.lg_rules.specs.Rows.{name_cmp, is_among, put_row, row_at}
+use Rattle.lg_rules.specs.Meaning.Claim.{name_of}
+use Rattle.lg_rules.specs.Meaning.Own.{own_record}
+use Rattle.lg_rules.specs.Meaning.Rows.{name_cmp, is_among, put_row, row_at}
 use Rattle.lg_detector.proofs.Shown.{shown-in, shown-out, shown-fits, shown-room}
 use Rattle.lg_detector.proofs.showing.put_changed.Goals as goal
 

@@ -1,7 +1,7 @@
 use Rattle.std.proofs.Common.{Bool, rules, sym, ◌∙◌, ap}
 use Rattle.std.specs.List.{list_any}
 use Rattle.arrayvec.proofs.ArrayVecLemmas.{filter-from_retain}
-use Rattle.lg_rules.specs.Rows.{name_cmp, is_same}
+use Rattle.lg_rules.specs.Meaning.Rows.{name_cmp, is_same}
 use Rattle.lg_rules.proofs.RowsFound.{filter-none}
 use Rattle.lg_detector.specs.declared.suspected.Suspected.{Suspected}
 use Rattle.lg_detector.proofs.suspicions.remove.Goals as goal

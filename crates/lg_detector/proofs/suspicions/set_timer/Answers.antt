@@ -1,6 +1,6 @@
 use Rattle.std.proofs.Common.{ap, ◌∙◌, length, arith}
 use Rattle.lg_timers.specs.declared.timer.TimerId.TheVariants.{Suspicion}
-use Rattle.lg_timers.specs.Timers.{is_set}
+use Rattle.lg_timers.specs.Meaning.Timers.{is_set}
 use Rattle.lg_timers.proofs.Pending.{length_without-le}
 use Rattle.lg_timers.proofs.TimerSets.{is_set-without}
 use Rattle.lg_detector.proofs.suspicions.set_timer.Goals as goal

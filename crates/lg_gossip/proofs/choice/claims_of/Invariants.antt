@@ -1,6 +1,6 @@
 use Rattle.std.proofs.Common.{◌≡◌, ◌++◌, map, take}
 use Rattle.std.specs.Option.{option_to_list}
-use Rattle.lg_gossip.specs.Queue.{queued_claim}
+use Rattle.lg_gossip.specs.Meaning.Queue.{queued_claim}
 use Rattle.lg_gossip.proofs.choice.claims_of.Given as goal
 
 abbrev pub invariant-loop-row : goal.invariant-loop-row

@@ -1,5 +1,5 @@
 use Rattle.std.proofs.Common.{sym, ◌∙◌, ap}
-use Rattle.lg_gossip.specs.Queue.{may_go}
+use Rattle.lg_gossip.specs.Meaning.Queue.{may_go}
 use Rattle.lg_gossip.proofs.Turns.{goes_in, stays_out}
 use Rattle.lg_gossip.proofs.choice.rows_taken.Goals as goal
 use Rattle.lg_gossip.proofs.choice.rows_taken.Goals.{then-may_go, else-may_go}

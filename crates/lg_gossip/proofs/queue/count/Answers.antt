@@ -1,5 +1,5 @@
 use Rattle.std.proofs.Common.{map}
-use Rattle.lg_gossip.specs.Queue.{queued_claim}
+use Rattle.lg_gossip.specs.Meaning.Queue.{queued_claim}
 use Rattle.lg_gossip.proofs.Counting.{count-more}
 use Rattle.lg_gossip.proofs.queue.count.Goals as goal
 

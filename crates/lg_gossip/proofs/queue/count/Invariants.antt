@@ -1,5 +1,5 @@
 use Rattle.std.proofs.Common.{◌≡◌, ◌++◌, map, take, drop}
-use Rattle.lg_gossip.specs.Queue.{queued_claim, sent_once}
+use Rattle.lg_gossip.specs.Meaning.Queue.{queued_claim, sent_once}
 use Rattle.lg_gossip.proofs.queue.count.Given as goal
 
 abbrev pub invariant-loop-row : goal.invariant-loop-row

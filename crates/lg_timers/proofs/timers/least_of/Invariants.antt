@@ -1,5 +1,5 @@
 use Rattle.std.proofs.Common.{◌≡◌, reverse, take}
-use Rattle.lg_timers.specs.Timers.{in_turn, least_of}
+use Rattle.lg_timers.specs.Meaning.Timers.{in_turn, least_of}
 use Rattle.lg_timers.proofs.timers.least_of.Given as goal
 
 -- the first of the timers so far

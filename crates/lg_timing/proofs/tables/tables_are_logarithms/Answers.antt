@@ -1,6 +1,6 @@
 use Rattle.std.proofs.Common.{refl}
 use Rattle.lg_timing.proofs.TableLemmas.{log10_is, ratio_is}
-use Rattle.lg_timing.specs.Tables.{ratio_of}
+use Rattle.lg_timing.specs.Meaning.Tables.{ratio_of}
 use Rattle.lg_timing.proofs.tables.tables_are_logarithms.Goals as goal
 
 pub returns-clause-logarithms : goal.returns-clause-logarithms

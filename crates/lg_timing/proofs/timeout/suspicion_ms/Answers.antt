@@ -1,4 +1,4 @@
-use Rattle.lg_timing.specs.Timeouts.{range_of}
+use Rattle.lg_timing.specs.Meaning.Timeouts.{range_of}
 use Rattle.lg_timing.proofs.timeout.suspicion_ms.Goals as goal
 
 pub after-requires : goal.after-requires

@@ -1,6 +1,6 @@
 use Rattle.std.proofs.Common.{IsTrue, ap, ◌∙◌, sym, subst}
-use Rattle.lg_detector.specs.Answers.{accepts_of, next}
-use Rattle.lg_detector.specs.State.{State}
+use Rattle.lg_detector.specs.Support.Answers.{accepts_of, next}
+use Rattle.lg_detector.specs.Support.State.{State}
 use Rattle.lg_detector.proofs.EventLaws.{next-accepted, next-after}
 use Rattle.lg_detector.proofs.detector.Detector.absorb.Goals as goal
 

@@ -1,5 +1,5 @@
 use Rattle.std.proofs.Common.{ap, ◌∙◌}
-use Rattle.lg_detector.specs.Answers.{accepts_of}
+use Rattle.lg_detector.specs.Support.Answers.{accepts_of}
 use Rattle.lg_detector.proofs.Accepting.{accepts-after}
 use Rattle.lg_detector.proofs.detector.Detector.accepts.Goals as goal
 

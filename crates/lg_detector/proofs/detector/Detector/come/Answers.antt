@@ -1,6 +1,6 @@
 use Rattle.std.proofs.Common.{ap, ◌∙◌}
-use Rattle.lg_detector.specs.Kept.{state_in}
-use Rattle.lg_detector.specs.State.{come}
+use Rattle.lg_detector.specs.Support.Kept.{state_in}
+use Rattle.lg_detector.specs.Support.State.{come}
 use Rattle.lg_detector.proofs.Reaching.{reached-come}
 use Rattle.lg_detector.proofs.detector.Detector.come.Goals as goal
 

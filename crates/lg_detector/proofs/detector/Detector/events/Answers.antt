@@ -1,5 +1,5 @@
 use Rattle.std.proofs.Common.{ap, ◌∙◌}
-use Rattle.lg_detector.specs.State.{State}
+use Rattle.lg_detector.specs.Support.State.{State}
 use Rattle.lg_detector.proofs.Accepting.{events-after}
 use Rattle.lg_detector.proofs.detector.Detector.events.Goals as goal
 

@@ -1,8 +1,8 @@
 use Rattle.std.proofs.Common.{None, ap, ◌∙◌}
-use Rattle.lg_rules.specs.Table.{members_in}
-use Rattle.lg_gossip.specs.Queue.{taken_of}
-use Rattle.lg_detector.specs.Kept.{state_in}
-use Rattle.lg_detector.specs.State.{State, send}
+use Rattle.lg_rules.specs.Meaning.Table.{members_in}
+use Rattle.lg_gossip.specs.Meaning.Queue.{taken_of}
+use Rattle.lg_detector.specs.Support.Kept.{state_in}
+use Rattle.lg_detector.specs.Support.State.{State, send}
 use Rattle.lg_detector.proofs.Reaching.{reached-send}
 use Rattle.lg_detector.proofs.detector.Detector.fill.Goals as goal
 

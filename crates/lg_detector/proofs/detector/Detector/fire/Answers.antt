@@ -1,7 +1,7 @@
 use Rattle.std.proofs.Common.{◌<◌, length, ap, ◌∙◌, sym, subst}
-use Rattle.lg_detector.specs.Kept.{state_in}
-use Rattle.lg_detector.specs.Reached.{IsGood}
-use Rattle.lg_detector.specs.State.{State, fire}
+use Rattle.lg_detector.specs.Support.Kept.{state_in}
+use Rattle.lg_detector.specs.Support.Reached.{IsGood}
+use Rattle.lg_detector.specs.Support.State.{State, fire}
 use Rattle.lg_detector.proofs.Reaching.{reached-fire}
 use Rattle.lg_detector.proofs.Rooms.{few_timers}
 use Rattle.lg_detector.proofs.detector.Detector.fire.Goals as goal

@@ -1,6 +1,6 @@
 use Rattle.std.proofs.Common.{List, IsTrue, ap, ◌∙◌, sym, subst}
 use Rattle.lg_rules.specs.declared.claim.Claim.{Claim}
-use Rattle.lg_detector.specs.Answers.{accepts_of, hear, respond, react}
+use Rattle.lg_detector.specs.Support.Answers.{accepts_of, hear, respond, react}
 use Rattle.lg_detector.proofs.Openings.{opened_checked}
 use Rattle.lg_detector.proofs.detector.Detector.lead.Goals as goal
 

@@ -1,8 +1,8 @@
 use Rattle.std.proofs.Common.{true, List, map, ap, ◌∙◌}
 use Rattle.lg_timing.specs.declared.config.Seed.{Seed}
-use Rattle.lg_detector.specs.Answers.{react}
-use Rattle.lg_detector.specs.Events.{alive_seed}
-use Rattle.lg_detector.specs.State.{open_with, tell_all}
+use Rattle.lg_detector.specs.Support.Answers.{react}
+use Rattle.lg_detector.specs.Meaning.Events.{alive_seed}
+use Rattle.lg_detector.specs.Support.State.{open_with, tell_all}
 use Rattle.lg_detector.proofs.detector.Detector.open.Goals as goal
 
 pub returns : goal.returns

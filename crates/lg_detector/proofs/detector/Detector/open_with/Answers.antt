@@ -1,6 +1,6 @@
 use Rattle.std.proofs.Common.{ap, ◌∙◌}
-use Rattle.lg_detector.specs.Kept.{state_in}
-use Rattle.lg_detector.specs.State.{open_with}
+use Rattle.lg_detector.specs.Support.Kept.{state_in}
+use Rattle.lg_detector.specs.Support.State.{open_with}
 use Rattle.lg_detector.proofs.Reaching.{reached-open}
 use Rattle.lg_detector.proofs.detector.Detector.open_with.Goals as goal
 

@@ -1,7 +1,7 @@
 use Rattle.std.proofs.Common.{ap, ◌∙◌}
-use Rattle.lg_detector.specs.Events.{or_zero}
-use Rattle.lg_detector.specs.Answers.{deadline_of, out}
-use Rattle.lg_detector.specs.State.{State}
+use Rattle.lg_detector.specs.Meaning.Events.{or_zero}
+use Rattle.lg_detector.specs.Support.Answers.{deadline_of, out}
+use Rattle.lg_detector.specs.Support.State.{State}
 use Rattle.lg_detector.proofs.detector.Detector.react.Goals as goal
 
 pub returns-clause-reply : goal.returns-clause-reply

@@ -1,7 +1,7 @@
 use Rattle.std.proofs.Common.{ap, ◌∙◌, sym, subst}
-use Rattle.lg_detector.specs.Kept.{state_in}
-use Rattle.lg_detector.specs.Room.{IsOrdered}
-use Rattle.lg_detector.specs.State.{State}
+use Rattle.lg_detector.specs.Support.Kept.{state_in}
+use Rattle.lg_detector.specs.Support.Room.{IsOrdered}
+use Rattle.lg_detector.specs.Support.State.{State}
 use Rattle.lg_detector.proofs.Rooms.{is_ordered}
 use Rattle.lg_detector.proofs.detector.Detector.show.Goals as goal
 

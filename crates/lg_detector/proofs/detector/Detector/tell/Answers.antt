@@ -1,8 +1,8 @@
 use Rattle.std.proofs.Common.{ap, ◌∙◌, sym, subst}
-use Rattle.lg_detector.specs.Kept.{state_in}
-use Rattle.lg_detector.specs.Reached.{IsGood}
-use Rattle.lg_detector.specs.Room.{HasRoom}
-use Rattle.lg_detector.specs.State.{State, tell}
+use Rattle.lg_detector.specs.Support.Kept.{state_in}
+use Rattle.lg_detector.specs.Support.Reached.{IsGood}
+use Rattle.lg_detector.specs.Support.Room.{HasRoom}
+use Rattle.lg_detector.specs.Support.State.{State, tell}
 use Rattle.lg_detector.proofs.Reaching.{reached-tell}
 use Rattle.lg_detector.proofs.Rooms.{has_room}
 use Rattle.lg_detector.proofs.detector.Detector.tell.Goals as goal

@@ -1,6 +1,6 @@
 use Rattle.std.proofs.Common.{◌≡◌, true, map, drop}
-use Rattle.lg_detector.specs.Events.{alive_seed}
-use Rattle.lg_detector.specs.State.{tell_all}
+use Rattle.lg_detector.specs.Meaning.Events.{alive_seed}
+use Rattle.lg_detector.specs.Support.State.{tell_all}
 use Rattle.lg_detector.proofs.detector.Detector.tell_seeds.Given as goal
 
 -- what is left to say leads to where all leads from the start

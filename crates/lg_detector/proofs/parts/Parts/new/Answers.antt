@@ -1,8 +1,8 @@
 use Rattle.std.proofs.Common.{List, [], ◌∷◌, ℕ, None, sym, ◌∙◌, ap}
 use Rattle.lg_rules.specs.declared.addr.Addr.{Addr}
-use Rattle.lg_rules.specs.Own.{own_of}
-use Rattle.lg_rules.specs.Table.{members_of}
-use Rattle.lg_detector.specs.Timing.{pending_of}
+use Rattle.lg_rules.specs.Meaning.Own.{own_of}
+use Rattle.lg_rules.specs.Meaning.Table.{members_of}
+use Rattle.lg_detector.specs.Meaning.Timing.{pending_of}
 use Rattle.lg_detector.proofs.QueueLaws.{queue-nil}
 use Rattle.lg_detector.proofs.SuspicionLaws.{suspicions-nil}
 use Rattle.lg_detector.proofs.TimerLaws.{pending-nil}

@@ -2,10 +2,10 @@ use Rattle.std.proofs.Common.{◌≡◌, ◌++◌, map, sym, ◌∙◌, ap, subs
 use Rattle.std.specs.List.{IsDistinct}
 use Rattle.std.specs.Prelude.{option_copied}
 use Rattle.std.specs.Option.{option_to_list}
-use Rattle.lg_rules.specs.Claim.{name_of}
-use Rattle.lg_rules.specs.Rows.{name_cmp, is_same}
-use Rattle.lg_gossip.specs.Queue.{GossipQueue, queued_claim, fill_of, filled, rows_taken, sent_once}
-use Rattle.lg_gossip.specs.Sound.{IsSound}
+use Rattle.lg_rules.specs.Meaning.Claim.{name_of}
+use Rattle.lg_rules.specs.Meaning.Rows.{name_cmp, is_same}
+use Rattle.lg_gossip.specs.Meaning.Queue.{GossipQueue, queued_claim, fill_of, filled, rows_taken, sent_once}
+use Rattle.lg_gossip.specs.Support.Sound.{IsSound}
 use Rattle.lg_gossip.proofs.Distinct.{distinct-packet}
 use Rattle.lg_gossip.proofs.Filling.{IsChosen, fills, counts}
 use Rattle.lg_gossip.proofs.Soundness.{sound-sent}

@@ -1,7 +1,7 @@
 use Rattle.std.proofs.Common.{sym, ◌∙◌, ap, subst}
-use Rattle.lg_rules.specs.Rows.{name_cmp, put_row}
-use Rattle.lg_gossip.specs.Queue.{queued_name}
-use Rattle.lg_gossip.specs.Sound.{IsSound}
+use Rattle.lg_rules.specs.Meaning.Rows.{name_cmp, put_row}
+use Rattle.lg_gossip.specs.Meaning.Queue.{queued_name}
+use Rattle.lg_gossip.specs.Support.Sound.{IsSound}
 use Rattle.lg_gossip.proofs.Soundness.{sound-put}
 use Rattle.lg_gossip.proofs.queue.Queue.put.Goals as goal
 

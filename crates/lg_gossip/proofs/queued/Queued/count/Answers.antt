@@ -1,5 +1,5 @@
 use Rattle.std.proofs.Common.{map, sym, ◌∙◌}
-use Rattle.lg_gossip.specs.Queue.{queued_claim}
+use Rattle.lg_gossip.specs.Meaning.Queue.{queued_claim}
 use Rattle.lg_gossip.proofs.Counting.{holds_among, sent, unsent}
 use Rattle.lg_gossip.proofs.queued.Queued.count.Goals as goal
 

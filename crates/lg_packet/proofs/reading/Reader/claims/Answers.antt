@@ -1,7 +1,7 @@
 use Rattle.std.proofs.Common.{◌+◌, List, sym, subst}
 use Rattle.std.proofs.lemmas.Result.{err_from_is_err_and}
 use Rattle.lg_rules.specs.declared.claim.Claim.{Claim}
-use Rattle.lg_packet.specs.Reading.{claims_at}
+use Rattle.lg_packet.specs.Meaning.Reading.{claims_at}
 use Rattle.lg_packet.proofs.ClaimLoop.{Reads, one_more, stops, all_read}
 use Rattle.lg_packet.proofs.reading.Reader.claims.Goals as goal
 

@@ -1,4 +1,4 @@
-use Rattle.lg_packet.specs.Reading.{claims_at}
+use Rattle.lg_packet.specs.Meaning.Reading.{claims_at}
 use Rattle.lg_packet.proofs.ClaimLoop.{Reads}
 use Rattle.lg_packet.proofs.reading.Reader.claims.Given as goal
 

@@ -1,5 +1,5 @@
 use Rattle.std.proofs.Common.{ap, ◌∙◌}
-use Rattle.lg_rules.specs.Table.{Known, heard}
+use Rattle.lg_rules.specs.Meaning.Table.{Known, heard}
 use Rattle.lg_rules.proofs.Tables.{heard-table, table-own}
 use Rattle.lg_rules.proofs.members.Members.hear.Goals as goal
 

@@ -1,5 +1,5 @@
 use Rattle.std.proofs.Common.{sym, ◌∙◌, ap}
-use Rattle.lg_rules.specs.Own.{own_heard}
+use Rattle.lg_rules.specs.Meaning.Own.{own_heard}
 use Rattle.lg_rules.proofs.OwnLaws.{own-same, own-other}
 use Rattle.lg_rules.proofs.own.Own.hear.Goals as goal
 

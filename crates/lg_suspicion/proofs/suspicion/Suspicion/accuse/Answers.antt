@@ -1,5 +1,5 @@
 use Rattle.std.proofs.Common.{◌≡◌, ◌∙◌, ap, rules}
-use Rattle.lg_suspicion.specs.Accusers.{SuspicionValue, accused}
+use Rattle.lg_suspicion.specs.Meaning.Accusers.{SuspicionValue, accused}
 use Rattle.lg_suspicion.proofs.AccuserLaws.{accused-after}
 use Rattle.lg_suspicion.proofs.suspicion.Suspicion.accuse.Goals as goal
 

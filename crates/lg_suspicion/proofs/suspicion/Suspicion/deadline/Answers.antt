@@ -1,5 +1,5 @@
 use Rattle.std.proofs.Common.{◌≡◌, ◌+◌, ◌∙◌, ap, rules}
-use Rattle.lg_suspicion.specs.Accusers.{deadline_of}
+use Rattle.lg_suspicion.specs.Meaning.Accusers.{deadline_of}
 use Rattle.lg_suspicion.proofs.AccuserLaws.{deadline-after}
 use Rattle.lg_suspicion.proofs.suspicion.Suspicion.deadline.Goals as goal
 

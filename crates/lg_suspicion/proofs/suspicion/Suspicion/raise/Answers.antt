@@ -1,6 +1,6 @@
 use Rattle.std.proofs.Common.{◌≡◌, List, ℕ, [], ◌∷◌, ap, sym, ◌∙◌, rules}
-use Rattle.lg_timing.specs.Timeouts.{range_of}
-use Rattle.lg_suspicion.specs.Accusers.{SuspicionValue}
+use Rattle.lg_timing.specs.Meaning.Timeouts.{range_of}
+use Rattle.lg_suspicion.specs.Meaning.Accusers.{SuspicionValue}
 use Rattle.lg_suspicion.proofs.AccuserLaws.{kept-one}
 use Rattle.lg_suspicion.proofs.suspicion.Suspicion.raise.Goals as goal
 

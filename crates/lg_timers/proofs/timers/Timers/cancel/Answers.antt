@@ -1,7 +1,7 @@
 use Rattle.std.proofs.Common.{◌≡◌, rules, sym, ◌∙◌}
 use Rattle.arrayvec.proofs.ArrayVecLemmas.{filter-from_retain}
 use Rattle.lg_rules.proofs.RowsFound.{filter-none}
-use Rattle.lg_timers.specs.Timers.{has_id, without_timer}
+use Rattle.lg_timers.specs.Meaning.Timers.{has_id, without_timer}
 use Rattle.lg_timers.proofs.SetLaws.{kept_without, in_turn-without}
 use Rattle.lg_timers.proofs.timers.Timers.cancel.Goals as goal
 

@@ -1,5 +1,5 @@
 use Rattle.std.proofs.Common.{◌≡◌, Some, sym, rules, arith}
-use Rattle.lg_timers.specs.Timers.{least_of}
+use Rattle.lg_timers.specs.Meaning.Timers.{least_of}
 use Rattle.lg_timers.proofs.CancelLaws.{due-none}
 use Rattle.lg_timers.proofs.timers.Timers.due.Goals as goal
 

@@ -1,5 +1,5 @@
 use Rattle.std.proofs.Common.{sym, ◌∙◌, ap}
-use Rattle.lg_timers.specs.Timers.{is_set}
+use Rattle.lg_timers.specs.Meaning.Timers.{is_set}
 use Rattle.lg_timers.proofs.SetLaws.{set-kept}
 use Rattle.lg_timers.proofs.timers.Timers.is_set.Goals as goal
 

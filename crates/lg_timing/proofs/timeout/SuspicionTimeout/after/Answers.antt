@@ -1,7 +1,7 @@
 use Rattle.std.proofs.Common.{◌-◌, arith}
 use Rattle.std.proofs.lemmas.Nat.{mul-le}
 use Rattle.lg_timing.proofs.TimeoutLemmas.{saved_within}
-use Rattle.lg_timing.specs.Timeouts.{timeout_of}
+use Rattle.lg_timing.specs.Meaning.Timeouts.{timeout_of}
 use Rattle.lg_timing.proofs.timeout.SuspicionTimeout.after.Goals as goal
 
 pub overflow_mul-saved : goal.overflow_mul-saved

@@ -1,6 +1,6 @@
 use Rattle.std.proofs.Common.{arith}
 use Rattle.lg_timing.proofs.TimeoutLemmas.{limited, has_timeouts}
-use Rattle.lg_timing.specs.Timeouts.{range_of}
+use Rattle.lg_timing.specs.Meaning.Timeouts.{range_of}
 use Rattle.lg_timing.proofs.timeout.SuspicionTimeout.new.Goals as goal
 
 pub overflow_mul-min_ms : goal.overflow_mul-min_ms

@@ -1,0 +1,9 @@
+-- What is right: whoever wants to believe the contracts reads these.
+pub mod Answering
+pub mod Commands
+pub mod Examples
+pub mod Faults
+pub mod Lines
+pub mod Running
+pub mod Said
+pub mod Timeouts

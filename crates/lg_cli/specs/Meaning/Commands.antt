@@ -1,0 +1,135 @@
+-- The command line of the program.
+use Rattle.std.specs.Prelude.{◌≡◌, ℕ, Bool, true, false, List, [], ◌∷◌, Option, Some, codes, if◌then◌else◌, option_and_then, unwrap_or}
+use Rattle.std.specs.Option.{option_map_or}
+use Rattle.std.specs.Str.{bytes_eq}
+use Rattle.std.specs.Str.Parse.{digits_value, without_leading_plus}
+use Rattle.clap.specs.Faults.{fault_of}
+use Rattle.clap.specs.Kinds.{IsAmong, Kinds, or_else}
+use Rattle.clap.specs.Simple.{App, new_app, new_rule, subcommand_of, with_rule, with_subcommand, on_top}
+use Rattle.clap.specs.ValueTests.{accepts}
+use Rattle.clap.specs.Walk.{Row, Rule, Text, first_of, one_of}
+use Rattle.clap.specs.declared.builder.action.ArgAction.TheVariants.{Set}
+use Rattle.clap.specs.declared.builder.value_parser.ValueParser.TheVariants.{Unsigned}
+use Rattle.clap.specs.declared.error.kind.ErrorKind.{ErrorKind}
+use Rattle.clap.specs.declared.error.kind.ErrorKind.TheVariants.{DisplayHelp, DisplayVersion, ValueValidation}
+use Rattle.lg_cli.specs.Meaning.Timeouts.{are_good}
+use Rattle.lg_cli.specs.declared.command.Asked.{Asked}
+use Rattle.lg_cli.specs.declared.command.Asked.TheVariants.{Answer, Timeouts}
+use Rattle.lg_cli.specs.declared.timeouts.Numbers.{Numbers}
+
+-- the option `--name NAME`, which is required
+abbrev pub name_rule : Rule
+name_rule = record (new_rule (codes "name")) { long = Some (codes "name"); value_names = 1; required = true; action = Some Set }
+
+abbrev pub answer_app : App
+answer_app = with_rule (new_app (codes "answer")) name_rule
+
+-- an option `--ID N`, a number between two others, which count
+abbrev pub number_rule : Text → ℕ → ℕ → Rule
+number_rule id least most =
+    record (new_rule id) { long = Some id; value_names = 1; parser = Some (Unsigned least most); action = Some Set }
+
+abbrev pub required_rule : Rule → Rule
+required_rule rule = record rule { required = true }
+
+abbrev pub default_rule : Rule → Text → Rule
+default_rule rule value = record rule { defaults = value ∷ [] }
+
+abbrev pub members_rule : Rule
+members_rule = required_rule (number_rule (codes "members") 1 256)
+
+abbrev pub confirmations_rule : Rule
+confirmations_rule = default_rule (number_rule (codes "confirmations") 0 5) (codes "3")
+
+abbrev pub alpha_rule : Rule
+alpha_rule = default_rule (number_rule (codes "alpha") 1 20) (codes "5")
+
+abbrev pub beta_rule : Rule
+beta_rule = default_rule (number_rule (codes "beta") 1 20) (codes "6")
+
+abbrev pub interval_rule : Rule
+interval_rule = default_rule (number_rule (codes "interval-ms") 10 60000) (codes "1000")
+
+abbrev pub timeouts_app : App
+timeouts_app =
+    with_rule (with_rule (with_rule (with_rule (with_rule (new_app (codes "timeouts")) members_rule) confirmations_rule) alpha_rule) beta_rule) interval_rule
+
+-- the program has the commands `answer` and `timeouts`, and one of its commands has to be named
+abbrev pub lg_app : App
+lg_app = with_subcommand
+    (with_subcommand (on_top (λ s. record s { subcommand_required = true }) (new_app (codes "lg"))) answer_app.top)
+    timeouts_app.top
+
+-- the value of the option `--name` of the command that was met, or an empty text where there is none
+abbrev pub name_of_rows : Option (Text × List Row) → Text
+name_of_rows met = unwrap_or (option_and_then (λ p. first_of (codes "name") p.1) met) []
+
+-- the number that a text spells, or 0 where it spells none of 64 bits
+abbrev pub number_of : Text → ℕ
+number_of text = if accepts false (Unsigned 0 18446744073709551615) text then digits_value 10 (without_leading_plus text) else 0
+
+-- the number of an option, or 0 where it has none
+abbrev pub number_in : List Row → Text → ℕ
+number_in rows id = option_map_or number_of (one_of id rows) 0
+
+abbrev pub numbers_in : List Row → Numbers
+numbers_in rows = record {
+  members = number_in rows (codes "members");
+  confirmations = number_in rows (codes "confirmations");
+  alpha = number_in rows (codes "alpha");
+  beta = number_in rows (codes "beta");
+  interval_ms = number_in rows (codes "interval-ms");
+}
+
+-- what a command line asks for: a command with its options
+pub data Request : Type 0 where
+  answer : Text → Request
+  timeouts : Numbers → Request
+
+abbrev pub is_timeouts : Option (Text × List Row) → Bool
+is_timeouts met = option_map_or (λ p. bytes_eq p.0 (codes "timeouts")) met false
+
+-- the command that was met, with its options
+abbrev pub request_of_rows : Option (Text × List Row) → Request
+request_of_rows met =
+    if is_timeouts met then timeouts (numbers_in (option_map_or (λ p. p.1) met [])) else answer (name_of_rows met)
+
+-- what a command line that is taken asks for
+unfoldable pub asked : List Text → Request
+asked words = request_of_rows (subcommand_of lg_app words)
+
+-- numbers that aren't good are refused
+abbrev pub request_faults : Request → Kinds
+request_faults (answer text) = []
+request_faults (timeouts numbers) = if are_good numbers then [] else ValueValidation ∷ []
+
+-- why a command line is refused, or that it asks for help; empty where it is taken
+unfoldable pub line_faults : List Text → Kinds
+line_faults words = or_else (fault_of lg_app words) (request_faults (asked words))
+
+-- the same request, as the program holds it
+abbrev pub request_of : Asked → Request
+request_of (Answer name) = answer name.now
+request_of (Timeouts numbers) = timeouts numbers
+
+-- a fact about the text of `--name` of `answer`
+abbrev pub IfAnswer : Request → (Text → Type 0) → Type 0
+IfAnswer (answer text) P = P text
+IfAnswer (timeouts numbers) P = Unit {0}
+
+-- a fact about the numbers of `timeouts`
+abbrev pub IfTimeouts : Request → (Numbers → Type 0) → Type 0
+IfTimeouts (answer text) P = Unit {0}
+IfTimeouts (timeouts numbers) P = P numbers
+
+-- the status of a command line that isn't run: 0 where it asks for help
+abbrev pub status_of_kind : ErrorKind → ℕ
+status_of_kind DisplayHelp = 0
+status_of_kind DisplayVersion = 0
+status_of_kind _ = 2
+
+-- a status that one of the faults of a command line has
+pub record RefusesLine (faults : Kinds) (status : ℕ) : Type 0 where
+  pub kind : ErrorKind
+  pub among : IsAmong kind faults
+  pub is : status ≡ status_of_kind kind

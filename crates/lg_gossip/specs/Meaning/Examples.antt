@@ -1,0 +1,67 @@
+-- Worked rows.
+use Rattle.std.specs.Prelude.{◌≡◌, ℕ, List, [], ◌∷◌, Some, None, refl}
+use Rattle.lg_rules.specs.declared.claim.Claim.{Claim}
+use Rattle.lg_rules.specs.declared.claim.Status.{Status}
+use Rattle.lg_rules.specs.declared.claim.Status.TheVariants.{Alive, Suspect}
+use Rattle.lg_gossip.specs.declared.queued.Queued.{Queued}
+use Rattle.lg_gossip.specs.Meaning.Queue.{GossipQueue, put_of, taken_of, fill_of, filled}
+use Rattle.std.specs.Fmt.{digits}
+
+-- on the member with a name of one letter
+abbrev on : ℕ → Status → ℕ → Claim
+on letter status i = record { name = letter ∷ []; addr = record { octets = 127 ∷ 0 ∷ 0 ∷ 1 ∷ []; port = 7000 }; status = status; incarnation = i }
+
+abbrev suspect-c : Claim
+suspect-c = on 99 (Suspect (97 ∷ [])) 2
+
+abbrev alive : ℕ → Claim
+alive letter = on letter Alive 0
+
+abbrev row : Claim → ℕ → Queued
+row c sends = record { claim = c; sends = sends }
+
+abbrev of_rows : List Queued → GossipQueue
+of_rows rows = record { lambda = 4; rows = rows }
+
+-- Suspect(c, 2) and Alive(d, 0) are put, and a packet goes to c.
+puts : put_of (alive 100) (put_of suspect-c (of_rows [])) ≡ of_rows (row suspect-c 0 ∷ row (alive 100) 0 ∷ [])
+puts = refl
+
+replaces : put_of (alive 99) (of_rows (row suspect-c 3 ∷ row (alive 100) 1 ∷ [])) ≡ of_rows (row (alive 99) 0 ∷ row (alive 100) 1 ∷ [])
+replaces = refl
+
+to_buddy : fill_of (of_rows (row suspect-c 0 ∷ row (alive 100) 0 ∷ [])) (Some suspect-c) 9 ≡ suspect-c ∷ alive 100 ∷ []
+unfolding taken_of digits
+to_buddy = refl
+
+counts_no_buddy : filled (of_rows (row suspect-c 0 ∷ row (alive 100) 0 ∷ [])) (Some suspect-c) 9 ≡ of_rows (row suspect-c 0 ∷ row (alive 100) 1 ∷ [])
+unfolding taken_of digits
+counts_no_buddy = refl
+
+fewest_first : fill_of (of_rows (row suspect-c 0 ∷ row (alive 100) 1 ∷ [])) None 9 ≡ suspect-c ∷ alive 100 ∷ []
+unfolding taken_of digits
+fewest_first = refl
+
+by_sends : fill_of (of_rows (row (alive 99) 2 ∷ row (alive 100) 1 ∷ row (alive 101) 2 ∷ [])) None 9 ≡ alive 100 ∷ alive 99 ∷ alive 101 ∷ []
+unfolding taken_of digits
+by_sends = refl
+
+-- seven claims on d to j, and a packet to the Suspect c
+five_others : fill_of (of_rows (row (alive 100) 0 ∷ row (alive 101) 0 ∷ row (alive 102) 0 ∷ row (alive 103) 0 ∷ row (alive 104) 0 ∷ row (alive 105) 0 ∷ row (alive 106) 0 ∷ [])) (Some suspect-c) 9
+    ≡ suspect-c ∷ alive 100 ∷ alive 101 ∷ alive 102 ∷ alive 103 ∷ alive 104 ∷ []
+unfolding taken_of digits
+five_others = refl
+
+six_without : taken_of (of_rows (row (alive 100) 0 ∷ row (alive 101) 0 ∷ row (alive 102) 0 ∷ row (alive 103) 0 ∷ row (alive 104) 0 ∷ row (alive 105) 0 ∷ row (alive 106) 0 ∷ [])) (Some (alive 99)) 9
+    ≡ alive 100 ∷ alive 101 ∷ alive 102 ∷ alive 103 ∷ alive 104 ∷ alive 105 ∷ []
+unfolding taken_of digits
+six_without = refl
+
+-- a claim that was sent as often as nine members allow, and then ten
+exhausted : fill_of (of_rows (row (alive 99) 4 ∷ [])) None 9 ≡ []
+unfolding taken_of digits
+exhausted = refl
+
+sendable_again : fill_of (of_rows (row (alive 99) 4 ∷ [])) None 10 ≡ alive 99 ∷ []
+unfolding taken_of digits
+sendable_again = refl

@@ -1,0 +1,96 @@
+-- The queue of claims that packets take with them (SWIM, section 4.1), and the buddy (Lifeguard's buddy system).
+use Rattle.std.specs.Prelude.{ℕ, ◌+◌, ◌*◌, Bool, true, false, ◌&&◌, ◌||◌, not, List, [], ◌∷◌, ◌++◌, length, map, filter, take, Option, Some, None, nat_lt, ◌==◌, if◌then◌else◌, decimal}
+use Rattle.std.specs.Option.{option_to_list}
+use Rattle.std.specs.Ordering.{is_lt}
+use Rattle.lg_rules.specs.declared.claim.Claim.{Claim}
+use Rattle.lg_rules.specs.declared.claim.Status.{Status}
+use Rattle.lg_rules.specs.declared.claim.Status.TheVariants.{Alive, Suspect, Failed}
+use Rattle.lg_rules.specs.Meaning.Claim.{name_of}
+use Rattle.lg_rules.specs.Meaning.Rows.{name_cmp, is_same, is_among, put_row}
+use Rattle.lg_gossip.specs.declared.queued.Queued.{Queued}
+
+-- How often a claim may be sent for each decimal digit of the number of members, and the claims that wait, in the
+-- order of the members that they are about.
+pub record GossipQueue : Type 0 where
+  pub lambda : ℕ
+  pub rows : List Queued
+
+-- the claim that waits
+abbrev pub queued_claim : Queued → Claim
+queued_claim q = q.claim
+
+-- the member that it is about
+abbrev pub queued_name : Queued → List ℕ
+queued_name q = q.claim.name
+
+-- a claim that no packet took yet
+abbrev pub fresh : Claim → Queued
+fresh c = record { claim = c; sends = 0 }
+
+-- a queue with a claim put, which takes the place of an older one about its member
+abbrev pub put_of : Claim → GossipQueue → GossipQueue
+put_of c queue = record { lambda = queue.lambda; rows = put_row name_cmp queued_name (fresh c) queue.rows }
+
+-- how many decimal digits a number has
+abbrev pub decimal_digits : ℕ → ℕ
+decimal_digits n = length (decimal n)
+
+-- so often may a claim be sent among n members
+abbrev pub limit_of : ℕ → ℕ → ℕ
+limit_of lambda n = lambda * decimal_digits n
+
+-- whether a claim has its turn before another: it was sent fewer times, or as often and its member's name is lesser
+abbrev pub is_sooner : Queued → Queued → Bool
+is_sooner q r = nat_lt q.sends r.sends || (q.sends == r.sends && is_lt (name_cmp (queued_name q) (queued_name r)))
+
+-- these claims by their turns
+abbrev pub put_in_turn : Queued → List Queued → List Queued
+put_in_turn q [] = q ∷ []
+put_in_turn q (r ∷ rs) = if is_sooner q r then q ∷ r ∷ rs else r ∷ put_in_turn q rs
+
+abbrev pub in_turn : List Queued → List Queued
+in_turn [] = []
+in_turn (q ∷ qs) = put_in_turn q (in_turn qs)
+
+abbrev pub is_suspect : Status → Bool
+is_suspect Alive = false
+is_suspect (Suspect accuser) = true
+is_suspect Failed = false
+
+-- The buddy of a packet is the record of the member to which it pings, where that is Suspect.
+abbrev pub buddy_of : Option Claim → Option Claim
+buddy_of None = None
+buddy_of (Some to) = if is_suspect to.status then Some to else None
+
+-- A packet holds six claims: with a buddy five of the queue, and none of it about the buddy's member.
+abbrev pub room_beside : Option Claim → ℕ
+room_beside None = 6
+room_beside (Some buddy) = 5
+
+abbrev pub is_beside : Option Claim → Queued → Bool
+is_beside None q = true
+is_beside (Some buddy) q = not (is_same name_cmp (queued_name q) buddy.name)
+
+-- whether a packet with this buddy, or with none, may take a row
+abbrev pub may_go : Option Claim → ℕ → Queued → Bool
+may_go buddy limit q = nat_lt q.sends limit && is_beside buddy q
+
+-- the rows that it takes: the first by their turns
+abbrev pub rows_taken : Option Claim → ℕ → List Queued → List Queued
+rows_taken buddy limit rows = take (room_beside buddy) (in_turn (filter (may_go buddy limit) rows))
+
+-- the claims that a packet takes of the queue, to a member with this record or with none, among n members
+unfoldable pub taken_of : GossipQueue → Option Claim → ℕ → List Claim
+taken_of queue to n = map queued_claim (rows_taken (buddy_of to) (limit_of queue.lambda n) queue.rows)
+
+-- the claims of that packet
+abbrev pub fill_of : GossipQueue → Option Claim → ℕ → List Claim
+fill_of queue to n = option_to_list (buddy_of to) ++ taken_of queue to n
+
+-- a row after a packet that took these claims
+abbrev pub sent_once : List Claim → Queued → Queued
+sent_once taken q = record { claim = q.claim; sends = if is_among name_cmp q.claim.name (map name_of taken) then q.sends + 1 else q.sends }
+
+-- the queue after that packet
+abbrev pub filled : GossipQueue → Option Claim → ℕ → GossipQueue
+filled queue to n = record { lambda = queue.lambda; rows = map (sent_once (taken_of queue to n)) queue.rows }

@@ -1,0 +1,19 @@
+-- What holds of every queue.
+use Rattle.std.specs.Prelude.{ℕ, ◌*◌, ◌≤◌, List, map}
+use Rattle.std.specs.List.{AllByRecursion}
+use Rattle.lg_rules.specs.Meaning.Rows.{name_cmp, Rises}
+use Rattle.lg_gossip.specs.declared.queued.Queued.{Queued}
+use Rattle.lg_gossip.specs.Meaning.Queue.{queued_name}
+
+-- its claims stand in the order of their members, one a member
+abbrev pub AreInOrder : List Queued → Type 0
+AreInOrder rows = Rises name_cmp (map queued_name rows)
+
+-- no claim was sent more often than some number of members allows: a usize has at most twenty digits
+abbrev pub AreWithin : ℕ → List Queued → Type 0
+AreWithin lambda rows = AllByRecursion (λ q. q.sends ≤ lambda * 20) rows
+
+pub record IsSound (lambda : ℕ) (rows : List Queued) : Type 0 where
+  pub often : lambda ≤ 10
+  pub in_order : AreInOrder rows
+  pub within : AreWithin lambda rows

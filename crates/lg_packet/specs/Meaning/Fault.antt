@@ -1,0 +1,102 @@
+-- What is wrong with bytes that are no packet, by places: the first place whose byte can't stand there.
+use Rattle.std.specs.Prelude.{◌≡◌, ℕ, Bool, true, ◌&&◌, ◌||◌, List, [], ◌∷◌, ◌++◌, length, replicate, nat_lt, nat_le, ◌==◌, Option, Some, None, unwrap_or, if◌then◌else◌}
+use Rattle.std.specs.Int.{w32, from_be_bytes}
+use Rattle.lg_rules.specs.Meaning.Name.{is_name_byte}
+use Rattle.lg_packet.specs.declared.fault.Fault.{Fault}
+use Rattle.lg_packet.specs.declared.fault.Fault.TheVariants as faults
+
+-- what can be due at a place: of an incarnation, a byte behind those of it that are there
+pub data Part : Type 0 where
+  MarkByte : ℕ → Part
+  VersionByte : Part
+  KindByte : Part
+  LengthByte : Part
+  NameByte : Part
+  NumberByte : Part
+  CountByte : Part
+  ClaimKindByte : Part
+  IncarnationByte : List ℕ → Part
+
+-- whether a byte can stand where this is due
+abbrev pub is_allowed : Part → ℕ → Bool
+is_allowed (MarkByte mark) b = b == mark
+is_allowed VersionByte b = b == 1
+is_allowed KindByte b = b == 1 || b == 3
+is_allowed LengthByte b = nat_le 1 b && nat_le b 32
+is_allowed NameByte b = is_name_byte b
+is_allowed NumberByte b = true
+is_allowed CountByte b = nat_le b 6
+is_allowed ClaimKindByte b = nat_le 1 b && nat_le b 3
+is_allowed (IncarnationByte before) b = nat_lt (length before) 3 || nat_le (from_be_bytes w32 (before ++ b ∷ [])) 1000000000
+
+-- the fault of a byte that can't (each byte of a number can)
+abbrev pub fault_at : Part → Fault
+fault_at (MarkByte mark) = faults.Magic
+fault_at VersionByte = faults.Version
+fault_at KindByte = faults.Kind
+fault_at LengthByte = faults.Name
+fault_at NameByte = faults.Name
+fault_at NumberByte = faults.Short
+fault_at CountByte = faults.Count
+fault_at ClaimKindByte = faults.ClaimKind
+fault_at (IncarnationByte before) = faults.Incarnation
+
+-- the parts of a number, and of the body of a kind
+abbrev pub number_parts : List Part
+number_parts = replicate 4 NumberByte
+
+abbrev pub body_parts : ℕ → List Part
+body_parts kind = if kind == 1 then number_parts ++ LengthByte ∷ [] else number_parts
+
+-- the parts of an address, and of a claim of a kind behind its kind
+abbrev pub addr_parts : List Part
+addr_parts = replicate 6 NumberByte
+
+abbrev pub accuser_parts : ℕ → List Part
+accuser_parts kind = if kind == 2 then LengthByte ∷ [] else []
+
+abbrev pub claim_parts : ℕ → List Part
+claim_parts kind = LengthByte ∷ addr_parts ++ IncarnationByte [] ∷ accuser_parts kind
+
+-- the parts that a byte brings with it, due right behind it
+abbrev pub brought : Part → ℕ → List Part
+brought KindByte kind = LengthByte ∷ body_parts kind ++ CountByte ∷ []
+brought LengthByte n = replicate n NameByte
+brought CountByte n = replicate n ClaimKindByte
+brought ClaimKindByte kind = claim_parts kind
+brought (IncarnationByte before) b = if nat_lt (length before) 3 then IncarnationByte (before ++ b ∷ []) ∷ [] else []
+brought _ b = []
+
+-- the parts of a packet before its first byte
+abbrev pub packet_parts : List Part
+packet_parts = MarkByte 0x53 ∷ MarkByte 0x4c ∷ VersionByte ∷ KindByte ∷ []
+
+-- the parts that are still due behind one more byte, and behind a front
+abbrev pub due_behind : List Part → ℕ → List Part
+due_behind [] b = []
+due_behind (part ∷ parts) b = brought part b ++ parts
+
+abbrev pub due_after : List Part → List ℕ → List Part
+due_after parts [] = parts
+due_after parts (b ∷ front) = due_after (due_behind parts b) front
+
+-- the fault of a byte where these parts are due, if it can't stand there
+abbrev pub fault_of_byte : List Part → ℕ → Option Fault
+fault_of_byte [] b = Some faults.Trailing
+fault_of_byte (part ∷ parts) b = if is_allowed part b then None else Some (fault_at part)
+
+-- the fault of the byte behind a front
+unfoldable pub fault_behind : List ℕ → ℕ → Option Fault
+fault_behind front b = fault_of_byte (due_after packet_parts front) b
+
+-- the fault of the first place that has one, of the bytes behind a front, or Short
+unfoldable pub first_fault : List ℕ → List ℕ → Fault
+first_fault front [] = faults.Short
+first_fault front (b ∷ bytes) = unwrap_or (fault_behind front b) (first_fault (front ++ b ∷ []) bytes)
+
+unfoldable pub fault_of : List ℕ → Fault
+fault_of bytes = first_fault [] bytes
+
+-- each place of a front can stand where it stands
+abbrev pub Stands : List ℕ → Type 0
+Stands front = (before after : List ℕ) (b : ℕ) → before ++ b ∷ after ≡ front → fault_behind before b ≡ None

@@ -1,0 +1,107 @@
+-- What packets are, and the one spelling of each (the formats are this project's choice).
+use Rattle.std.specs.Prelude.{◌≡◌, ℕ, ◌<◌, ◌≤◌, ◌^◌, IsTrue, List, [], ◌∷◌, ◌++◌, length}
+use Rattle.std.specs.Int.{w16, w32, to_be_bytes}
+use Rattle.std.specs.List.{flat_map, AllByRecursion}
+use Rattle.lg_rules.specs.Meaning.Name.{is_name}
+use Rattle.lg_rules.specs.declared.addr.Addr.{Addr}
+use Rattle.lg_rules.specs.declared.claim.Claim.{Claim}
+use Rattle.lg_rules.specs.declared.claim.Status.{Status}
+use Rattle.lg_rules.specs.declared.claim.Status.TheVariants.{Alive, Suspect, Failed}
+use Rattle.lg_packet.specs.declared.kind.ClaimKind.{ClaimKind}
+use Rattle.lg_packet.specs.declared.kind.ClaimKind.TheVariants as claims
+use Rattle.lg_packet.specs.declared.kind.Kind.{Kind}
+use Rattle.lg_packet.specs.declared.kind.Kind.TheVariants as kinds
+use Rattle.lg_packet.specs.declared.packet.Body.{Body}
+use Rattle.lg_packet.specs.declared.packet.Body.TheVariants.{Ping, Ack}
+use Rattle.lg_packet.specs.declared.packet.Packet.{Packet}
+
+abbrev pub kind_of : Body → Kind
+kind_of (Ping number target) = kinds.Ping
+kind_of (Ack number) = kinds.Ack
+
+-- the byte that stands for a kind
+abbrev pub byte_of_kind : Kind → ℕ
+byte_of_kind kinds.Ping = 1
+byte_of_kind kinds.Ack = 3
+
+abbrev pub claim_kind_of : Status → ClaimKind
+claim_kind_of Alive = claims.Alive
+claim_kind_of (Suspect accuser) = claims.Suspect
+claim_kind_of Failed = claims.Failed
+
+abbrev pub byte_of_claim_kind : ClaimKind → ℕ
+byte_of_claim_kind claims.Alive = 1
+byte_of_claim_kind claims.Suspect = 2
+byte_of_claim_kind claims.Failed = 3
+
+-- a byte of length, and that many bytes
+abbrev pub spelled_name : List ℕ → List ℕ
+spelled_name name = length name ∷ name
+
+-- a number, its highest byte first
+abbrev pub spelled_number : ℕ → List ℕ
+spelled_number number = to_be_bytes w32 number
+
+abbrev pub spelled_body : Body → List ℕ
+spelled_body (Ping number target) = spelled_number number ++ spelled_name target
+spelled_body (Ack number) = spelled_number number
+
+-- the mark, the version and the kind
+abbrev pub spelled_head : Kind → List ℕ
+spelled_head kind = 0x53 ∷ 0x4c ∷ 1 ∷ byte_of_kind kind ∷ []
+
+abbrev pub spelled_addr : Addr → List ℕ
+spelled_addr addr = addr.octets ++ to_be_bytes w16 addr.port
+
+-- the accuser, where there is one
+abbrev pub spelled_accuser : Status → List ℕ
+spelled_accuser Alive = []
+spelled_accuser (Suspect accuser) = spelled_name accuser
+spelled_accuser Failed = []
+
+-- the kind, the name, the address, the incarnation and the accuser
+abbrev pub spelled_claim : Claim → List ℕ
+spelled_claim c = byte_of_claim_kind (claim_kind_of c.status) ∷ (spelled_name c.name ++ (spelled_addr c.addr ++ (spelled_number c.incarnation ++ spelled_accuser c.status)))
+
+-- a byte of count, and that many claims
+abbrev pub spelled_claims : List Claim → List ℕ
+spelled_claims cs = length cs ∷ flat_map spelled_claim cs
+
+-- the head, the sender, the body and the claims
+unfoldable pub spelling : Packet → List ℕ
+spelling p = spelled_head (kind_of p.body) ++ (spelled_name p.sender ++ (spelled_body p.body ++ spelled_claims p.claims.items))
+
+-- What has a spelling: names that are names, numbers of four bytes, addresses of four bytes and a port of two,
+-- incarnations of at most 1,000,000,000, and at most 6 claims.
+abbrev pub IsBody : Body → Type 0
+IsBody (Ping number target) = (number < 2 ^ 32) × IsTrue (is_name target)
+IsBody (Ack number) = number < 2 ^ 32
+
+pub record IsAddr (addr : Addr) : Type 0 where
+  pub four : length addr.octets ≡ 4
+  pub octets : AllByRecursion (λ b. b < 256) addr.octets
+  pub port : addr.port < 2 ^ 16
+
+abbrev pub IsStatus : Status → Type 0
+IsStatus Alive = Unit {0}
+IsStatus (Suspect accuser) = IsTrue (is_name accuser)
+IsStatus Failed = Unit {0}
+
+pub record IsClaim (c : Claim) : Type 0 where
+  pub name : IsTrue (is_name c.name)
+  pub addr : IsAddr c.addr
+  pub status : IsStatus c.status
+  pub incarnation : c.incarnation ≤ 1000000000
+
+pub record AreClaims (cs : List Claim) : Type 0 where
+  pub few : length cs ≤ 6
+  pub each : AllByRecursion IsClaim cs
+
+pub record IsPacket (p : Packet) : Type 0 where
+  pub sender : IsTrue (is_name p.sender)
+  pub body : IsBody p.body
+  pub claims : AreClaims p.claims.items
+
+-- these bytes spell this packet
+abbrev pub Spells : List ℕ → Packet → Type 0
+Spells bytes p = IsPacket p × (bytes ≡ spelling p)

@@ -1,0 +1,10 @@
+-- What is right: whoever wants to believe the contracts reads these.
+pub mod Beats
+pub mod Claim
+pub mod Examples
+pub mod Name
+pub mod Own
+pub mod Past
+pub mod Rows
+pub mod Table
+pub mod View

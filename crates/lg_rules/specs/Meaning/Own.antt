@@ -1,0 +1,52 @@
+-- The own number, and whether the others gave oneself up. A past has the latest claim first.
+use Rattle.std.specs.Prelude.{ℕ, ◌+◌, Bool, true, false, List, [], ◌∷◌, nat_lt, nat_le, if◌then◌else◌}
+use Rattle.lg_rules.specs.declared.addr.Addr.{Addr}
+use Rattle.lg_rules.specs.declared.claim.Claim.{Claim}
+use Rattle.lg_rules.specs.declared.claim.Status.{Status}
+use Rattle.lg_rules.specs.declared.claim.Status.TheVariants.{Alive, Suspect, Failed}
+use Rattle.lg_rules.specs.declared.own.OwnHeard.{OwnHeard}
+use Rattle.lg_rules.specs.declared.own.OwnHeard.TheVariants.{Refuted, Raised, Ousted, Ignored}
+use Rattle.lg_rules.specs.Meaning.Table.{about}
+
+-- what a member knows of itself
+pub record Oneself : Type 0 where
+  pub name : List ℕ
+  pub addr : Addr
+  pub number : ℕ
+  pub ousted : Bool
+
+-- What a claim about oneself does, by its status, its incarnation i and the own number:
+--     Suspect    where i >= number: refuted by i + 1 (SWIM, section 4.2)
+--     Alive      where i > number: the own number is raised to i + 1 (this project's choice)
+--     Failed     oneself is ousted (this project's choice)
+-- and where i is 1,000,000,000, the greatest incarnation, the first two oust oneself. Nothing else does anything.
+abbrev pub beyond : ℕ → OwnHeard → OwnHeard
+beyond i answer = if nat_lt i 1000000000 then answer else Ousted
+
+abbrev pub own_answer : Status → ℕ → ℕ → OwnHeard
+own_answer Alive i number = if nat_lt number i then beyond i Raised else Ignored
+own_answer (Suspect accuser) i number = if nat_le number i then beyond i Refuted else Ignored
+own_answer Failed i number = Ousted
+
+abbrev pub answered : OwnHeard → ℕ → Oneself → Oneself
+answered Refuted i me = record me { number = i + 1 }
+answered Raised i me = record me { number = i + 1 }
+answered Ousted i me = record me { ousted = true }
+answered Ignored i me = me
+
+-- oneself once a claim about oneself is heard
+abbrev pub own_heard : Oneself → Claim → Oneself
+own_heard me c = answered (own_answer c.status c.incarnation me.number) c.incarnation me
+
+-- oneself after claims about oneself, from number 0 on
+abbrev pub own_after : List ℕ → Addr → List Claim → Oneself
+own_after name addr [] = record { name = name; addr = addr; number = 0; ousted = false }
+own_after name addr (c ∷ past) = own_heard (own_after name addr past) c
+
+-- oneself after a past, of which only the claims about oneself count
+unfoldable pub own_of : List ℕ → Addr → List Claim → Oneself
+own_of name addr past = own_after name addr (about name past)
+
+-- the own record
+abbrev pub own_record : Oneself → Claim
+own_record me = record { name = me.name; addr = me.addr; status = Alive; incarnation = me.number }

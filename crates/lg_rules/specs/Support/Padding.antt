@@ -1,0 +1,21 @@
+-- A name in a row of 32 bytes.
+use Rattle.std.specs.Prelude.{◌≡◌, ℕ, ◌-◌, ◌≤◌, IsTrue, List, ◌++◌, length, take, replicate}
+use Rattle.std.proofs.Common.{arith, length-take-le}
+use Rattle.lg_rules.specs.Meaning.Name.{is_name}
+use Rattle.lg_rules.specs.declared.name.Name.TheInside.{Inside}
+
+-- a text with zeros behind it
+abbrev pub padded : List ℕ → List ℕ
+padded text = text ++ replicate (32 - length text) 0
+
+-- a row holds a name of this length, and zeros behind it
+pub record HoldsName (row : List ℕ) (len : ℕ) : Type 0 where
+  pub whole : length row ≡ 32
+  pub within : len ≤ 32
+  pub zeros : padded (take len row) ≡ row
+  pub named : IsTrue (is_name (take len row))
+
+-- so the name gives the row back
+pub unpadded : (fields : Inside) → HoldsName fields.bytes fields.len → ◌≡◌ {A = Inside} record { bytes = padded (take fields.len fields.bytes); len = length (take fields.len fields.bytes) } fields
+unpadded fields holds =
+    λ i. record { bytes = holds.zeros i; len = length-take-le fields.len fields.bytes (omega (arith, holds.whole, holds.within)) i }

@@ -1,0 +1,74 @@
+-- Timers in the order in which they fire (this project's choice).
+use Rattle.std.specs.Prelude.{ℕ, Bool, true, not, ◌&&◌, List, [], ◌∷◌, filter, Option, Some, None, nat_le, if◌then◌else◌}
+use Rattle.std.specs.List.{list_any}
+use Rattle.std.specs.declared.cmp.Ordering.{Ordering}
+use Rattle.std.specs.Ordering.{is_lt}
+use Rattle.lg_rules.specs.Meaning.Rows.{name_cmp, is_same, put_row}
+use Rattle.lg_timers.specs.declared.timer.Timer.{Timer}
+use Rattle.lg_timers.specs.declared.timer.TimerId.{TimerId}
+use Rattle.lg_timers.specs.declared.timer.TimerId.TheVariants.{RoundEnd, Suspicion, Direct, RelayNack, RelayEnd, RoundStart}
+
+-- the kind of a timer as a number, and behind it the bytes of its member's name or its relay's number
+abbrev pub id_key : TimerId → List ℕ
+id_key RoundEnd = 1 ∷ []
+id_key (Suspicion member) = 2 ∷ member
+id_key Direct = 3 ∷ []
+id_key (RelayNack number) = 4 ∷ number ∷ []
+id_key (RelayEnd number) = 5 ∷ number ∷ []
+id_key RoundStart = 6 ∷ []
+
+-- the deadline before these: timers are ordered by these lists, number by number
+abbrev pub timer_key : Timer → List ℕ
+timer_key t = t.deadline ∷ id_key t.id
+
+abbrev pub timer_cmp : Timer → Timer → Ordering
+timer_cmp s t = name_cmp (timer_key s) (timer_key t)
+
+-- whether a timer has an id
+abbrev pub has_id : TimerId → Timer → Bool
+has_id id t = is_same name_cmp (id_key t.id) (id_key id)
+
+-- whether a timer of an id is set
+abbrev pub is_set : TimerId → List Timer → Bool
+is_set id timers = list_any (has_id id) timers
+
+-- no two timers have one id
+abbrev pub have_distinct_ids : List Timer → Bool
+have_distinct_ids [] = true
+have_distinct_ids (t ∷ timers) = not (is_set t.id timers) && have_distinct_ids timers
+
+-- timers in the order in which they fire, with one more in its place
+abbrev pub with_timer : Timer → List Timer → List Timer
+with_timer t timers = put_row name_cmp timer_key t timers
+
+-- the timers of other ids
+abbrev pub without_timer : TimerId → List Timer → List Timer
+without_timer id timers = filter (λ t. not (has_id id t)) timers
+
+-- these timers in the order in which they fire
+unfoldable pub in_turn : List Timer → List Timer
+in_turn [] = []
+in_turn (t ∷ timers) = with_timer t (in_turn timers)
+
+-- the timer that fires first
+abbrev pub least_of : List Timer → Option Timer
+least_of [] = None
+least_of (t ∷ timers) = Some t
+
+-- the first of one timer, if there is one, and another
+abbrev pub earlier : Option Timer → Timer → Timer
+earlier None t = t
+earlier (Some s) t = if is_lt (timer_cmp s t) then s else t
+
+-- whether a deadline isn't after a moment
+abbrev pub is_due : ℕ → Timer → Bool
+is_due now t = nat_le t.deadline now
+
+-- the first of the timers that are due
+abbrev pub due_of : ℕ → List Timer → Option Timer
+due_of now timers = least_of (filter (is_due now) timers)
+
+-- what is set once a timer was taken out
+abbrev pub left_by : Option Timer → List Timer → List Timer
+left_by None timers = timers
+left_by (Some t) timers = without_timer t.id timers

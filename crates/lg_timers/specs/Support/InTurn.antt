@@ -1,0 +1,14 @@
+-- What holds of each set of timers.
+use Rattle.std.specs.Prelude.{List, map, reverse, IsTrue}
+use Rattle.lg_rules.specs.Meaning.Rows.{name_cmp, Rises}
+use Rattle.lg_timers.specs.declared.timer.Timer.{Timer}
+use Rattle.lg_timers.specs.Meaning.Timers.{timer_key, have_distinct_ids}
+
+-- timers in the order in which they fire, one of an id at most
+pub record IsTimerSet (timers : List Timer) : Type 0 where
+  pub rises : Rises name_cmp (map timer_key timers)
+  pub distinct : IsTrue (have_distinct_ids timers)
+
+-- timers as they are kept, in the order in which they were set
+pub record AreKept (timers : List Timer) : Type 0 where
+  pub distinct : IsTrue (have_distinct_ids (reverse timers))

@@ -1,0 +1,59 @@
+-- The definitions at worked values.
+use Rattle.std.specs.Prelude.{◌≡◌, ℕ, pos, negsuc, [], ◌∷◌, map, refl}
+use Rattle.lg_timing.specs.declared.config.Config.{Config}
+use Rattle.lg_timing.specs.Meaning.Score.{score_of}
+use Rattle.lg_timing.specs.Meaning.Tables.{log10_of, ratio_of}
+use Rattle.lg_timing.specs.Meaning.Timeouts.{range_of, timeout_of, suspicion_of}
+
+-- the member b with the default numbers, but for these
+abbrev with_numbers : ℕ → ℕ → Config
+with_numbers interval confirmations =
+    record {
+      interval_ms = interval;
+      timeout_ms = 1;
+      indirect = 3;
+      max_score = 8;
+      alpha = 5;
+      beta = 6;
+      confirmations = confirmations;
+      lambda = 4;
+      nack_thousandths = 800;
+      history_limit = 20000;
+      seeds = record { items = [] };
+      name = 98 ∷ [];
+      addr = record { octets = 127 ∷ 0 ∷ 0 ∷ 1 ∷ []; port = 7946 };
+    }
+
+-- five members, three confirmations
+five_members : map (λ c. suspicion_of 5 c (with_numbers 1000 3)) (0 ∷ 1 ∷ 2 ∷ 3 ∷ []) ≡ 30000 ∷ 17500 ∷ 10200 ∷ 5000 ∷ []
+unfolding range_of timeout_of log10_of ratio_of
+five_members = refl
+
+-- four members are too few for three confirmations
+four_members : range_of 4 (with_numbers 1000 3) ≡ record { min = 5000; max = 30000; confirmations = 0 }
+unfolding range_of log10_of
+four_members = refl
+
+four_members_timeout : suspicion_of 4 0 (with_numbers 1000 3) ≡ 5000
+unfolding range_of timeout_of log10_of ratio_of
+four_members_timeout = refl
+
+hundred_members : map (λ c. suspicion_of 100 c (with_numbers 1000 3)) (0 ∷ 1 ∷ 2 ∷ 3 ∷ []) ≡ 63210 ∷ 36873 ∷ 21492 ∷ 10535 ∷ []
+unfolding range_of timeout_of log10_of ratio_of
+hundred_members = refl
+
+-- sixteen members, five confirmations, an interval of 200 ms
+sixteen_members : map (λ c. suspicion_of 16 c (with_numbers 200 5)) (0 ∷ 1 ∷ 2 ∷ 3 ∷ 4 ∷ 5 ∷ []) ≡ 7224 ∷ 4901 ∷ 3534 ∷ 2571 ∷ 1819 ∷ 1204 ∷ []
+unfolding range_of timeout_of log10_of ratio_of
+sixteen_members = refl
+
+-- at the greatest score a missed nack changes nothing, at 0 an ack doesn't
+greatest_score : score_of 8 (pos 2 ∷ pos 2 ∷ pos 2 ∷ pos 2 ∷ pos 1 ∷ []) ≡ 8
+greatest_score = refl
+
+least_score : score_of 8 (negsuc 0 ∷ negsuc 0 ∷ pos 1 ∷ []) ≡ 0
+least_score = refl
+
+-- the sum is held at every mark, not at the end alone
+held_at_every_mark : score_of 2 (negsuc 0 ∷ pos 2 ∷ pos 2 ∷ []) ≡ 1
+held_at_every_mark = refl
