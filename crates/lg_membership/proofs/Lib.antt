@@ -1,0 +1,15 @@
+pub mod Removing
+pub mod KnownLaws
+pub mod QueuedLaws
+pub mod QueueLaws
+pub mod AccusedLaws
+pub mod SuspectedLaws
+pub mod SuspicionLaws
+pub mod FactLaws
+pub mod Reaching
+pub mod Applying
+pub mod Rooms
+pub mod Hearings
+pub mod Chosen
+pub mod Shown
+pub mod Differing

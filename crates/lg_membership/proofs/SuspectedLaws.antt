@@ -1,0 +1,179 @@
+-- The suspicion of one member, when a claim is said.
+use Rattle.std.proofs.Common.{◌≡◌, ◌≢◌, ℕ, Bool, true, false, cond, List, [], ◌∷◌, Option, Some, None, inl, inr, refl, sym, ◌∙◌, ap}
+use Rattle.lg_rules.specs.declared.claim.Claim.{Claim}
+use Rattle.lg_rules.specs.declared.claim.Status.TheVariants.{Suspect}
+use Rattle.lg_rules.specs.Meaning.Beats.{beats_of}
+use Rattle.lg_rules.specs.Meaning.Past.{or_else}
+use Rattle.lg_rules.specs.Meaning.Table.{record_of}
+use Rattle.lg_rules.proofs.Cases.{Missing, Holding, held, held_once}
+use Rattle.lg_rules.proofs.KeyOrder.{names_order, same_key}
+use Rattle.lg_rules.proofs.RowLaws.{Keyed}
+use Rattle.lg_rules.proofs.Tables.{record_of-other}
+use Rattle.lg_timing.specs.declared.config.Config.{Config}
+use Rattle.lg_timing.specs.Meaning.Timeouts.{range_of}
+use Rattle.lg_suspicion.specs.Meaning.Accusers.{suspicion_after, accused}
+use Rattle.lg_suspicion.proofs.AccuserLaws.{kept-one, accused-after}
+use Rattle.std.proofs.lemmas.Bool.{cases_Bool, eq-eqb}
+use Rattle.lg_gossip.specs.Meaning.Queue.{is_suspect}
+use Rattle.lg_membership.specs.declared.suspected.Suspected.{Suspected}
+use Rattle.lg_membership.specs.declared.origin.Origin.{Origin}
+use Rattle.lg_membership.specs.Meaning.Log.{Fact, Log, Said, config, said, live}
+use Rattle.lg_membership.specs.Meaning.Suspicions.{accuses, accusers_in, raise_of, said_at, suspicion_since, suspected_by, suspected_in, suspected, suspected_name}
+use Rattle.lg_membership.proofs.AccusedLaws.{accuses-other, none_accuse, none_raises, one_raises, record_accused, not_accused}
+
+-- Where two logs were opened alike, and tell the same of a member, it is suspected alike.
+pub suspected-alike : (log later : Log) (m : List ℕ) → config later ≡ config log → said later ≡ said log → ((i : ℕ) → raise_of m i later ≡ raise_of m i log)
+    → suspected later m ≡ suspected log m
+unfolding suspected
+suspected-alike log later m opened claims raise =
+    ap (λ o. suspected_in o later m) opened ∙ by_config (config log)
+  where
+    by_record : (opening : Config) (r : Option Claim) → suspected_by opening later m r ≡ suspected_by opening log m r
+    by_record opening None = refl
+    by_record opening (Some r) = λ i. cond (is_suspect r.status) (suspicion_since opening m (accusers_in m r.incarnation (claims i)) (raise r.incarnation i)) None
+
+    by_config : (o : Option Config) → suspected_in o later m ≡ suspected_in o log m
+    by_config None = refl
+    by_config (Some opening) = ap (λ past. suspected_by opening later m (record_of past m)) claims ∙ by_record opening (record_of (said log) m)
+
+or_nothing : {A : Type 0} (o : Option A) → or_else o None ≡ o
+or_nothing None = refl
+or_nothing (Some x) = refl
+
+-- A claim that doesn't accuse the member at the incarnation of its record changes nothing of its suspicion, where the record stays.
+accusers-quiet : (m : List ℕ) (i : ℕ) (c : Claim) (past : List Claim) → accuses m i c ≡ false → accusers_in m i (c ∷ past) ≡ accusers_in m i past
+accusers-quiet m i c past e = rw e refl
+
+raise-quiet : (m : List ℕ) (i : ℕ) (now : ℕ) (origin : Origin) (c : Claim) (log : Log) → accuses m i c ≡ false → raise_of m i (Said now origin c ∷ log) ≡ raise_of m i log
+raise-quiet m i now origin c log e = rw e (or_nothing (raise_of m i log))
+
+quiet_record : (opening : Config) (now : ℕ) (origin : Origin) (log : Log) (c : Claim) (m : List ℕ) (r : Claim) → (is_suspect r.status ≡ true → accuses m r.incarnation c ≡ false)
+    → suspected_by opening (Said now origin c ∷ log) m (Some r) ≡ suspected_by opening log m (Some r)
+quiet_record opening now origin log c m r quiet = elim (cases_Bool (is_suspect r.status)) [
+  | inl t ↦ rw t (λ j. suspicion_since opening m (accusers-quiet m r.incarnation c (said log) (quiet t) j) (raise-quiet m r.incarnation now origin c log (quiet t) j))
+  | inr f ↦ rw f refl
+]
+
+pub suspected-quiet : (now : ℕ) (origin : Origin) (log : Log) (c : Claim) (m : List ℕ) → record_of (c ∷ said log) m ≡ record_of (said log) m
+    → ((r : Claim) → record_of (said log) m ≡ Some r → is_suspect r.status ≡ true → accuses m r.incarnation c ≡ false)
+    → suspected (Said now origin c ∷ log) m ≡ suspected log m
+unfolding suspected
+suspected-quiet now origin log c m same quiet = by_config (config log)
+  where
+    by_record : (opening : Config) → suspected_by opening (Said now origin c ∷ log) m (record_of (said log) m) ≡ suspected_by opening log m (record_of (said log) m)
+    by_record opening = elim (held (record_of (said log) m)) [
+      | Missing none ↦ rw none refl
+      | Holding r is ↦ rw is (quiet_record opening now origin log c m r (quiet r is))
+    ]
+
+    by_config : (o : Option Config) → suspected_in o (Said now origin c ∷ log) m ≡ suspected_in o log m
+    by_config None = refl
+    by_config (Some opening) = ap (suspected_by opening (Said now origin c ∷ log) m) same ∙ by_record opening
+
+-- a claim about another member
+pub suspected-other : (now : ℕ) (origin : Origin) (log : Log) (c : Claim) (m : List ℕ) → c.name ≢ m → suspected (Said now origin c ∷ log) m ≡ suspected log m
+suspected-other now origin log c m other = suspected-quiet now origin log c m (record_of-other c (said log) m other) (λ r is suspect. accuses-other m r.incarnation c other)
+
+-- before the opening nobody is suspected
+pub suspected-unopened : (log : Log) (m : List ℕ) → config log ≡ None → suspected log m ≡ None
+unfolding suspected
+suspected-unopened log m e = ap (λ o. suspected_in o log m) e
+
+-- A claim that stands and doesn't suspect ends the suspicion.
+pub suspected-ended : (log : Log) (m : List ℕ) (c : Claim) → record_of (said log) m ≡ Some c → is_suspect c.status ≡ false → suspected log m ≡ None
+unfolding suspected
+suspected-ended log m c stands calm = by_config (config log)
+  where
+    by_config : (o : Option Config) → suspected_in o log m ≡ None
+    by_config None = refl
+    by_config (Some opening) = rw (stands, calm) refl
+
+-- One that suspects raises one anew.
+abbrev pub raised_at : Config → Log → List ℕ → List ℕ → Suspected
+raised_at opening log m accuser = record { name = m; suspicion = record { raised = said_at log; timeout = range_of (live log) opening; accusers = accuser ∷ [] } }
+
+accuses_itself : (c : Claim) → is_suspect c.status ≡ true → accuses c.name c.incarnation c ≡ true
+accuses_itself c suspect = rw (same_key names_order c.name c.name refl, suspect, eq-eqb c.incarnation c.incarnation refl) refl
+
+accusers-raised : (c : Claim) (accuser : List ℕ) (past : List Claim) → c.status ≡ Suspect accuser → is_suspect c.status ≡ true → accusers_in c.name c.incarnation past ≡ []
+    → accusers_in c.name c.incarnation (c ∷ past) ≡ accuser ∷ []
+accusers-raised c accuser past is suspect none = rw (accuses_itself c suspect, is) (ap (λ others. accuser ∷ others) none)
+
+raise-raised : (now : ℕ) (origin : Origin) (c : Claim) (log : Log) → is_suspect c.status ≡ true → raise_of c.name c.incarnation log ≡ None
+    → raise_of c.name c.incarnation (Said now origin c ∷ log) ≡ Some (Said now origin c ∷ log)
+raise-raised now origin c log suspect none = rw (accuses_itself c suspect, none) refl
+
+pub suspected-raised : (now : ℕ) (origin : Origin) (log : Log) (c : Claim) (accuser : List ℕ) (opening : Config) → config log ≡ Some opening → c.status ≡ Suspect accuser
+    → record_of (c ∷ said log) c.name ≡ Some c → ((r : Claim) → record_of (said log) c.name ≡ Some r → beats_of c r ≡ true)
+    → suspected (Said now origin c ∷ log) c.name ≡ Some (raised_at opening (Said now origin c ∷ log) c.name accuser)
+unfolding suspected
+suspected-raised now origin log c accuser opening opened is stands beaten =
+    let later = Said now origin c ∷ log in
+    let suspect : is_suspect c.status ≡ true = ap is_suspect is in
+    let quiet = not_accused (said log) c suspect beaten in
+    let accusers = accusers-raised c accuser (said log) is suspect (none_accuse c.name c.incarnation (said log) quiet) in
+    let front = raise-raised now origin c log suspect (none_raises c.name c.incarnation log quiet) in
+    ap (λ o. suspected_in o later c.name) opened
+    ∙ ap (suspected_by opening later c.name) stands
+    ∙ ap (λ b. cond b (suspicion_since opening c.name (accusers_in c.name c.incarnation (c ∷ said log)) (raise_of c.name c.incarnation later)) None) suspect
+    ∙ (λ j. suspicion_since opening c.name (accusers j) (front j))
+    ∙ ap (λ kept. Some record { name = c.name; suspicion = record { raised = said_at later; timeout = range_of (live later) opening; accusers = kept } }) (kept-one (range_of (live later) opening).confirmations accuser)
+
+-- One more accusation at the incarnation of the record adds its accuser.
+pub record HasAccuser (now : ℕ) (origin : Origin) (log : Log) (c : Claim) (accuser : List ℕ) : Type 0 where
+  pub row : Suspected
+  pub before : suspected log c.name ≡ Some row
+  pub named : row.name ≡ c.name
+  pub after : suspected (Said now origin c ∷ log) c.name ≡ Some record { name = row.name; suspicion = accused row.suspicion accuser }
+
+pub suspected-accused : (now : ℕ) (origin : Origin) (log : Log) (c r : Claim) (accuser : List ℕ) (opening : Config) → config log ≡ Some opening → c.status ≡ Suspect accuser
+    → record_of (said log) c.name ≡ Some r → record_of (c ∷ said log) c.name ≡ Some r → is_suspect r.status ≡ true → c.incarnation ≡ r.incarnation
+    → HasAccuser now origin log c accuser
+unfolding suspected
+suspected-accused now origin log c r accuser opening opened is before after suspected same =
+    elim (held (raise_of c.name r.incarnation log)) [
+      | Missing none ↦ absurd (one_raises c.name r.incarnation log (record_accused (said log) c.name r before suspected) none)
+      | Holding front raise ↦ (
+          let m = c.name in
+          let later = Said now origin c ∷ log in
+          let past = accusers_in m r.incarnation (said log) in
+          let range = range_of (live front) opening in
+          let hit : accuses m r.incarnation c ≡ true = ap (λ i. accuses m i c) (sym same) ∙ accuses_itself c (ap is_suspect is) in
+          let accusers : accusers_in m r.incarnation (c ∷ said log) ≡ accuser ∷ past = rw (hit, is) refl in
+          let again : raise_of m r.incarnation later ≡ Some front = rw raise refl in
+          record {
+            row = record { name = m; suspicion = suspicion_after (said_at front) range past };
+            before =
+                ap (λ o. suspected_in o log m) opened
+                ∙ ap (suspected_by opening log m) before
+                ∙ ap (λ b. cond b (suspicion_since opening m past (raise_of m r.incarnation log)) None) suspected
+                ∙ ap (suspicion_since opening m past) raise;
+            named = refl;
+            after =
+                ap (λ o. suspected_in o later m) opened
+                ∙ ap (suspected_by opening later m) after
+                ∙ ap (λ b. cond b (suspicion_since opening m (accusers_in m r.incarnation (c ∷ said log)) (raise_of m r.incarnation later)) None) suspected
+                ∙ (λ j. suspicion_since opening m (accusers j) (again j))
+                ∙ ap (λ s. Some record { name = m; suspicion = s }) (sym (accused-after (said_at front) range accuser past));
+          })
+    ]
+
+-- What is suspected under a name has that name.
+since_keyed : (opening : Config) (m : List ℕ) (accusers : List (List ℕ)) (front : Option Log) (row : Suspected) → suspicion_since opening m accusers front ≡ Some row → row.name ≡ m
+since_keyed opening m accusers None row e = absurd cc
+since_keyed opening m accusers (Some front) row e = ap suspected_name (sym (held_once _ row e))
+
+pub suspected_keyed : (log : Log) → Keyed suspected_name (suspected log)
+unfolding suspected
+suspected_keyed log m row e = by_config (config log) e
+  where
+    by_record : (opening : Config) (r : Option Claim) → suspected_by opening log m r ≡ Some row → row.name ≡ m
+    by_record opening None e = absurd cc
+    by_record opening (Some r) e = elim (cases_Bool (is_suspect r.status)) [
+      | inl t ↦ since_keyed opening m (accusers_in m r.incarnation (said log)) (raise_of m r.incarnation log) row (rw t at e)
+      | inr f ↦ (let bad : None ≡ Some row = rw f at e in absurd cc)
+    ]
+
+    by_config : (o : Option Config) → suspected_in o log m ≡ Some row → row.name ≡ m
+    by_config None e = absurd cc
+    by_config (Some opening) e = by_record opening (record_of (said log) m) e

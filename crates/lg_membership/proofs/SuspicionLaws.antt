@@ -1,0 +1,321 @@
+-- The suspicions of all, when a claim is said.
+use Rattle.std.proofs.Common.{◌≡◌, ◌≢◌, ℕ, ◌<◌, ◌≤◌, Bool, true, false, ◌&&◌, cond, eqb, List, [], ◌∷◌, length, map, Option, Some, None, inl, inr, refl, sym, ◌∙◌, ap, subst, arith}
+use Rattle.std.specs.List.{filter_map}
+use Rattle.std.proofs.lemmas.Bool.{cases_Bool, eqb-true}
+use Rattle.lg_rules.specs.declared.claim.Claim.{Claim}
+use Rattle.lg_rules.specs.declared.claim.Status.{Status}
+use Rattle.lg_rules.specs.declared.claim.Status.TheVariants.{Alive, Suspect, Failed}
+use Rattle.lg_rules.specs.declared.members.Heard.{Heard}
+use Rattle.lg_rules.specs.declared.members.Heard.TheVariants.{Overrode, Accused, Same, Ignored, NoRoom}
+use Rattle.lg_rules.specs.Meaning.Claim.{accuser_of}
+use Rattle.lg_rules.specs.Meaning.Rows.{name_cmp, is_same, is_among, put_key, put_row, row_at, without_row, Rises}
+use Rattle.lg_rules.specs.Meaning.Table.{roster, record_of, takes, kept_answer, answer_of, heard, members_in}
+use Rattle.lg_rules.proofs.Cases.{Missing, Holding, held, held_once}
+use Rattle.lg_rules.proofs.KeyOrder.{names_order, cases_key}
+use Rattle.lg_rules.proofs.Rises.{put-there}
+use Rattle.lg_rules.proofs.Roster.{rises-roster, roster-nil, roster-own, own_unknown, length-roster}
+use Rattle.lg_rules.proofs.RowLaws.{AgreeBut, rows_equal, rows_same, rows-skip, rows-put, rows-without, row_at-rows, rises-rows, rows_room, length_rows-le}
+use Rattle.lg_rules.proofs.Tables.{IsTaken, IsKept, Taken, Kept, Out, heard_cases, heard-table, row_at-table}
+use Rattle.lg_timing.specs.declared.config.Config.{Config}
+use Rattle.lg_suspicion.specs.Meaning.Accusers.{SuspicionValue, counts, accused}
+use Rattle.lg_gossip.specs.Meaning.Queue.{is_suspect}
+use Rattle.lg_membership.specs.declared.suspected.Suspected.{Suspected}
+use Rattle.lg_membership.specs.declared.origin.Origin.{Origin}
+use Rattle.lg_membership.specs.Meaning.Log.{Fact, Log, Opened, Said, Sent, config, me, said, table, live}
+use Rattle.lg_membership.specs.Meaning.Suspicions.{suspected, suspicions, suspected_name, accuses}
+use Rattle.lg_membership.specs.Support.Changes.{Change, Nothing, Standing, ended, accusing, overriding, change_by, change_of, row_about, suspicions_after}
+use Rattle.lg_membership.proofs.QueueLaws.{none_rows}
+use Rattle.lg_membership.proofs.Removing.{without-missing}
+use Rattle.lg_membership.proofs.QueuedLaws.{row_out}
+use Rattle.lg_membership.proofs.SuspectedLaws.{suspected-alike, suspected-quiet, suspected-other, suspected-unopened, suspected-ended, suspected-raised, raised_at, suspected-accused, suspected_keyed}
+
+-- Marks that tell nothing of a member leave the suspicions.
+pub suspicions-sent : (taken : List Claim) (log : Log) → suspicions log ≡ suspicions (Sent taken ∷ log)
+unfolding suspicions
+suspicions-sent taken log = sym (rows_equal (suspected log) (suspected (Sent taken ∷ log)) (roster (me log) (said log)) (λ m. suspected-alike log (Sent taken ∷ log) m refl refl (λ i. refl)))
+
+pub suspicions-opened : (opening : Config) (log : Log) → suspicions (Opened opening ∷ log) ≡ []
+unfolding suspicions
+suspicions-opened opening log = ap (filter_map (suspected (Opened opening ∷ log))) (roster-nil opening.name)
+
+pub suspicions-nil : suspicions [] ≡ []
+unfolding suspicions
+suspicions-nil = ap (filter_map (suspected [])) (roster-nil (me []))
+
+pub suspicions-unopened : (log : Log) → config log ≡ None → suspicions log ≡ []
+unfolding suspicions
+suspicions-unopened log e = none_rows (suspected log) (roster (me log) (said log)) (λ m. suspected-unopened log m e)
+
+-- the suspicion of a member whose record is kept
+pub row_at-suspicions : (log : Log) (m : List ℕ) → is_among name_cmp m (roster (me log) (said log)) ≡ true → row_at name_cmp suspected_name m (suspicions log) ≡ suspected log m
+unfolding suspicions
+row_at-suspicions log m among =
+    row_at-rows names_order suspected_name (suspected log) m (roster (me log) (said log)) (rises-roster (me log) (said log)) (suspected_keyed log)
+    ∙ ap (λ b. cond b (suspected log m) None) among
+
+-- They are in the order of their names.
+pub rises-suspicions : (log : Log) → Rises name_cmp (map suspected_name (suspicions log))
+unfolding suspicions
+rises-suspicions log = rises-rows names_order suspected_name (suspected log) (roster (me log) (said log)) (suspected_keyed log) (rises-roster (me log) (said log))
+
+-- A claim about oneself leaves them.
+pub suspicions-own : (now : ℕ) (origin : Origin) (log : Log) (c : Claim) → c.name ≡ me log → suspicions log ≡ suspicions (Said now origin c ∷ log)
+unfolding suspicions
+suspicions-own now origin log c same =
+    let agree : AgreeBut (me log) (suspected log) (suspected (Said now origin c ∷ log)) = λ n other. suspected-other now origin log c n (λ e. other (sym e ∙ same)) in
+    sym (rows_same names_order (suspected log) (suspected (Said now origin c ∷ log)) (me log) (roster (me log) (said log)) agree (own_unknown (me log) (said log)))
+    ∙ ap (filter_map (suspected (Said now origin c ∷ log))) (sym (roster-own (me log) c (said log) same))
+
+agree_but : (now : ℕ) (origin : Origin) (log : Log) (c : Claim) → AgreeBut c.name (suspected log) (suspected (Said now origin c ∷ log))
+agree_but now origin log c n other = suspected-other now origin log c n (λ e. other (sym e))
+
+-- One about another puts a suspicion, ends one, or leaves them.
+rows_put : (now : ℕ) (origin : Origin) (log : Log) (c : Claim) (r : Suspected) → r.name ≡ c.name → suspected (Said now origin c ∷ log) c.name ≡ Some r
+    → roster (me log) (c ∷ said log) ≡ put_key name_cmp c.name (roster (me log) (said log))
+    → put_row name_cmp suspected_name r (suspicions log) ≡ suspicions (Said now origin c ∷ log)
+unfolding suspicions
+rows_put now origin log c r named is names =
+    let f = suspected log in
+    let g = suspected (Said now origin c ∷ log) in
+    let ns = roster (me log) (said log) in
+    rows-put names_order suspected_name f g r ns (rises-roster (me log) (said log)) (suspected_keyed log) (ap g named ∙ is) (λ n other. agree_but now origin log c n (λ e. other (e ∙ sym named)))
+    ∙ ap (λ m. filter_map g (put_key name_cmp m ns)) named
+    ∙ ap (filter_map g) (sym names)
+
+rows_end : (now : ℕ) (origin : Origin) (log : Log) (c : Claim) → suspected (Said now origin c ∷ log) c.name ≡ None
+    → roster (me log) (c ∷ said log) ≡ put_key name_cmp c.name (roster (me log) (said log))
+    → without_row name_cmp suspected_name c.name (suspicions log) ≡ suspicions (Said now origin c ∷ log)
+unfolding suspicions
+rows_end now origin log c none names =
+    let f = suspected log in
+    let g = suspected (Said now origin c ∷ log) in
+    let ns = roster (me log) (said log) in
+    rows-without names_order suspected_name f g c.name ns (suspected_keyed log) none (agree_but now origin log c)
+    ∙ sym (rows-skip names_order g c.name ns none)
+    ∙ ap (filter_map g) (sym names)
+
+rows_stay : (now : ℕ) (origin : Origin) (log : Log) (c : Claim) → suspected (Said now origin c ∷ log) c.name ≡ suspected log c.name → roster (me log) (c ∷ said log) ≡ roster (me log) (said log)
+    → suspicions log ≡ suspicions (Said now origin c ∷ log)
+unfolding suspicions
+rows_stay now origin log c same names =
+    let f = suspected log in
+    let g = suspected (Said now origin c ∷ log) in
+    sym (rows_equal f g (roster (me log) (said log)) each) ∙ ap (filter_map g) (sym names)
+  where
+    each : (n : List ℕ) → suspected (Said now origin c ∷ log) n ≡ suspected log n
+    each n = elim (cases_key names_order c.name n) [
+      | inl e ↦ subst (λ m. suspected (Said now origin c ∷ log) m ≡ suspected log m) e same
+      | inr other ↦ suspected-other now origin log c n other
+    ]
+
+rows_out : (now : ℕ) (origin : Origin) (log : Log) (c : Claim) → is_among name_cmp c.name (roster (me log) (said log)) ≡ false → roster (me log) (c ∷ said log) ≡ roster (me log) (said log)
+    → suspicions log ≡ suspicions (Said now origin c ∷ log)
+unfolding suspicions
+rows_out now origin log c out names =
+    sym (rows_same names_order (suspected log) (suspected (Said now origin c ∷ log)) c.name (roster (me log) (said log)) (agree_but now origin log c) out)
+    ∙ ap (filter_map (suspected (Said now origin c ∷ log))) (sym names)
+
+-- before the opening there is none
+none_overridden : (now n : ℕ) (m : List ℕ) (s : Status) → suspicions_after (overriding None now n m None s) [] ≡ []
+none_overridden now n m Alive = refl
+none_overridden now n m (Suspect a) = refl
+none_overridden now n m Failed = refl
+
+none_accused : (a : Option (List ℕ)) → suspicions_after (accusing a None) [] ≡ []
+none_accused None = refl
+none_accused (Some a) = refl
+
+none_changed : (h : Heard) (now n : ℕ) (c : Claim) → suspicions_after (change_by h None now n None c) [] ≡ []
+none_changed Overrode now n c = none_overridden now n c.name c.status
+none_changed Accused now n c = none_accused (accuser_of c.status)
+none_changed Same now n c = refl
+none_changed Ignored now n c = refl
+none_changed NoRoom now n c = refl
+
+abbrev change : ℕ → Log → Claim → Change
+change now log c = change_of (config log) now (table log) (suspicions log) c
+
+changed-unopened : (now : ℕ) (origin : Origin) (log : Log) (c : Claim) → config log ≡ None → suspicions_after (change now log c) (suspicions log) ≡ suspicions (Said now origin c ∷ log)
+changed-unopened now origin log c e =
+    let none = suspicions-unopened log e in
+    (λ i. suspicions_after (change_of (e i) now (table log) (none i) c) (none i))
+    ∙ none_changed (answer_of (table log) c) now (members_in (heard (table log) c)) c
+    ∙ sym (suspicions-unopened (Said now origin c ∷ log) e)
+
+-- what a status is
+data Kind (s : Status) : Type 0 where
+  IsAlive : s ≡ Alive → Kind s
+  IsSuspect : (accuser : List ℕ) → s ≡ Suspect accuser → Kind s
+  IsFailed : s ≡ Failed → Kind s
+
+kind_of : (s : Status) → Kind s
+kind_of Alive = IsAlive refl
+kind_of (Suspect a) = IsSuspect a refl
+kind_of Failed = IsFailed refl
+
+-- a claim that is taken
+overrode : (log : Log) (c : Claim) → takes (table log) c ≡ true → answer_of (table log) c ≡ Overrode
+overrode log c t = rw t refl
+
+-- a suspicion that ends, if there is one, leaves those of the others
+ended-after : (m : List ℕ) (rows : List Suspected) → Rises name_cmp (map suspected_name rows)
+    → suspicions_after (ended m (row_at name_cmp suspected_name m rows)) rows ≡ without_row name_cmp suspected_name m rows
+ended-after m rows rise = elim (held (row_at name_cmp suspected_name m rows)) [
+  | Missing gap ↦ ap (λ o. suspicions_after (ended m o) rows) gap ∙ sym (without-missing names_order suspected_name m rows rise gap)
+  | Holding row is ↦ ap (λ o. suspicions_after (ended m o) rows) is
+]
+
+changed-taken : (now : ℕ) (origin : Origin) (log : Log) (c : Claim) (opening : Config) → config log ≡ Some opening → c.name ≢ me log → IsTaken (me log) c (said log)
+    → suspicions_after (change now log c) (suspicions log) ≡ suspicions (Said now origin c ∷ log)
+changed-taken now origin log c opening opened other t =
+    let later = Said now origin c ∷ log in
+    let n = members_in (heard (table log) c) in
+    let rows = suspicions log in
+    let row = row_about c rows in
+    let by_status : change now log c ≡ overriding (Some opening) now n c.name row c.status =
+    ap (λ h. change_by h (config log) now n row c) (overrode log c t.taken) ∙ ap (λ o. overriding o now n c.name row c.status) opened in
+    let fewer : n ≡ live later = ap members_in (heard-table (me log) c (said log) other) in
+    let left = ended-after c.name rows (rises-suspicions log) in
+    elim (kind_of c.status) [
+      | IsAlive is ↦ (
+          ap (λ ch. suspicions_after ch rows) (by_status ∙ ap (overriding (Some opening) now n c.name row) is)
+          ∙ left ∙ rows_end now origin log c (suspected-ended later c.name c t.stands (ap is_suspect is)) t.names)
+      | IsSuspect accuser is ↦ (
+          let raised : overriding (Some opening) now n c.name row c.status ≡ Standing (raised_at opening later c.name accuser) =
+          ap (overriding (Some opening) now n c.name row) is ∙ ap (λ k. overriding (Some opening) now k c.name row (Suspect accuser)) fewer in
+          ap (λ ch. suspicions_after ch rows) (by_status ∙ raised)
+          ∙ rows_put now origin log c (raised_at opening later c.name accuser) refl (suspected-raised now origin log c accuser opening opened is t.stands t.beaten) t.names)
+      | IsFailed is ↦ (
+          ap (λ ch. suspicions_after ch rows) (by_status ∙ ap (overriding (Some opening) now n c.name row) is)
+          ∙ left ∙ rows_end now origin log c (suspected-ended later c.name c t.stands (ap is_suspect is)) t.names)
+    ]
+
+-- a claim that isn't, about a member with this record
+abbrev is_quiet : Heard → Bool
+is_quiet Overrode = false
+is_quiet Accused = false
+is_quiet Same = true
+is_quiet Ignored = true
+is_quiet NoRoom = true
+
+quiet_change : (h : Heard) (opened : Option Config) (now n : ℕ) (row : Option Suspected) (c : Claim) → is_quiet h ≡ true → change_by h opened now n row c ≡ Nothing
+quiet_change Overrode opened now n row c e = absurd cc
+quiet_change Accused opened now n row c e = absurd cc
+quiet_change Same opened now n row c e = refl
+quiet_change Ignored opened now n row c e = refl
+quiet_change NoRoom opened now n row c e = refl
+
+data KeptAs (c r : Claim) : Type 0 where
+  Accuses : (accuser : List ℕ) → c.status ≡ Suspect accuser → is_suspect r.status ≡ true → c.incarnation ≡ r.incarnation → kept_answer c (Some r) ≡ Accused → KeptAs c r
+  Says : is_quiet (kept_answer c (Some r)) ≡ true → (is_suspect r.status ≡ true → (is_suspect c.status && eqb c.incarnation r.incarnation) ≡ false) → KeptAs c r
+
+kept_as : (c r : Claim) → KeptAs c r
+kept_as c r = elim (cases_Bool (eqb c.incarnation r.incarnation)) [
+  | inl t ↦ elim (kind_of c.status) [
+    | IsAlive cs ↦ elim (kind_of r.status) [
+      | IsAlive rs ↦ Says (rw (t, cs, rs) refl) (λ e. rw cs refl)
+      | IsSuspect b rs ↦ Says (rw (t, cs, rs) refl) (λ e. rw cs refl)
+      | IsFailed rs ↦ Says (rw (t, cs, rs) refl) (λ e. rw cs refl)
+    ]
+    | IsSuspect a cs ↦ elim (kind_of r.status) [
+      | IsAlive rs ↦ Says (rw (t, cs, rs) refl) (λ e. (let bad : false ≡ true = sym (ap is_suspect rs) ∙ e in absurd cc))
+      | IsSuspect b rs ↦ Accuses a cs (ap is_suspect rs) (eqb-true c.incarnation r.incarnation t) (rw (t, cs, rs) refl)
+      | IsFailed rs ↦ Says (rw (t, cs, rs) refl) (λ e. (let bad : false ≡ true = sym (ap is_suspect rs) ∙ e in absurd cc))
+    ]
+    | IsFailed cs ↦ elim (kind_of r.status) [
+      | IsAlive rs ↦ Says (rw (t, cs, rs) refl) (λ e. rw cs refl)
+      | IsSuspect b rs ↦ Says (rw (t, cs, rs) refl) (λ e. rw cs refl)
+      | IsFailed rs ↦ Says (rw (t, cs, rs) refl) (λ e. rw cs refl)
+    ]
+  ]
+  | inr f ↦ Says (rw f refl) (λ e. rw f (never (is_suspect c.status)))
+]
+  where
+    never : (b : Bool) → (b && false) ≡ false
+    never true = refl
+    never false = refl
+
+answer-kept : (log : Log) (c : Claim) (k : IsKept (me log) c (said log)) → answer_of (table log) c ≡ kept_answer c (Some k.r)
+answer-kept log c k =
+    let row = row_at-table (me log) (said log) c.name ∙ ap (λ b. cond b (record_of (said log) c.name) None) k.among ∙ k.before in
+    rw k.taken (ap (kept_answer c) row)
+
+accused-not : (s : SuspicionValue) (a : List ℕ) → counts s a ≡ false → accused s a ≡ s
+accused-not s a e = rw e refl
+
+changed-kept : (now : ℕ) (origin : Origin) (log : Log) (c : Claim) (opening : Config) → config log ≡ Some opening → IsKept (me log) c (said log)
+    → suspicions_after (change now log c) (suspicions log) ≡ suspicions (Said now origin c ∷ log)
+changed-kept now origin log c opening opened k =
+    let n = members_in (heard (table log) c) in
+    let rows = suspicions log in
+    let ns = roster (me log) (said log) in
+    let said_same = k.after ∙ sym k.before in
+    let there = put-there names_order c.name ns (rises-roster (me log) (said log)) k.among in
+    elim (kept_as c k.r) [
+      | Accuses a is suspect same answer ↦ (
+          let has = suspected-accused now origin log c k.r a opening opened is k.before k.after suspect same in
+          let row = has.row in
+          let grown : Suspected = record { name = row.name; suspicion = accused row.suspicion a } in
+          let by_row : change now log c ≡ accusing (Some a) (Some row) =
+          ap (λ h. change_by h (config log) now n (row_about c rows) c) (answer-kept log c k ∙ answer)
+          ∙ ap (λ s. accusing (accuser_of s) (row_at name_cmp suspected_name c.name rows)) is
+          ∙ ap (accusing (Some a)) (row_at-suspicions log c.name k.among ∙ has.before) in
+          elim (cases_Bool (counts row.suspicion a)) [
+            | inl t ↦ (
+                let stands : accusing (Some a) (Some row) ≡ Standing grown = rw t refl in
+                ap (λ ch. suspicions_after ch rows) (by_row ∙ stands) ∙ rows_put now origin log c grown has.named has.after (k.names ∙ sym there))
+            | inr f ↦ (
+                let stays : accusing (Some a) (Some row) ≡ Nothing = rw f refl in
+                let same_row : suspected (Said now origin c ∷ log) c.name ≡ suspected log c.name =
+                has.after ∙ ap (λ s. Some record { name = row.name; suspicion = s }) (accused-not row.suspicion a f) ∙ sym has.before in
+                ap (λ ch. suspicions_after ch rows) (by_row ∙ stays) ∙ rows_stay now origin log c same_row k.names)
+          ])
+      | Says quiet calm ↦ (
+          let stays : change now log c ≡ Nothing =
+          ap (λ h. change_by h (config log) now n (row_about c rows) c) (answer-kept log c k) ∙ quiet_change (kept_answer c (Some k.r)) (config log) now n (row_about c rows) c quiet in
+          let same_row : suspected (Said now origin c ∷ log) c.name ≡ suspected log c.name =
+          suspected-quiet now origin log c c.name said_same (λ r is suspect. quiet_about r is suspect calm) in
+          ap (λ ch. suspicions_after ch rows) stays ∙ rows_stay now origin log c same_row k.names)
+    ]
+  where
+    never : (a : Bool) {b : Bool} → b ≡ false → (a && b) ≡ false
+    never true e = e
+    never false e = refl
+
+    quiet_about : (r : Claim) → record_of (said log) c.name ≡ Some r → is_suspect r.status ≡ true
+        → (is_suspect k.r.status ≡ true → (is_suspect c.status && eqb c.incarnation k.r.incarnation) ≡ false) → accuses c.name r.incarnation c ≡ false
+    quiet_about r is suspect calm =
+        let same : k.r ≡ r = held_once k.r r (sym k.before ∙ is) in
+        let off : (is_suspect c.status && eqb c.incarnation r.incarnation) ≡ false =
+        ap (λ (q : Claim). is_suspect c.status && eqb c.incarnation q.incarnation) (sym same) ∙ calm (ap (λ (q : Claim). is_suspect q.status) same ∙ suspect) in
+        never (is_same name_cmp c.name c.name) off
+
+-- a claim about a name for which there is no room
+changed-out : (now : ℕ) (origin : Origin) (log : Log) (c : Claim) → takes (table log) c ≡ false → is_among name_cmp c.name (roster (me log) (said log)) ≡ false
+    → roster (me log) (c ∷ said log) ≡ roster (me log) (said log) → suspicions_after (change now log c) (suspicions log) ≡ suspicions (Said now origin c ∷ log)
+changed-out now origin log c taken out names =
+    let answer : answer_of (table log) c ≡ NoRoom = rw (taken, row_out log c.name out) refl in
+    ap (λ h. suspicions_after (change_by h (config log) now (members_in (heard (table log) c)) (row_about c (suspicions log)) c) (suspicions log)) answer
+    ∙ rows_out now origin log c out names
+
+pub suspicions-other : (now : ℕ) (origin : Origin) (log : Log) (c : Claim) → c.name ≢ me log → suspicions_after (change now log c) (suspicions log) ≡ suspicions (Said now origin c ∷ log)
+suspicions-other now origin log c other = elim (held (config log)) [
+  | Missing none ↦ changed-unopened now origin log c none
+  | Holding opening opened ↦ elim (heard_cases (me log) c (said log) other) [
+    | Taken t ↦ changed-taken now origin log c opening opened other t
+    | Kept k ↦ changed-kept now origin log c opening opened k
+    | Out o ↦ changed-out now origin log c o.taken o.out o.names
+  ]
+]
+
+-- They are at most 255.
+pub length-suspicions : (log : Log) → length (suspicions log) ≤ 255
+unfolding suspicions
+length-suspicions log = omega (arith, length_rows-le (suspected log) (roster (me log) (said log)), length-roster (me log) (said log))
+
+-- Where a claim is taken there is a seat for the suspicion of its member.
+pub seat_of : (log : Log) (c : Claim) → IsTaken (me log) c (said log) → row_at name_cmp suspected_name c.name (suspicions log) ≡ None → length (suspicions log) < 255
+unfolding suspicions
+seat_of log c t missing =
+    rows_room names_order suspected_name (suspected log) c.name 255 (roster (me log) (said log)) (rises-roster (me log) (said log)) (suspected_keyed log)
+    (subst (λ ns. length ns ≤ 255) t.names (length-roster (me log) (c ∷ said log))) missing

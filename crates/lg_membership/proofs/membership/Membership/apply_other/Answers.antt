@@ -1,0 +1,64 @@
+use Rattle.std.proofs.Common.{◌≡◌, ◌≢◌, ◌&&◌, ◌||◌, Bool, Option, ap, sym, subst, ◌∙◌}
+use Rattle.lg_rules.specs.declared.claim.Claim.{Claim}
+use Rattle.lg_rules.specs.declared.members.Heard.{Heard}
+use Rattle.lg_rules.specs.Meaning.Claim.{accuser_of}
+use Rattle.lg_rules.specs.Meaning.Table.{takes, answer_of, heard, members_in}
+use Rattle.lg_membership.specs.declared.applied.Deadline.{Deadline}
+use Rattle.lg_membership.specs.Meaning.Gossip.{put_if, put_of_other}
+use Rattle.lg_membership.specs.Meaning.Suspicions.{is_accusation, counts_in}
+use Rattle.lg_membership.specs.Support.Changes.{change_by, change_of, row_about, suspicions_after, deadline_after, is_override, stands}
+use Rattle.lg_membership.specs.Support.Room.{HasPlace}
+use Rattle.lg_membership.specs.Support.State.{State, queue_with}
+use Rattle.lg_membership.proofs.Hearings.{overrode-takes, counts_for}
+use Rattle.lg_membership.proofs.Reaching.{reached-other}
+use Rattle.lg_membership.proofs.Rooms.{reached-ordered, other_place, other_seat}
+use Rattle.lg_membership.proofs.membership.Membership.apply_other.Goals as goal
+
+pub hear-heard-requires : goal.hear-heard-requires
+hear-heard-requires c = λ same.
+    c.requires (same ∙ sym (reached-ordered _ c.self.invariant).one_name ∙ ap (λ (s : State). s.own.name) c.self.view_is)
+
+pub suspect-deadline-requires-clause-rises : goal.suspect-deadline-requires-clause-rises
+suspect-deadline-requires-clause-rises c = (reached-ordered _ c.self.invariant).suspects
+
+pub suspect-deadline-requires-clause-seat : goal.suspect-deadline-requires-clause-seat
+suspect-deadline-requires-clause-seat c = λ overrode.
+    other_seat c.args.claim.now _ c.self.invariant (λ same. c.requires (same ∙ ap (λ (s : State). s.own.name) c.self.view_is))
+    (overrode-takes c.self.inside.members.table c.args.claim.now (sym c.hear-heard.ensures.answer ∙ overrode))
+
+pub put-requires : goal.put-requires
+put-requires c =
+    let inside = c.self.inside in
+    let claim = c.args.claim.now in
+    let table = inside.members.table in
+    let row = row_about claim inside.suspicions.items in
+    let n = members_in (heard table claim) in
+    let live = c.live-live.ensures.count ∙ ap members_in c.hear-heard.ensures.table in
+    let answer = c.hear-heard.ensures.answer in
+    let deadline = c.suspect-deadline.ensures.deadline ∙ (λ i. deadline_after (change_by (answer i) inside.config c.args.now (live i) row claim)) in
+    let counts = c.is_to_be_passed_on-counts.ensures ∙ counts_for table inside.config c.args.now n row claim answer deadline in
+    let puts = c.put_of_other.ensures ∙ ap (λ b. put_if c.args.origin b claim) counts in
+    let other : claim.name ≢ inside.own.name = λ same. c.requires (same ∙ ap (λ (s : State). s.own.name) c.self.view_is) in
+    subst (λ (o : Option Claim). HasPlace o inside.queue) (sym puts) (other_place c.args.origin claim _ c.self.invariant other)
+
+pub invariant_of-self : goal.invariant_of-self
+invariant_of-self c =
+    let inside = c.self.inside in
+    let claim = c.args.claim.now in
+    let table = inside.members.table in
+    let row = row_about claim inside.suspicions.items in
+    let n = members_in (heard table claim) in
+    let live = c.live-live.ensures.count ∙ ap members_in c.hear-heard.ensures.table in
+    let answer = c.hear-heard.ensures.answer in
+    let change : change_by c.hear-heard.result inside.config c.args.now c.live-live.result row claim ≡ change_by (answer_of table claim) inside.config c.args.now n row claim =
+    λ i. change_by (answer i) inside.config c.args.now (live i) row claim in
+    let deadline = c.suspect-deadline.ensures.deadline ∙ ap deadline_after change in
+    let rows = c.suspect-deadline.ensures.rows ∙ ap (λ ch. suspicions_after ch inside.suspicions.items) change in
+    let counts = c.is_to_be_passed_on-counts.ensures ∙ counts_for table inside.config c.args.now n row claim answer deadline in
+    let puts = c.put_of_other.ensures ∙ ap (λ b. put_if c.args.origin b claim) counts in
+    let queue = c.put.ensures ∙ ap (λ (o : Option Claim). queue_with o inside.queue) puts in
+    let members : c.hear-heard.new.self ≡ record { own = inside.members.own; table = heard table claim } =
+    λ i. record { own = c.hear-heard.ensures.own i; table = c.hear-heard.ensures.table i } in
+    reached-other _ _ c.args.now c.args.origin claim (λ same. c.requires (same ∙ ap (λ (s : State). s.own.name) c.self.view_is))
+    (λ i. record { config = inside.config; own = inside.own; members = members i; suspicions = rows i; queue = queue i })
+    c.self.invariant

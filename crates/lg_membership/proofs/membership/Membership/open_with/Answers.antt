@@ -1,0 +1,32 @@
+use Rattle.std.proofs.Common.{◌≡◌, Some, ap, ◌∙◌}
+use Rattle.lg_timing.proofs.ConfigLemmas.{ranges}
+use Rattle.lg_membership.specs.Support.State.{open_with}
+use Rattle.lg_membership.proofs.FactLaws.{open-state}
+use Rattle.lg_membership.proofs.Reaching.{reached-open}
+use Rattle.lg_membership.proofs.membership.Membership.open_with.Goals as goal
+
+pub restart-requires-2 : goal.restart-requires-2
+restart-requires-2 c = (ranges c.args.config.now c.requires).lambda_most
+
+pub invariant_of-self : goal.invariant_of-self
+invariant_of-self c =
+    reached-open _ _ c.args.config.now
+    (λ i. record {
+      config = Some (c.copy.ensures i);
+      own = c.new-self-inside.ensures i;
+      members = c.restart.ensures i;
+      suspicions = c.clear.ensures i;
+      queue = c.restart-2.ensures i;
+    })
+    c.requires c.self.invariant
+
+pub returns-clause-log : goal.returns-clause-log
+returns-clause-log c = λ log is.
+    (λ i. record {
+      config = Some (c.copy.ensures i);
+      own = c.new-self-inside.ensures i;
+      members = c.restart.ensures i;
+      suspicions = c.clear.ensures i;
+      queue = c.restart-2.ensures i;
+    })
+    ∙ open-state c.args.config.now log

@@ -1,0 +1,75 @@
+-- What waits to be sent (SWIM, section 4.1).
+use Rattle.std.specs.Prelude.{ℕ, ◌+◌, Bool, true, false, ◌&&◌, ◌||◌, List, [], ◌∷◌, map, Option, Some, None, option_map, if◌then◌else◌}
+use Rattle.std.specs.List.{filter_map}
+use Rattle.lg_rules.specs.declared.claim.Claim.{Claim}
+use Rattle.lg_rules.specs.Meaning.Claim.{name_of}
+use Rattle.lg_rules.specs.Meaning.Rows.{name_cmp, is_same, is_among}
+use Rattle.lg_rules.specs.Meaning.Table.{takes}
+use Rattle.lg_rules.specs.declared.own.OwnHeard.{OwnHeard}
+use Rattle.lg_rules.specs.declared.own.OwnHeard.TheVariants.{Refuted, Raised, Ousted, Ignored}
+use Rattle.lg_rules.specs.Meaning.Own.{Oneself, own_answer, own_heard, own_record}
+use Rattle.lg_timing.specs.declared.config.Config.{Config}
+use Rattle.lg_gossip.specs.declared.queued.Queued.{Queued}
+use Rattle.lg_gossip.specs.Meaning.Queue.{GossipQueue}
+use Rattle.lg_membership.specs.declared.origin.Origin.{Origin}
+use Rattle.lg_membership.specs.declared.origin.Origin.TheVariants.{Seed, Group}
+use Rattle.lg_membership.specs.declared.suspected.Suspected.{Suspected}
+use Rattle.lg_membership.specs.Meaning.Log.{Fact, Log, Opened, Said, Sent, config, me, own, table, known}
+use Rattle.lg_membership.specs.Meaning.Suspicions.{suspicions, confirms}
+
+-- What is put into the queue where a claim is said: the claim, where the opening doesn't say it and it makes or replaces a
+-- record, or confirms a suspicion; or one's own record, where the claim raises the own number.
+abbrev pub put_of_own : OwnHeard → Oneself → Option Claim
+put_of_own Refuted oneself = Some (own_record oneself)
+put_of_own Raised oneself = Some (own_record oneself)
+put_of_own Ousted oneself = None
+put_of_own Ignored oneself = None
+
+abbrev pub put_if : Origin → Bool → Claim → Option Claim
+put_if Seed counts c = None
+put_if Group counts c = if counts then Some c else None
+
+abbrev pub put_of_other : Origin → List Claim → List Suspected → Claim → Option Claim
+put_of_other origin rows suspects c = put_if origin (takes rows c || confirms rows suspects c) c
+
+unfoldable pub put_by : Origin → Log → Claim → Option Claim
+put_by origin log c =
+    if is_same name_cmp c.name (me log)
+    then put_of_own (own_answer c.status c.incarnation (own log).number) (own_heard (own log) c)
+    else put_of_other origin (table log) (suspicions log) c
+
+-- the claim about a member that was put last
+abbrev pub put_or : Option Claim → List ℕ → Option Claim → Option Claim
+put_or None m before = before
+put_or (Some c) m before = if is_same name_cmp c.name m then Some c else before
+
+abbrev pub put_last : Log → List ℕ → Option Claim
+put_last [] m = None
+put_last (Opened opening ∷ log) m = None
+put_last (Said now origin c ∷ log) m = put_or (put_by origin log c) m (put_last log m)
+put_last (Sent taken ∷ log) m = put_last log m
+
+-- how many packets have held it since
+abbrev pub since_put : Option Claim → List ℕ → ℕ → ℕ
+since_put None m before = before
+since_put (Some c) m before = if is_same name_cmp c.name m then 0 else before
+
+abbrev pub sends : Log → List ℕ → ℕ
+sends [] m = 0
+sends (Opened opening ∷ log) m = 0
+sends (Said now origin c ∷ log) m = since_put (put_by origin log c) m (sends log m)
+sends (Sent taken ∷ log) m = if is_among name_cmp m (map name_of taken) then sends log m + 1 else sends log m
+
+-- the claim about a member that is queued, with its sends; and the queue, in the order of names
+unfoldable pub queued : Log → List ℕ → Option Queued
+queued log m = option_map (λ c. record { claim = c; sends = sends log m }) (put_last log m)
+
+unfoldable pub queue_rows : Log → List Queued
+queue_rows log = filter_map (queued log) (known log)
+
+abbrev pub lambda_in : Option Config → ℕ
+lambda_in None = 1
+lambda_in (Some opening) = opening.lambda
+
+abbrev pub queue : Log → GossipQueue
+queue log = record { lambda = lambda_in (config log); rows = queue_rows log }

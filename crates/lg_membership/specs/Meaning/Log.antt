@@ -1,0 +1,69 @@
+-- What a member hears of its group, as facts, and what is read off them.
+use Rattle.std.specs.Prelude.{ℕ, List, [], ◌∷◌, Option, Some, None}
+use Rattle.lg_rules.specs.declared.addr.Addr.{Addr}
+use Rattle.lg_rules.specs.declared.claim.Claim.{Claim}
+use Rattle.lg_rules.specs.Meaning.Claim.{name_of}
+use Rattle.lg_rules.specs.Meaning.Rows.{name_cmp, put_key, put_row}
+use Rattle.lg_rules.specs.Meaning.Table.{roster, table_of, members_in}
+use Rattle.lg_rules.specs.Meaning.Own.{Oneself, own_of, own_record}
+use Rattle.lg_timing.specs.declared.config.Config.{Config}
+use Rattle.lg_membership.specs.declared.origin.Origin.{Origin}
+
+-- A log tells what happened in facts, the latest first: the member was opened; a claim was said at a moment, as a seed of the
+-- opening or by the group; a packet was sent that took these claims of the queue.
+pub data Fact : Type 0 where
+  Opened : Config → Fact
+  Said : ℕ → Origin → Claim → Fact
+  Sent : List Claim → Fact
+
+abbrev pub Log : Type 0
+Log = List Fact
+
+-- what the member was opened with
+abbrev pub config : Log → Option Config
+config [] = None
+config (Opened opening ∷ log) = Some opening
+config (_ ∷ log) = config log
+
+-- the claims said since the opening, the latest first
+abbrev pub said : Log → List Claim
+said [] = []
+said (Opened opening ∷ log) = []
+said (Said now origin c ∷ log) = c ∷ said log
+said (Sent taken ∷ log) = said log
+
+-- The own name and address; before the opening, those that stand in their place.
+abbrev pub name_in : Option Config → List ℕ
+name_in None = 97 ∷ []
+name_in (Some opening) = opening.name
+
+abbrev pub addr_in : Option Config → Addr
+addr_in None = record { octets = 0 ∷ 0 ∷ 0 ∷ 0 ∷ []; port = 0 }
+addr_in (Some opening) = opening.addr
+
+abbrev pub me : Log → List ℕ
+me log = name_in (config log)
+
+-- the own number, and whether one was ousted
+abbrev pub own : Log → Oneself
+own log = own_of (me log) (addr_in (config log)) (said log)
+
+-- the records of the others
+abbrev pub table : Log → List Claim
+table log = table_of (me log) (said log)
+
+-- how many members haven't failed, oneself included (n)
+abbrev pub live : Log → ℕ
+live log = members_in (table log)
+
+-- the names that are known
+abbrev pub known : Log → List (List ℕ)
+known log = put_key name_cmp (me log) (roster (me log) (said log))
+
+-- the member table, oneself included, in the order of names; nothing before the opening
+abbrev pub view_in : Option Config → Oneself → List Claim → List Claim
+view_in None oneself rows = []
+view_in (Some opening) oneself rows = put_row name_cmp name_of (own_record oneself) rows
+
+abbrev pub view : Log → List Claim
+view log = view_in (config log) (own log) (table log)

@@ -1,0 +1,85 @@
+-- Who is suspected, since when and by whom (SWIM, section 4.2; Lifeguard, local health aware suspicion).
+use Rattle.std.specs.Prelude.{ℕ, Bool, true, false, ◌&&◌, ◌==◌, List, [], ◌∷◌, filter, Option, Some, None, if◌then◌else◌}
+use Rattle.std.specs.List.{filter_map}
+use Rattle.lg_rules.specs.declared.claim.Claim.{Claim}
+use Rattle.lg_rules.specs.declared.members.Heard.{Heard}
+use Rattle.lg_rules.specs.declared.members.Heard.TheVariants.{Overrode, Accused, Same, Ignored, NoRoom}
+use Rattle.lg_rules.specs.Meaning.Claim.{accuser_of}
+use Rattle.lg_rules.specs.Meaning.Past.{or_else}
+use Rattle.lg_rules.specs.Meaning.Rows.{name_cmp, is_same, row_at}
+use Rattle.lg_rules.specs.Meaning.Table.{roster, record_of, answer_of}
+use Rattle.lg_timing.specs.declared.config.Config.{Config}
+use Rattle.lg_timing.specs.Meaning.Timeouts.{range_of}
+use Rattle.lg_suspicion.specs.Meaning.Accusers.{suspicion_after, counts}
+use Rattle.lg_gossip.specs.Meaning.Queue.{is_suspect}
+use Rattle.lg_membership.specs.declared.suspected.Suspected.{Suspected}
+use Rattle.lg_membership.specs.Meaning.Log.{Fact, Log, Opened, Said, Sent, config, me, said, live}
+
+-- a claim accuses a member at an incarnation
+abbrev pub accuses : List ℕ → ℕ → Claim → Bool
+accuses m i c = is_same name_cmp c.name m && (is_suspect c.status && c.incarnation == i)
+
+-- the accusers of all such claims of a past, the latest first
+abbrev pub accusers_in : List ℕ → ℕ → List Claim → List (List ℕ)
+accusers_in m i past = filter_map (λ c. accuser_of c.status) (filter (accuses m i) past)
+
+-- the log up to the first such claim, that claim included
+abbrev pub raise_of : List ℕ → ℕ → Log → Option Log
+raise_of m i [] = None
+raise_of m i (Opened opening ∷ log) = None
+raise_of m i (Said now origin c ∷ log) =
+    or_else (raise_of m i log) (if accuses m i c then Some (Said now origin c ∷ log) else None)
+raise_of m i (Sent taken ∷ log) = raise_of m i log
+
+-- the moment at which the latest fact of such a log was said
+abbrev pub said_at : Log → ℕ
+said_at (Said now origin c ∷ log) = now
+said_at _ = 0
+
+-- The suspicion that such a claim raises: at its moment, and with the number of members that haven't failed once it was
+-- taken. All who accuse the member at this incarnation are its accusers.
+abbrev pub suspicion_since : Config → List ℕ → List (List ℕ) → Option Log → Option Suspected
+suspicion_since opening m accusers None = None
+suspicion_since opening m accusers (Some front) =
+    Some record { name = m; suspicion = suspicion_after (said_at front) (range_of (live front) opening) accusers }
+
+-- a member is suspected while its record is Suspect, at the incarnation of the record
+abbrev pub suspected_by : Config → Log → List ℕ → Option Claim → Option Suspected
+suspected_by opening log m None = None
+suspected_by opening log m (Some r) =
+    if is_suspect r.status
+    then suspicion_since opening m (accusers_in m r.incarnation (said log)) (raise_of m r.incarnation log)
+    else None
+
+-- nobody is before the opening
+abbrev pub suspected_in : Option Config → Log → List ℕ → Option Suspected
+suspected_in None log m = None
+suspected_in (Some opening) log m = suspected_by opening log m (record_of (said log) m)
+
+unfoldable pub suspected : Log → List ℕ → Option Suspected
+suspected log m = suspected_in (config log) log m
+
+-- the suspicions of the others, in the order of their names
+unfoldable pub suspicions : Log → List Suspected
+suspicions log = filter_map (suspected log) (roster (me log) (said log))
+
+abbrev pub suspected_name : Suspected → List ℕ
+suspected_name r = r.name
+
+-- A claim confirms a suspicion where it accuses a suspected member at the incarnation of its record, and its accuser is new
+-- and counts.
+abbrev pub is_accusation : Heard → Bool
+is_accusation Overrode = false
+is_accusation Accused = true
+is_accusation Same = false
+is_accusation Ignored = false
+is_accusation NoRoom = false
+
+abbrev pub counts_in : Option (List ℕ) → Option Suspected → Bool
+counts_in None row = false
+counts_in (Some accuser) None = false
+counts_in (Some accuser) (Some row) = counts row.suspicion accuser
+
+abbrev pub confirms : List Claim → List Suspected → Claim → Bool
+confirms table rows c =
+    is_accusation (answer_of table c) && counts_in (accuser_of c.status) (row_at name_cmp suspected_name c.name rows)

@@ -1,0 +1,82 @@
+-- What a claim about another changes of the suspicions, by the values before it.
+use Rattle.std.specs.Prelude.{ℕ, Bool, true, false, List, [], ◌∷◌, Option, Some, None, if◌then◌else◌}
+use Rattle.lg_rules.specs.declared.claim.Claim.{Claim}
+use Rattle.lg_rules.specs.declared.claim.Status.{Status}
+use Rattle.lg_rules.specs.declared.claim.Status.TheVariants.{Alive, Suspect, Failed}
+use Rattle.lg_rules.specs.declared.members.Heard.{Heard}
+use Rattle.lg_rules.specs.declared.members.Heard.TheVariants.{Overrode, Accused, Same, Ignored, NoRoom}
+use Rattle.lg_rules.specs.Meaning.Claim.{accuser_of}
+use Rattle.lg_rules.specs.Meaning.Rows.{name_cmp, put_row, row_at, without_row}
+use Rattle.lg_rules.specs.Meaning.Table.{answer_of, heard, members_in}
+use Rattle.lg_timing.specs.declared.config.Config.{Config}
+use Rattle.lg_timing.specs.Meaning.Timeouts.{range_of}
+use Rattle.lg_suspicion.specs.Meaning.Accusers.{counts, accused, deadline_of}
+use Rattle.lg_membership.specs.declared.applied.Deadline.{Deadline}
+use Rattle.lg_membership.specs.declared.applied.Deadline.TheVariants.{Stays, Ends, Stands}
+use Rattle.lg_membership.specs.declared.suspected.Suspected.{Suspected}
+use Rattle.lg_membership.specs.Meaning.Suspicions.{suspected_name}
+
+-- nothing; the suspicion of a member ends; or one stands, raised anew or with one more accuser
+pub data Change : Type 0 where
+  Nothing : Change
+  Ending : List ℕ → Change
+  Standing : Suspected → Change
+
+-- a claim that overrides the record raises a suspicion, or ends the one that there is
+abbrev pub raised : Option Config → ℕ → ℕ → List ℕ → List ℕ → Change
+raised None now n m accuser = Nothing
+raised (Some opening) now n m accuser =
+    Standing record { name = m; suspicion = record { raised = now; timeout = range_of n opening; accusers = accuser ∷ [] } }
+
+abbrev pub ended : List ℕ → Option Suspected → Change
+ended m None = Nothing
+ended m (Some row) = Ending m
+
+abbrev pub overriding : Option Config → ℕ → ℕ → List ℕ → Option Suspected → Status → Change
+overriding opened now n m row Alive = ended m row
+overriding opened now n m row (Suspect accuser) = raised opened now n m accuser
+overriding opened now n m row Failed = ended m row
+
+-- one more accusation
+abbrev pub accusing : Option (List ℕ) → Option Suspected → Change
+accusing None row = Nothing
+accusing (Some accuser) None = Nothing
+accusing (Some accuser) (Some row) =
+    if counts row.suspicion accuser
+    then Standing record { name = row.name; suspicion = accused row.suspicion accuser }
+    else Nothing
+
+abbrev pub change_by : Heard → Option Config → ℕ → ℕ → Option Suspected → Claim → Change
+change_by Overrode opened now n row c = overriding opened now n c.name row c.status
+change_by Accused opened now n row c = accusing (accuser_of c.status) row
+change_by _ opened now n row c = Nothing
+
+-- the suspicion of the claim's member
+abbrev pub row_about : Claim → List Suspected → Option Suspected
+row_about c rows = row_at name_cmp suspected_name c.name rows
+
+abbrev pub change_of : Option Config → ℕ → List Claim → List Suspected → Claim → Change
+change_of opened now table rows c =
+    change_by (answer_of table c) opened now (members_in (heard table c)) (row_about c rows) c
+
+-- the suspicions then, and what becomes of the deadline of the claim's member
+abbrev pub suspicions_after : Change → List Suspected → List Suspected
+suspicions_after Nothing rows = rows
+suspicions_after (Ending m) rows = without_row name_cmp suspected_name m rows
+suspicions_after (Standing r) rows = put_row name_cmp suspected_name r rows
+
+abbrev pub deadline_after : Change → Deadline
+deadline_after Nothing = Stays
+deadline_after (Ending m) = Ends
+deadline_after (Standing r) = Stands (deadline_of r.suspicion)
+
+-- whether a suspicion was raised or has one accuser more
+abbrev pub stands : Deadline → Bool
+stands Stays = false
+stands Ends = false
+stands (Stands deadline) = true
+
+-- whether a claim made or replaced a record
+abbrev pub is_override : Heard → Bool
+is_override Overrode = true
+is_override _ = false

@@ -1,0 +1,34 @@
+-- What holds of a state that some log has, so that a claim can be applied: oneself has one name, what is put has a place in
+-- the queue, and a suspicion has one among the suspicions.
+use Rattle.std.specs.Prelude.{ℕ, ◌≡◌, ◌≢◌, ◌<◌, ◌≤◌, map, true, List, length, Option, Some, None}
+use Rattle.lg_rules.specs.declared.claim.Claim.{Claim}
+use Rattle.lg_rules.specs.declared.members.TheConstants.{MAX_OTHERS}
+use Rattle.lg_rules.specs.Meaning.Claim.{name_of}
+use Rattle.lg_rules.specs.Meaning.Rows.{name_cmp, row_at, Rises}
+use Rattle.lg_rules.specs.Meaning.Table.{takes}
+use Rattle.lg_gossip.specs.declared.queue.TheConstants.{MAX_QUEUED}
+use Rattle.lg_gossip.specs.Meaning.Queue.{GossipQueue, queued_name}
+use Rattle.lg_membership.specs.declared.origin.Origin.{Origin}
+use Rattle.lg_membership.specs.declared.suspected.Suspected.{Suspected}
+use Rattle.lg_membership.specs.Meaning.Suspicions.{suspected_name}
+use Rattle.lg_membership.specs.Support.State.{State, put_in}
+
+abbrev pub HasPlace : Option Claim → GossipQueue → Type 0
+HasPlace None waiting = Unit {0}
+HasPlace (Some c) waiting = row_at name_cmp queued_name c.name waiting.rows ≡ None → length waiting.rows < MAX_QUEUED
+
+abbrev pub HasSeat : List ℕ → List Suspected → Type 0
+HasSeat m rows = row_at name_cmp suspected_name m rows ≡ None → length rows < MAX_OTHERS
+
+pub record HasRoom (origin : Origin) (c : Claim) (s : State) : Type 0 where
+  pub place : HasPlace (put_in origin c s) s.queue
+  pub seat : c.name ≢ s.members.own → takes s.members.table c ≡ true → HasSeat c.name s.suspicions
+
+-- what holds of each state: the records of the others and their suspicions are in the order of the names, and none is about
+-- oneself
+pub record IsOrdered (s : State) : Type 0 where
+  pub one_name : s.own.name ≡ s.members.own
+  pub rises : Rises name_cmp (map name_of s.members.table)
+  pub others : row_at name_cmp name_of s.own.name s.members.table ≡ None
+  pub few : length s.members.table ≤ MAX_OTHERS
+  pub suspects : Rises name_cmp (map suspected_name s.suspicions)

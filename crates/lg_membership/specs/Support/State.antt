@@ -1,0 +1,121 @@
+-- What a member knows of its group, as plain data, and what each fact does to it.
+use Rattle.std.specs.Prelude.{ℕ, Bool, true, false, List, [], ◌∷◌, map, Option, Some, None, if◌then◌else◌}
+use Rattle.lg_rules.specs.declared.claim.Claim.{Claim}
+use Rattle.lg_rules.specs.declared.own.OwnHeard.{OwnHeard}
+use Rattle.lg_rules.specs.declared.own.OwnHeard.TheVariants.{Refuted, Raised, Ousted, Ignored}
+use Rattle.lg_rules.specs.Meaning.Claim.{name_of}
+use Rattle.lg_rules.specs.Meaning.Own.{Oneself, own_of, own_answer, own_heard}
+use Rattle.lg_rules.specs.Meaning.Rows.{name_cmp, is_same, put_row}
+use Rattle.lg_rules.specs.Meaning.Table.{Known, members_of, takes, heard}
+use Rattle.lg_rules.specs.Meaning.View.{Membership, is_rise}
+use Rattle.lg_timing.specs.declared.config.Config.{Config}
+use Rattle.lg_gossip.specs.Meaning.Queue.{GossipQueue, put_of, sent_once}
+use Rattle.lg_membership.specs.declared.applied.Applied.{Applied}
+use Rattle.lg_membership.specs.declared.applied.Deadline.TheVariants.{Stays}
+use Rattle.lg_membership.specs.declared.origin.Origin.{Origin}
+use Rattle.lg_membership.specs.declared.suspected.Suspected.{Suspected}
+use Rattle.lg_membership.specs.Meaning.Log.{Log, config, me, said, own, view_in}
+use Rattle.lg_membership.specs.Meaning.Suspicions.{suspicions}
+use Rattle.lg_membership.specs.Meaning.Gossip.{queue, put_of_own, put_of_other}
+use Rattle.lg_membership.specs.Support.Changes.{Change, change_of, suspicions_after, deadline_after}
+
+pub record State : Type 0 where
+  pub config : Option Config
+  pub own : Oneself
+  pub members : Known
+  pub suspicions : List Suspected
+  pub queue : GossipQueue
+
+-- each part by its definition
+abbrev pub state_of : Log → State
+state_of log = record {
+  config = config log;
+  own = own log;
+  members = members_of (me log) (said log);
+  suspicions = suspicions log;
+  queue = queue log;
+}
+
+-- the member is opened
+abbrev pub open_with : Config → State → State
+open_with opening s = record {
+  config = Some opening;
+  own = own_of opening.name opening.addr [];
+  members = members_of opening.name [];
+  suspicions = [];
+  queue = record { lambda = opening.lambda; rows = [] };
+}
+
+-- oneself and the records of the others
+abbrev pub standing : State → Membership
+standing s = record { own = s.own; table = s.members.table }
+
+-- the member table, oneself included
+abbrev pub shown : State → List Claim
+shown s = view_in s.config s.own s.members.table
+
+-- the records with one more, where one was found
+abbrev pub with_found : Option Claim → List Claim → List Claim
+with_found None rows = rows
+with_found (Some r) rows = put_row name_cmp name_of r rows
+
+-- what a claim at a moment changes of the suspicions
+abbrev pub change_in : ℕ → Claim → State → Change
+change_in now c s = change_of s.config now s.members.table s.suspicions c
+
+-- what hearing a claim about oneself does
+abbrev pub own_hearing_in : Claim → State → OwnHeard
+own_hearing_in c s = own_answer c.status c.incarnation s.own.number
+
+-- what a claim puts into the queue
+abbrev pub put_in : Origin → Claim → State → Option Claim
+put_in origin c s =
+    if is_same name_cmp c.name s.own.name
+    then put_of_own (own_hearing_in c s) (own_heard s.own c)
+    else put_of_other origin s.members.table s.suspicions c
+
+abbrev pub queue_with : Option Claim → GossipQueue → GossipQueue
+queue_with None waiting = waiting
+queue_with (Some c) waiting = put_of c waiting
+
+-- the state once a claim is applied
+abbrev pub apply_own : Claim → State → State
+apply_own c s = record s {
+  own = own_heard s.own c;
+  queue = queue_with (put_of_own (own_hearing_in c s) (own_heard s.own c)) s.queue;
+}
+
+abbrev pub apply_other : ℕ → Origin → Claim → State → State
+apply_other now origin c s = record s {
+  members = record { own = s.members.own; table = heard s.members.table c };
+  suspicions = suspicions_after (change_in now c s) s.suspicions;
+  queue = queue_with (put_of_other origin s.members.table s.suspicions c) s.queue;
+}
+
+unfoldable pub apply : ℕ → Origin → Claim → State → State
+apply now origin c s = if is_same name_cmp c.name s.own.name then apply_own c s else apply_other now origin c s
+
+-- what applying it did
+abbrev pub is_refuted : OwnHeard → Bool
+is_refuted Refuted = true
+is_refuted _ = false
+
+abbrev pub applied_own : Claim → State → Applied
+applied_own c s =
+    record { changed = is_rise (own_hearing_in c s); refuted = is_refuted (own_hearing_in c s); deadline = Stays }
+
+abbrev pub applied_other : ℕ → Claim → State → Applied
+applied_other now c s =
+    record { changed = takes s.members.table c; refuted = false; deadline = deadline_after (change_in now c s) }
+
+unfoldable pub applied : ℕ → Claim → State → Applied
+applied now c s = if is_same name_cmp c.name s.own.name then applied_own c s else applied_other now c s
+
+-- claims are applied one after another
+abbrev pub apply_all : ℕ → Origin → List Claim → State → State
+apply_all now origin [] s = s
+apply_all now origin (c ∷ cs) s = apply_all now origin cs (apply now origin c s)
+
+-- a packet is sent that took these claims of the queue
+abbrev pub send : List Claim → State → State
+send taken s = record s { queue = record { lambda = s.queue.lambda; rows = map (sent_once taken) s.queue.rows } }

@@ -1,0 +1,23 @@
+//! What applying a claim did.
+
+/// What becomes of the deadline of a member's suspicion when a claim about the member is applied.
+#[derive(Clone, Copy, Debug, PartialEq, Eq)]
+pub enum Deadline {
+    /// As before: there still is none, or it still is the same.
+    Stays,
+    /// The suspicion ended, and its deadline with it.
+    Ends,
+    /// It is now at this moment, in milliseconds: a suspicion was raised, or has one accuser more.
+    Stands(u64),
+}
+
+/// What applying a claim did.
+#[derive(Clone, Copy, Debug, PartialEq, Eq)]
+pub struct Applied {
+    /// Whether the record of the claim's member was made or replaced; of oneself, whether the own number was raised.
+    pub changed: bool,
+    /// Whether it was a suspicion of oneself, and was refuted.
+    pub refuted: bool,
+    /// What becomes of the deadline of the claim's member.
+    pub deadline: Deadline,
+}

@@ -1,0 +1,12 @@
+//! What a member knows of its group: its own number, the records of the others, their suspicions, and the queue of claims.
+#![tactic(auto)]
+
+mod applied;
+mod membership;
+mod origin;
+mod suspected;
+mod suspicions;
+
+pub use applied::{Applied, Deadline};
+pub use membership::{MAX_MEMBERS, Membership};
+pub use origin::Origin;

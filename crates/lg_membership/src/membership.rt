@@ -1,0 +1,228 @@
+//! What a member knows of its group.
+ghost use Rattle.std.specs.Prelude.{◌≡◌, ◌≢◌, [], ◌∷◌, ◌&&◌, ◌||◌, None};
+ghost use Rattle.lg_rules.specs.Meaning.Rows.{name_cmp, is_same};
+ghost use Rattle.lg_rules.specs.Meaning.Table.{members_in};
+ghost use Rattle.lg_rules.specs.Meaning.View.{is_rise};
+ghost use Rattle.lg_timing.specs.Meaning.Config.{IsChecked};
+ghost use Rattle.lg_gossip.specs.Meaning.Queue.{taken_of, fill_of};
+ghost use Rattle.lg_membership.specs.Meaning.Log.{Fact, Log, Opened, Said, Sent};
+ghost use Rattle.lg_membership.specs.Meaning.Gossip.{put_of_own, put_if};
+ghost use Rattle.lg_membership.specs.Meaning.Suspicions.{is_accusation};
+ghost use Rattle.lg_membership.specs.Support.State.{state_of, open_with, apply, apply_own, apply_other, applied, applied_own, applied_other, send, shown, queue_with, is_refuted};
+ghost use Rattle.lg_membership.specs.Support.Changes.{is_override, stands};
+ghost use Rattle.lg_membership.specs.Support.Room.{HasPlace};
+
+use crate::applied::{Applied, Deadline};
+use crate::origin::Origin;
+use crate::suspicions::{Suspicions, suspect};
+use arrayvec::ArrayVec;
+use lg_gossip::{MAX_CLAIMS, Queue};
+use lg_rules::{Addr, Claim, Heard, Members, Name, Own, OwnHeard};
+use lg_timing::{Config, Moment};
+use std::marker::Model;
+
+mod readers;
+
+pub use readers::MAX_MEMBERS;
+
+/// What a member knows of its group (SWIM, section 4; Lifeguard): its own number, the records of the others, their
+/// suspicions, and the queue of claims to be sent.
+///
+/// It is made blank, opened, and then applies one claim after another. No call takes memory. A contract sees it as plain
+/// data, which is a function of its log: what it was opened with, which claims were said and when, and which packets were
+/// sent.
+#[derive(Debug, Drop)]
+pub struct Membership {
+    config: Option<Config>,
+    own: Own,
+    members: Members,
+    suspicions: Suspicions,
+    queue: Queue,
+}
+
+impl Model for Membership {
+    ghost use Rattle.lg_membership.specs.Support.State.{State};
+    ghost use Rattle.lg_membership.specs.Support.Reached.{IsReached};
+
+    ghost Value = { State };
+
+    ghost view = { λ m. record {
+      config = m.config;
+      own = m.own;
+      members = m.members;
+      suspicions = m.suspicions.items;
+      queue = m.queue;
+    } };
+
+    ghost invariant = { λ m. IsReached record {
+      config = m.config;
+      own = m.own;
+      members = m.members;
+      suspicions = m.suspicions.items;
+      queue = m.queue;
+    } };
+}
+
+/// Whether two names are one.
+fn is_same_name(name: &Name, other: &Name) -> bool
+    ensures { result ≡ is_same name_cmp name.now other.now }
+{
+    name.cmp(other).is_eq()
+}
+
+/// Puts a claim into the queue, if there is one.
+fn put(queue: &mut Queue, claim: Option<Claim>)
+    requires { HasPlace claim queue.old }
+    ensures { queue.new ≡ queue_with claim queue.old }
+{
+    if let Some(claim) = claim {
+        queue.put(claim);
+    }
+}
+
+/// Whether hearing a claim about oneself raised the own number.
+fn is_rise(heard: OwnHeard) -> bool
+    ensures { result ≡ is_rise heard }
+{
+    matches!(heard, OwnHeard::Refuted | OwnHeard::Raised)
+}
+
+/// Whether hearing a claim about oneself refuted a suspicion.
+fn is_refuted(heard: OwnHeard) -> bool
+    ensures { result ≡ is_refuted heard }
+{
+    matches!(heard, OwnHeard::Refuted)
+}
+
+/// What a claim about oneself puts into the queue: the own record, where the own number was raised.
+fn put_of_own(heard: OwnHeard, own: &Own) -> Option<Claim>
+    ensures { result ≡ put_of_own heard own.now }
+{
+    if is_rise(heard) {
+        Some(own.record())
+    } else {
+        None
+    }
+}
+
+/// Whether hearing a claim about another made or replaced a record.
+fn is_override(heard: Heard) -> bool
+    ensures { result ≡ is_override heard }
+{
+    matches!(heard, Heard::Overrode)
+}
+
+/// Whether a claim about another is to be passed on: it made or replaced a record, or it confirms a suspicion, since it
+/// accuses and the deadline was set anew for its accuser.
+fn is_to_be_passed_on(heard: Heard, deadline: Deadline) -> bool
+    ensures { result ≡ (is_override heard || (is_accusation heard && stands deadline)) }
+{
+    match heard {
+        Heard::Overrode => true,
+        Heard::Accused => matches!(deadline, Deadline::Stands(_)),
+        Heard::Same | Heard::Ignored | Heard::NoRoom => false,
+    }
+}
+
+/// What a claim about another puts into the queue: the claim itself, where the group says it and it counts, which is that it
+/// makes or replaces a record, or confirms a suspicion.
+fn put_of_other(origin: Origin, counts: bool, claim: &Claim) -> Option<Claim>
+    ensures { result ≡ put_if origin counts claim.now }
+{
+    match origin {
+        Origin::Group if counts => Some(*claim),
+        Origin::Group | Origin::Seed => None,
+    }
+}
+
+impl Membership {
+    /// A member that wasn't opened: nobody is known, and it has a name that stands for none.
+    pub fn blank() -> Membership
+        ensures { result ≡ state_of [] }
+    {
+        let name = Name::default();
+        Membership {
+            config: None,
+            own: Own::new(name, Addr::new([0; 4], 0)),
+            members: Members::new(&name),
+            suspicions: Suspicions::new(),
+            queue: Queue::new(1),
+        }
+    }
+
+    /// The member is opened with a configuration that passed its check. All that was known is forgotten; its seeds are to be
+    /// applied next.
+    pub fn open_with(&mut self, config: &Config)
+        requires { IsChecked config.now }
+        ensures state { self.new ≡ open_with config.now self.old }
+        // Whatever happened before, the log goes on by the opening.
+        ensures log { (log : Log) → self.old ≡ state_of log → self.new ≡ state_of (Opened config.now ∷ log) }
+    {
+        self.own = Own::new(config.name, config.addr);
+        self.members.restart(&config.name);
+        self.suspicions.clear();
+        self.queue.restart(config.lambda);
+        self.config = Some(config.copy());
+    }
+
+    /// Applies a claim that is said at a moment, and tells what that did (SWIM, section 4.2; Lifeguard, local health aware
+    /// suspicion).
+    #[tactic(auto, unfolding(crate::specs::Support::State::apply, crate::specs::Support::State::applied))]
+    pub fn apply(&mut self, now: Moment, origin: Origin, claim: &Claim) -> Applied
+        ensures state { self.new ≡ apply now origin claim.now self.old }
+        ensures applied { result ≡ applied now claim.now self.old }
+        // Whatever was said before, the log goes on by this claim.
+        ensures log { (log : Log) → self.old ≡ state_of log → self.new ≡ state_of (Said now origin claim.now ∷ log) }
+    {
+        if is_same_name(&claim.name, &self.own.name()) {
+            self.apply_own(claim)
+        } else {
+            self.apply_other(now, origin, claim)
+        }
+    }
+
+    /// Applies a claim about oneself.
+    fn apply_own(&mut self, claim: &Claim) -> Applied
+        requires { claim.now.name ≡ self.old.own.name }
+        ensures state { self.new ≡ apply_own claim.now self.old }
+        ensures applied { result ≡ applied_own claim.now self.old }
+    {
+        let heard = self.own.hear(claim);
+        put(&mut self.queue, put_of_own(heard, &self.own));
+        Applied {
+            changed: is_rise(heard),
+            refuted: is_refuted(heard),
+            deadline: Deadline::Stays,
+        }
+    }
+
+    /// Applies a claim about another.
+    fn apply_other(&mut self, now: Moment, origin: Origin, claim: &Claim) -> Applied
+        requires { claim.now.name ≢ self.old.own.name }
+        ensures state { self.new ≡ apply_other now origin claim.now self.old }
+        ensures applied { result ≡ applied_other now claim.now self.old }
+    {
+        let heard = self.members.hear(claim);
+        let live = self.members.live();
+        let deadline = suspect(&mut self.suspicions, &self.config, now, live, heard, claim);
+        let counts = is_to_be_passed_on(heard, deadline);
+        put(&mut self.queue, put_of_other(origin, counts, claim));
+        Applied {
+            changed: is_override(heard),
+            refuted: false,
+            deadline,
+        }
+    }
+
+    /// The claims of the next packet that is no Ping: those of the queue that have their turn, which count as sent once more
+    /// (SWIM, section 4.1).
+    pub fn fill(&mut self) -> ArrayVec<Claim, MAX_CLAIMS>
+        ensures claims { result.items ≡ fill_of self.old.queue None (members_in self.old.members.table) }
+        ensures state { let taken = taken_of self.old.queue None (members_in self.old.members.table) in
+            self.new ≡ send taken self.old }
+        ensures log { (log : Log) → self.old ≡ state_of log
+            → self.new ≡ state_of (Sent (taken_of self.old.queue None (members_in self.old.members.table)) ∷ log) }
+    {
+        self.queue.fill(None, self.members.live())
+    }
+}

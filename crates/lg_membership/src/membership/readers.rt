@@ -1,0 +1,135 @@
+//! What a member tells of its group.
+ghost use Rattle.std.specs.Prelude.{◌≡◌, ◌≤◌, ◌<◌, [], length, map, filter, option_copied};
+ghost use Rattle.arrayvec.specs.ArrayVec.{array_vec_len};
+ghost use Rattle.lg_rules.specs.Meaning.Claim.{name_of};
+ghost use Rattle.lg_rules.specs.Meaning.Rows.{name_cmp, is_among, row_at, Rises};
+ghost use Rattle.lg_rules.specs.Meaning.Table.{members_in};
+ghost use Rattle.lg_membership.specs.Meaning.Log.{Log, view, live};
+ghost use Rattle.lg_membership.specs.Support.State.{state_of, shown, with_found};
+
+use super::{Membership, is_same_name};
+use arrayvec::ArrayVec;
+use lg_gossip::MAX_CLAIMS;
+use lg_rules::{Incarnation, MAX_OTHERS, Name, Record, put_row};
+use lg_timing::Config;
+
+/// The most members that are known, oneself included: 256 (this project's choice).
+pub const MAX_MEMBERS: usize = MAX_OTHERS + 1;
+
+impl Membership {
+    /// What the member was opened with; none before the opening.
+    pub fn config(&self) -> Option<&Config>
+        ensures { option_copied result ≡ self.now.config }
+    {
+        self.config.as_ref()
+    }
+
+    /// The own name; before the opening a name that stands for none.
+    pub fn name(&self) -> Name
+        ensures { result ≡ self.now.own.name }
+    {
+        self.own.name()
+    }
+
+    /// The own number.
+    pub fn number(&self) -> Incarnation
+        ensures { result ≡ self.now.own.number }
+    {
+        self.own.number()
+    }
+
+    /// Whether a claim about oneself came that nothing can refute.
+    pub fn is_ousted(&self) -> bool
+        ensures { result ≡ self.now.own.ousted }
+    {
+        self.own.ousted()
+    }
+
+    /// How many members haven't failed, oneself included: 1 to 256.
+    pub fn live(&self) -> usize
+        ensures count { result ≡ members_in self.now.members.table }
+        ensures few { result ≤ MAX_MEMBERS }
+        ensures log { (log : Log) → self.now ≡ state_of log → result ≡ live log }
+    {
+        self.members.live()
+    }
+
+    /// The record of a name, oneself included, where it is known.
+    pub fn record_of(&self, name: &Name) -> Option<Record>
+        ensures state { result ≡ row_at name_cmp name_of name.now (shown self.now) }
+        ensures log { (log : Log) → self.now ≡ state_of log → result ≡ row_at name_cmp name_of name.now (view log) }
+    {
+        if self.config.is_none() {
+            return None;
+        }
+        let own = self.own.record();
+        if is_same_name(&own.name, name) {
+            return Some(own);
+        }
+        self.members.get(name).copied()
+    }
+
+    /// Writes the records of these names, at most 6 of them, in the order of the names and in the place of what the row held.
+    pub fn put_records(&self, names: &[Name], row: &mut ArrayVec<Record, MAX_CLAIMS>)
+        requires { length names.now ≤ MAX_CLAIMS }
+        ensures { row.new.items ≡ filter (λ r. is_among name_cmp r.name names.now) (shown self.now) }
+    {
+        // What the invariant says of the order of names is needed below.
+        let _ = &self.config;
+        row.clear();
+        for name in names {
+            self.put_record(name, row);
+        }
+    }
+
+    /// Puts the record of a name among other records, where the name is known.
+    fn put_record(&self, name: &Name, row: &mut ArrayVec<Record, MAX_CLAIMS>)
+        requires room { array_vec_len row.old < MAX_CLAIMS }
+        requires rises { Rises name_cmp (map name_of row.old.items) }
+        ensures { row.new.items
+            ≡ with_found (row_at name_cmp name_of name.now (shown self.now)) row.old.items }
+    {
+        if let Some(found) = self.record_of(name) {
+            // Taken apart, since the checker follows no whole record into a generic call.
+            let Record {
+                name,
+                addr,
+                status,
+                incarnation,
+            } = found;
+            put_row(
+                row,
+                Record {
+                    name,
+                    addr,
+                    status,
+                    incarnation,
+                },
+            );
+        }
+    }
+
+    /// Writes the records of all members, oneself included, in the order of their names and in the place of what the row
+    /// held. Nobody is known before the opening.
+    pub fn put_table(&self, row: &mut ArrayVec<Record, MAX_MEMBERS>)
+        ensures state { row.new.items ≡ shown self.now }
+        ensures log { (log : Log) → self.now ≡ state_of log → row.new.items ≡ view log }
+    {
+        row.clear();
+        if self.config.is_some() {
+            copy_all(self.members.records(), row);
+            put_row(row, self.own.record());
+        }
+    }
+}
+
+/// Writes these records into an empty row.
+fn copy_all(records: &[Record], row: &mut ArrayVec<Record, MAX_MEMBERS>)
+    requires few { length records.now ≤ MAX_OTHERS }
+    requires empty { row.old.items ≡ [] }
+    ensures { row.new.items ≡ records.now }
+{
+    for claim in records {
+        row.push(*claim);
+    }
+}

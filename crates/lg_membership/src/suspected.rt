@@ -1,0 +1,25 @@
+//! A member that is suspected.
+ghost use Rattle.std.specs.Prelude.{◌≡◌};
+
+use lg_rules::{Keyed, Name};
+use lg_suspicion::Suspicion;
+
+/// A member that is suspected, with its suspicion (SWIM, section 4.2).
+#[derive(Debug, Default, Drop)]
+pub struct Suspected {
+    /// The member.
+    pub name: Name,
+    /// Since when it is suspected, and by whom.
+    pub suspicion: Suspicion,
+}
+
+/// Suspicions are kept in the order of the members' names.
+impl Keyed for Suspected {
+    ghost use Rattle.lg_membership.specs.Meaning.Suspicions.{suspected_name};
+
+    ghost key_of = { suspected_name };
+
+    fn key(&self) -> Name {
+        self.name
+    }
+}

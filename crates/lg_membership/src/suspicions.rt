@@ -1,0 +1,149 @@
+//! What claims about others change of the suspicions.
+ghost use Rattle.std.specs.Prelude.{◌≡◌, ◌≤◌, map, None, Some};
+ghost use Rattle.arrayvec.specs.ArrayVec.{array_vec_len};
+ghost use Rattle.lg_rules.specs.Meaning.Claim.{accuser_of};
+ghost use Rattle.lg_rules.specs.Meaning.Rows.{name_cmp, row_at, Rises};
+ghost use Rattle.lg_membership.specs.Meaning.Suspicions.{suspected_name};
+ghost use Rattle.lg_membership.specs.Support.Changes.{Change, raised, ended, overriding, accusing, change_by, suspicions_after, deadline_after, row_about};
+ghost use Rattle.lg_membership.specs.Support.Reached.{IsGood};
+ghost use Rattle.lg_membership.specs.Support.Room.{HasSeat};
+
+use crate::applied::Deadline;
+use crate::suspected::Suspected;
+use arrayvec::ArrayVec;
+use lg_rules::{Claim, Heard, MAX_OTHERS, Name, Status, put_row, seat_of};
+use lg_suspicion::Suspicion;
+use lg_timing::{Config, Moment};
+
+/// The suspicions of the others, in the order of their names.
+pub type Suspicions = ArrayVec<Suspected, MAX_OTHERS>;
+
+/// A member is suspected, in the place of an older suspicion of it; before the opening nobody is.
+fn raise(
+    suspicions: &mut Suspicions,
+    config: &Option<Config>,
+    now: Moment,
+    live: usize,
+    name: &Name,
+    accuser: &Name,
+) -> Deadline
+    requires seat { HasSeat name.now suspicions.old.items }
+    requires good { IsGood config.now }
+    requires some { 1 ≤ live }
+    requires most { live ≤ 256 }
+    ensures rows { suspicions.new.items
+        ≡ suspicions_after (raised config.now now live name.now accuser.now) suspicions.old.items }
+    ensures deadline { result ≡ deadline_after (raised config.now now live name.now accuser.now) }
+{
+    let Some(config) = config else {
+        return Deadline::Stays;
+    };
+    let suspicion = Suspicion::raise(now, accuser, live as u64, config);
+    let deadline = suspicion.deadline();
+    let suspected = Suspected {
+        name: *name,
+        suspicion,
+    };
+    put_row(suspicions, suspected);
+    Deadline::Stands(deadline)
+}
+
+/// The suspicion of a member ends, if there is one.
+fn end(suspicions: &mut Suspicions, name: &Name) -> Deadline
+    requires { Rises name_cmp (map suspected_name suspicions.old.items) }
+    ensures rows { let row = row_at name_cmp suspected_name name.now suspicions.old.items in
+        suspicions.new.items ≡ suspicions_after (ended name.now row) suspicions.old.items }
+    ensures deadline { let row = row_at name_cmp suspected_name name.now suspicions.old.items in
+        result ≡ deadline_after (ended name.now row) }
+{
+    match seat_of(suspicions.as_slice(), name) {
+        Ok(at) => {
+            suspicions.remove(at);
+            Deadline::Ends
+        }
+        Err(_) => Deadline::Stays,
+    }
+}
+
+/// A claim overrode the record of its member: a suspicion of the member is raised or ends.
+fn override_row(
+    suspicions: &mut Suspicions,
+    config: &Option<Config>,
+    now: Moment,
+    live: usize,
+    claim: &Claim,
+) -> Deadline
+    requires rises { Rises name_cmp (map suspected_name suspicions.old.items) }
+    requires seat { HasSeat claim.now.name suspicions.old.items }
+    requires good { IsGood config.now }
+    requires some { 1 ≤ live }
+    requires most { live ≤ 256 }
+    ensures rows { let row = row_about claim.now suspicions.old.items in
+        suspicions.new.items
+        ≡ suspicions_after (overriding config.now now live claim.now.name row claim.now.status) suspicions.old.items }
+    ensures deadline { let row = row_about claim.now suspicions.old.items in
+        result ≡ deadline_after (overriding config.now now live claim.now.name row claim.now.status) }
+{
+    match claim.status {
+        Status::Suspect(accuser) => raise(suspicions, config, now, live, &claim.name, &accuser),
+        Status::Alive | Status::Failed => end(suspicions, &claim.name),
+    }
+}
+
+/// One more accuses a member that is suspected already.
+fn join(suspicions: &mut Suspicions, name: &Name, accuser: &Name) -> Deadline
+    ensures rows { let row = row_at name_cmp suspected_name name.now suspicions.old.items in
+        suspicions.new.items ≡ suspicions_after (accusing (Some accuser.now) row) suspicions.old.items }
+    ensures deadline { let row = row_at name_cmp suspected_name name.now suspicions.old.items in
+        result ≡ deadline_after (accusing (Some accuser.now) row) }
+{
+    let Ok(at) = seat_of(suspicions.as_slice(), name) else {
+        return Deadline::Stays;
+    };
+    let suspected = &mut suspicions[at];
+    if suspected.suspicion.accuse(accuser) {
+        Deadline::Stands(suspected.suspicion.deadline())
+    } else {
+        Deadline::Stays
+    }
+}
+
+/// A claim accuses a member that is suspected already.
+fn accuse(suspicions: &mut Suspicions, claim: &Claim) -> Deadline
+    ensures rows { let row = row_about claim.now suspicions.old.items in
+        suspicions.new.items ≡ suspicions_after (accusing (accuser_of claim.now.status) row) suspicions.old.items }
+    ensures deadline { let row = row_about claim.now suspicions.old.items in
+        result ≡ deadline_after (accusing (accuser_of claim.now.status) row) }
+{
+    match claim.status {
+        Status::Suspect(accuser) => join(suspicions, &claim.name, &accuser),
+        Status::Alive | Status::Failed => Deadline::Stays,
+    }
+}
+
+/// A claim about another was heard: what it changes of the suspicions.
+pub fn suspect(
+    suspicions: &mut Suspicions,
+    config: &Option<Config>,
+    now: Moment,
+    live: usize,
+    heard: Heard,
+    claim: &Claim,
+) -> Deadline
+    requires rises { Rises name_cmp (map suspected_name suspicions.old.items) }
+    requires seat { heard ≡ Heard.Overrode → HasSeat claim.now.name suspicions.old.items }
+    requires good { IsGood config.now }
+    requires some { 1 ≤ live }
+    requires most { live ≤ 256 }
+    ensures rows { let row = row_about claim.now suspicions.old.items in
+        suspicions.new.items
+        ≡ suspicions_after (change_by heard config.now now live row claim.now) suspicions.old.items }
+    ensures deadline { let row = row_about claim.now suspicions.old.items in
+        result ≡ deadline_after (change_by heard config.now now live row claim.now) }
+{
+    match heard {
+        Heard::Overrode => override_row(suspicions, config, now, live, claim),
+        Heard::Accused => accuse(suspicions, claim),
+        Heard::Same | Heard::Ignored | Heard::NoRoom => Deadline::Stays,
+    }
+}
