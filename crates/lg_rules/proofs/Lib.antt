@@ -13,3 +13,4 @@ pub mod RowsFound
 pub mod Tables
 pub mod Tests
 pub mod Views
+pub mod Words

@@ -1,12 +1,13 @@
 -- What a search by place finds among rows.
-use Rattle.std.proofs.Common.{◌≡◌, ◌≢◌, ℕ, zero, suc, ◌+◌, ◌<◌, ◌≤◌, List, [], ◌∷◌, length, get_or, set, Some, None, refl, sym, ◌∙◌, ap, subst, arith}
+use Rattle.std.proofs.Common.{◌≡◌, ◌≢◌, ℕ, zero, suc, ◌+◌, ◌<◌, ◌≤◌, Bool, true, false, List, [], ◌∷◌, length, map, get_or, set, Some, None, refl, sym, ◌∙◌, ap, subst, arith}
 use Rattle.std.specs.Prelude.{insert}
 use Rattle.std.specs.List.{prefix_len}
+use Rattle.std.specs.List.Sorted.{IsPartitionPoint, IsPartitionedBy}
 use Rattle.std.specs.declared.cmp.Ordering.{Ordering}
 use Rattle.std.specs.declared.cmp.Ordering.TheVariants.{Less, Equal, Greater}
 use Rattle.std.specs.Ordering.{is_lt}
 use Rattle.std.proofs.lemmas.List.Sums.{prefix_len-le-length}
-use Rattle.lg_rules.specs.Meaning.Rows.{put_row, row_at, HasRow, LacksRow}
+use Rattle.lg_rules.specs.Meaning.Rows.{put_row, row_at, HasRow, LacksRow, AreAbove, Rises}
 use Rattle.lg_rules.proofs.Cases.{Below, Tied, Above, compared}
 use Rattle.lg_rules.proofs.KeyOrder.{IsKeyOrder, turned, tied}
 
@@ -18,7 +19,34 @@ within_any [] k d e l = absurd (omega arith)
 within_any (x ∷ xs) zero d e l = refl
 within_any (x ∷ xs) (suc k) d e l = within_any xs k d e (omega arith)
 
+-- a partition point counts the elements at the front that pass the test
+pub point_is : {A : Type 0} (p : A → Bool) (xs : List A) (i : ℕ) → i ≤ length xs → IsPartitionPoint (λ y. p y ≡ true) (λ y. p y ≡ false) xs i → i ≡ prefix_len p xs
+point_is p [] i l h = omega arith
+point_is p (x ∷ xs) zero l h = rw (h.1 0 x (omega arith) (omega arith))
+point_is p (x ∷ xs) (suc i) l h =
+    let rest = point_is p xs i (omega arith) (λ k d a b. h.0 (suc k) d (omega arith) (omega arith), λ k d a b. h.1 (suc k) d (omega arith) (omega arith)) in
+    rw (h.0 0 x (omega arith) (omega arith)) (omega (arith, rest))
+
 module _ {K : Type 0} {cmp : K → K → Ordering} (order : IsKeyOrder cmp) {R : Type 0} (key : R → K) where
+  above_at : (m : K) (xs : List R) (j : ℕ) (d : R) → AreAbove cmp m (map key xs) → j < length xs → cmp m (key (get_or xs j d)) ≡ Less
+  above_at m [] j d a l = absurd (omega arith)
+  above_at m (x ∷ xs) zero d a l = a.0
+  above_at m (x ∷ xs) (suc j) d a l = above_at m xs j d a.1 (omega arith)
+
+  -- Where keys rise, those below a key stand before the others.
+  pub parted : (n : K) (xs : List R) → Rises cmp (map key xs) → IsPartitionedBy (λ r. is_lt (cmp (key r) n)) xs
+  parted n [] r i j d l m e = absurd (omega arith)
+  parted n (x ∷ xs) r zero zero d l m e = e
+  parted n (x ∷ xs) r zero (suc j) d l m e =
+      rw (order.total.trans (key x) (key (get_or xs j d)) n (above_at (key x) xs j d r.0 (omega arith)) (is_less (cmp (key (get_or xs j d)) n) e))
+    where
+      is_less : (o : Ordering) → is_lt o ≡ true → o ≡ Less
+      is_less Less e = refl
+      is_less Equal e = absurd cc
+      is_less Greater e = absurd cc
+  parted n (x ∷ xs) r (suc i) zero d l m e = absurd (omega arith)
+  parted n (x ∷ xs) r (suc i) (suc j) d l m e = parted n xs r.1 i j d (omega arith) (omega arith) e
+
   -- how many rows have a lesser key
   abbrev pub place : K → List R → ℕ
   place n rows = prefix_len (λ r. is_lt (cmp (key r) n)) rows

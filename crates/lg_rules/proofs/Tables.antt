@@ -1,10 +1,10 @@
 -- The table of a past, once one more claim is said.
-use Rattle.std.proofs.Common.{◌≡◌, ◌≢◌, ℕ, ◌<◌, ◌≤◌, true, false, cond, List, [], ◌∷◌, length, Option, Some, None, inl, inr, refl, sym, ◌∙◌, ap, subst, arith, ltb}
+use Rattle.std.proofs.Common.{◌≡◌, ◌≢◌, ℕ, ◌<◌, ◌≤◌, true, false, cond, List, [], ◌∷◌, length, map, Option, Some, None, inl, inr, refl, sym, ◌∙◌, ap, subst, arith, ltb}
 use Rattle.std.proofs.lemmas.Bool.{cases_Bool, lt-ltb, le-ltb, false≢true}
 use Rattle.lg_rules.specs.declared.claim.Claim.{Claim}
 use Rattle.lg_rules.specs.Meaning.Beats.{beats_of}
 use Rattle.lg_rules.specs.Meaning.Claim.{name_of}
-use Rattle.lg_rules.specs.Meaning.Rows.{name_cmp, put_row, put_key, row_at}
+use Rattle.lg_rules.specs.Meaning.Rows.{name_cmp, put_row, put_key, row_at, Rises}
 use Rattle.lg_rules.specs.Meaning.Table.{about, names_said, record_of, roster, table_of, takes, takes_over, heard}
 use Rattle.lg_rules.proofs.Cases.{Missing, Holding, held, held_once}
 use Rattle.lg_rules.proofs.KeyOrder.{names_order, same_key, other_key, cases_key}
@@ -12,6 +12,7 @@ use Rattle.lg_rules.proofs.PastLaws.{after_hearing, unbeaten-cons}
 use Rattle.lg_rules.proofs.Ranks.{ranked}
 use Rattle.lg_rules.proofs.Rises.{put-there, among-cons_same, among-cons_other}
 use Rattle.lg_rules.proofs.RowLaws.{Keyed, AgreeBut, rows-put, rows_same, rows_equal, row_at-rows, length-rows}
+use Rattle.lg_rules.proofs.RowsFound.{rises-put_row}
 use Rattle.lg_rules.proofs.Roster.{is_known, names-own, names-other, roster-own, rises-roster, roster_said, own_unknown, length-roster, Knew, Joins, Refused, joined}
 
 -- the record, once a claim is said
@@ -206,4 +207,11 @@ heard-table own c past d = elim (heard_cases own c past d) [
   | Taken t ↦ heard_taken (table_of own past) c t.taken ∙ table-put own c past t.names t.stands
   | Kept k ↦ heard_passed (table_of own past) c k.taken ∙ sym (table-stays own c past k.names (k.after ∙ sym k.before))
   | Out o ↦ heard_passed (table_of own past) c o.taken ∙ sym (table-passed own c past o.names o.out)
+]
+
+-- a claim that is heard leaves the names of the records rising
+pub rises-heard : (table : List Claim) (c : Claim) → Rises name_cmp (map name_of table) → Rises name_cmp (map name_of (heard table c))
+rises-heard table c r = elim (cases_Bool (takes table c)) [
+  | inl t ↦ rw t (rises-put_row names_order name_of c table r)
+  | inr f ↦ rw f r
 ]

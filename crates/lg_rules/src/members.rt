@@ -1,8 +1,8 @@
 //! The table of members.
-ghost use Rattle.std.specs.Prelude.{◌≡◌, ◌≢◌, ◌≤◌, ◌<◌, ◌+◌, List, [], ◌∷◌, length, slice_get, option_copied, None, Some};
+ghost use Rattle.std.specs.Prelude.{◌≡◌, ◌≢◌, ◌≤◌, ◌<◌, ◌+◌, List, [], ◌∷◌, length, map, slice_get, option_copied, None, Some};
 ghost use Rattle.lg_rules.specs.declared.claim.Claim.{Claim as Said};
 ghost use Rattle.lg_rules.specs.Meaning.Claim.{name_of};
-ghost use Rattle.lg_rules.specs.Meaning.Rows.{name_cmp, put_row, row_at};
+ghost use Rattle.lg_rules.specs.Meaning.Rows.{name_cmp, put_row, row_at, Rises};
 ghost use Rattle.arrayvec.specs.ArrayVec.{array_vec_len};
 ghost use Rattle.lg_rules.specs.Meaning.Table.{answer_of, heard, is_failed, kept_answer, members_in, members_of, takes};
 
@@ -43,11 +43,16 @@ pub struct Members {
 }
 
 impl Model for Members {
+    ghost use Rattle.std.specs.Prelude.{map};
+    ghost use Rattle.lg_rules.specs.Meaning.Claim.{name_of};
+    ghost use Rattle.lg_rules.specs.Meaning.Rows.{name_cmp, Rises};
     ghost use Rattle.lg_rules.specs.Meaning.Table.{Known};
 
     ghost Value = { Known };
 
     ghost view = { λ m. record { own = m.own; table = m.records.items } };
+
+    ghost invariant = { λ m. Rises name_cmp (map name_of m.records.items) };
 }
 
 /// Whether a status is Failed.
@@ -59,6 +64,7 @@ fn is_failed(status: Status) -> bool
 
 /// The record of a member.
 fn find<'a>(records: &'a [Record], name: &Name) -> Option<&'a Record>
+    requires { Rises name_cmp (map name_of records.now) }
     ensures { option_copied result ≡ row_at name_cmp name_of name.now records.now }
 {
     match seat_of(records, name) {
@@ -84,6 +90,7 @@ fn keep(claim: &Claim, current: &Record) -> Heard
 /// Hears a claim about another member.
 #[tactic(auto, unfolding(crate::specs::Meaning::Table::takes))]
 fn hear_in(records: &mut ArrayVec<Record, MAX_OTHERS>, claim: &Claim) -> Heard
+    requires { Rises name_cmp (map name_of records.old.items) }
     ensures answer { result ≡ answer_of records.old.items claim.now }
     ensures table { records.new.items ≡ heard records.old.items claim.now }
 {
@@ -144,6 +151,7 @@ impl Members {
     pub fn records(&self) -> &[Record]
         ensures records { result.now ≡ self.now.table }
         ensures few { length result.now ≤ 255 }
+        ensures rises { Rises name_cmp (map name_of result.now) }
     {
         self.records.as_slice()
     }

@@ -84,7 +84,7 @@ impl PartialEq for Name {
     ghost laws = { Prim.search (comparing, rules) };
 
     fn eq(&self, other: &Name) -> bool {
-        self.as_bytes() == other.as_bytes()
+        self.cmp(other).is_eq()
     }
 }
 
@@ -123,7 +123,7 @@ impl Ord for Name {
     ghost matches_eq = { Prim.search (comparing, rules) };
 
     fn cmp(&self, other: &Name) -> Ordering {
-        self.as_bytes().cmp(&other.as_bytes())
+        self.words().cmp(&other.words())
     }
 }
 
@@ -144,6 +144,8 @@ fn first_bad_byte(text: &[u8]) -> Option<u8>
 impl Name {
     ghost use Rattle.std.specs.Prelude.{◌≡◌, IsTrue};
     ghost use Rattle.lg_rules.specs.Meaning.Name.{is_name, name_of_text};
+    ghost use Rattle.lg_rules.specs.Support.Padding.{padded};
+    ghost use Rattle.lg_rules.specs.Support.Words.{words_of};
 
     /// The name that some bytes spell, or the first fault in the order of [`NameFault`].
     pub fn new(text: &[u8]) -> Result<Name, NameFault>
@@ -180,5 +182,20 @@ impl Name {
         ensures name { IsTrue (is_name self.now) }
     {
         &self.bytes[..usize::from(self.len)]
+    }
+
+    /// The 32 bytes as four big-endian numbers. A name's bytes are above the zeros behind it, so these numbers
+    /// compare as the names do, in four steps in place of 32.
+    fn words(&self) -> [u64; 4]
+        ensures words { result ≡ words_of 4 (padded self.now) }
+        ensures name { IsTrue (is_name self.now) }
+    {
+        let words = self.bytes.as_chunks::<8>().0;
+        [
+            u64::from_be_bytes(words[0]),
+            u64::from_be_bytes(words[1]),
+            u64::from_be_bytes(words[2]),
+            u64::from_be_bytes(words[3]),
+        ]
     }
 }

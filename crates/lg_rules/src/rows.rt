@@ -1,9 +1,9 @@
 //! Rows in rising order of their names.
-ghost use Rattle.std.specs.Prelude.{◌≡◌, ◌<◌, ℕ, List, None, MatchResult};
+ghost use Rattle.std.specs.Prelude.{◌≡◌, ◌<◌, ℕ, List, None, MatchResult, map};
 ghost use Rattle.std.specs.List.{prefix_len};
 ghost use Rattle.std.specs.Ordering.{is_lt};
 ghost use Rattle.arrayvec.specs.ArrayVec.{array_vec_len};
-ghost use Rattle.lg_rules.specs.Meaning.Rows.{name_cmp, put_row, row_at, HasRow, LacksRow};
+ghost use Rattle.lg_rules.specs.Meaning.Rows.{name_cmp, put_row, row_at, HasRow, LacksRow, Rises};
 
 use crate::name::Name;
 use arrayvec::ArrayVec;
@@ -17,19 +17,20 @@ pub trait Keyed {
         ensures { result ≡ key_of self.now };
 }
 
-/// How many rows have a lesser name, up to the first that hasn't.
+/// How many rows have a lesser name, found by halving the rows.
 fn place_of<T: Keyed>(rows: &[T], name: &Name) -> usize
+    requires { Rises name_cmp (map T.key_of rows.now) }
     ensures { result ≡ prefix_len (λ r. is_lt (name_cmp (T.key_of r) name.now)) rows.now }
 {
-    rows.iter()
-        .take_while(|row| row.key().cmp(name).is_lt())
-        .count()
+    rows.partition_point(|row| row.key().cmp(name).is_lt())
 }
 
-/// Where the row with a name stands among rows in the order of their names, or else where it would
-/// be inserted.
+/// Where the row with a name stands among rows in rising order of their names, or else where it would be inserted.
 pub fn seat_of<T: Keyed>(rows: &[T], name: &Name) -> Result<usize, usize>
-    ensures { MatchResult result (HasRow name_cmp T.key_of name.now rows.now) (LacksRow name_cmp T.key_of name.now rows.now) }
+    requires { Rises name_cmp (map T.key_of rows.now) }
+    ensures { let has = HasRow name_cmp T.key_of name.now rows.now in
+        let lacks = LacksRow name_cmp T.key_of name.now rows.now in
+        MatchResult result has lacks }
 {
     let at = place_of(rows, name);
     if at < rows.len() {
@@ -40,9 +41,11 @@ pub fn seat_of<T: Keyed>(rows: &[T], name: &Name) -> Result<usize, usize>
     }
 }
 
-/// Puts a row in the place of its name: it takes the place of the row with that name, where there is one.
+/// Puts a row among rows in rising order of their names: it takes the place of the row with its name, where there
+/// is one.
 pub fn put_row<T: Keyed + Drop, const N: usize>(rows: &mut ArrayVec<T, N>, row: T)
-    requires { (row_at name_cmp T.key_of (T.key_of row) rows.old.items ≡ None) → array_vec_len rows.old < N }
+    requires room { (row_at name_cmp T.key_of (T.key_of row) rows.old.items ≡ None) → array_vec_len rows.old < N }
+    requires rises { Rises name_cmp (map T.key_of rows.old.items) }
     ensures { rows.new.items ≡ put_row name_cmp T.key_of row rows.old.items }
 {
     match seat_of(rows.as_slice(), &row.key()) {

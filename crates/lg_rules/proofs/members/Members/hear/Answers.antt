@@ -1,7 +1,14 @@
-use Rattle.std.proofs.Common.{ap, ◌∙◌}
+use Rattle.std.proofs.Common.{ap, ◌∙◌, sym, subst, map, List}
+use Rattle.lg_rules.specs.declared.claim.Claim.{Claim}
+use Rattle.lg_rules.specs.Meaning.Claim.{name_of}
+use Rattle.lg_rules.specs.Meaning.Rows.{name_cmp, Rises}
 use Rattle.lg_rules.specs.Meaning.Table.{Known, heard}
-use Rattle.lg_rules.proofs.Tables.{heard-table, table-own}
+use Rattle.lg_rules.proofs.Tables.{heard-table, table-own, rises-heard}
 use Rattle.lg_rules.proofs.members.Members.hear.Goals as goal
+
+pub invariant_of-self : goal.invariant_of-self
+invariant_of-self c =
+    subst (λ (rows : List Claim). Rises name_cmp (map name_of rows)) (sym c.hear_in.ensures.table) (rises-heard c.self.inside.records.items c.args.claim.now c.self.invariant)
 
 pub returns-clause-past : goal.returns-clause-past
 returns-clause-past c = λ past e.
