@@ -1,5 +1,5 @@
 -- Oneself, once one more claim is said.
-use Rattle.std.proofs.Common.{◌≡◌, ◌≢◌, ℕ, ◌≤◌, ◌<◌, ◌+◌, false, List, [], ◌∷◌, inl, inr, refl, ◌∙◌, arith, ltb, leb}
+use Rattle.std.proofs.Common.{◌≡◌, ◌≢◌, ℕ, ◌≤◌, ◌<◌, ◌+◌, false, List, [], ◌∷◌, inl, inr, refl, sym, ◌∙◌, arith, ltb, leb}
 use Rattle.std.proofs.lemmas.Bool.{cases_Bool, ltb-true}
 use Rattle.lg_rules.specs.declared.addr.Addr.{Addr}
 use Rattle.lg_rules.specs.declared.claim.Claim.{Claim}
@@ -7,9 +7,24 @@ use Rattle.lg_rules.specs.declared.claim.Status.{Status}
 use Rattle.lg_rules.specs.declared.claim.Status.TheVariants.{Alive, Suspect, Failed}
 use Rattle.lg_rules.specs.declared.own.OwnHeard.{OwnHeard}
 use Rattle.lg_rules.specs.declared.own.OwnHeard.TheVariants.{Refuted, Raised, Ousted, Ignored}
+use Rattle.lg_rules.specs.Meaning.Rows.{name_cmp, is_same}
 use Rattle.lg_rules.specs.Meaning.Table.{about}
-use Rattle.lg_rules.specs.Meaning.Own.{Oneself, beyond, own_answer, answered, own_heard, own_after, own_of}
-use Rattle.lg_rules.proofs.KeyOrder.{names_order, same_key, other_key}
+use Rattle.lg_rules.specs.Meaning.Own.{Oneself, beyond, own_hearing, own_hearing_at, changed_by, own_heard, own_after, own_of}
+use Rattle.lg_rules.proofs.KeyOrder.{names_order, same_key, other_key, cases_key}
+
+-- what a claim about oneself does,
+pub own_hearing-same : (me : Oneself) (c : Claim) → c.name ≡ me.name → own_hearing me c ≡ own_hearing_at c.status c.incarnation me.number
+own_hearing-same me c e = rw (same_key names_order c.name me.name e)
+
+pub own_heard-same : (me : Oneself) (c : Claim) → c.name ≡ me.name → own_heard me c ≡ changed_by (own_hearing_at c.status c.incarnation me.number) c.incarnation me
+own_heard-same me c e = rw (same_key names_order c.name me.name e)
+
+-- and one about another
+pub own_hearing-other : (me : Oneself) (c : Claim) → c.name ≢ me.name → own_hearing me c ≡ Ignored
+own_hearing-other me c d = rw (other_key names_order c.name me.name d)
+
+pub own_heard-other : (me : Oneself) (c : Claim) → c.name ≢ me.name → own_heard me c ≡ me
+own_heard-other me c d = rw (other_key names_order c.name me.name d)
 
 pub own-nil : (name : List ℕ) (addr : Addr) → own_of name addr [] ≡ record { name = name; addr = addr; number = 0; ousted = false }
 unfolding own_of
@@ -26,40 +41,49 @@ unfolding own_of
 own-other name addr c past d = rw (other_key names_order c.name name d)
 
 -- name and address stay, and the number is within the greatest
-answered_name : (o : OwnHeard) (i : ℕ) (me : Oneself) → (answered o i me).name ≡ me.name
-answered_name Refuted i me = refl
-answered_name Raised i me = refl
-answered_name Ousted i me = refl
-answered_name Ignored i me = refl
+changed_name : (o : OwnHeard) (i : ℕ) (me : Oneself) → (changed_by o i me).name ≡ me.name
+changed_name Refuted i me = refl
+changed_name Raised i me = refl
+changed_name Ousted i me = refl
+changed_name Ignored i me = refl
 
-answered_addr : (o : OwnHeard) (i : ℕ) (me : Oneself) → (answered o i me).addr ≡ me.addr
-answered_addr Refuted i me = refl
-answered_addr Raised i me = refl
-answered_addr Ousted i me = refl
-answered_addr Ignored i me = refl
+changed_addr : (o : OwnHeard) (i : ℕ) (me : Oneself) → (changed_by o i me).addr ≡ me.addr
+changed_addr Refuted i me = refl
+changed_addr Raised i me = refl
+changed_addr Ousted i me = refl
+changed_addr Ignored i me = refl
 
-beyond_within : (o : OwnHeard) (i : ℕ) (me : Oneself) → ((j : ℕ) → (answered o j me).number ≡ j + 1) → me.number ≤ 1000000000 → (answered (beyond i o) i me).number ≤ 1000000000
+beyond_within : (o : OwnHeard) (i : ℕ) (me : Oneself) → ((j : ℕ) → (changed_by o j me).number ≡ j + 1) → me.number ≤ 1000000000 → (changed_by (beyond i o) i me).number ≤ 1000000000
 beyond_within o i me h few = elim (cases_Bool (ltb i 1000000000)) [
   | inl t ↦ (let l : i < 1000000000 = ltb-true i 1000000000 t in rw t (omega (arith, h i, l)))
   | inr f ↦ rw f few
 ]
 
-answered_within : (s : Status) (i : ℕ) (me : Oneself) → me.number ≤ 1000000000 → (answered (own_answer s i me.number) i me).number ≤ 1000000000
-answered_within Alive i me few = elim (cases_Bool (ltb me.number i)) [ inl t ↦ rw t (beyond_within Raised i me (λ j. refl) few) | inr f ↦ rw f few ]
-answered_within (Suspect a) i me few = elim (cases_Bool (leb me.number i)) [ inl t ↦ rw t (beyond_within Refuted i me (λ j. refl) few) | inr f ↦ rw f few ]
-answered_within Failed i me few = few
+changed_within : (s : Status) (i : ℕ) (me : Oneself) → me.number ≤ 1000000000 → (changed_by (own_hearing_at s i me.number) i me).number ≤ 1000000000
+changed_within Alive i me few = elim (cases_Bool (ltb me.number i)) [ inl t ↦ rw t (beyond_within Raised i me (λ j. refl) few) | inr f ↦ rw f few ]
+changed_within (Suspect a) i me few = elim (cases_Bool (leb me.number i)) [ inl t ↦ rw t (beyond_within Refuted i me (λ j. refl) few) | inr f ↦ rw f few ]
+changed_within Failed i me few = few
+
+heard_within : (me : Oneself) (c : Claim) → me.number ≤ 1000000000 → (own_heard me c).number ≤ 1000000000
+heard_within me c few = elim (cases_Bool (is_same name_cmp c.name me.name)) [ inl t ↦ rw t (changed_within c.status c.incarnation me few) | inr f ↦ rw f few ]
+
+pub own_heard_name : (me : Oneself) (c : Claim) → (own_heard me c).name ≡ me.name
+own_heard_name me c = changed_name (own_hearing me c) c.incarnation me
+
+pub own_heard_addr : (me : Oneself) (c : Claim) → (own_heard me c).addr ≡ me.addr
+own_heard_addr me c = changed_addr (own_hearing me c) c.incarnation me
 
 after_name : (name : List ℕ) (addr : Addr) (past : List Claim) → (own_after name addr past).name ≡ name
 after_name name addr [] = refl
-after_name name addr (c ∷ past) = answered_name _ c.incarnation (own_after name addr past) ∙ after_name name addr past
+after_name name addr (c ∷ past) = own_heard_name (own_after name addr past) c ∙ after_name name addr past
 
 after_addr : (name : List ℕ) (addr : Addr) (past : List Claim) → (own_after name addr past).addr ≡ addr
 after_addr name addr [] = refl
-after_addr name addr (c ∷ past) = answered_addr _ c.incarnation (own_after name addr past) ∙ after_addr name addr past
+after_addr name addr (c ∷ past) = own_heard_addr (own_after name addr past) c ∙ after_addr name addr past
 
 after_within : (name : List ℕ) (addr : Addr) (past : List Claim) → (own_after name addr past).number ≤ 1000000000
 after_within name addr [] = omega arith
-after_within name addr (c ∷ past) = answered_within c.status c.incarnation (own_after name addr past) (after_within name addr past)
+after_within name addr (c ∷ past) = heard_within (own_after name addr past) c (after_within name addr past)
 
 pub own_of_name : (name : List ℕ) (addr : Addr) (past : List Claim) → (own_of name addr past).name ≡ name
 unfolding own_of
@@ -72,3 +96,10 @@ own_of_addr name addr past = after_addr name addr (about name past)
 pub own_of_within : (name : List ℕ) (addr : Addr) (past : List Claim) → (own_of name addr past).number ≤ 1000000000
 unfolding own_of
 own_of_within name addr past = after_within name addr (about name past)
+
+-- After any claim, oneself is what it was once the claim is heard.
+pub own-cons : (name : List ℕ) (addr : Addr) (c : Claim) (past : List Claim) → own_of name addr (c ∷ past) ≡ own_heard (own_of name addr past) c
+own-cons name addr c past = elim (cases_key names_order c.name name) [
+  | inl e ↦ own-same name addr c past e
+  | inr d ↦ own-other name addr c past d ∙ sym (own_heard-other (own_of name addr past) c (λ e. d (e ∙ own_of_name name addr past)))
+]

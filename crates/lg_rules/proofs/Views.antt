@@ -10,13 +10,13 @@ use Rattle.lg_rules.specs.declared.own.OwnHeard.{OwnHeard}
 use Rattle.lg_rules.specs.declared.own.OwnHeard.TheVariants.{Refuted, Raised, Ousted, Ignored}
 use Rattle.lg_rules.specs.Meaning.Beats.{beats_of}
 use Rattle.lg_rules.specs.Meaning.Claim.{name_of}
-use Rattle.lg_rules.specs.Meaning.Own.{Oneself, beyond, own_answer, answered, own_heard, own_of, own_record}
+use Rattle.lg_rules.specs.Meaning.Own.{Oneself, beyond, own_hearing, own_hearing_at, changed_by, own_heard, own_of, own_record}
 use Rattle.lg_rules.specs.Meaning.Rows.{name_cmp, is_same, put_row, row_at, Rises}
 use Rattle.lg_rules.specs.Meaning.Table.{record_of, roster, table_of, takes, heard}
 use Rattle.lg_rules.specs.Meaning.View.{Membership, membership_of, view_of, view, told, is_rise, is_news}
 use Rattle.lg_rules.proofs.Cases.{Missing, Holding, held}
 use Rattle.lg_rules.proofs.KeyOrder.{names_order, same_key, other_key, cases_key}
-use Rattle.lg_rules.proofs.OwnLaws.{own-same, own-other, own_of_name}
+use Rattle.lg_rules.proofs.OwnLaws.{own-same, own-other, own_of_name, own_hearing-same, own_hearing-other}
 use Rattle.lg_rules.proofs.Roster.{is_known, rises-roster}
 use Rattle.lg_rules.proofs.RowLaws.{row_at-put, rises-rows, length_put_row-le}
 use Rattle.lg_rules.proofs.RowsFound.{rises-put_row}
@@ -39,13 +39,13 @@ told-membership name addr past c =
       | inr d ↦ told-other (membership_of name addr past) c (λ e. d (e ∙ is)) ∙ (λ i. record { own = sym (own-other name addr c past d) i; table = heard-table name c past d i })
     ]
 
-pub news-own : (m : Membership) (c : Claim) → c.name ≡ m.own.name → is_news m c ≡ is_rise (own_answer c.status c.incarnation m.own.number)
+pub news-own : (m : Membership) (c : Claim) → c.name ≡ m.own.name → is_news m c ≡ is_rise (own_hearing m.own c)
 unfolding is_news
-news-own m c e = ap (λ b. cond b (is_rise (own_answer c.status c.incarnation m.own.number)) (takes m.table c)) (same_key names_order c.name m.own.name e)
+news-own m c e = ap (λ b. cond b (is_rise (own_hearing m.own c)) (takes m.table c)) (same_key names_order c.name m.own.name e)
 
 pub news-other : (m : Membership) (c : Claim) → c.name ≢ m.own.name → is_news m c ≡ takes m.table c
 unfolding is_news
-news-other m c d = ap (λ b. cond b (is_rise (own_answer c.status c.incarnation m.own.number)) (takes m.table c)) (other_key names_order c.name m.own.name d)
+news-other m c d = ap (λ b. cond b (is_rise (own_hearing m.own c)) (takes m.table c)) (other_key names_order c.name m.own.name d)
 
 -- The view after a past: the own record at the own name, and the table elsewhere.
 abbrev pub view_after : List ℕ → Addr → List Claim → List Claim
@@ -92,19 +92,19 @@ pub data Telling (name : List ℕ) (addr : Addr) (c : Claim) (past : List Claim)
   Leaves : is_news (membership_of name addr past) c ≡ false → view_after name addr (c ∷ past) ≡ view_after name addr past → Telling name addr c past
 
 -- the own record changes where the own number rises, and nowhere else
-stays : (o : OwnHeard) (i : ℕ) (me : Oneself) → is_rise o ≡ false → own_record (answered o i me) ≡ own_record me
+stays : (o : OwnHeard) (i : ℕ) (me : Oneself) → is_rise o ≡ false → own_record (changed_by o i me) ≡ own_record me
 stays Refuted i me f = absurd (false≢true (sym f))
 stays Raised i me f = absurd (false≢true (sym f))
 stays Ousted i me f = refl
 stays Ignored i me f = refl
 
-beyond_rises : (o : OwnHeard) (i : ℕ) (me : Oneself) → ((j : ℕ) → (answered o j me).number ≡ j + 1) → me.number ≤ i → is_rise (beyond i o) ≡ true → me.number < (answered (beyond i o) i me).number
+beyond_rises : (o : OwnHeard) (i : ℕ) (me : Oneself) → ((j : ℕ) → (changed_by o j me).number ≡ j + 1) → me.number ≤ i → is_rise (beyond i o) ≡ true → me.number < (changed_by (beyond i o) i me).number
 beyond_rises o i me h l t = elim (cases_Bool (ltb i 1000000000)) [
   | inl few ↦ rw few (omega (arith, h i, l))
   | inr many ↦ absurd (false≢true (sym (ap is_rise (ap (λ b. cond b o Ousted) many)) ∙ t))
 ]
 
-rises : (s : Status) (i : ℕ) (me : Oneself) → is_rise (own_answer s i me.number) ≡ true → me.number < (answered (own_answer s i me.number) i me).number
+rises : (s : Status) (i : ℕ) (me : Oneself) → is_rise (own_hearing_at s i me.number) ≡ true → me.number < (changed_by (own_hearing_at s i me.number) i me).number
 rises Alive i me t = elim (cases_Bool (ltb me.number i)) [
   | inl l ↦ (
       let less : me.number < i = ltb-true me.number i l in
@@ -117,15 +117,21 @@ rises (Suspect a) i me t = elim (cases_Bool (leb me.number i)) [
 ]
 rises Failed i me t = absurd (false≢true t)
 
+rises_heard : (me : Oneself) (c : Claim) → is_rise (own_hearing me c) ≡ true → me.number < (own_heard me c).number
+rises_heard me c t = elim (cases_key names_order c.name me.name) [
+  | inl e ↦ rw (same_key names_order c.name me.name e) (rises c.status c.incarnation me (sym (ap is_rise (own_hearing-same me c e)) ∙ t))
+  | inr d ↦ absurd (false≢true (sym (ap is_rise (own_hearing-other me c d)) ∙ t))
+]
+
 telling_own : (name : List ℕ) (addr : Addr) (c : Claim) (past : List Claim) → c.name ≡ name → Telling name addr c past
 telling_own name addr c past e =
     let me = own_of name addr past in
     let is : own_of name addr (c ∷ past) ≡ own_heard me c = own-same name addr c past e in
     let table = table-own name c past e in
     let test = news-own (membership_of name addr past) c (e ∙ sym (own_of_name name addr past)) in
-    elim (cases_Bool (is_rise (own_answer c.status c.incarnation me.number))) [
+    elim (cases_Bool (is_rise (own_hearing me c))) [
       | inl t ↦ (
-          let more = rises c.status c.incarnation me t in
+          let more = rises_heard me c t in
           let before = row_at-own name addr past c.name (sym e) in
           Changes record {
             news = test ∙ t;
@@ -135,7 +141,7 @@ telling_own name addr c past e =
             others = λ m d. (let other : name ≢ m = λ s. d (e ∙ s) in row_at-others name addr (c ∷ past) m other ∙ ap (row_at name_cmp name_of m) table ∙ sym (row_at-others name addr past m other));
           })
       | inr f ↦ (
-          let record_stays = ap own_record is ∙ stays (own_answer c.status c.incarnation me.number) c.incarnation me f in
+          let record_stays = ap own_record is ∙ stays (own_hearing me c) c.incarnation me f in
           Leaves (test ∙ f) (λ i. view_of (record_stays i) (table i)))
     ]
 

@@ -1,7 +1,7 @@
 //! The own number.
 ghost use Rattle.std.specs.Prelude.{◌≡◌, ◌≢◌, List, [], ◌∷◌, true};
 ghost use Rattle.lg_rules.specs.declared.claim.Claim.{Claim as Said};
-ghost use Rattle.lg_rules.specs.Meaning.Own.{answered, own_answer, own_heard, own_of, own_record};
+ghost use Rattle.lg_rules.specs.Meaning.Own.{changed_by, own_hearing, own_hearing_at, own_heard, own_of, own_record};
 
 use crate::addr::Addr;
 use crate::claim::{Claim, Record, Status};
@@ -10,7 +10,7 @@ use crate::name::Name;
 use std::alloc::AllocError;
 use std::marker::Model;
 
-/// What hearing a claim about oneself did.
+/// What hearing a claim did to oneself.
 #[derive(Clone, Copy, Debug, PartialEq, Eq)]
 pub enum OwnHeard {
     /// It suspected oneself at the own number or a greater one: the own number is now one more than the claim's.
@@ -113,7 +113,7 @@ impl Own {
         }
     }
 
-    /// Hears a claim about oneself.
+    /// Hears a claim.
     ///
     /// | Claim | Effect |
     /// |---|---|
@@ -121,25 +121,31 @@ impl Own {
     /// | Alive(i), i above the own number, i < 1,000,000,000 | Raised: the own number becomes i + 1 |
     /// | the same two at 1,000,000,000 | Ousted: the own number stays |
     /// | Failed(i), every i | Ousted: the own number stays |
-    /// | any other | Ignored |
+    /// | any other, and any about another member | Ignored |
     pub fn hear(&mut self, claim: &Claim) -> OwnHeard
-        requires { claim.now.name ≡ self.old.name }
-        ensures answer { result ≡ own_answer claim.now.status claim.now.incarnation self.old.number }
+        ensures hearing { result ≡ own_hearing self.old claim.now }
         ensures own { self.new ≡ own_heard self.old claim.now }
         // Whatever was said so far, the latest first, this is oneself after all that was said.
-        ensures past { (past : List Said) → self.old ≡ own_of self.old.name self.old.addr past → self.new ≡ own_of self.old.name self.old.addr (claim.now ∷ past) }
+        ensures past { (past : List Said) → let after = own_of self.old.name self.old.addr in
+            self.old ≡ after past → self.new ≡ after (claim.now ∷ past) }
         // What was said of others is passed over.
-        ensures others { (past : List Said) (c : Said) → c.name ≢ self.old.name → own_of self.old.name self.old.addr (c ∷ past) ≡ own_of self.old.name self.old.addr past }
+        ensures others { (past : List Said) (c : Said) → let after = own_of self.old.name self.old.addr in
+            c.name ≢ self.old.name → after (c ∷ past) ≡ after past }
     {
-        self.answer(claim.status, claim.incarnation)
+        if claim.name == self.name {
+            self.hear_status(claim.status, claim.incarnation)
+        } else {
+            OwnHeard::Ignored
+        }
     }
 
-    /// Answers a claim about oneself of this status and incarnation.
-    fn answer(&mut self, status: Status, incarnation: Incarnation) -> OwnHeard
-        ensures answer { result ≡ own_answer status incarnation self.old.number }
-        ensures own { self.new ≡ answered (own_answer status incarnation self.old.number) incarnation self.old }
+    /// Hears that oneself has a status at an incarnation.
+    fn hear_status(&mut self, status: Status, incarnation: Incarnation) -> OwnHeard
+        ensures hearing { result ≡ own_hearing_at status incarnation self.old.number }
+        ensures own { let hearing = own_hearing_at status incarnation self.old.number in
+            self.new ≡ changed_by hearing incarnation self.old }
     {
-        let answer = match status {
+        let hearing = match status {
             Status::Suspect(_) if incarnation.number() >= self.number.number() => OwnHeard::Refuted,
             Status::Alive if incarnation.number() > self.number.number() => OwnHeard::Raised,
             Status::Failed => return self.oust(),
@@ -148,7 +154,7 @@ impl Own {
         match incarnation.next() {
             Some(number) => {
                 self.number = number;
-                answer
+                hearing
             }
             None => self.oust(),
         }
@@ -156,7 +162,7 @@ impl Own {
 
     /// Sets the flag.
     fn oust(&mut self) -> OwnHeard
-        ensures answer { result ≡ OwnHeard.Ousted }
+        ensures hearing { result ≡ OwnHeard.Ousted }
         ensures own { self.new ≡ record self.old { ousted = true } }
     {
         self.ousted = true;

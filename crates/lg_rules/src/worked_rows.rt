@@ -78,14 +78,6 @@ fn hear(members: &mut Members, heard: &Claim) -> Option<Heard> {
     Some(members.hear(heard))
 }
 
-/// Hears a claim about oneself.
-fn hear_own(own: &mut Own, heard: &Claim) -> Option<OwnHeard> {
-    if heard.name != own.name() {
-        return None;
-    }
-    Some(own.hear(heard))
-}
-
 #[test]
 fn overrides(rt: HostRuntime) {
     let c = name(b"c");
@@ -191,14 +183,18 @@ fn refutes(rt: HostRuntime) {
     let mut own = Own::new(b, at(7000));
     let mut ousted = false;
     for (status, incarnation, answer, number) in cases {
-        assert_eq!(rt;
-            hear_own(&mut own, &claim(b, status, incarnation)),
-            Some(answer)
-        );
+        assert_eq!(rt; own.hear(&claim(b, status, incarnation)), answer);
         ousted = ousted || answer == OwnHeard::Ousted;
         assert_eq!(rt; own.ousted(), ousted);
         assert_eq!(rt; own.number().number(), number);
         assert_eq!(rt; own.record(), claim(b, Status::Alive, number));
         assert_eq!(rt; own.addr(), at(7000));
+        let before = own;
+        assert_eq!(rt;
+            own.hear(&claim(name(b"c"), Status::Failed, number)),
+            OwnHeard::Ignored
+        );
+        assert_eq!(rt; own.record(), before.record());
+        assert_eq!(rt; own.ousted(), before.ousted());
     }
 }

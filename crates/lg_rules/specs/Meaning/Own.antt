@@ -6,6 +6,7 @@ use Rattle.lg_rules.specs.declared.claim.Status.{Status}
 use Rattle.lg_rules.specs.declared.claim.Status.TheVariants.{Alive, Suspect, Failed}
 use Rattle.lg_rules.specs.declared.own.OwnHeard.{OwnHeard}
 use Rattle.lg_rules.specs.declared.own.OwnHeard.TheVariants.{Refuted, Raised, Ousted, Ignored}
+use Rattle.lg_rules.specs.Meaning.Rows.{name_cmp, is_same}
 use Rattle.lg_rules.specs.Meaning.Table.{about}
 
 -- what a member knows of itself
@@ -21,22 +22,27 @@ pub record Oneself : Type 0 where
 --     Failed     oneself is ousted (this project's choice)
 -- and where i is 1,000,000,000, the greatest incarnation, the first two oust oneself. Nothing else does anything.
 abbrev pub beyond : ℕ → OwnHeard → OwnHeard
-beyond i answer = if nat_lt i 1000000000 then answer else Ousted
+beyond i hearing = if nat_lt i 1000000000 then hearing else Ousted
 
-abbrev pub own_answer : Status → ℕ → ℕ → OwnHeard
-own_answer Alive i number = if nat_lt number i then beyond i Raised else Ignored
-own_answer (Suspect accuser) i number = if nat_le number i then beyond i Refuted else Ignored
-own_answer Failed i number = Ousted
+abbrev pub own_hearing_at : Status → ℕ → ℕ → OwnHeard
+own_hearing_at Alive i number = if nat_lt number i then beyond i Raised else Ignored
+own_hearing_at (Suspect accuser) i number = if nat_le number i then beyond i Refuted else Ignored
+own_hearing_at Failed i number = Ousted
 
-abbrev pub answered : OwnHeard → ℕ → Oneself → Oneself
-answered Refuted i me = record me { number = i + 1 }
-answered Raised i me = record me { number = i + 1 }
-answered Ousted i me = record me { ousted = true }
-answered Ignored i me = me
+-- what any claim does: one about another does nothing
+abbrev pub own_hearing : Oneself → Claim → OwnHeard
+own_hearing me c = if is_same name_cmp c.name me.name then own_hearing_at c.status c.incarnation me.number else Ignored
 
--- oneself once a claim about oneself is heard
+-- oneself, changed as a claim of incarnation i changes it
+abbrev pub changed_by : OwnHeard → ℕ → Oneself → Oneself
+changed_by Refuted i me = record me { number = i + 1 }
+changed_by Raised i me = record me { number = i + 1 }
+changed_by Ousted i me = record me { ousted = true }
+changed_by Ignored i me = me
+
+-- oneself once a claim is heard
 abbrev pub own_heard : Oneself → Claim → Oneself
-own_heard me c = answered (own_answer c.status c.incarnation me.number) c.incarnation me
+own_heard me c = changed_by (own_hearing me c) c.incarnation me
 
 -- oneself after claims about oneself, from number 0 on
 abbrev pub own_after : List ℕ → Addr → List Claim → Oneself

@@ -8,7 +8,7 @@ use Rattle.lg_rules.specs.declared.claim.Status.TheVariants.{Alive, Suspect, Fai
 use Rattle.lg_rules.specs.declared.own.OwnHeard.{OwnHeard}
 use Rattle.lg_rules.specs.declared.own.OwnHeard.TheVariants.{Refuted, Raised, Ousted, Ignored}
 use Rattle.lg_rules.specs.Meaning.Claim.{name_of}
-use Rattle.lg_rules.specs.Meaning.Own.{Oneself, own_answer, own_heard, own_of, own_record}
+use Rattle.lg_rules.specs.Meaning.Own.{Oneself, own_hearing, own_heard, own_of, own_record}
 use Rattle.lg_rules.specs.Meaning.Rows.{name_cmp, is_same, put_row, row_at}
 use Rattle.lg_rules.specs.Meaning.Table.{table_of, takes, heard}
 
@@ -39,7 +39,7 @@ is_rise Ousted = false
 is_rise Ignored = false
 
 unfoldable pub is_news : Membership → Claim → Bool
-is_news m c = if is_same name_cmp c.name m.own.name then is_rise (own_answer c.status c.incarnation m.own.number) else takes m.table c
+is_news m c = if is_same name_cmp c.name m.own.name then is_rise (own_hearing m.own c) else takes m.table c
 
 -- the membership once these are heard, the first first, and the names whose records they changed
 abbrev pub told_all : Membership → List Claim → Membership
