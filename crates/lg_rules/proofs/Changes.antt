@@ -1,4 +1,4 @@
--- Which records of the view differ once claims are told: those of the names that were news.
+-- Which records of the view differ once claims are heard: those of the names that they changed.
 use Rattle.std.proofs.Common.{◌≡◌, ◌≢◌, ℕ, ◌≤◌, true, false, ◌&&◌, not, cond, List, [], ◌∷◌, length, Option, Some, None, inl, inr, refl, sym, ◌∙◌, ap, subst, arith, eqb}
 use Rattle.std.specs.Prelude.{filter, nat_eq}
 use Rattle.std.specs.Cmp.Lexicographic.{pointwise}
@@ -11,37 +11,37 @@ use Rattle.lg_rules.specs.declared.claim.Status.TheVariants.{Alive, Suspect, Fai
 use Rattle.lg_rules.specs.Meaning.Beats.{beats_of}
 use Rattle.lg_rules.specs.Meaning.Claim.{name_of}
 use Rattle.lg_rules.specs.Meaning.Rows.{name_cmp, is_same, row_at}
-use Rattle.lg_rules.specs.Meaning.View.{Membership, membership_of, view, told, told_all, is_news, news, is_same_status, is_same_addr, is_same_claim, is_row, changed}
+use Rattle.lg_rules.specs.Meaning.View.{Standing, standing_of, view, hear_claim, hear_claims, changes_record, changed_names, is_same_status, is_same_addr, is_same_claim, is_row, changed}
 use Rattle.lg_rules.proofs.Cases.{held_once}
 use Rattle.lg_rules.proofs.KeyOrder.{names_order, same_key, key_is, cases_key}
 use Rattle.lg_rules.proofs.Ranks.{ranked}
 use Rattle.lg_rules.proofs.Rises.{among-cons_same, among-cons_other}
 use Rattle.lg_rules.proofs.Roster.{is_known}
 use Rattle.lg_rules.proofs.RowsFound.{filter_same, rows_found, few_among}
-use Rattle.lg_rules.proofs.Views.{view_after, told-membership, rises-view, Follows, IsNews, Changes, Leaves, telling}
+use Rattle.lg_rules.proofs.Views.{view_after, hear_claim-standing, rises-view, Follows, IsChange, Changes, Leaves, view_hearing}
 
--- the past once these are told, the first first
-abbrev pub after_telling : List Claim → List Claim → List Claim
-after_telling past [] = past
-after_telling past (c ∷ cs) = after_telling (c ∷ past) cs
+-- the past once these are heard, the first first
+abbrev pub after_claims : List Claim → List Claim → List Claim
+after_claims past [] = past
+after_claims past (c ∷ cs) = after_claims (c ∷ past) cs
 
-pub told_all-membership : (name : List ℕ) (addr : Addr) (past cs : List Claim) → told_all (membership_of name addr past) cs ≡ membership_of name addr (after_telling past cs)
-told_all-membership name addr past [] = refl
-told_all-membership name addr past (c ∷ cs) = ap (λ m. told_all m cs) (told-membership name addr past c) ∙ told_all-membership name addr (c ∷ past) cs
+pub hear_claims-standing : (name : List ℕ) (addr : Addr) (past cs : List Claim) → hear_claims (standing_of name addr past) cs ≡ standing_of name addr (after_claims past cs)
+hear_claims-standing name addr past [] = refl
+hear_claims-standing name addr past (c ∷ cs) = ap (λ m. hear_claims m cs) (hear_claim-standing name addr past c) ∙ hear_claims-standing name addr (c ∷ past) cs
 
--- the names that are news after a past
-abbrev pub news_after : List ℕ → Addr → List Claim → List Claim → List (List ℕ)
-news_after name addr past cs = news (membership_of name addr past) cs
+-- the names whose records claims change after a past
+abbrev pub names_after : List ℕ → Addr → List Claim → List Claim → List (List ℕ)
+names_after name addr past cs = changed_names (standing_of name addr past) cs
 
-news_more : (name : List ℕ) (addr : Addr) (past : List Claim) (c : Claim) (cs : List Claim) → is_news (membership_of name addr past) c ≡ true → news_after name addr past (c ∷ cs) ≡ c.name ∷ news_after name addr (c ∷ past) cs
-news_more name addr past c cs t =
-    ap (λ b. cond b (c.name ∷ news (told (membership_of name addr past) c) cs) (news (told (membership_of name addr past) c) cs)) t
-    ∙ ap (λ m. c.name ∷ news m cs) (told-membership name addr past c)
+names_more : (name : List ℕ) (addr : Addr) (past : List Claim) (c : Claim) (cs : List Claim) → changes_record (standing_of name addr past) c ≡ true → names_after name addr past (c ∷ cs) ≡ c.name ∷ names_after name addr (c ∷ past) cs
+names_more name addr past c cs t =
+    ap (λ b. cond b (c.name ∷ changed_names (hear_claim (standing_of name addr past) c) cs) (changed_names (hear_claim (standing_of name addr past) c) cs)) t
+    ∙ ap (λ m. c.name ∷ changed_names m cs) (hear_claim-standing name addr past c)
 
-news_none : (name : List ℕ) (addr : Addr) (past : List Claim) (c : Claim) (cs : List Claim) → is_news (membership_of name addr past) c ≡ false → news_after name addr past (c ∷ cs) ≡ news_after name addr (c ∷ past) cs
-news_none name addr past c cs f =
-    ap (λ b. cond b (c.name ∷ news (told (membership_of name addr past) c) cs) (news (told (membership_of name addr past) c) cs)) f
-    ∙ ap (λ m. news m cs) (told-membership name addr past c)
+names_none : (name : List ℕ) (addr : Addr) (past : List Claim) (c : Claim) (cs : List Claim) → changes_record (standing_of name addr past) c ≡ false → names_after name addr past (c ∷ cs) ≡ names_after name addr (c ∷ past) cs
+names_none name addr past c cs f =
+    ap (λ b. cond b (c.name ∷ changed_names (hear_claim (standing_of name addr past) c) cs) (changed_names (hear_claim (standing_of name addr past) c) cs)) f
+    ∙ ap (λ m. changed_names m cs) (hear_claim-standing name addr past c)
 
 -- what overrides what overrides a third overrides that
 beats_through : (r c b : Claim) → beats_of r c ≡ true → beats_of c b ≡ true → beats_of r b ≡ true
@@ -54,38 +54,38 @@ follows_through : (r c : Claim) (o : Option Claim) → beats_of r c ≡ true →
 follows_through r c None p h = tt
 follows_through r c (Some b) p h = beats_through r c b p h
 
--- A record of a name overrides the one before where the name was news, and else is the one before.
+-- A record of a name overrides the one before where its claims changed it, and else is the one before.
 record Traced (name : List ℕ) (addr : Addr) (past cs : List Claim) (m : List ℕ) (r : Claim) : Type 0 where
-  hit : is_known m (news_after name addr past cs) ≡ true → Follows r (row_at name_cmp name_of m (view_after name addr past))
-  missed : is_known m (news_after name addr past cs) ≡ false → row_at name_cmp name_of m (view_after name addr past) ≡ Some r
+  hit : is_known m (names_after name addr past cs) ≡ true → Follows r (row_at name_cmp name_of m (view_after name addr past))
+  missed : is_known m (names_after name addr past cs) ≡ false → row_at name_cmp name_of m (view_after name addr past) ≡ Some r
 
-traced_hit : (name : List ℕ) (addr : Addr) (past : List Claim) (c : Claim) (cs : List Claim) (r : Claim) → IsNews name addr c past → Traced name addr (c ∷ past) cs c.name r → Traced name addr past (c ∷ cs) c.name r
+traced_hit : (name : List ℕ) (addr : Addr) (past : List Claim) (c : Claim) (cs : List Claim) (r : Claim) → IsChange name addr c past → Traced name addr (c ∷ past) cs c.name r → Traced name addr past (c ∷ cs) c.name r
 traced_hit name addr past c cs r n rest =
-    let more = news_more name addr past c cs n.news in
+    let more = names_more name addr past c cs n.changes in
     record {
-      hit = λ h. elim (cases_Bool (is_known c.name (news_after name addr (c ∷ past) cs))) [
+      hit = λ h. elim (cases_Bool (is_known c.name (names_after name addr (c ∷ past) cs))) [
         | inl a ↦ follows_through r n.r (row_at name_cmp name_of c.name (view_after name addr past)) (subst (Follows r) n.row (rest.hit a)) n.follows
         | inr b ↦ subst (λ x. Follows x (row_at name_cmp name_of c.name (view_after name addr past))) (held_once n.r r (sym n.row ∙ rest.missed b)) n.follows
       ];
-      missed = λ h. absurd (false≢true (sym h ∙ ap (is_known c.name) more ∙ among-cons_same names_order c.name c.name (news_after name addr (c ∷ past) cs) refl));
+      missed = λ h. absurd (false≢true (sym h ∙ ap (is_known c.name) more ∙ among-cons_same names_order c.name c.name (names_after name addr (c ∷ past) cs) refl));
     }
 
-traced_other : (name : List ℕ) (addr : Addr) (past : List Claim) (c : Claim) (cs : List Claim) (m : List ℕ) (r : Claim) → IsNews name addr c past → c.name ≢ m → Traced name addr (c ∷ past) cs m r → Traced name addr past (c ∷ cs) m r
+traced_other : (name : List ℕ) (addr : Addr) (past : List Claim) (c : Claim) (cs : List Claim) (m : List ℕ) (r : Claim) → IsChange name addr c past → c.name ≢ m → Traced name addr (c ∷ past) cs m r → Traced name addr past (c ∷ cs) m r
 traced_other name addr past c cs m r n d rest =
     let row = n.others m d in
-    let among : is_known m (news_after name addr past (c ∷ cs)) ≡ is_known m (news_after name addr (c ∷ past) cs) = ap (is_known m) (news_more name addr past c cs n.news) ∙ among-cons_other names_order m c.name (news_after name addr (c ∷ past) cs) d in
+    let among : is_known m (names_after name addr past (c ∷ cs)) ≡ is_known m (names_after name addr (c ∷ past) cs) = ap (is_known m) (names_more name addr past c cs n.changes) ∙ among-cons_other names_order m c.name (names_after name addr (c ∷ past) cs) d in
     record {
       hit = λ h. subst (Follows r) row (rest.hit (sym among ∙ h));
       missed = λ h. sym row ∙ rest.missed (sym among ∙ h);
     }
 
-traced : (name : List ℕ) (addr : Addr) (past cs : List Claim) (m : List ℕ) (r : Claim) → row_at name_cmp name_of m (view_after name addr (after_telling past cs)) ≡ Some r → Traced name addr past cs m r
+traced : (name : List ℕ) (addr : Addr) (past cs : List Claim) (m : List ℕ) (r : Claim) → row_at name_cmp name_of m (view_after name addr (after_claims past cs)) ≡ Some r → Traced name addr past cs m r
 traced name addr past [] m r e = record { hit = λ h. absurd (false≢true h); missed = λ h. e }
 traced name addr past (c ∷ cs) m r e =
     let rest : Traced name addr (c ∷ past) cs m r = traced name addr (c ∷ past) cs m r e in
-    elim (telling name addr c past) [
+    elim (view_hearing name addr c past) [
       | Leaves f same ↦ (
-          let names : news_after name addr past (c ∷ cs) ≡ news_after name addr (c ∷ past) cs = news_none name addr past c cs f in
+          let names : names_after name addr past (c ∷ cs) ≡ names_after name addr (c ∷ past) cs = names_none name addr past c cs f in
           record {
             hit = λ h. subst (λ v. Follows r (row_at name_cmp name_of m v)) same (rest.hit (sym (ap (is_known m) names) ∙ h));
             missed = λ h. sym (ap (row_at name_cmp name_of m) same) ∙ rest.missed (sym (ap (is_known m) names) ∙ h);
@@ -134,45 +134,45 @@ fresh r (Some b) h = elim (cases_Bool (is_same_claim b r)) [
   | inr f ↦ f
 ]
 
--- a record of the view differs exactly where its name was news
-differs : (name : List ℕ) (addr : Addr) (past cs : List Claim) (r : Claim) → row_at name_cmp name_of r.name (view_after name addr (after_telling past cs)) ≡ Some r
-    → not (is_row r (row_at name_cmp name_of r.name (view_after name addr past))) ≡ is_known r.name (news_after name addr past cs)
+-- a record of the view differs exactly where claims changed it
+differs : (name : List ℕ) (addr : Addr) (past cs : List Claim) (r : Claim) → row_at name_cmp name_of r.name (view_after name addr (after_claims past cs)) ≡ Some r
+    → not (is_row r (row_at name_cmp name_of r.name (view_after name addr past))) ≡ is_known r.name (names_after name addr past cs)
 differs name addr past cs r e =
     let t = traced name addr past cs r.name r e in
-    elim (cases_Bool (is_known r.name (news_after name addr past cs))) [
+    elim (cases_Bool (is_known r.name (names_after name addr past cs))) [
       | inl a ↦ ap not (fresh r (row_at name_cmp name_of r.name (view_after name addr past)) (t.hit a)) ∙ sym a
       | inr b ↦ ap (λ o. not (is_row r o)) (t.missed b) ∙ ap not (claim_itself r) ∙ sym b
     ]
 
 changed-past : (name : List ℕ) (addr : Addr) (past cs : List Claim)
-    → changed (view_after name addr past) (view_after name addr (after_telling past cs)) ≡ filter (λ r. is_known r.name (news_after name addr past cs)) (view_after name addr (after_telling past cs))
+    → changed (view_after name addr past) (view_after name addr (after_claims past cs)) ≡ filter (λ r. is_known r.name (names_after name addr past cs)) (view_after name addr (after_claims past cs))
 changed-past name addr past cs =
-    let rows : List Claim = view_after name addr (after_telling past cs) in
-    filter_same (λ r. not (is_row r (row_at name_cmp name_of r.name (view_after name addr past)))) (λ r. is_known r.name (news_after name addr past cs)) (λ r. row_at name_cmp name_of r.name rows ≡ Some r) rows (differs name addr past cs)
-    (rows_found names_order name_of rows (rises-view name addr (after_telling past cs)))
+    let rows : List Claim = view_after name addr (after_claims past cs) in
+    filter_same (λ r. not (is_row r (row_at name_cmp name_of r.name (view_after name addr past)))) (λ r. is_known r.name (names_after name addr past cs)) (λ r. row_at name_cmp name_of r.name rows ≡ Some r) rows (differs name addr past cs)
+    (rows_found names_order name_of rows (rises-view name addr (after_claims past cs)))
 
-pub length-news : (m : Membership) (cs : List Claim) → length (news m cs) ≤ length cs
-length-news m [] = omega arith
-length-news m (c ∷ cs) = elim (cases_Bool (is_news m c)) [
-  | inl t ↦ rw t (omega (arith, length-news (told m c) cs))
-  | inr f ↦ rw f (omega (arith, length-news (told m c) cs))
+pub length-changed_names : (m : Standing) (cs : List Claim) → length (changed_names m cs) ≤ length cs
+length-changed_names m [] = omega arith
+length-changed_names m (c ∷ cs) = elim (cases_Bool (changes_record m c)) [
+  | inl t ↦ rw t (omega (arith, length-changed_names (hear_claim m c) cs))
+  | inr f ↦ rw f (omega (arith, length-changed_names (hear_claim m c) cs))
 ]
 
--- Once claims are told to the membership after a past, the records that differ are those of the names that were news,
-pub changed-told : (name : List ℕ) (addr : Addr) (past cs : List Claim) (m : Membership) → m ≡ membership_of name addr past
-    → changed (view m) (view (told_all m cs)) ≡ filter (λ r. is_known r.name (news m cs)) (view (told_all m cs))
-changed-told name addr past cs m is =
-    subst (λ (k : Membership). changed (view k) (view (told_all k cs)) ≡ filter (λ r. is_known r.name (news k cs)) (view (told_all k cs))) (sym is)
-    (subst (λ (k : Membership). changed (view_after name addr past) (view k) ≡ filter (λ r. is_known r.name (news_after name addr past cs)) (view k)) (sym (told_all-membership name addr past cs)) (changed-past name addr past cs))
+-- Once claims are heard after a past, the records that differ are those of the names that they changed,
+pub changed-heard : (name : List ℕ) (addr : Addr) (past cs : List Claim) (m : Standing) → m ≡ standing_of name addr past
+    → changed (view m) (view (hear_claims m cs)) ≡ filter (λ r. is_known r.name (changed_names m cs)) (view (hear_claims m cs))
+changed-heard name addr past cs m is =
+    subst (λ (k : Standing). changed (view k) (view (hear_claims k cs)) ≡ filter (λ r. is_known r.name (changed_names k cs)) (view (hear_claims k cs))) (sym is)
+    (subst (λ (k : Standing). changed (view_after name addr past) (view k) ≡ filter (λ r. is_known r.name (names_after name addr past cs)) (view k)) (sym (hear_claims-standing name addr past cs)) (changed-past name addr past cs))
 
 -- and they are no more than the claims.
-pub length-told : (name : List ℕ) (addr : Addr) (past cs : List Claim) (m : Membership) → m ≡ membership_of name addr past
-    → length (filter (λ r. is_known r.name (news m cs)) (view (told_all m cs))) ≤ length cs
-length-told name addr past cs m is =
-    let few = subst (λ (k : Membership). length (filter (λ r. is_known r.name (news m cs)) (view k)) ≤ length (news m cs))
-    (sym (ap (λ k. told_all k cs) is ∙ told_all-membership name addr past cs))
-    (few_among names_order name_of (news m cs) (view_after name addr (after_telling past cs)) (rises-view name addr (after_telling past cs))) in
-    omega (arith, few, length-news m cs)
+pub length-changed_records : (name : List ℕ) (addr : Addr) (past cs : List Claim) (m : Standing) → m ≡ standing_of name addr past
+    → length (filter (λ r. is_known r.name (changed_names m cs)) (view (hear_claims m cs))) ≤ length cs
+length-changed_records name addr past cs m is =
+    let few = subst (λ (k : Standing). length (filter (λ r. is_known r.name (changed_names m cs)) (view k)) ≤ length (changed_names m cs))
+    (sym (ap (λ k. hear_claims k cs) is ∙ hear_claims-standing name addr past cs))
+    (few_among names_order name_of (changed_names m cs) (view_after name addr (after_claims past cs)) (rises-view name addr (after_claims past cs))) in
+    omega (arith, few, length-changed_names m cs)
 
-pub length-changed : (name : List ℕ) (addr : Addr) (past cs : List Claim) (m : Membership) → m ≡ membership_of name addr past → length (changed (view m) (view (told_all m cs))) ≤ length cs
-length-changed name addr past cs m is = subst (λ xs. length xs ≤ length cs) (sym (changed-told name addr past cs m is)) (length-told name addr past cs m is)
+pub length-changed : (name : List ℕ) (addr : Addr) (past cs : List Claim) (m : Standing) → m ≡ standing_of name addr past → length (changed (view m) (view (hear_claims m cs))) ≤ length cs
+length-changed name addr past cs m is = subst (λ xs. length xs ≤ length cs) (sym (changed-heard name addr past cs m is)) (length-changed_records name addr past cs m is)

@@ -132,7 +132,7 @@ pub record IsTaken (own : List ℕ) (c : Claim) (past : List Claim) : Type 0 whe
   pub beaten : (r : Claim) → record_of past c.name ≡ Some r → beats_of c r ≡ true
 
 -- or a record that it doesn't override is kept,
-pub record IsKept (own : List ℕ) (c : Claim) (past : List Claim) : Type 0 where
+pub record IsUnbeaten (own : List ℕ) (c : Claim) (past : List Claim) : Type 0 where
   pub taken : takes (table_of own past) c ≡ false
   pub names : roster own (c ∷ past) ≡ roster own past
   pub among : is_known c.name (roster own past) ≡ true
@@ -149,7 +149,7 @@ pub record IsOut (own : List ℕ) (c : Claim) (past : List Claim) : Type 0 where
 
 pub data Hearing (own : List ℕ) (c : Claim) (past : List Claim) : Type 0 where
   Taken : IsTaken own c past → Hearing own c past
-  Kept : IsKept own c past → Hearing own c past
+  Unbeaten : IsUnbeaten own c past → Hearing own c past
   Out : IsOut own c past → Hearing own c past
 
 -- a claim on an unknown name is taken where there is room
@@ -172,7 +172,7 @@ hearing_known own c r past a names e =
         stands = next ∙ ap (λ b. cond b (Some c) (Some r)) t;
         beaten = λ s h. subst (λ x. beats_of c x ≡ true) (held_once r s (sym e ∙ h)) t;
       }
-      | inr f ↦ Kept record { taken = test ∙ f; names = names; among = a; r = r; before = e; after = next ∙ ap (λ b. cond b (Some c) (Some r)) f; unbeaten = f }
+      | inr f ↦ Unbeaten record { taken = test ∙ f; names = names; among = a; r = r; before = e; after = next ∙ ap (λ b. cond b (Some c) (Some r)) f; unbeaten = f }
     ]
 
 pub heard_cases : (own : List ℕ) (c : Claim) (past : List Claim) → c.name ≢ own → Hearing own c past
@@ -205,7 +205,7 @@ heard_passed table c f = ap (λ b. cond b (put_row name_cmp name_of c table) tab
 pub heard-table : (own : List ℕ) (c : Claim) (past : List Claim) → c.name ≢ own → heard (table_of own past) c ≡ table_of own (c ∷ past)
 heard-table own c past d = elim (heard_cases own c past d) [
   | Taken t ↦ heard_taken (table_of own past) c t.taken ∙ table-put own c past t.names t.stands
-  | Kept k ↦ heard_passed (table_of own past) c k.taken ∙ sym (table-stays own c past k.names (k.after ∙ sym k.before))
+  | Unbeaten k ↦ heard_passed (table_of own past) c k.taken ∙ sym (table-stays own c past k.names (k.after ∙ sym k.before))
   | Out o ↦ heard_passed (table_of own past) c o.taken ∙ sym (table-passed own c past o.names o.out)
 ]
 

@@ -13,43 +13,43 @@ use Rattle.lg_rules.specs.Meaning.Claim.{name_of}
 use Rattle.lg_rules.specs.Meaning.Own.{Oneself, beyond, own_hearing, own_hearing_at, changed_by, own_heard, own_of, own_record}
 use Rattle.lg_rules.specs.Meaning.Rows.{name_cmp, is_same, put_row, row_at, Rises}
 use Rattle.lg_rules.specs.Meaning.Table.{record_of, roster, table_of, takes, heard}
-use Rattle.lg_rules.specs.Meaning.View.{Membership, membership_of, view_of, view, told, is_rise, is_news}
+use Rattle.lg_rules.specs.Meaning.View.{Standing, standing_of, view_of, view, hear_claim, is_rise, changes_record}
 use Rattle.lg_rules.proofs.Cases.{Missing, Holding, held}
 use Rattle.lg_rules.proofs.KeyOrder.{names_order, same_key, other_key, cases_key}
 use Rattle.lg_rules.proofs.OwnLaws.{own-same, own-other, own_of_name, own_hearing-same, own_hearing-other}
 use Rattle.lg_rules.proofs.Roster.{is_known, rises-roster}
 use Rattle.lg_rules.proofs.RowLaws.{row_at-put, rises-rows, length_put_row-le}
 use Rattle.lg_rules.proofs.RowsFound.{rises-put_row}
-use Rattle.lg_rules.proofs.Tables.{length_table-le, records_keyed, row_at-table, table-own, heard-table, Taken, Kept, Out, heard_cases, heard_passed, heard_taken, IsTaken}
+use Rattle.lg_rules.proofs.Tables.{length_table-le, records_keyed, row_at-table, table-own, heard-table, Taken, Unbeaten, Out, heard_cases, heard_passed, heard_taken, IsTaken}
 
--- A claim about oneself or another, told to the membership of a past.
-pub told-own : (m : Membership) (c : Claim) → c.name ≡ m.own.name → told m c ≡ record m { own = own_heard m.own c }
-unfolding told
-told-own m c e = ap (λ b. cond b (record m { own = own_heard m.own c }) (record m { table = heard m.table c })) (same_key names_order c.name m.own.name e)
+-- What a claim about oneself or another makes of the standing after a past.
+pub hear_claim-own : (m : Standing) (c : Claim) → c.name ≡ m.own.name → hear_claim m c ≡ record m { own = own_heard m.own c }
+unfolding hear_claim
+hear_claim-own m c e = ap (λ b. cond b (record m { own = own_heard m.own c }) (record m { table = heard m.table c })) (same_key names_order c.name m.own.name e)
 
-pub told-other : (m : Membership) (c : Claim) → c.name ≢ m.own.name → told m c ≡ record m { table = heard m.table c }
-unfolding told
-told-other m c d = ap (λ b. cond b (record m { own = own_heard m.own c }) (record m { table = heard m.table c })) (other_key names_order c.name m.own.name d)
+pub hear_claim-other : (m : Standing) (c : Claim) → c.name ≢ m.own.name → hear_claim m c ≡ record m { table = heard m.table c }
+unfolding hear_claim
+hear_claim-other m c d = ap (λ b. cond b (record m { own = own_heard m.own c }) (record m { table = heard m.table c })) (other_key names_order c.name m.own.name d)
 
-pub told-membership : (name : List ℕ) (addr : Addr) (past : List Claim) (c : Claim) → told (membership_of name addr past) c ≡ membership_of name addr (c ∷ past)
-told-membership name addr past c =
+pub hear_claim-standing : (name : List ℕ) (addr : Addr) (past : List Claim) (c : Claim) → hear_claim (standing_of name addr past) c ≡ standing_of name addr (c ∷ past)
+hear_claim-standing name addr past c =
     let is = own_of_name name addr past in
     elim (cases_key names_order c.name name) [
-      | inl e ↦ told-own (membership_of name addr past) c (e ∙ sym is) ∙ (λ i. record { own = sym (own-same name addr c past e) i; table = sym (table-own name c past e) i })
-      | inr d ↦ told-other (membership_of name addr past) c (λ e. d (e ∙ is)) ∙ (λ i. record { own = sym (own-other name addr c past d) i; table = heard-table name c past d i })
+      | inl e ↦ hear_claim-own (standing_of name addr past) c (e ∙ sym is) ∙ (λ i. record { own = sym (own-same name addr c past e) i; table = sym (table-own name c past e) i })
+      | inr d ↦ hear_claim-other (standing_of name addr past) c (λ e. d (e ∙ is)) ∙ (λ i. record { own = sym (own-other name addr c past d) i; table = heard-table name c past d i })
     ]
 
-pub news-own : (m : Membership) (c : Claim) → c.name ≡ m.own.name → is_news m c ≡ is_rise (own_hearing m.own c)
-unfolding is_news
-news-own m c e = ap (λ b. cond b (is_rise (own_hearing m.own c)) (takes m.table c)) (same_key names_order c.name m.own.name e)
+pub changes_record-own : (m : Standing) (c : Claim) → c.name ≡ m.own.name → changes_record m c ≡ is_rise (own_hearing m.own c)
+unfolding changes_record
+changes_record-own m c e = ap (λ b. cond b (is_rise (own_hearing m.own c)) (takes m.table c)) (same_key names_order c.name m.own.name e)
 
-pub news-other : (m : Membership) (c : Claim) → c.name ≢ m.own.name → is_news m c ≡ takes m.table c
-unfolding is_news
-news-other m c d = ap (λ b. cond b (is_rise (own_hearing m.own c)) (takes m.table c)) (other_key names_order c.name m.own.name d)
+pub changes_record-other : (m : Standing) (c : Claim) → c.name ≢ m.own.name → changes_record m c ≡ takes m.table c
+unfolding changes_record
+changes_record-other m c d = ap (λ b. cond b (is_rise (own_hearing m.own c)) (takes m.table c)) (other_key names_order c.name m.own.name d)
 
 -- The view after a past: the own record at the own name, and the table elsewhere.
 abbrev pub view_after : List ℕ → Addr → List Claim → List Claim
-view_after name addr past = view (membership_of name addr past)
+view_after name addr past = view (standing_of name addr past)
 
 pub row_at-view : (name : List ℕ) (addr : Addr) (past : List Claim) (m : List ℕ)
     → row_at name_cmp name_of m (view_after name addr past) ≡ cond (is_same name_cmp name m) (Some (own_record (own_of name addr past))) (row_at name_cmp name_of m (table_of name past))
@@ -80,16 +80,16 @@ Follows r None = ⊤
 Follows r (Some b) = beats_of r b ≡ true
 
 -- What a claim does to the view: it changes the record of its name alone, to one that overrides it, or nothing.
-pub record IsNews (name : List ℕ) (addr : Addr) (c : Claim) (past : List Claim) : Type 0 where
-  pub news : is_news (membership_of name addr past) c ≡ true
+pub record IsChange (name : List ℕ) (addr : Addr) (c : Claim) (past : List Claim) : Type 0 where
+  pub changes : changes_record (standing_of name addr past) c ≡ true
   pub r : Claim
   pub row : row_at name_cmp name_of c.name (view_after name addr (c ∷ past)) ≡ Some r
   pub follows : Follows r (row_at name_cmp name_of c.name (view_after name addr past))
   pub others : (m : List ℕ) → c.name ≢ m → row_at name_cmp name_of m (view_after name addr (c ∷ past)) ≡ row_at name_cmp name_of m (view_after name addr past)
 
-pub data Telling (name : List ℕ) (addr : Addr) (c : Claim) (past : List Claim) : Type 0 where
-  Changes : IsNews name addr c past → Telling name addr c past
-  Leaves : is_news (membership_of name addr past) c ≡ false → view_after name addr (c ∷ past) ≡ view_after name addr past → Telling name addr c past
+pub data ViewHearing (name : List ℕ) (addr : Addr) (c : Claim) (past : List Claim) : Type 0 where
+  Changes : IsChange name addr c past → ViewHearing name addr c past
+  Leaves : changes_record (standing_of name addr past) c ≡ false → view_after name addr (c ∷ past) ≡ view_after name addr past → ViewHearing name addr c past
 
 -- the own record changes where the own number rises, and nowhere else
 stays : (o : OwnHeard) (i : ℕ) (me : Oneself) → is_rise o ≡ false → own_record (changed_by o i me) ≡ own_record me
@@ -123,18 +123,18 @@ rises_heard me c t = elim (cases_key names_order c.name me.name) [
   | inr d ↦ absurd (false≢true (sym (ap is_rise (own_hearing-other me c d)) ∙ t))
 ]
 
-telling_own : (name : List ℕ) (addr : Addr) (c : Claim) (past : List Claim) → c.name ≡ name → Telling name addr c past
-telling_own name addr c past e =
+view_hearing_own : (name : List ℕ) (addr : Addr) (c : Claim) (past : List Claim) → c.name ≡ name → ViewHearing name addr c past
+view_hearing_own name addr c past e =
     let me = own_of name addr past in
     let is : own_of name addr (c ∷ past) ≡ own_heard me c = own-same name addr c past e in
     let table = table-own name c past e in
-    let test = news-own (membership_of name addr past) c (e ∙ sym (own_of_name name addr past)) in
+    let test = changes_record-own (standing_of name addr past) c (e ∙ sym (own_of_name name addr past)) in
     elim (cases_Bool (is_rise (own_hearing me c))) [
       | inl t ↦ (
           let more = rises_heard me c t in
           let before = row_at-own name addr past c.name (sym e) in
           Changes record {
-            news = test ∙ t;
+            changes = test ∙ t;
             r = own_record (own_heard me c);
             row = row_at-own name addr (c ∷ past) c.name (sym e) ∙ ap (λ o. Some (own_record o)) is;
             follows = subst (Follows (own_record (own_heard me c))) (sym before) (lt-ltb me.number (own_heard me c).number more);
@@ -156,13 +156,13 @@ follows_table name c past t = elim (held (row_at name_cmp name_of c.name (table_
     known true h = h
     known false h = absurd cc
 
-telling_taken : (name : List ℕ) (addr : Addr) (c : Claim) (past : List Claim) → c.name ≢ name → IsTaken name c past → Telling name addr c past
-telling_taken name addr c past d t =
+view_hearing_taken : (name : List ℕ) (addr : Addr) (c : Claim) (past : List Claim) → c.name ≢ name → IsTaken name c past → ViewHearing name addr c past
+view_hearing_taken name addr c past d t =
     let d' : name ≢ c.name = λ e. d (sym e) in
     let table : table_of name (c ∷ past) ≡ put_row name_cmp name_of c (table_of name past) = sym (heard-table name c past d) ∙ heard_taken (table_of name past) c t.taken in
     let own = own-other name addr c past d in
     Changes record {
-      news = news-other (membership_of name addr past) c (λ e. d (e ∙ own_of_name name addr past)) ∙ t.taken;
+      changes = changes_record-other (standing_of name addr past) c (λ e. d (e ∙ own_of_name name addr past)) ∙ t.taken;
       r = c;
       row = row_at-others name addr (c ∷ past) c.name d' ∙ ap (row_at name_cmp name_of c.name) table ∙ row_at-put names_order name_of c.name c (table_of name past) ∙ ap (λ b. cond b (Some c) (row_at name_cmp name_of c.name (table_of name past))) (same_key names_order c.name c.name refl);
       follows = subst (Follows c) (sym (row_at-others name addr past c.name d')) (follows_table name c past t);
@@ -172,18 +172,18 @@ telling_taken name addr c past d t =
       ];
     }
 
-telling_passed : (name : List ℕ) (addr : Addr) (c : Claim) (past : List Claim) → c.name ≢ name → takes (table_of name past) c ≡ false → Telling name addr c past
-telling_passed name addr c past d f =
+view_hearing_passed : (name : List ℕ) (addr : Addr) (c : Claim) (past : List Claim) → c.name ≢ name → takes (table_of name past) c ≡ false → ViewHearing name addr c past
+view_hearing_passed name addr c past d f =
     let table : table_of name (c ∷ past) ≡ table_of name past = sym (heard-table name c past d) ∙ heard_passed (table_of name past) c f in
     let own = own-other name addr c past d in
-    Leaves (news-other (membership_of name addr past) c (λ e. d (e ∙ own_of_name name addr past)) ∙ f) (λ i. view_of (own_record (own i)) (table i))
+    Leaves (changes_record-other (standing_of name addr past) c (λ e. d (e ∙ own_of_name name addr past)) ∙ f) (λ i. view_of (own_record (own i)) (table i))
 
-pub telling : (name : List ℕ) (addr : Addr) (c : Claim) (past : List Claim) → Telling name addr c past
-telling name addr c past = elim (cases_key names_order c.name name) [
-  | inl e ↦ telling_own name addr c past e
+pub view_hearing : (name : List ℕ) (addr : Addr) (c : Claim) (past : List Claim) → ViewHearing name addr c past
+view_hearing name addr c past = elim (cases_key names_order c.name name) [
+  | inl e ↦ view_hearing_own name addr c past e
   | inr d ↦ elim (heard_cases name c past d) [
-    | Taken t ↦ telling_taken name addr c past d t
-    | Kept k ↦ telling_passed name addr c past d k.taken
-    | Out o ↦ telling_passed name addr c past d o.taken
+    | Taken t ↦ view_hearing_taken name addr c past d t
+    | Unbeaten k ↦ view_hearing_passed name addr c past d k.taken
+    | Out o ↦ view_hearing_passed name addr c past d o.taken
   ]
 ]

@@ -85,8 +85,8 @@ impl Incarnation {
         }
     }
 
-    /// The next incarnation, where the number is below 1,000,000,000.
-    pub fn next(&self) -> Option<Incarnation>
+    /// The incarnation with one more, where the number is below 1,000,000,000.
+    pub fn successor(&self) -> Option<Incarnation>
         ensures { SomeIff result (self.now < 1000000000) (self.now + 1) }
     {
         Incarnation::new(self.number + 1)

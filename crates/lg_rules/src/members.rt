@@ -1,10 +1,11 @@
 //! The table of members.
-ghost use Rattle.std.specs.Prelude.{◌≡◌, ◌≢◌, ◌≤◌, ◌<◌, ◌+◌, List, [], ◌∷◌, length, map, slice_get, option_copied, None, Some};
+ghost use Rattle.std.specs.Prelude.{◌≡◌, ◌≢◌, ◌≤◌, ◌<◌, ◌+◌, List, [], ◌∷◌, length, map, slice_get};
+ghost use Rattle.std.specs.Prelude.{option_copied, None, Some};
 ghost use Rattle.lg_rules.specs.declared.claim.Claim.{Claim as Said};
 ghost use Rattle.lg_rules.specs.Meaning.Claim.{name_of};
 ghost use Rattle.lg_rules.specs.Meaning.Rows.{name_cmp, put_row, row_at, Rises};
 ghost use Rattle.arrayvec.specs.ArrayVec.{array_vec_len};
-ghost use Rattle.lg_rules.specs.Meaning.Table.{answer_of, heard, is_failed, kept_answer, members_in, members_of, takes};
+ghost use Rattle.lg_rules.specs.Meaning.Table.{heard, hearing_of, is_failed, known_of, live_in, standing_hearing, takes};
 
 use crate::claim::{Claim, Record, Status};
 use crate::name::Name;
@@ -62,8 +63,8 @@ fn is_failed(status: Status) -> bool
     matches!(status, Status::Failed)
 }
 
-/// The record of a member.
-fn find<'a>(records: &'a [Record], name: &Name) -> Option<&'a Record>
+/// The record with a name.
+fn find_record<'a>(records: &'a [Record], name: &Name) -> Option<&'a Record>
     requires { Rises name_cmp (map name_of records.now) }
     ensures { option_copied result ≡ row_at name_cmp name_of name.now records.now }
 {
@@ -73,9 +74,9 @@ fn find<'a>(records: &'a [Record], name: &Name) -> Option<&'a Record>
     }
 }
 
-/// What is answered to a claim that doesn't override the current record of its member.
-fn keep(claim: &Claim, current: &Record) -> Heard
-    ensures { result ≡ kept_answer claim.now (Some current.now) }
+/// What hearing a claim does that doesn't override the current record of its member.
+fn standing_hearing(claim: &Claim, current: &Record) -> Heard
+    ensures { result ≡ standing_hearing claim.now (Some current.now) }
 {
     if claim.incarnation != current.incarnation {
         return Heard::Ignored;
@@ -91,7 +92,7 @@ fn keep(claim: &Claim, current: &Record) -> Heard
 #[tactic(auto, unfolding(crate::specs::Meaning::Table::takes))]
 fn hear_in(records: &mut ArrayVec<Record, MAX_OTHERS>, claim: &Claim) -> Heard
     requires { Rises name_cmp (map name_of records.old.items) }
-    ensures answer { result ≡ answer_of records.old.items claim.now }
+    ensures hearing { result ≡ hearing_of records.old.items claim.now }
     ensures table { records.new.items ≡ heard records.old.items claim.now }
 {
     match seat_of(records.as_slice(), &claim.name) {
@@ -99,7 +100,7 @@ fn hear_in(records: &mut ArrayVec<Record, MAX_OTHERS>, claim: &Claim) -> Heard
             records[at] = *claim;
             Heard::Overrode
         }
-        Ok(at) => keep(claim, &records[at]),
+        Ok(at) => standing_hearing(claim, &records[at]),
         Err(_) if records.is_full() => Heard::NoRoom,
         Err(at) => {
             records.insert(at, *claim);
@@ -109,9 +110,9 @@ fn hear_in(records: &mut ArrayVec<Record, MAX_OTHERS>, claim: &Claim) -> Heard
 }
 
 /// How many members haven't failed, oneself included.
-fn live(records: &[Record]) -> usize
+fn count_live(records: &[Record]) -> usize
     requires { length records.now ≤ 255 }
-    ensures { result ≡ members_in records.now }
+    ensures { result ≡ live_in records.now }
 {
     1 + records
         .iter()
@@ -122,7 +123,7 @@ fn live(records: &[Record]) -> usize
 impl Members {
     /// No other member is known.
     pub fn new(own: &Name) -> Members
-        ensures { result ≡ members_of own.now [] }
+        ensures { result ≡ known_of own.now [] }
     {
         Members {
             own: *own,
@@ -133,7 +134,7 @@ impl Members {
     /// Forgets all that was heard, and begins anew under an own name.
     #[tactic(auto, unfolding(crate::specs::Meaning::Table::table_of, crate::specs::Meaning::Table::roster))]
     pub fn restart(&mut self, own: &Name)
-        ensures { self.new ≡ members_of own.now [] }
+        ensures { self.new ≡ known_of own.now [] }
     {
         let Members { own: name, records } = self;
         *name = *own;
@@ -160,7 +161,7 @@ impl Members {
     pub fn get(&self, name: &Name) -> Option<&Record>
         ensures { option_copied result ≡ row_at name_cmp name_of name.now self.now.table }
     {
-        find(self.records.as_slice(), name)
+        find_record(self.records.as_slice(), name)
     }
 
     /// The record at an index of the order of names, from 0, where there are so many.
@@ -172,10 +173,10 @@ impl Members {
 
     /// How many members haven't failed, oneself included: 1 to 256.
     pub fn live(&self) -> usize
-        ensures count { result ≡ members_in self.now.table }
+        ensures count { result ≡ live_in self.now.table }
         ensures few { result ≤ 256 }
     {
-        live(self.records.as_slice())
+        count_live(self.records.as_slice())
     }
 
     /// Hears a claim about another member.
@@ -184,13 +185,15 @@ impl Members {
     /// it overrides, with its address and accuser.
     pub fn hear(&mut self, claim: &Claim) -> Heard
         requires { claim.now.name ≢ self.old.own }
-        ensures answer { result ≡ answer_of self.old.table claim.now }
+        ensures hearing { result ≡ hearing_of self.old.table claim.now }
         ensures own { self.new.own ≡ self.old.own }
         ensures table { self.new.table ≡ heard self.old.table claim.now }
         // Whatever was said so far, the latest first, the table is that of all that was said.
-        ensures past { (past : List Said) → self.old ≡ members_of self.old.own past → self.new ≡ members_of self.old.own (claim.now ∷ past) }
+        ensures past { (past : List Said) → let after = known_of self.old.own in
+            self.old ≡ after past → self.new ≡ after (claim.now ∷ past) }
         // What was said of oneself is passed over.
-        ensures oneself { (past : List Said) (c : Said) → c.name ≡ self.old.own → members_of self.old.own (c ∷ past) ≡ members_of self.old.own past }
+        ensures oneself { (past : List Said) (c : Said) → let after = known_of self.old.own in
+            c.name ≡ self.old.own → after (c ∷ past) ≡ after past }
     {
         hear_in(&mut self.records, claim)
     }

@@ -151,7 +151,7 @@ impl Own {
             Status::Failed => return self.oust(),
             Status::Alive | Status::Suspect(_) => return OwnHeard::Ignored,
         };
-        match incarnation.next() {
+        match incarnation.successor() {
             Some(number) => {
                 self.number = number;
                 hearing

@@ -67,7 +67,7 @@ fn reads_claims(rt: HostRuntime) {
     assert_eq!(rt; heard.accuser(), Some(name(b"a")));
     assert_eq!(rt; heard.key(), name(b"c"));
     assert!(rt; Incarnation::new(1_000_000_001).is_none());
-    assert_eq!(rt; Incarnation::default().next(), Incarnation::new(1));
+    assert_eq!(rt; Incarnation::default().successor(), Incarnation::new(1));
 }
 
 /// Hears a claim about another.
@@ -90,11 +90,11 @@ fn overrides(rt: HostRuntime) {
         (claim(c, suspect(b"e"), 5), true, Heard::Overrode),
         (claim(c, Status::Failed, 0), true, Heard::Overrode),
     ];
-    for (heard, overrode, answer) in cases {
+    for (heard, overrode, hearing) in cases {
         let mut members = Members::new(&name(b"b"));
         assert_eq!(rt; hear(&mut members, &accused), Some(Heard::Overrode));
         assert_eq!(rt; beats(&heard, &accused), overrode);
-        assert_eq!(rt; hear(&mut members, &heard), Some(answer));
+        assert_eq!(rt; hear(&mut members, &heard), Some(hearing));
         let stands = if overrode { heard } else { accused };
         assert_eq!(rt; members.get(&c).copied(), Some(stands));
         let again = if matches!(stands.status, Status::Suspect(_)) {
@@ -131,13 +131,13 @@ fn keeps_the_first_address(rt: HostRuntime) {
 fn knows_256_names(rt: HostRuntime) {
     let mut members = Members::new(&name(b"me"));
     for number in (0..300).rev() {
-        let answer = hear(&mut members, &claim(numbered(number), Status::Alive, 2));
+        let hearing = hear(&mut members, &claim(numbered(number), Status::Alive, 2));
         let want = if number < 45 {
             Heard::NoRoom
         } else {
             Heard::Overrode
         };
-        assert_eq!(rt; answer, Some(want), "{number}");
+        assert_eq!(rt; hearing, Some(want), "{number}");
     }
     assert_eq!(rt; members.records().len(), MAX_OTHERS);
     assert_eq!(rt; members.live(), 256);
@@ -182,9 +182,9 @@ fn refutes(rt: HostRuntime) {
     ];
     let mut own = Own::new(b, at(7000));
     let mut ousted = false;
-    for (status, incarnation, answer, number) in cases {
-        assert_eq!(rt; own.hear(&claim(b, status, incarnation)), answer);
-        ousted = ousted || answer == OwnHeard::Ousted;
+    for (status, incarnation, hearing, number) in cases {
+        assert_eq!(rt; own.hear(&claim(b, status, incarnation)), hearing);
+        ousted = ousted || hearing == OwnHeard::Ousted;
         assert_eq!(rt; own.ousted(), ousted);
         assert_eq!(rt; own.number().number(), number);
         assert_eq!(rt; own.record(), claim(b, Status::Alive, number));

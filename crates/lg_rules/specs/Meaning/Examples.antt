@@ -7,8 +7,8 @@ use Rattle.lg_rules.specs.declared.claim.Status.TheVariants.{Alive, Suspect, Fai
 use Rattle.lg_rules.specs.declared.members.Heard.TheVariants.{Accused, Ignored}
 use Rattle.lg_rules.specs.Meaning.Beats.{beats_of}
 use Rattle.lg_rules.specs.Meaning.Own.{Oneself, own_of}
-use Rattle.lg_rules.specs.Meaning.View.{membership_of, view, told, told_all, changed}
-use Rattle.lg_rules.specs.Meaning.Table.{record_of, roster, table_of, takes, answer_of}
+use Rattle.lg_rules.specs.Meaning.View.{standing_of, view, hear_claim, hear_claims, changed}
+use Rattle.lg_rules.specs.Meaning.Table.{record_of, roster, table_of, takes, hearing_of}
 
 -- on the member c, at 127.0.0.1 and a port
 abbrev pub on_c : Status → ℕ → ℕ → Claim
@@ -47,11 +47,11 @@ pub first_accuser : record_of (a_claim 99 Alive 4 ∷ a_claim 99 (Suspect (101 �
 unfolding record_of
 first_accuser = refl
 
-pub not_cleared : answer_of (a_claim 99 (Suspect (97 ∷ [])) 4 ∷ []) (a_claim 99 Alive 4) ≡ Ignored
+pub not_cleared : hearing_of (a_claim 99 (Suspect (97 ∷ [])) 4 ∷ []) (a_claim 99 Alive 4) ≡ Ignored
 unfolding takes
 not_cleared = refl
 
-pub accused_again : answer_of (a_claim 99 (Suspect (97 ∷ [])) 4 ∷ []) (a_claim 99 (Suspect (101 ∷ [])) 4) ≡ Accused
+pub accused_again : hearing_of (a_claim 99 (Suspect (97 ∷ [])) 4 ∷ []) (a_claim 99 (Suspect (101 ∷ [])) 4) ≡ Accused
 unfolding takes
 accused_again = refl
 
@@ -87,9 +87,9 @@ pub given_up : own_of (98 ∷ []) b_at (a_claim 98 (Suspect (97 ∷ [])) 0 ∷ a
 unfolding own_of
 given_up = refl
 
--- b, which knows c as alive at 2, is told that c is alive at 3, that c is alive at 2, and that itself is suspected
+-- b, which knows c as alive at 2, hears that c is alive at 3, that c is alive at 2, and that itself is suspected
 pub changed_rows :
-    (let m = membership_of (98 ∷ []) b_at (a_claim 99 Alive 2 ∷ []) in changed (view m) (view (told_all m (a_claim 99 Alive 3 ∷ a_claim 99 Alive 2 ∷ a_claim 98 (Suspect (97 ∷ [])) 0 ∷ []))))
+    (let m = standing_of (98 ∷ []) b_at (a_claim 99 Alive 2 ∷ []) in changed (view m) (view (hear_claims m (a_claim 99 Alive 3 ∷ a_claim 99 Alive 2 ∷ a_claim 98 (Suspect (97 ∷ [])) 0 ∷ []))))
     ≡ record { name = 98 ∷ []; addr = b_at; status = Alive; incarnation = 1 } ∷ a_claim 99 Alive 3 ∷ []
-unfolding own_of table_of record_of roster takes told
+unfolding own_of table_of record_of roster takes hear_claim
 changed_rows = refl

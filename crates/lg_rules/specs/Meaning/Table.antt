@@ -39,8 +39,8 @@ pub record Known : Type 0 where
   pub own : List ℕ
   pub table : List Claim
 
-abbrev pub members_of : List ℕ → List Claim → Known
-members_of own past = record { own = own; table = table_of own past }
+abbrev pub known_of : List ℕ → List Claim → Known
+known_of own past = record { own = own; table = table_of own past }
 
 -- whether a claim about another is taken: it overrides the record, or there is none and there is room for one
 abbrev pub takes_over : ℕ → Claim → Option Claim → Bool
@@ -54,25 +54,26 @@ takes table c = takes_over (length table) c (row_at name_cmp name_of c.name tabl
 abbrev pub heard : List Claim → Claim → List Claim
 heard table c = if takes table c then put_row name_cmp name_of c table else table
 
--- What is answered to a claim that isn't taken: it accuses a member that is suspected at its incarnation,
--- or has the record's status and incarnation, or says nothing new; or there is no room for its name.
-abbrev pub kept_status : Status → Status → Heard
-kept_status Alive Alive = Same
-kept_status (Suspect a) (Suspect b) = Accused
-kept_status Failed Failed = Same
-kept_status Alive (Suspect b) = Ignored
-kept_status Alive Failed = Ignored
-kept_status (Suspect a) Alive = Ignored
-kept_status (Suspect a) Failed = Ignored
-kept_status Failed Alive = Ignored
-kept_status Failed (Suspect b) = Ignored
+-- What hearing a claim does where the record of its member stands: it accuses a member that is suspected at its
+-- incarnation, or has the record's status and incarnation, or says nothing new. Where there is no record, there is no
+-- room for one.
+abbrev pub standing_status : Status → Status → Heard
+standing_status Alive Alive = Same
+standing_status (Suspect a) (Suspect b) = Accused
+standing_status Failed Failed = Same
+standing_status Alive (Suspect b) = Ignored
+standing_status Alive Failed = Ignored
+standing_status (Suspect a) Alive = Ignored
+standing_status (Suspect a) Failed = Ignored
+standing_status Failed Alive = Ignored
+standing_status Failed (Suspect b) = Ignored
 
-abbrev pub kept_answer : Claim → Option Claim → Heard
-kept_answer c None = NoRoom
-kept_answer c (Some r) = if c.incarnation == r.incarnation then kept_status c.status r.status else Ignored
+abbrev pub standing_hearing : Claim → Option Claim → Heard
+standing_hearing c None = NoRoom
+standing_hearing c (Some r) = if c.incarnation == r.incarnation then standing_status c.status r.status else Ignored
 
-abbrev pub answer_of : List Claim → Claim → Heard
-answer_of table c = if takes table c then Overrode else kept_answer c (row_at name_cmp name_of c.name table)
+abbrev pub hearing_of : List Claim → Claim → Heard
+hearing_of table c = if takes table c then Overrode else standing_hearing c (row_at name_cmp name_of c.name table)
 
 abbrev pub is_failed : Status → Bool
 is_failed Alive = false
@@ -80,5 +81,5 @@ is_failed (Suspect a) = false
 is_failed Failed = true
 
 -- n: oneself, and the others that haven't failed
-abbrev pub members_in : List Claim → ℕ
-members_in table = 1 + count_by (λ r. not (is_failed r.status)) table
+abbrev pub live_in : List Claim → ℕ
+live_in table = 1 + count_by (λ r. not (is_failed r.status)) table
