@@ -7,7 +7,8 @@ use Rattle.std.specs.declared.cmp.Ordering.{Ordering}
 use Rattle.std.specs.declared.cmp.Ordering.TheVariants.{Less, Equal, Greater}
 use Rattle.std.specs.Ordering.{is_lt}
 use Rattle.std.proofs.lemmas.List.Sums.{prefix_len-le-length}
-use Rattle.lg_rules.specs.Meaning.Rows.{put_row, row_at, HasRow, LacksRow, AreAbove, Rises}
+use Rattle.lg_rules.specs.Meaning.Rows.{put_row, row_at, AreAbove, Rises}
+use Rattle.lg_rules.specs.Support.Places.{HasRow, LacksRow}
 use Rattle.lg_rules.proofs.Cases.{Below, Tied, Above, compared}
 use Rattle.lg_rules.proofs.KeyOrder.{IsKeyOrder, turned, tied}
 

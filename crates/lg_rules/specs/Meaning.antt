@@ -1,5 +1,6 @@
 -- What is right: whoever wants to believe the contracts reads these.
 pub mod Beats
+pub mod Bounds
 pub mod Claim
 pub mod Examples
 pub mod Name

@@ -1,3 +1,5 @@
 -- What only carries the proofs.
+pub mod Bounds
 pub mod Padding
+pub mod Places
 pub mod Words

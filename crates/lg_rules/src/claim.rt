@@ -7,6 +7,9 @@ use crate::incarnation::Incarnation;
 use crate::name::Name;
 use crate::rows::Keyed;
 
+/// The most claims of a packet: 6 (this project's choice).
+pub const MAX_CLAIMS: usize = 6;
+
 /// What is claimed of a member (SWIM, section 4.2, whose Confirm is called Failed here).
 #[derive(Clone, Copy, Debug, Default, PartialEq, Eq)]
 pub enum Status {

@@ -18,12 +18,13 @@ pub struct Incarnation {
 
 impl Model for Incarnation {
     ghost use Rattle.std.specs.Prelude.{ℕ, ◌≤◌};
+    ghost use Rattle.lg_rules.specs.declared.incarnation.TheConstants.{MAX_INCARNATION};
 
     ghost Value = { ℕ };
 
     ghost view = { λ i. i.number };
 
-    ghost invariant = { λ i. i.number ≤ 1000000000 };
+    ghost invariant = { λ i. i.number ≤ MAX_INCARNATION };
 
     ghost inverse = { λ n. record { number = n } };
 }
@@ -76,7 +77,7 @@ impl Eq for Incarnation {
 impl Incarnation {
     /// The incarnation with a number, where the number is at most 1,000,000,000.
     pub fn new(number: u32) -> Option<Incarnation>
-        ensures { SomeIff result (number ≤ 1000000000) number }
+        ensures { SomeIff result (number ≤ MAX_INCARNATION) number }
     {
         if number <= MAX_INCARNATION {
             Some(Incarnation { number })
@@ -87,7 +88,7 @@ impl Incarnation {
 
     /// The incarnation with one more, where the number is below 1,000,000,000.
     pub fn successor(&self) -> Option<Incarnation>
-        ensures { SomeIff result (self.now < 1000000000) (self.now + 1) }
+        ensures { SomeIff result (self.now < MAX_INCARNATION) (self.now + 1) }
     {
         Incarnation::new(self.number + 1)
     }
@@ -95,7 +96,7 @@ impl Incarnation {
     /// The number, 0 to 1,000,000,000.
     pub fn number(&self) -> u32
         ensures number { result ≡ self.now }
-        ensures within { self.now ≤ 1000000000 }
+        ensures within { self.now ≤ MAX_INCARNATION }
     {
         self.number
     }

@@ -13,9 +13,9 @@ mod rows;
 mod worked_rows;
 
 pub use addr::Addr;
-pub use claim::{Claim, Record, Status};
-pub use incarnation::Incarnation;
-pub use members::{Heard, MAX_OTHERS, Members};
+pub use claim::{Claim, MAX_CLAIMS, Record, Status};
+pub use incarnation::{Incarnation, MAX_INCARNATION};
+pub use members::{Heard, MAX_MEMBERS, MAX_OTHERS, Members};
 pub use name::{MAX_NAME, Name, NameFault, is_name_byte};
 pub use overriding::beats;
 pub use own::{Own, OwnHeard};

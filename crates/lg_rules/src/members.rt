@@ -5,7 +5,7 @@ ghost use Rattle.lg_rules.specs.declared.claim.Claim.{Claim as Said};
 ghost use Rattle.lg_rules.specs.Meaning.Claim.{name_of};
 ghost use Rattle.lg_rules.specs.Meaning.Rows.{name_cmp, put_row, row_at, Rises};
 ghost use Rattle.arrayvec.specs.ArrayVec.{array_vec_len};
-ghost use Rattle.lg_rules.specs.Meaning.Table.{heard, hearing_of, is_failed, known_of, live_in, standing_hearing, takes};
+ghost use Rattle.lg_rules.specs.Meaning.Table.{heard, hearing_of, is_failed, known_of, live_in, standing_hearing};
 
 use crate::claim::{Claim, Record, Status};
 use crate::name::Name;
@@ -16,6 +16,9 @@ use std::marker::Model;
 
 /// The most members that are known beside oneself: 255 (this project's choice).
 pub const MAX_OTHERS: usize = 255;
+
+/// The most members that are known, oneself included: 256.
+pub const MAX_MEMBERS: usize = MAX_OTHERS + 1;
 
 /// What hearing a claim about another member did.
 #[derive(Clone, Copy, Debug, PartialEq, Eq)]
@@ -111,7 +114,7 @@ fn hear_in(records: &mut ArrayVec<Record, MAX_OTHERS>, claim: &Claim) -> Heard
 
 /// How many members haven't failed, oneself included.
 fn count_live(records: &[Record]) -> usize
-    requires { length records.now ≤ 255 }
+    requires { length records.now ≤ MAX_OTHERS }
     ensures { result ≡ live_in records.now }
 {
     1 + records
@@ -151,7 +154,7 @@ impl Members {
     /// The records of the others, in the order of their names.
     pub fn records(&self) -> &[Record]
         ensures records { result.now ≡ self.now.table }
-        ensures few { length result.now ≤ 255 }
+        ensures few { length result.now ≤ MAX_OTHERS }
         ensures rises { Rises name_cmp (map name_of result.now) }
     {
         self.records.as_slice()
@@ -174,7 +177,7 @@ impl Members {
     /// How many members haven't failed, oneself included: 1 to 256.
     pub fn live(&self) -> usize
         ensures count { result ≡ live_in self.now.table }
-        ensures few { result ≤ 256 }
+        ensures few { result ≤ MAX_MEMBERS }
     {
         count_live(self.records.as_slice())
     }

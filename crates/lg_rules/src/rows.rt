@@ -3,7 +3,8 @@ ghost use Rattle.std.specs.Prelude.{◌≡◌, ◌<◌, ℕ, List, None, MatchRe
 ghost use Rattle.std.specs.List.{prefix_len};
 ghost use Rattle.std.specs.Ordering.{is_lt};
 ghost use Rattle.arrayvec.specs.ArrayVec.{array_vec_len};
-ghost use Rattle.lg_rules.specs.Meaning.Rows.{name_cmp, put_row, row_at, HasRow, LacksRow, Rises};
+ghost use Rattle.lg_rules.specs.Meaning.Rows.{name_cmp, put_row, row_at, Rises};
+ghost use Rattle.lg_rules.specs.Support.Places.{HasRow, LacksRow};
 
 use crate::name::Name;
 use arrayvec::ArrayVec;

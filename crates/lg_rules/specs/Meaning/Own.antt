@@ -6,6 +6,7 @@ use Rattle.lg_rules.specs.declared.claim.Status.{Status}
 use Rattle.lg_rules.specs.declared.claim.Status.TheVariants.{Alive, Suspect, Failed}
 use Rattle.lg_rules.specs.declared.own.OwnHeard.{OwnHeard}
 use Rattle.lg_rules.specs.declared.own.OwnHeard.TheVariants.{Refuted, Raised, Ousted, Ignored}
+use Rattle.lg_rules.specs.Meaning.Bounds.{greatest_incarnation}
 use Rattle.lg_rules.specs.Meaning.Rows.{name_cmp, is_same}
 use Rattle.lg_rules.specs.Meaning.Table.{about}
 
@@ -20,9 +21,9 @@ pub record Oneself : Type 0 where
 --     Suspect    where i >= number: refuted by i + 1 (SWIM, section 4.2)
 --     Alive      where i > number: the own number is raised to i + 1 (this project's choice)
 --     Failed     oneself is ousted (this project's choice)
--- and where i is 1,000,000,000, the greatest incarnation, the first two oust oneself. Nothing else does anything.
+-- and where i is the greatest incarnation, the first two oust oneself. Nothing else does anything.
 abbrev pub beyond : ℕ → OwnHeard → OwnHeard
-beyond i hearing = if nat_lt i 1000000000 then hearing else Ousted
+beyond i hearing = if nat_lt i greatest_incarnation then hearing else Ousted
 
 abbrev pub own_hearing_at : Status → ℕ → ℕ → OwnHeard
 own_hearing_at Alive i number = if nat_lt number i then beyond i Raised else Ignored

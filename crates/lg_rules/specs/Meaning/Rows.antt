@@ -1,5 +1,5 @@
 -- Rows in rising order of their keys, for any order of keys.
-use Rattle.std.specs.Prelude.{ℕ, ⊤, ◌≡◌, ◌<◌, ◌≤◌, Bool, not, List, [], ◌∷◌, length, filter, insert, slice_index_or, slice_set, Option, Some, None, if◌then◌else◌}
+use Rattle.std.specs.Prelude.{ℕ, ⊤, ◌≡◌, Bool, not, List, [], ◌∷◌, filter, Option, Some, None, if◌then◌else◌}
 use Rattle.std.specs.List.{list_any}
 use Rattle.std.specs.declared.cmp.Ordering.{Ordering}
 use Rattle.std.specs.declared.cmp.Ordering.TheVariants.{Less, Equal, Greater}
@@ -61,16 +61,3 @@ module _ {K : Type 0} (cmp : K → K → Ordering) where
   abbrev pub distinct : List K → List K
   distinct [] = []
   distinct (n ∷ past) = if is_among n past then distinct past else n ∷ distinct past
-
-  -- The row with a key stands at a place: a write there puts a row in its stead.
-  pub record HasRow {R : Type 0} (key : R → K) (n : K) (rows : List R) (at : ℕ) : Type 0 where
-    pub within : at < length rows
-    pub named : (d : R) → key (slice_index_or rows at d) ≡ n
-    pub found : (d : R) → row_at key n rows ≡ Some (slice_index_or rows at d)
-    pub set : (r : R) → key r ≡ n → slice_set rows at r ≡ put_row key r rows
-
-  -- No row has a key: one that has it would be put at this place.
-  pub record LacksRow {R : Type 0} (key : R → K) (n : K) (rows : List R) (at : ℕ) : Type 0 where
-    pub within : at ≤ length rows
-    pub missing : row_at key n rows ≡ None
-    pub insert : (r : R) → key r ≡ n → insert rows at r ≡ put_row key r rows

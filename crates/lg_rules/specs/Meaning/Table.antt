@@ -7,6 +7,7 @@ use Rattle.lg_rules.specs.declared.claim.Status.TheVariants.{Alive, Suspect, Fai
 use Rattle.lg_rules.specs.declared.members.Heard.{Heard}
 use Rattle.lg_rules.specs.declared.members.Heard.TheVariants.{Overrode, Accused, Same, Ignored, NoRoom}
 use Rattle.lg_rules.specs.Meaning.Beats.{beats_of}
+use Rattle.lg_rules.specs.Meaning.Bounds.{most_others}
 use Rattle.lg_rules.specs.Meaning.Claim.{name_of}
 use Rattle.lg_rules.specs.Meaning.Past.{earliest_unbeaten, oldest}
 use Rattle.lg_rules.specs.Meaning.Rows.{name_cmp, is_same, put_row, row_at, in_order, distinct}
@@ -26,9 +27,10 @@ record_of past m = earliest_unbeaten beats_of (about m past)
 abbrev pub names_said : List ℕ → List Claim → List (List ℕ)
 names_said own past = map name_of (about_others own past)
 
--- The others that are known: the first 255 names, in their order. With the own name that makes 256 (this project's choice).
+-- The others that are known: the first names that were said, as many as there is room for, in their order (this
+-- project's choice).
 unfoldable pub roster : List ℕ → List Claim → List (List ℕ)
-roster own past = in_order name_cmp (oldest 255 (distinct name_cmp (names_said own past)))
+roster own past = in_order name_cmp (oldest most_others (distinct name_cmp (names_said own past)))
 
 -- their records, in the order of their names
 unfoldable pub table_of : List ℕ → List Claim → List Claim
@@ -44,7 +46,7 @@ known_of own past = record { own = own; table = table_of own past }
 
 -- whether a claim about another is taken: it overrides the record, or there is none and there is room for one
 abbrev pub takes_over : ℕ → Claim → Option Claim → Bool
-takes_over known c None = nat_lt known 255
+takes_over known c None = nat_lt known most_others
 takes_over known c (Some r) = beats_of c r
 
 unfoldable pub takes : List Claim → Claim → Bool

@@ -1,17 +1,18 @@
--- A name in a row of 32 bytes.
+-- A name in an array of fixed length.
 use Rattle.std.specs.Prelude.{◌≡◌, ℕ, ◌-◌, ◌≤◌, IsTrue, List, ◌++◌, length, take, replicate}
 use Rattle.std.proofs.Common.{arith, length-take-le}
+use Rattle.lg_rules.specs.declared.name.TheConstants.{MAX_NAME}
 use Rattle.lg_rules.specs.Meaning.Name.{is_name}
 use Rattle.lg_rules.specs.declared.name.Name.TheInside.{Inside}
 
 -- a text with zeros behind it
 abbrev pub padded : List ℕ → List ℕ
-padded text = text ++ replicate (32 - length text) 0
+padded text = text ++ replicate (MAX_NAME - length text) 0
 
 -- a row holds a name of this length, and zeros behind it
 pub record HoldsName (row : List ℕ) (len : ℕ) : Type 0 where
-  pub whole : length row ≡ 32
-  pub within : len ≤ 32
+  pub whole : length row ≡ MAX_NAME
+  pub within : len ≤ MAX_NAME
   pub zeros : padded (take len row) ≡ row
   pub named : IsTrue (is_name (take len row))
 

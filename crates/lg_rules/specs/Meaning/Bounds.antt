@@ -1,0 +1,21 @@
+-- The bounds of this project; each is its choice.
+use Rattle.std.specs.Prelude.{ℕ, ◌+◌}
+
+-- the most bytes of a name
+abbrev pub most_name_bytes : ℕ
+most_name_bytes = 32
+
+-- the greatest incarnation
+abbrev pub greatest_incarnation : ℕ
+greatest_incarnation = 1000000000
+
+-- the most members that are known beside oneself, and with oneself
+abbrev pub most_others : ℕ
+most_others = 255
+
+abbrev pub most_members : ℕ
+most_members = most_others + 1
+
+-- the most claims of a packet
+abbrev pub most_claims : ℕ
+most_claims = 6
