@@ -1,5 +1,6 @@
 -- What a name is, and what is wrong with bytes that are none (this project's choice).
-use Rattle.std.specs.Prelude.{ℕ, Bool, ◌&&◌, ◌||◌, not, List, length, nat_le, nat_lt, ◌==◌, Option, Some, None, Result, Ok, Err, find, if◌then◌else◌}
+use Rattle.std.specs.Prelude.{ℕ, Bool, ◌&&◌, ◌||◌, not, List, length, nat_le, nat_lt, ◌==◌, find, if◌then◌else◌}
+use Rattle.std.specs.Prelude.{Option, Some, None, Result, Ok, Err}
 use Rattle.std.specs.List.{list_all}
 use Rattle.lg_rules.specs.declared.name.NameFault.{NameFault}
 use Rattle.lg_rules.specs.declared.name.NameFault.TheVariants.{Empty, TooLong, BadByte}
@@ -8,9 +9,10 @@ use Rattle.lg_rules.specs.Meaning.Bounds.{most_name_bytes}
 -- a letter, a digit, or one of . _ -
 abbrev pub is_name_byte : ℕ → Bool
 is_name_byte b =
-    (nat_le 65 b && nat_le b 90) || ((nat_le 97 b && nat_le b 122) || ((nat_le 48 b && nat_le b 57) || (b == 46 || (b == 95 || b == 45))))
+    (nat_le 65 b && nat_le b 90)
+    || ((nat_le 97 b && nat_le b 122) || ((nat_le 48 b && nat_le b 57) || (b == 46 || (b == 95 || b == 45))))
 
--- 1 to the most of them
+-- 1 to 32 of them
 abbrev pub is_name : List ℕ → Bool
 is_name text = nat_le 1 (length text) && (nat_le (length text) most_name_bytes && list_all is_name_byte text)
 

@@ -1,5 +1,6 @@
 -- What stands for a member: its own record among those of the others, and what claims change of it.
-use Rattle.std.specs.Prelude.{ℕ, Bool, true, false, ◌&&◌, ◌==◌, not, List, [], ◌∷◌, filter, nat_eq, Option, Some, None, if◌then◌else◌}
+use Rattle.std.specs.Prelude.{ℕ, Bool, true, false, ◌&&◌, ◌==◌, not, nat_eq, if◌then◌else◌}
+use Rattle.std.specs.Prelude.{List, [], ◌∷◌, filter, Option, Some, None}
 use Rattle.std.specs.Cmp.Lexicographic.{pointwise}
 use Rattle.lg_rules.specs.declared.addr.Addr.{Addr}
 use Rattle.lg_rules.specs.declared.claim.Claim.{Claim}
@@ -29,7 +30,10 @@ view m = view_of (own_record m.own) m.table
 
 -- what stands once a claim about anyone is heard
 unfoldable pub hear_claim : Standing → Claim → Standing
-hear_claim m c = if is_same name_cmp c.name m.own.name then record m { own = own_heard m.own c } else record m { table = heard m.table c }
+hear_claim m c =
+    if is_same name_cmp c.name m.own.name
+    then record m { own = own_heard m.own c }
+    else record m { table = heard m.table c }
 
 -- whether it changes a record: it raises the own number, or is taken
 abbrev pub is_rise : OwnHeard → Bool
@@ -48,7 +52,9 @@ hear_claims m (c ∷ cs) = hear_claims (hear_claim m c) cs
 
 abbrev pub changed_names : Standing → List Claim → List (List ℕ)
 changed_names m [] = []
-changed_names m (c ∷ cs) = if changes_record m c then c.name ∷ changed_names (hear_claim m c) cs else changed_names (hear_claim m c) cs
+changed_names m (c ∷ cs) =
+    let rest = changed_names (hear_claim m c) cs in
+    if changes_record m c then c.name ∷ rest else rest
 
 -- whether two claims are one
 abbrev pub is_same_status : Status → Status → Bool
@@ -66,7 +72,9 @@ abbrev pub is_same_addr : Addr → Addr → Bool
 is_same_addr a b = pointwise nat_eq a.octets b.octets && a.port == b.port
 
 abbrev pub is_same_claim : Claim → Claim → Bool
-is_same_claim c d = is_same name_cmp c.name d.name && (is_same_addr c.addr d.addr && (is_same_status c.status d.status && c.incarnation == d.incarnation))
+is_same_claim c d =
+    is_same name_cmp c.name d.name
+    && (is_same_addr c.addr d.addr && (is_same_status c.status d.status && c.incarnation == d.incarnation))
 
 abbrev pub is_row : Claim → Option Claim → Bool
 is_row r None = false

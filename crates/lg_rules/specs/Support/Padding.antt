@@ -1,6 +1,6 @@
 -- A name in an array of fixed length.
 use Rattle.std.specs.Prelude.{◌≡◌, ℕ, ◌-◌, ◌≤◌, IsTrue, List, ◌++◌, length, take, replicate}
-use Rattle.std.proofs.Common.{arith, length-take-le}
+use Rattle.std.proofs.Common.{length-take-le, subst, sym}
 use Rattle.lg_rules.specs.declared.name.TheConstants.{MAX_NAME}
 use Rattle.lg_rules.specs.Meaning.Name.{is_name}
 use Rattle.lg_rules.specs.declared.name.Name.TheInside.{Inside}
@@ -17,6 +17,8 @@ pub record HoldsName (row : List ℕ) (len : ℕ) : Type 0 where
   pub named : IsTrue (is_name (take len row))
 
 -- so the name gives the row back
-pub unpadded : (fields : Inside) → HoldsName fields.bytes fields.len → ◌≡◌ {A = Inside} record { bytes = padded (take fields.len fields.bytes); len = length (take fields.len fields.bytes) } fields
+pub unpadded : (fields : Inside) → HoldsName fields.bytes fields.len
+    → (let text = take fields.len fields.bytes in ◌≡◌ {A = Inside} record { bytes = padded text; len = length text } fields)
 unpadded fields holds =
-    λ i. record { bytes = holds.zeros i; len = length-take-le fields.len fields.bytes (omega (arith, holds.whole, holds.within)) i }
+    let whole = length-take-le fields.len fields.bytes (subst (λ n. fields.len ≤ n) (sym holds.whole) holds.within) in
+    λ i. record { bytes = holds.zeros i; len = whole i }
