@@ -1,18 +1,19 @@
--- What a checked configuration keeps.
+-- What holds of a checked configuration.
 use Rattle.std.proofs.Common.{◌≡◌, ℕ, ◌-◌, ◌≤◌, Bool, true, false, not, leb, List, [], ◌∷◌, length, Ok, Err, refl, arith}
 use Rattle.std.specs.List.{list_all}
 use Rattle.std.proofs.lemmas.Bool.{leb-true}
 use Rattle.lg_rules.proofs.Tests.{both}
 use Rattle.lg_timing.specs.declared.config.Config.{Config}
 use Rattle.lg_timing.specs.declared.config.ConfigFault.{ConfigFault}
-use Rattle.lg_timing.specs.Meaning.Config.{is_within, is_seed, rules_of, first_broken, unless_broken, check_of, IsChecked, HasRanges}
+use Rattle.lg_timing.specs.Meaning.Config.{is_within, is_seed, rules_of, first_broken, unless_broken, check_of, IsChecked}
+use Rattle.lg_timing.specs.Support.Ranges.{HasRanges}
 
--- where no rule is broken, each is kept
-pub all_kept : (rules : List (Bool × ConfigFault)) → unless_broken (first_broken rules) ≡ Ok tt → list_all (λ rule. rule.0) rules ≡ true
-all_kept [] e = refl
-all_kept (rule ∷ rules) e = step rule.0 refl (all_kept rules)
+-- where no rule is broken, each holds
+pub all_hold : (rules : List (Bool × ConfigFault)) → unless_broken (first_broken rules) ≡ Ok tt → list_all (λ rule. rule.0) rules ≡ true
+all_hold [] e = refl
+all_hold (rule ∷ rules) e = step rule.0 refl (all_hold rules)
   where
-    step : (kept : Bool) → rule.0 ≡ kept → (unless_broken (first_broken rules) ≡ Ok tt → list_all (λ r. r.0) rules ≡ true) → list_all (λ r. r.0) (rule ∷ rules) ≡ true
+    step : (held : Bool) → rule.0 ≡ held → (unless_broken (first_broken rules) ≡ Ok tt → list_all (λ r. r.0) rules ≡ true) → list_all (λ r. r.0) (rule ∷ rules) ≡ true
     step true k rest = rw k (rest (rw k at e))
     step false k rest = let bad : Err rule.1 ≡ Ok tt = rw k at e in absurd cc
 
@@ -33,7 +34,7 @@ not_true false e = refl
 pub ranges : (c : Config) → IsChecked c → HasRanges c
 unfolding check_of
 ranges c e =
-    let r1 = both _ _ (all_kept (rules_of c) e) in
+    let r1 = both _ _ (all_hold (rules_of c) e) in
     let r2 = both _ _ r1.1 in
     let r3 = both _ _ r2.1 in
     let r4 = both _ _ r3.1 in

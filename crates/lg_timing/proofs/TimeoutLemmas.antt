@@ -5,10 +5,11 @@ use Rattle.std.proofs.lemmas.Bool.Decides.{nat_tests}
 use Rattle.lg_timing.proofs.ConfigLemmas.{ranges}
 use Rattle.lg_timing.proofs.TableLemmas.{log10_most}
 use Rattle.lg_timing.specs.declared.config.Config.{Config}
-use Rattle.lg_timing.specs.Meaning.Config.{IsChecked, HasRanges}
+use Rattle.lg_timing.specs.Meaning.Config.{IsChecked}
 use Rattle.lg_timing.specs.Meaning.Tables.{log10_of}
-use Rattle.lg_timing.specs.Meaning.TimeoutRange.{HasTimeouts}
 use Rattle.lg_timing.specs.Meaning.Timeouts.{confirmations_of, range_of}
+use Rattle.lg_timing.specs.Support.Ranges.{HasRanges}
+use Rattle.lg_timing.specs.Support.Timeouts.{HasTimeouts}
 
 -- a time scaled by a health score
 pub scaled_within : (time score : ℕ) → time ≤ 60000 → score ≤ 20 → time * (score + 1) ≤ 1260000

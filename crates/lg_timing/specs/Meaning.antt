@@ -1,4 +1,5 @@
 -- What is right: whoever wants to believe the contracts reads these.
+pub mod Bounds
 pub mod Config
 pub mod Examples
 pub mod Score

@@ -1,14 +1,15 @@
 //! The configuration of a member.
-ghost use Rattle.std.specs.Prelude.{◌≡◌, []};
-ghost use Rattle.lg_timing.specs.Meaning.Config.{is_within, is_seed, have_distinct_names, are_good_seeds, first_broken};
+ghost use Rattle.std.specs.Prelude.{◌≡◌};
+ghost use Rattle.lg_timing.specs.Meaning.Config.{is_within, is_seed, have_distinct_names, are_good_seeds};
+ghost use Rattle.lg_timing.specs.Meaning.Config.{first_broken};
 
 use arrayvec::ArrayVec;
 use lg_rules::{Addr, Name};
 
-/// The shortest protocol period, in milliseconds: 10 (this project's choice).
+/// The shortest interval between probes, in milliseconds: 10 (this project's choice).
 pub const MIN_INTERVAL_MS: u64 = 10;
 
-/// The longest protocol period, in milliseconds: 60,000 (this project's choice).
+/// The longest interval between probes, in milliseconds: 60,000 (this project's choice).
 pub const MAX_INTERVAL_MS: u64 = 60_000;
 
 /// The most helpers that are asked to ping a member: 8 (this project's choice).
@@ -53,7 +54,7 @@ pub struct Seed {
 /// What is wrong with a configuration: a field that is out of its range.
 #[derive(Clone, Copy, Debug, PartialEq, Eq)]
 pub enum ConfigFault {
-    /// `interval_ms` isn't 10 to 60000.
+    /// `interval_ms` isn't 10 to 60,000.
     Interval = 1,
     /// `timeout_ms` isn't 1 to `interval_ms - 1`.
     Timeout = 2,
@@ -81,7 +82,8 @@ pub enum ConfigFault {
 /// numbers. The ranges and the defaults are this project's choice.
 #[derive(Debug, Drop)]
 pub struct Config {
-    /// The protocol period at a health score of 0, in milliseconds: 10 to 60000 (SWIM, section 3.1).
+    /// From one probe to the next at a health score of 0, in milliseconds: 10 to 60,000 (SWIM,
+    /// section 3.1, whose protocol period it is).
     pub interval_ms: u64,
     /// How long a probe waits for its ack before helpers are asked, at a health score of 0, in
     /// milliseconds: 1 to `interval_ms - 1` (SWIM, section 3.1).
@@ -114,7 +116,7 @@ pub struct Config {
 }
 
 /// Whether a number lies between two others, which count.
-fn is_within(least: u64, most: u64, number: u64) -> bool
+pub fn is_within(least: u64, most: u64, number: u64) -> bool
     ensures { result ≡ is_within least most number }
 {
     least <= number && number <= most
@@ -144,7 +146,7 @@ fn are_good_seeds(own: &Name, seeds: &[Seed]) -> bool
     seeds.len() <= MAX_SEEDS && have_distinct_names(seeds) && !is_seed(own, seeds)
 }
 
-/// The first rule that isn't kept.
+/// The first rule that is broken.
 fn first_broken(rules: &[(bool, ConfigFault)]) -> Option<(bool, ConfigFault)>
     ensures { result ≡ first_broken rules.now }
 {
@@ -152,27 +154,12 @@ fn first_broken(rules: &[(bool, ConfigFault)]) -> Option<(bool, ConfigFault)>
 }
 
 impl Config {
-    ghost use Rattle.std.specs.Prelude.{◌≡◌, []};
-    ghost use Rattle.lg_timing.specs.Meaning.Config.{check_of, IsChecked};
+    ghost use Rattle.lg_timing.specs.Meaning.Config.{defaults, check_of, IsChecked};
 
     /// The configuration of a member with the default numbers and no seed. It passes its check.
     #[tactic(auto, unfolding(crate::specs::Meaning::Config::check_of))]
     pub fn new(name: Name, addr: Addr) -> Config
-        ensures defaults { result ≡ record {
-          interval_ms = 1000;
-          timeout_ms = 500;
-          indirect = 3;
-          max_score = 8;
-          alpha = 5;
-          beta = 6;
-          confirmations = 3;
-          lambda = 4;
-          nack_thousandths = 800;
-          history_limit = 20000;
-          seeds = record { items = [] };
-          name = name;
-          addr = addr;
-        } }
+        ensures defaults { result ≡ defaults name addr }
         ensures checked { IsChecked result }
     {
         Config {

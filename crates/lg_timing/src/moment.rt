@@ -9,7 +9,7 @@ use std::marker::Model;
 /// The last moment: 1,000,000,000,000,000 milliseconds (this project's choice).
 pub const MAX_MOMENT: u64 = 1_000_000_000_000_000;
 
-/// A moment, in whole milliseconds from 0 to 1,000,000,000,000,000. Who hands it in says from when it
+/// A moment, in whole milliseconds from 0 to [`MAX_MOMENT`]. Who hands it in says from when it
 /// is counted.
 ///
 /// A contract sees it as its number of milliseconds. The default is 0.
@@ -20,12 +20,13 @@ pub struct Moment {
 
 impl Model for Moment {
     ghost use Rattle.std.specs.Prelude.{ℕ, ◌≤◌};
+    ghost use Rattle.lg_timing.specs.declared.moment.TheConstants.{MAX_MOMENT};
 
     ghost Value = { ℕ };
 
     ghost view = { λ m. m.milliseconds };
 
-    ghost invariant = { λ m. m.milliseconds ≤ 1000000000000000 };
+    ghost invariant = { λ m. m.milliseconds ≤ MAX_MOMENT };
 
     ghost inverse = { λ n. record { milliseconds = n } };
 }
@@ -109,9 +110,9 @@ impl Ord for Moment {
 }
 
 impl Moment {
-    /// The moment with a number of milliseconds, where that is at most 1,000,000,000,000,000.
+    /// The moment with a number of milliseconds, where that is at most [`MAX_MOMENT`].
     pub fn new(milliseconds: u64) -> Option<Moment>
-        ensures { SomeIff result (milliseconds ≤ 1000000000000000) milliseconds }
+        ensures { SomeIff result (milliseconds ≤ MAX_MOMENT) milliseconds }
     {
         if milliseconds <= MAX_MOMENT {
             Some(Moment { milliseconds })
@@ -120,10 +121,10 @@ impl Moment {
         }
     }
 
-    /// The number of milliseconds, 0 to 1,000,000,000,000,000.
+    /// The number of milliseconds, 0 to [`MAX_MOMENT`].
     pub fn milliseconds(&self) -> u64
         ensures milliseconds { result ≡ self.now }
-        ensures within { self.now ≤ 1000000000000000 }
+        ensures within { self.now ≤ MAX_MOMENT }
     {
         self.milliseconds
     }

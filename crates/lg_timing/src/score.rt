@@ -3,9 +3,13 @@ ghost use Rattle.std.specs.Prelude.{◌≡◌, ◌≢◌, ◌≤◌, ℤ, pos, n
 ghost use Rattle.lg_timing.specs.Meaning.Config.{IsChecked};
 ghost use Rattle.lg_timing.specs.Meaning.Score.{score_of, marked};
 
-use crate::config::Config;
+use crate::config::{Config, MAX_INTERVAL_MS, MAX_SCORE};
 use std::alloc::AllocError;
 use std::marker::Model;
+
+/// The longest interval or timeout of a probe at any health score, in milliseconds: 1,260,000, the
+/// longest interval at the greatest score.
+pub const MAX_SCALED_MS: u64 = MAX_INTERVAL_MS * (MAX_SCORE + 1);
 
 /// The health score of a member: the sum of the marks that it earned, held between 0 and a greatest
 /// score at every mark (Lifeguard, local health aware probe).
@@ -19,13 +23,14 @@ pub struct Score {
 
 impl Model for Score {
     ghost use Rattle.std.specs.Prelude.{◌≤◌};
+    ghost use Rattle.lg_timing.specs.declared.config.TheConstants.{MAX_SCORE};
     ghost use Rattle.lg_timing.specs.Meaning.Score.{ScoreValue};
 
     ghost Value = { ScoreValue };
 
     ghost view = { λ s. record { value = s.value; max = s.max } };
 
-    ghost invariant = { λ s. (s.value ≤ s.max) × (s.max ≤ 20) };
+    ghost invariant = { λ s. (s.value ≤ s.max) × (s.max ≤ MAX_SCORE) };
 
     ghost inverse = { λ s. record { value = s.value; max = s.max } };
 }
@@ -45,9 +50,9 @@ impl Clone for Score {
 impl Copy for Score {}
 
 impl Score {
-    /// The score 0, which is at most `max` from then on; `max` is 0 to 20.
+    /// The score 0, which is at most `max` from then on; `max` is 0 to [`MAX_SCORE`].
     pub fn new(max: u64) -> Score
-        requires { max ≤ 20 }
+        requires { max ≤ MAX_SCORE }
         ensures { result ≡ record { value = 0; max = max } }
     {
         Score { value: 0, max }
@@ -76,27 +81,27 @@ impl Score {
     pub fn value(&self) -> u64
         ensures value { result ≡ self.now.value }
         ensures held { self.now.value ≤ self.now.max }
-        ensures within { self.now.max ≤ 20 }
+        ensures within { self.now.max ≤ MAX_SCORE }
     {
         self.value
     }
 
-    /// The protocol period at this score, in milliseconds: `interval_ms` times one more than the score,
-    /// at most 1,260,000.
+    /// The scaled interval, in milliseconds: `interval_ms` times one more than the score, at most
+    /// [`MAX_SCALED_MS`].
     pub fn interval(&self, config: &Config) -> u64
         requires { IsChecked config.now }
         ensures scaled { result ≡ config.now.interval_ms * (self.now.value + 1) }
-        ensures within { result ≤ 1260000 }
+        ensures within { result ≤ MAX_SCALED_MS }
     {
         config.interval_ms * (self.value + 1)
     }
 
-    /// How long a probe waits for its ack at this score, in milliseconds: `timeout_ms` times one more
-    /// than the score, at most 1,260,000.
+    /// The scaled timeout, which is how long a probe waits for its ack at this score, in milliseconds:
+    /// `timeout_ms` times one more than the score, at most [`MAX_SCALED_MS`].
     pub fn timeout(&self, config: &Config) -> u64
         requires { IsChecked config.now }
         ensures scaled { result ≡ config.now.timeout_ms * (self.now.value + 1) }
-        ensures within { result ≤ 1260000 }
+        ensures within { result ≤ MAX_SCALED_MS }
     {
         config.timeout_ms * (self.value + 1)
     }

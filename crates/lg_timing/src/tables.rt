@@ -2,6 +2,12 @@
 ghost use Rattle.std.specs.Prelude.{◌≡◌, ℕ, ◌+◌, ◌≤◌};
 ghost use Rattle.lg_timing.specs.Meaning.Tables.{IsLog, range_end, log10_of, ratio_of};
 
+use crate::config::MAX_CONFIRMATIONS;
+
+/// The most members that haven't failed, oneself among them: 256, as many as a table has at most
+/// (this project's choice).
+pub const MAX_LIVE: u64 = 256;
+
 // A row for each number of confirmations in all, a column for each number of those that came.
 const RATIOS: [[u64; 6]; 6] = [
     [1000, 0, 0, 0, 0, 0],
@@ -12,16 +18,16 @@ const RATIOS: [[u64; 6]; 6] = [
     [0, 386, 613, 773, 898, 1000],
 ];
 
-/// The base-ten logarithm that counts for `members` members, 1 to 256, in thousandths rounded down:
-/// that of the greatest number in the same one of the ranges up to 10, 16, 32, 64, 128 and 256 (the
-/// ranges are this project's choice).
+/// The base-ten logarithm that counts for `live` members that haven't failed, 1 to [`MAX_LIVE`], in
+/// thousandths rounded down: that of the greatest number in the same one of the ranges up to 10, 16, 32,
+/// 64, 128 and 256 (the ranges are this project's choice).
 #[tactic(auto, unfolding(crate::specs::Meaning::Tables::log10_of))]
-pub fn log10_thousandths(members: u64) -> u64
-    requires some { 1 ≤ members }
-    requires within { members ≤ 256 }
-    ensures { result ≡ log10_of members }
+pub fn log10_thousandths(live: u64) -> u64
+    requires some { 1 ≤ live }
+    requires within { live ≤ MAX_LIVE }
+    ensures { result ≡ log10_of live }
 {
-    match members {
+    match live {
         0..=10 => 1000,
         11..=16 => 1204,
         17..=32 => 1505,
@@ -32,12 +38,12 @@ pub fn log10_thousandths(members: u64) -> u64
 }
 
 /// The quotient log(c + 1) / log(k + 1) in thousandths rounded down, for `c` of `k` confirmations, c at
-/// most k and k at most 5 (Lifeguard, local health aware suspicion). For k = 0 it is 1000 (this
+/// most k and k at most [`MAX_CONFIRMATIONS`] (Lifeguard, local health aware suspicion). For k = 0 it is 1000 (this
 /// project's choice).
 #[tactic(auto, unfolding(crate::specs::Meaning::Tables::ratio_of))]
 pub fn ratio(k: u64, c: u64) -> u64
     requires came { c ≤ k }
-    requires within { k ≤ 5 }
+    requires within { k ≤ MAX_CONFIRMATIONS }
     ensures quotient { result ≡ ratio_of k c }
     ensures within_one { result ≤ 1000 }
 {
@@ -47,8 +53,8 @@ pub fn ratio(k: u64, c: u64) -> u64
 /// The tables are what they say: each entry, taken to its base, is the greatest that doesn't pass the
 /// power that it stands for.
 pub fn tables_are_logarithms()
-    ensures logarithms { (members : ℕ) → IsLog 10 (range_end members) (log10_of members) }
-    ensures quotients { (k c : ℕ) → 1 ≤ k → k ≤ 5 → c ≤ k → IsLog (k + 1) (c + 1) (ratio_of k c) }
+    ensures logarithms { (live : ℕ) → IsLog 10 (range_end live) (log10_of live) }
+    ensures quotients { (k c : ℕ) → 1 ≤ k → k ≤ MAX_CONFIRMATIONS → c ≤ k → IsLog (k + 1) (c + 1) (ratio_of k c) }
     ensures none { ratio_of 0 0 ≡ 1000 }
 {}
 

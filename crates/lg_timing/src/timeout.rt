@@ -3,10 +3,14 @@ ghost use Rattle.std.specs.Prelude.{◌≡◌, ◌≤◌};
 ghost use Rattle.lg_timing.specs.Meaning.Config.{IsChecked};
 ghost use Rattle.lg_timing.specs.Meaning.Timeouts.{confirmations_of, range_of, timeout_of, suspicion_of};
 
-use crate::config::Config;
-use crate::tables::{log10_thousandths, ratio};
+use crate::config::{Config, MAX_CONFIRMATIONS};
+use crate::tables::{MAX_LIVE, log10_thousandths, ratio};
 use std::alloc::AllocError;
 use std::marker::Model;
+
+/// The longest timeout of a suspicion, in milliseconds: 57,792,000, by the greatest factors, the longest
+/// interval and the greatest logarithm.
+pub const MAX_SUSPICION_MS: u64 = 57_792_000;
 
 /// The timeouts of one suspicion: from a greatest one with no confirmation down to a least one once
 /// all the confirmations that count have come (Lifeguard, local health aware suspicion).
@@ -21,8 +25,8 @@ pub struct SuspicionTimeout {
 }
 
 impl Model for SuspicionTimeout {
-    ghost use Rattle.std.specs.Prelude.{◌≤◌};
-    ghost use Rattle.lg_timing.specs.Meaning.TimeoutRange.{TimeoutRange, HasTimeouts};
+    ghost use Rattle.lg_timing.specs.Meaning.TimeoutRange.{TimeoutRange};
+    ghost use Rattle.lg_timing.specs.Support.Timeouts.{HasTimeouts};
 
     ghost Value = { TimeoutRange };
 
@@ -61,13 +65,13 @@ impl Default for SuspicionTimeout {
     }
 }
 
-/// The confirmations that count for a suspicion raised among `members` members: those of the
-/// configuration, or 0 where there are fewer members than two more than these (this project's choice).
-fn confirmations_among(members: u64, config: &Config) -> u64
+/// The confirmations that count for a suspicion raised among `live` members that haven't failed: those of
+/// the configuration, or 0 where there are fewer members than two more than these (this project's choice).
+fn confirmations_among(live: u64, config: &Config) -> u64
     requires { IsChecked config.now }
-    ensures { result ≡ confirmations_of members config.now }
+    ensures { result ≡ confirmations_of live config.now }
 {
-    if members < config.confirmations + 2 {
+    if live < config.confirmations + 2 {
         0
     } else {
         config.confirmations
@@ -75,18 +79,19 @@ fn confirmations_among(members: u64, config: &Config) -> u64
 }
 
 impl SuspicionTimeout {
-    /// The timeouts of a suspicion raised among `members` members, 1 to 256, of which oneself is one.
-    pub fn new(members: u64, config: &Config) -> SuspicionTimeout
+    /// The timeouts of a suspicion raised among `live` members that haven't failed, 1 to [`MAX_LIVE`], of
+    /// which oneself is one.
+    pub fn new(live: u64, config: &Config) -> SuspicionTimeout
         requires checked { IsChecked config.now }
-        requires some { 1 ≤ members }
-        requires within { members ≤ 256 }
-        ensures { result ≡ range_of members config.now }
+        requires some { 1 ≤ live }
+        requires within { live ≤ MAX_LIVE }
+        ensures { result ≡ range_of live config.now }
     {
-        let min_ms = config.alpha * log10_thousandths(members) * config.interval_ms / 1000;
+        let min_ms = config.alpha * log10_thousandths(live) * config.interval_ms / 1000;
         SuspicionTimeout {
             min_ms,
             max_ms: config.beta * min_ms,
-            confirmations: confirmations_among(members, config),
+            confirmations: confirmations_among(live, config),
         }
     }
 
@@ -97,61 +102,63 @@ impl SuspicionTimeout {
         self.min_ms
     }
 
-    /// The greatest timeout, in milliseconds: 10 to 57,792,000, or 0 by default.
+    /// The greatest timeout, in milliseconds: 10 to [`MAX_SUSPICION_MS`], or 0 by default.
     pub fn max_ms(&self) -> u64
         ensures { result ≡ self.now.max }
     {
         self.max_ms
     }
 
-    /// After how many confirmations the timeout is the least, 0 to 5.
+    /// After how many confirmations the timeout is the least, 0 to [`MAX_CONFIRMATIONS`].
     pub fn confirmations(&self) -> u64
         ensures confirmations { result ≡ self.now.confirmations }
-        ensures within { self.now.confirmations ≤ 5 }
+        ensures within { self.now.confirmations ≤ MAX_CONFIRMATIONS }
     {
         self.confirmations
     }
 
     /// The timeout after some confirmations, at most as many as count, in milliseconds: 10 to
-    /// 57,792,000, or 0 by default.
+    /// [`MAX_SUSPICION_MS`], or 0 by default.
     pub fn after(&self, confirmations: u64) -> u64
         requires { confirmations ≤ self.now.confirmations }
         ensures timeout { result ≡ timeout_of self.now confirmations }
-        ensures within { result ≤ 57792000 }
+        ensures within { result ≤ MAX_SUSPICION_MS }
     {
         let saved = (self.max_ms - self.min_ms) * ratio(self.confirmations, confirmations) / 1000;
         self.max_ms - saved
     }
 }
 
-/// The timeout of a suspicion raised among `members` members, 1 to 256, after some confirmations, at
-/// most as many as count among so many members, in milliseconds: 10 to 57,792,000.
-pub fn suspicion_ms(members: u64, confirmations: u64, config: &Config) -> u64
+/// The timeout of a suspicion raised among `live` members that haven't failed, 1 to [`MAX_LIVE`], after
+/// some confirmations, at most as many as count among so many, in milliseconds: 10 to
+/// [`MAX_SUSPICION_MS`].
+pub fn suspicion_ms(live: u64, confirmations: u64, config: &Config) -> u64
     requires checked { IsChecked config.now }
-    requires some { 1 ≤ members }
-    requires within { members ≤ 256 }
-    requires counted { confirmations ≤ confirmations_of members config.now }
-    ensures { result ≡ suspicion_of members confirmations config.now }
+    requires some { 1 ≤ live }
+    requires within { live ≤ MAX_LIVE }
+    requires counted { confirmations ≤ confirmations_of live config.now }
+    ensures { result ≡ suspicion_of live confirmations config.now }
 {
-    SuspicionTimeout::new(members, config).after(confirmations)
+    SuspicionTimeout::new(live, config).after(confirmations)
 }
 
 #[cfg(test)]
 mod tests {
     use super::{SuspicionTimeout, suspicion_ms};
-    use crate::config::Config;
+    use crate::config::{Config, MAX_CONFIRMATIONS, is_within};
+    use crate::tables::MAX_LIVE;
     use lg_rules::{Addr, Name};
 
     // The least and the greatest timeout among some members, and that after each number of
     // confirmations, from none up to all that count.
-    fn timeouts(members: u64, config: &Config) -> [Option<u64>; 8] {
+    fn timeouts(live: u64, config: &Config) -> [Option<u64>; 8] {
         let mut found = [None; 8];
-        if 1 <= members && members <= 256 && config.check().is_ok() {
-            let timeout = SuspicionTimeout::new(members, config);
+        if is_within(1, MAX_LIVE, live) && config.check().is_ok() {
+            let timeout = SuspicionTimeout::new(live, config);
             found[0] = Some(timeout.min_ms());
             found[1] = Some(timeout.max_ms());
             for confirmations in 0..=timeout.confirmations() {
-                if confirmations <= timeout.confirmations() && confirmations <= 5 {
+                if confirmations <= timeout.confirmations() && confirmations <= MAX_CONFIRMATIONS {
                     found[2 + confirmations as usize] = Some(timeout.after(confirmations));
                 }
             }
@@ -162,16 +169,16 @@ mod tests {
     #[test]
     fn the_timeouts_among_some_members(rt: HostRuntime) {
         let config = Config::new(Name::default(), Addr::default());
-        for (members, want) in [
+        for (live, want) in [
             (5, [5000, 30000, 30000, 17500, 10200, 5000]),
             (100, [10535, 63210, 63210, 36873, 21492, 10535]),
         ] {
-            let found = timeouts(members, &config);
+            let found = timeouts(live, &config);
             for (i, value) in want.iter().enumerate() {
                 assert_eq!(rt;
                     found.get(i).copied(),
                     Some(Some(*value)),
-                    "{members} members, {i}"
+                    "{live} members, {i}"
                 );
             }
             assert_eq!(rt; found[6], None);

@@ -1,6 +1,7 @@
 -- The definitions at worked values.
 use Rattle.std.specs.Prelude.{◌≡◌, ℕ, pos, negsuc, [], ◌∷◌, map, refl}
 use Rattle.lg_timing.specs.declared.config.Config.{Config}
+use Rattle.lg_timing.specs.Meaning.Config.{defaults}
 use Rattle.lg_timing.specs.Meaning.Score.{score_of}
 use Rattle.lg_timing.specs.Meaning.Tables.{log10_of, ratio_of}
 use Rattle.lg_timing.specs.Meaning.Timeouts.{range_of, timeout_of, suspicion_of}
@@ -8,24 +9,16 @@ use Rattle.lg_timing.specs.Meaning.Timeouts.{range_of, timeout_of, suspicion_of}
 -- the member b with the default numbers, but for these
 abbrev with_numbers : ℕ → ℕ → Config
 with_numbers interval confirmations =
-    record {
+    record (defaults (98 ∷ []) (record { octets = 127 ∷ 0 ∷ 0 ∷ 1 ∷ []; port = 7946 })) {
       interval_ms = interval;
       timeout_ms = 1;
-      indirect = 3;
-      max_score = 8;
-      alpha = 5;
-      beta = 6;
       confirmations = confirmations;
-      lambda = 4;
-      nack_thousandths = 800;
-      history_limit = 20000;
-      seeds = record { items = [] };
-      name = 98 ∷ [];
-      addr = record { octets = 127 ∷ 0 ∷ 0 ∷ 1 ∷ []; port = 7946 };
     }
 
 -- five members, three confirmations
-five_members : map (λ c. suspicion_of 5 c (with_numbers 1000 3)) (0 ∷ 1 ∷ 2 ∷ 3 ∷ []) ≡ 30000 ∷ 17500 ∷ 10200 ∷ 5000 ∷ []
+five_members :
+    map (λ c. suspicion_of 5 c (with_numbers 1000 3)) (0 ∷ 1 ∷ 2 ∷ 3 ∷ [])
+    ≡ 30000 ∷ 17500 ∷ 10200 ∷ 5000 ∷ []
 unfolding range_of timeout_of log10_of ratio_of
 five_members = refl
 
@@ -38,12 +31,16 @@ four_members_timeout : suspicion_of 4 0 (with_numbers 1000 3) ≡ 5000
 unfolding range_of timeout_of log10_of ratio_of
 four_members_timeout = refl
 
-hundred_members : map (λ c. suspicion_of 100 c (with_numbers 1000 3)) (0 ∷ 1 ∷ 2 ∷ 3 ∷ []) ≡ 63210 ∷ 36873 ∷ 21492 ∷ 10535 ∷ []
+hundred_members :
+    map (λ c. suspicion_of 100 c (with_numbers 1000 3)) (0 ∷ 1 ∷ 2 ∷ 3 ∷ [])
+    ≡ 63210 ∷ 36873 ∷ 21492 ∷ 10535 ∷ []
 unfolding range_of timeout_of log10_of ratio_of
 hundred_members = refl
 
 -- sixteen members, five confirmations, an interval of 200 ms
-sixteen_members : map (λ c. suspicion_of 16 c (with_numbers 200 5)) (0 ∷ 1 ∷ 2 ∷ 3 ∷ 4 ∷ 5 ∷ []) ≡ 7224 ∷ 4901 ∷ 3534 ∷ 2571 ∷ 1819 ∷ 1204 ∷ []
+sixteen_members :
+    map (λ c. suspicion_of 16 c (with_numbers 200 5)) (0 ∷ 1 ∷ 2 ∷ 3 ∷ 4 ∷ 5 ∷ [])
+    ≡ 7224 ∷ 4901 ∷ 3534 ∷ 2571 ∷ 1819 ∷ 1204 ∷ []
 unfolding range_of timeout_of log10_of ratio_of
 sixteen_members = refl
 

@@ -1,5 +1,6 @@
 -- The logarithms and the quotients of logarithms that suspicion timeouts use, in thousandths.
 use Rattle.std.specs.Prelude.{ℕ, ◌≤◌, ◌^◌, List, [], ◌∷◌, nat_le, if◌then◌else◌, slice_index, slice_index_or}
+use Rattle.lg_timing.specs.Meaning.Bounds.{most_live}
 
 -- the logarithm of a number to a base, in thousandths rounded down: the greatest t with
 -- base ^ (t / 1000) <= number, that is base ^ t <= number ^ 1000
@@ -7,15 +8,17 @@ pub record IsLog (base number t : ℕ) : Type 0 where
   pub reached : base ^ t ≤ number ^ 1000
   pub greatest : (s : ℕ) → base ^ s ≤ number ^ 1000 → s ≤ t
 
--- the greatest number of members of the range that n members are in (the ranges are this project's choice)
+-- the greatest number of the range that n live members are in (the ranges are this project's choice)
 abbrev pub range_end : ℕ → ℕ
 range_end n =
-    if nat_le n 10 then 10 else if nat_le n 16 then 16 else if nat_le n 32 then 32 else if nat_le n 64 then 64 else if nat_le n 128 then 128 else 256
+    if nat_le n 10 then 10 else if nat_le n 16 then 16 else if nat_le n 32 then 32
+    else if nat_le n 64 then 64 else if nat_le n 128 then 128 else most_live
 
 -- its base-ten logarithm
 unfoldable pub log10_of : ℕ → ℕ
 log10_of n =
-    if nat_le n 10 then 1000 else if nat_le n 16 then 1204 else if nat_le n 32 then 1505 else if nat_le n 64 then 1806 else if nat_le n 128 then 2107 else 2408
+    if nat_le n 10 then 1000 else if nat_le n 16 then 1204 else if nat_le n 32 then 1505
+    else if nat_le n 64 then 1806 else if nat_le n 128 then 2107 else 2408
 
 -- for k confirmations in all, a row of the quotients log (c + 1) / log (k + 1) for c from 0 to k; the
 -- row for k = 0 is this project's choice

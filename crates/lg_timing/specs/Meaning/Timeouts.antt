@@ -4,21 +4,23 @@ use Rattle.lg_timing.specs.declared.config.Config.{Config}
 use Rattle.lg_timing.specs.Meaning.Tables.{log10_of, ratio_of}
 use Rattle.lg_timing.specs.Meaning.TimeoutRange.{TimeoutRange}
 
--- the confirmations that count among n members: none where there are too few (this project's choice)
+-- the confirmations that count among n live members: none where there are too few (this project's choice)
 abbrev pub confirmations_of : ℕ → Config → ℕ
 confirmations_of n c = if nat_lt n (c.confirmations + 2) then 0 else c.confirmations
 
+-- the least timeout, in milliseconds
 abbrev pub min_ms : ℕ → Config → ℕ
 min_ms n c = c.alpha * log10_of n * c.interval_ms / 1000
 
--- the range of a suspicion raised among n members
+-- the range of a suspicion raised among n live members
 unfoldable pub range_of : ℕ → Config → TimeoutRange
-range_of n c = record { min = min_ms n c; max = c.beta * min_ms n c; confirmations = confirmations_of n c }
+range_of n c =
+    record { min = min_ms n c; max = c.beta * min_ms n c; confirmations = confirmations_of n c }
 
 -- the timeout after c confirmations
 unfoldable pub timeout_of : TimeoutRange → ℕ → ℕ
 timeout_of r c = r.max - (r.max - r.min) * ratio_of r.confirmations c / 1000
 
--- the timeout of a suspicion raised among n members, after c confirmations
+-- the timeout of a suspicion raised among n live members, after c confirmations
 abbrev pub suspicion_of : ℕ → ℕ → Config → ℕ
 suspicion_of n c config = timeout_of (range_of n config) c

@@ -1,5 +1,5 @@
 //! Which configurations pass their check.
-use super::{Config, ConfigFault, Seed};
+use super::{Config, ConfigFault, Seed, is_within};
 use lg_rules::{Addr, Name};
 
 // The member `b` with the default numbers, but for a timeout that fits each interval.
@@ -34,6 +34,13 @@ fn add_seed(config: &mut Config, text: &[u8]) {
             name: name(text),
             addr: Addr::default(),
         });
+    }
+}
+
+#[test]
+fn both_ends_count(rt: HostRuntime) {
+    for (number, want) in [(1, false), (2, true), (5, true), (6, false)] {
+        assert_eq!(rt; is_within(2, 5, number), want, "{number}");
     }
 }
 

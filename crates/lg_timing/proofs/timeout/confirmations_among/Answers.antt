@@ -1,6 +1,6 @@
 use Rattle.std.proofs.Common.{arith}
 use Rattle.lg_timing.proofs.ConfigLemmas.{ranges}
-use Rattle.lg_timing.specs.Meaning.Config.{HasRanges}
+use Rattle.lg_timing.specs.Support.Ranges.{HasRanges}
 use Rattle.lg_timing.proofs.timeout.confirmations_among.Goals as goal
 
 pub overflow_add-config : goal.overflow_add-config

@@ -1,7 +1,7 @@
 use Rattle.std.proofs.Common.{arith}
 use Rattle.lg_timing.proofs.ConfigLemmas.{ranges}
 use Rattle.lg_timing.proofs.TimeoutLemmas.{scaled_within}
-use Rattle.lg_timing.specs.Meaning.Config.{HasRanges}
+use Rattle.lg_timing.specs.Support.Ranges.{HasRanges}
 use Rattle.lg_timing.proofs.score.Score.interval.Goals as goal
 
 pub overflow_mul-result : goal.overflow_mul-result

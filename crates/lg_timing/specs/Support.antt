@@ -1,0 +1,4 @@
+-- What only carries the proofs.
+pub mod Bounds
+pub mod Ranges
+pub mod Timeouts
