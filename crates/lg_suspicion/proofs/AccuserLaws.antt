@@ -13,7 +13,7 @@ use Rattle.lg_rules.proofs.PastLaws.{oldest-all, oldest-more}
 use Rattle.lg_rules.proofs.Rises.{among-distinct, among-in_order, rises-in_order, put-there, length-put, same_members}
 use Rattle.lg_timing.specs.Meaning.TimeoutRange.{TimeoutRange}
 use Rattle.lg_timing.specs.Meaning.Timeouts.{timeout_of}
-use Rattle.lg_suspicion.specs.Meaning.Accusers.{SuspicionValue, kept_of, suspicion_after, is_new, accused, deadline_of, deadline_by_set, set_of}
+use Rattle.lg_suspicion.specs.Meaning.Accusers.{SuspicionValue, counted_accusers, suspicion_after, would_count, accused, deadline_of, deadline_by_set, set_of}
 
 -- the latest of a list comes last in the order of arrival
 reverse-cons : {A : Type 0} (x : A) (xs : List A) → reverse (x ∷ xs) ≡ reverse xs ++ x ∷ []
@@ -34,73 +34,73 @@ among-reverse n (x ∷ xs) =
     ∙ ap (λ b. b || (is_same name_cmp x n || false)) (among-reverse n xs)
     ∙ either_way (is_among name_cmp n xs) (is_same name_cmp x n)
 
--- as many are kept as there are different ones, up to one more than the confirmations
-pub length-kept : (k : ℕ) (past : List (List ℕ)) → length (kept_of k past) ≡ min (k + 1) (length (distinct name_cmp past))
-unfolding kept_of
-length-kept k past =
+-- as many count as there are different ones, up to one more than the confirmations
+pub length-counted : (k : ℕ) (past : List (List ℕ)) → length (counted_accusers k past) ≡ min (k + 1) (length (distinct name_cmp past))
+unfolding counted_accusers
+length-counted k past =
     let all = distinct name_cmp past in
     length-reverse (oldest (k + 1) all) ∙ length-drop (length all - (k + 1)) all ∙ omega arith
 
--- while there is room, all are kept
-kept-all : (k : ℕ) (past : List (List ℕ)) → length (distinct name_cmp past) ≤ k + 1 → kept_of k past ≡ reverse (distinct name_cmp past)
-unfolding kept_of
-kept-all k past few = ap reverse (oldest-all (k + 1) (distinct name_cmp past) few)
+-- while there are few enough, all count
+counted-all : (k : ℕ) (past : List (List ℕ)) → length (distinct name_cmp past) ≤ k + 1 → counted_accusers k past ≡ reverse (distinct name_cmp past)
+unfolding counted_accusers
+counted-all k past few = ap reverse (oldest-all (k + 1) (distinct name_cmp past) few)
 
-among-kept : (k : ℕ) (a : List ℕ) (past : List (List ℕ)) → length (distinct name_cmp past) ≤ k + 1 → is_among name_cmp a (kept_of k past) ≡ is_among name_cmp a past
-among-kept k a past few =
-    ap (is_among name_cmp a) (kept-all k past few) ∙ among-reverse a (distinct name_cmp past) ∙ among-distinct names_order a past
+among-counted : (k : ℕ) (a : List ℕ) (past : List (List ℕ)) → length (distinct name_cmp past) ≤ k + 1 → is_among name_cmp a (counted_accusers k past) ≡ is_among name_cmp a past
+among-counted k a past few =
+    ap (is_among name_cmp a) (counted-all k past few) ∙ among-reverse a (distinct name_cmp past) ∙ among-distinct names_order a past
 
--- the first one is kept
-pub kept-one : (k : ℕ) (a : List ℕ) → kept_of k (a ∷ []) ≡ a ∷ []
-kept-one k a = kept-all k (a ∷ []) (omega arith)
+-- the first one counts
+pub counted-one : (k : ℕ) (a : List ℕ) → counted_accusers k (a ∷ []) ≡ a ∷ []
+counted-one k a = counted-all k (a ∷ []) (omega arith)
 
 -- one who accused before changes nothing
-kept-again : (k : ℕ) (a : List ℕ) (past : List (List ℕ)) → is_among name_cmp a past ≡ true → kept_of k (a ∷ past) ≡ kept_of k past
-unfolding kept_of
-kept-again k a past among = rw among
+counted-again : (k : ℕ) (a : List ℕ) (past : List (List ℕ)) → is_among name_cmp a past ≡ true → counted_accusers k (a ∷ past) ≡ counted_accusers k past
+unfolding counted_accusers
+counted-again k a past among = rw among
 
 -- nor does one who is too late
-kept-full : (k : ℕ) (a : List ℕ) (past : List (List ℕ)) → is_among name_cmp a past ≡ false → k + 1 ≤ length (distinct name_cmp past) → kept_of k (a ∷ past) ≡ kept_of k past
-unfolding kept_of
-kept-full k a past other many = rw other (ap reverse (oldest-more (k + 1) a (distinct name_cmp past) many))
+counted-full : (k : ℕ) (a : List ℕ) (past : List (List ℕ)) → is_among name_cmp a past ≡ false → k + 1 ≤ length (distinct name_cmp past) → counted_accusers k (a ∷ past) ≡ counted_accusers k past
+unfolding counted_accusers
+counted-full k a past other many = rw other (ap reverse (oldest-more (k + 1) a (distinct name_cmp past) many))
 
--- another, while there is room, is kept last
-kept-more : (k : ℕ) (a : List ℕ) (past : List (List ℕ)) → is_among name_cmp a past ≡ false → length (distinct name_cmp past) ≤ k → kept_of k (a ∷ past) ≡ kept_of k past ++ a ∷ []
-kept-more k a past other few =
+-- another, while there are few enough, counts and comes last
+counted-more : (k : ℕ) (a : List ℕ) (past : List (List ℕ)) → is_among name_cmp a past ≡ false → length (distinct name_cmp past) ≤ k → counted_accusers k (a ∷ past) ≡ counted_accusers k past ++ a ∷ []
+counted-more k a past other few =
     let more : distinct name_cmp (a ∷ past) ≡ a ∷ distinct name_cmp past = rw other in
-    kept-all k (a ∷ past) (omega (arith, ap length more))
+    counted-all k (a ∷ past) (omega (arith, ap length more))
     ∙ ap reverse more
     ∙ reverse-cons a (distinct name_cmp past)
-    ∙ ap (λ xs. xs ++ a ∷ []) (sym (kept-all k past (omega arith)))
+    ∙ ap (λ xs. xs ++ a ∷ []) (sym (counted-all k past (omega arith)))
 
--- who isn't new
-not_new : (k : ℕ) (a : List ℕ) (kept : List (List ℕ)) → (length kept ≤ k → is_among name_cmp a kept ≡ true) → is_new k kept a ≡ false
-not_new k a kept told = step (leb (length kept) k) refl
+-- who wouldn't count
+not_counted : (k : ℕ) (a : List ℕ) (accusers : List (List ℕ)) → (length accusers ≤ k → is_among name_cmp a accusers ≡ true) → would_count k accusers a ≡ false
+not_counted k a accusers there = step (leb (length accusers) k) refl
   where
-    step : (b : Bool) → leb (length kept) k ≡ b → (b && not (is_among name_cmp a kept)) ≡ false
+    step : (b : Bool) → leb (length accusers) k ≡ b → (b && not (is_among name_cmp a accusers)) ≡ false
     step false e = refl
-    step true e = rw (told (leb-true (length kept) k e))
+    step true e = rw (there (leb-true (length accusers) k e))
 
 -- the accusers that count, after one more
-pub kept-cons : (k : ℕ) (a : List ℕ) (past : List (List ℕ)) → kept_of k (a ∷ past) ≡ cond (is_new k (kept_of k past) a) (kept_of k past ++ a ∷ []) (kept_of k past)
-kept-cons k a past =
+pub counted-cons : (k : ℕ) (a : List ℕ) (past : List (List ℕ)) → counted_accusers k (a ∷ past) ≡ cond (would_count k (counted_accusers k past) a) (counted_accusers k past ++ a ∷ []) (counted_accusers k past)
+counted-cons k a past =
     elim (cases_Bool (is_among name_cmp a past)) [
-      | inl among ↦ kept-again k a past among ∙ sym (unchanged (not_new k a (kept_of k past) (λ few. among-kept k a past (omega (arith, length-kept k past)) ∙ among)))
+      | inl among ↦ counted-again k a past among ∙ sym (unchanged (not_counted k a (counted_accusers k past) (λ few. among-counted k a past (omega (arith, length-counted k past)) ∙ among)))
       | inr other ↦ elim (cases_lt k (length (distinct name_cmp past))) [
-        | inl many ↦ kept-full k a past other (omega arith) ∙ sym (unchanged (not_new k a (kept_of k past) (λ few. absurd (omega (arith, length-kept k past)))))
-        | inr few ↦ kept-more k a past other few ∙ sym (changed few other)
+        | inl many ↦ counted-full k a past other (omega arith) ∙ sym (unchanged (not_counted k a (counted_accusers k past) (λ few. absurd (omega (arith, length-counted k past)))))
+        | inr few ↦ counted-more k a past other few ∙ sym (changed few other)
       ]
     ]
   where
-    unchanged : is_new k (kept_of k past) a ≡ false → cond (is_new k (kept_of k past) a) (kept_of k past ++ a ∷ []) (kept_of k past) ≡ kept_of k past
+    unchanged : would_count k (counted_accusers k past) a ≡ false → cond (would_count k (counted_accusers k past) a) (counted_accusers k past ++ a ∷ []) (counted_accusers k past) ≡ counted_accusers k past
     unchanged e = rw e
 
-    changed : length (distinct name_cmp past) ≤ k → is_among name_cmp a past ≡ false → cond (is_new k (kept_of k past) a) (kept_of k past ++ a ∷ []) (kept_of k past) ≡ kept_of k past ++ a ∷ []
-    changed few other = rw (le-leb (length (kept_of k past)) k (omega (arith, length-kept k past)), among-kept k a past (omega arith) ∙ other)
+    changed : length (distinct name_cmp past) ≤ k → is_among name_cmp a past ≡ false → cond (would_count k (counted_accusers k past) a) (counted_accusers k past ++ a ∷ []) (counted_accusers k past) ≡ counted_accusers k past ++ a ∷ []
+    changed few other = rw (le-leb (length (counted_accusers k past)) k (omega (arith, length-counted k past)), among-counted k a past (omega arith) ∙ other)
 
 -- a suspicion after one more accuser
 pub accused-after : (raised : ℕ) (timeout : TimeoutRange) (a : List ℕ) (past : List (List ℕ)) → accused (suspicion_after raised timeout past) a ≡ suspicion_after raised timeout (a ∷ past)
-accused-after raised timeout a past = field (is_new k (kept_of k past) a) ∙ ap put (sym (kept-cons k a past))
+accused-after raised timeout a past = field (would_count k (counted_accusers k past) a) ∙ ap put (sym (counted-cons k a past))
   where
     k : ℕ
     k = timeout.confirmations
@@ -108,7 +108,7 @@ accused-after raised timeout a past = field (is_new k (kept_of k past) a) ∙ ap
     put : List (List ℕ) → SuspicionValue
     put accusers = record { raised = raised; timeout = timeout; accusers = accusers }
 
-    field : (b : Bool) → cond b (put (kept_of k past ++ a ∷ [])) (put (kept_of k past)) ≡ put (cond b (kept_of k past ++ a ∷ []) (kept_of k past))
+    field : (b : Bool) → cond b (put (counted_accusers k past ++ a ∷ [])) (put (counted_accusers k past)) ≡ put (cond b (counted_accusers k past ++ a ∷ []) (counted_accusers k past))
     field true = refl
     field false = refl
 
@@ -132,7 +132,7 @@ length-in_order (n ∷ ns) = elim (cases_Bool (is_among name_cmp n ns)) [
 pub deadline-after : (raised : ℕ) (timeout : TimeoutRange) (past : List (List ℕ)) → deadline_of (suspicion_after raised timeout past) ≡ deadline_by_set raised timeout (set_of past)
 deadline-after raised timeout past =
     let k = timeout.confirmations in
-    let confirmed : length (kept_of k past) - 1 ≡ min k (length (set_of past) - 1) = omega (arith, length-kept k past, length-in_order past) in
+    let confirmed : length (counted_accusers k past) - 1 ≡ min k (length (set_of past) - 1) = omega (arith, length-counted k past, length-in_order past) in
     ap (λ c. raised + timeout_of timeout c) confirmed
 
 -- two pasts with the same accusers have one set

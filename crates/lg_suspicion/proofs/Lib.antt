@@ -1,1 +1,2 @@
 pub mod AccuserLaws
+pub mod DeadlineLaws

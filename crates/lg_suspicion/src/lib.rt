@@ -3,4 +3,4 @@
 
 mod suspicion;
 
-pub use suspicion::{MAX_KEPT, Suspicion, deadlines_are_by_the_set};
+pub use suspicion::{MAX_ACCUSERS, MAX_DEADLINE, Suspicion, deadlines_are_by_the_set};

@@ -4,15 +4,21 @@ ghost use Rattle.lg_rules.specs.Meaning.Rows.{name_cmp, is_among};
 ghost use Rattle.lg_timing.specs.Meaning.Config.{IsChecked};
 ghost use Rattle.lg_timing.specs.Meaning.TimeoutRange.{TimeoutRange};
 ghost use Rattle.lg_timing.specs.Meaning.Timeouts.{range_of};
-ghost use Rattle.lg_suspicion.specs.Meaning.Accusers.{kept_of, suspicion_after, counts, accused, deadline_of, deadline_by_set, set_of};
+ghost use Rattle.lg_suspicion.specs.Meaning.Accusers.{suspicion_after, accuser_counts, accused};
+ghost use Rattle.lg_suspicion.specs.Meaning.Accusers.{deadline_of, deadline_by_set, set_of};
 
 use arrayvec::ArrayVec;
 use lg_rules::Name;
-use lg_timing::{Config, Moment, SuspicionTimeout};
+use lg_timing::{
+    Config, MAX_CONFIRMATIONS, MAX_LIVE, MAX_MOMENT, MAX_SUSPICION_MS, Moment, SuspicionTimeout,
+};
 use std::marker::Model;
 
-/// The most accusers that count: 6, the first one and 5 confirmations (this project's choice).
-pub const MAX_KEPT: usize = 6;
+/// The most accusers that count: 6, the first one and the most confirmations (this project's choice).
+pub const MAX_ACCUSERS: usize = MAX_CONFIRMATIONS as usize + 1;
+
+/// The last moment at which a suspected member is taken as failed: 1,000,000,057,792,000 milliseconds.
+pub const MAX_DEADLINE: u64 = MAX_MOMENT + MAX_SUSPICION_MS;
 
 /// The suspicion of a member: when it was raised, and who accuses it (Lifeguard, local health aware
 /// suspicion).
@@ -25,11 +31,12 @@ pub const MAX_KEPT: usize = 6;
 pub struct Suspicion {
     raised: Moment,
     timeout: SuspicionTimeout,
-    accusers: ArrayVec<Name, MAX_KEPT>,
+    accusers: ArrayVec<Name, MAX_ACCUSERS>,
 }
 
 impl Model for Suspicion {
-    ghost use Rattle.lg_suspicion.specs.Meaning.Accusers.{SuspicionValue, HasAccusers};
+    ghost use Rattle.lg_suspicion.specs.Meaning.Accusers.{SuspicionValue};
+    ghost use Rattle.lg_suspicion.specs.Support.Accusers.{HasAccusers};
 
     ghost Value = { SuspicionValue };
 
@@ -56,48 +63,52 @@ impl Default for Suspicion {
 }
 
 impl Suspicion {
-    /// The suspicion that `accuser` raises at the moment `now` among `members` members, 1 to 256, of
-    /// which oneself is one and the suspected member another.
-    pub fn raise(now: Moment, accuser: &Name, members: u64, config: &Config) -> Suspicion
+    /// The suspicion that `accuser` raises at the moment `now` among `live` members that haven't failed, 1
+    /// to [`MAX_LIVE`], of which oneself is one and the suspected member another.
+    pub fn raise(now: Moment, accuser: &Name, live: u64, config: &Config) -> Suspicion
         requires checked { IsChecked config.now }
-        requires some { 1 ≤ members }
-        requires within { members ≤ 256 }
+        requires some { 1 ≤ live }
+        requires within { live ≤ MAX_LIVE }
 
         ensures raised { result
-            ≡ record { raised = now; timeout = range_of members config.now; accusers = accuser.now ∷ [] } }
+            ≡ record { raised = now; timeout = range_of live config.now; accusers = accuser.now ∷ [] } }
 
         // It is the suspicion after one accuser.
-        ensures first { result ≡ suspicion_after now (range_of members config.now) (accuser.now ∷ []) }
+        ensures first { result ≡ suspicion_after now (range_of live config.now) (accuser.now ∷ []) }
     {
         let mut accusers = ArrayVec::new();
         let first = *accuser;
         accusers.push(first);
         Suspicion {
             raised: now,
-            timeout: SuspicionTimeout::new(members, config),
+            timeout: SuspicionTimeout::new(live, config),
             accusers,
         }
     }
 
-    /// Whether one more accuser counts: there is room for it, and it isn't kept already.
-    fn counts(&self, accuser: &Name) -> bool
-        ensures { result ≡ counts self.now accuser.now }
+    /// Whether one more accuser counts: fewer count than may, and it isn't one of them.
+    fn accuser_counts(&self, accuser: &Name) -> bool
+        ensures counts { result ≡ accuser_counts self.now accuser.now }
+        ensures within { self.now.timeout.confirmations ≤ MAX_CONFIRMATIONS }
     {
         self.accusers.len() as u64 <= self.timeout.confirmations()
             && !self.accusers.contains(accuser)
     }
 
-    /// Takes one more accusation. It counts, and `true` is answered, where its accuser isn't kept yet
-    /// and there is room for one more; else nothing changes.
+    /// Takes one more accusation. It counts, and `true` is answered, where fewer accusers count than may
+    /// and its accuser isn't one of them; else nothing changes.
     pub fn accuse(&mut self, accuser: &Name) -> bool
-        ensures counts { result ≡ counts self.old accuser.now }
+        ensures counts { result ≡ accuser_counts self.old accuser.now }
         ensures accused { self.new ≡ accused self.old accuser.now }
 
-        // After any list of accusers, the latest first, the first different ones are kept.
-        ensures kept { (past : List (List ℕ)) → self.old ≡ suspicion_after self.old.raised self.old.timeout past
+        // An accuser never moves the deadline to a later moment.
+        ensures never_later { deadline_of self.new ≤ deadline_of self.old }
+
+        // After any list of accusers, the latest first, the first different ones count.
+        ensures counted { (past : List (List ℕ)) → self.old ≡ suspicion_after self.old.raised self.old.timeout past
             → self.new ≡ suspicion_after self.old.raised self.old.timeout (accuser.now ∷ past) }
     {
-        if self.counts(accuser) {
+        if self.accuser_counts(accuser) {
             self.accusers.push(*accuser);
             true
         } else {
@@ -106,8 +117,8 @@ impl Suspicion {
     }
 
     /// When the member is taken as failed: the moment of the raise and the timeout after as many
-    /// confirmations as there are accusers that count, less the first. It is at most
-    /// 1,000,000,057,792,000 milliseconds.
+    /// confirmations as there are accusers that count, less the first. It is at most [`MAX_DEADLINE`]
+    /// milliseconds.
     pub fn deadline(&self) -> u64
         ensures deadline { result ≡ deadline_of self.now }
 
@@ -115,16 +126,9 @@ impl Suspicion {
         ensures by_set { (past : List (List ℕ)) → self.now ≡ suspicion_after self.now.raised self.now.timeout past
             → result ≡ deadline_by_set self.now.raised self.now.timeout (set_of past) }
 
-        ensures within { result ≤ 1000000057792000 }
+        ensures within { result ≤ MAX_DEADLINE }
     {
         self.raised.milliseconds() + self.timeout.after(self.accusers.len() as u64 - 1)
-    }
-
-    /// The accusers that count, in the order of arrival: 1 to 6 of them.
-    pub fn accusers(&self) -> &[Name]
-        ensures { result.now ≡ self.now.accusers }
-    {
-        &self.accusers
     }
 }
 
@@ -140,21 +144,21 @@ pub fn deadlines_are_by_the_set()
 mod tests {
     use super::{Suspicion, deadlines_are_by_the_set};
     use lg_rules::{Addr, Name};
-    use lg_timing::{Config, Moment};
+    use lg_timing::{Config, MAX_LIVE, Moment, is_within};
 
     fn name(text: &[u8]) -> Name {
         Name::new(text).unwrap_or(Name::default())
     }
 
     // A suspicion that d raised at 2000 among some members, by the default numbers.
-    fn raised_by_d(members: u64) -> Suspicion {
+    fn raised_by_d(live: u64) -> Suspicion {
         let config = Config::new(name(b"b"), Addr::default());
         let now = Moment::new(2000).unwrap_or(Moment::default());
         match config.check() {
-            Ok(()) if 1 <= members && members <= 256 => Suspicion::raise(
+            Ok(()) if is_within(1, MAX_LIVE, live) => Suspicion::raise(
                 now,
                 &name(b"d"),
-                members,
+                live,
                 &config,
             ),
             _ => Suspicion::default(),
@@ -169,7 +173,6 @@ mod tests {
         assert_eq!(rt; suspicion.deadline(), 32000);
         assert!(rt; suspicion.accuse(&name(b"e")));
         assert_eq!(rt; suspicion.deadline(), 19500);
-        assert_eq!(rt; suspicion.accusers().len(), 2);
         deadlines_are_by_the_set();
     }
 
@@ -184,7 +187,7 @@ mod tests {
     #[test]
     fn a_flood_of_accusers(rt: HostRuntime) {
         let mut suspicion = raised_by_d(5);
-        let mut kept: u32 = 1;
+        let mut counted: u32 = 1;
         for number in 1..300u16 {
             let digits = [
                 b'0' + (number / 100) as u8,
@@ -192,11 +195,10 @@ mod tests {
                 b'0' + (number % 10) as u8,
             ];
             if suspicion.accuse(&name(&digits)) {
-                kept = kept.saturating_add(1);
+                counted = counted.saturating_add(1);
             }
         }
-        assert_eq!(rt; kept, 4);
-        assert_eq!(rt; suspicion.accusers().len(), 4);
+        assert_eq!(rt; counted, 4);
         assert_eq!(rt; suspicion.deadline(), 7000);
     }
 }

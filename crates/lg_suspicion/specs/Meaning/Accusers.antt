@@ -1,6 +1,22 @@
 -- Which accusers of a suspected member count, and when it is taken as failed (Lifeguard, local health aware
 -- suspicion). A past of accusers has the latest first; its last is the one that raised the suspicion.
-use Rattle.std.specs.Prelude.{ℕ, ◌+◌, ◌-◌, ◌≤◌, ◌&&◌, Bool, not, List, [], ◌∷◌, ◌++◌, length, nat_le, min, reverse, if◌then◌else◌}
+use Rattle.std.specs.Prelude.{
+  ℕ,
+  ◌+◌,
+  ◌-◌,
+  ◌&&◌,
+  Bool,
+  not,
+  List,
+  [],
+  ◌∷◌,
+  ◌++◌,
+  length,
+  nat_le,
+  min,
+  reverse,
+  if◌then◌else◌,
+}
 use Rattle.lg_rules.specs.Meaning.Past.{oldest}
 use Rattle.lg_rules.specs.Meaning.Rows.{name_cmp, is_among, distinct, in_order}
 use Rattle.lg_timing.specs.Meaning.TimeoutRange.{TimeoutRange}
@@ -13,25 +29,28 @@ pub record SuspicionValue : Type 0 where
   pub accusers : List (List ℕ)
 
 -- The accusers that count: the first one, and the first others, as many as confirmations count.
-unfoldable pub kept_of : ℕ → List (List ℕ) → List (List ℕ)
-kept_of confirmations past = reverse (oldest (confirmations + 1) (distinct name_cmp past))
+unfoldable pub counted_accusers : ℕ → List (List ℕ) → List (List ℕ)
+counted_accusers confirmations past = reverse (oldest (confirmations + 1) (distinct name_cmp past))
 
 -- a suspicion after a past of accusers
 abbrev pub suspicion_after : ℕ → TimeoutRange → List (List ℕ) → SuspicionValue
-suspicion_after raised timeout past = record { raised = raised; timeout = timeout; accusers = kept_of timeout.confirmations past }
+suspicion_after raised timeout past =
+    record { raised = raised; timeout = timeout; accusers = counted_accusers timeout.confirmations past }
 
--- whether one more accuser counts: there is room for it, and it isn't kept already
-abbrev pub is_new : ℕ → List (List ℕ) → List ℕ → Bool
-is_new confirmations kept accuser = nat_le (length kept) confirmations && not (is_among name_cmp accuser kept)
+-- whether one more accuser would count beside those that do: fewer count than may, and it isn't one of them
+abbrev pub would_count : ℕ → List (List ℕ) → List ℕ → Bool
+would_count confirmations accusers accuser =
+    nat_le (length accusers) confirmations && not (is_among name_cmp accuser accusers)
 
-abbrev pub counts : SuspicionValue → List ℕ → Bool
-counts s accuser = is_new s.timeout.confirmations s.accusers accuser
+-- whether one more accuser of a suspicion counts
+abbrev pub accuser_counts : SuspicionValue → List ℕ → Bool
+accuser_counts s accuser = would_count s.timeout.confirmations s.accusers accuser
 
 -- a suspicion after one more accusation
 abbrev pub accused : SuspicionValue → List ℕ → SuspicionValue
-accused s accuser = if counts s accuser then record s { accusers = s.accusers ++ accuser ∷ [] } else s
+accused s accuser = if accuser_counts s accuser then record s { accusers = s.accusers ++ accuser ∷ [] } else s
 
--- when a suspicion runs out
+-- when a suspicion runs out: the member is taken as failed
 abbrev pub deadline_of : SuspicionValue → ℕ
 deadline_of s = s.raised + timeout_of s.timeout (length s.accusers - 1)
 
@@ -41,8 +60,3 @@ deadline_by_set raised timeout set = raised + timeout_of timeout (min timeout.co
 
 abbrev pub set_of : List (List ℕ) → List (List ℕ)
 set_of past = in_order name_cmp past
-
--- how many accusers a suspicion keeps
-pub record HasAccusers (timeout : TimeoutRange) (accusers : List (List ℕ)) : Type 0 where
-  pub some : 1 ≤ length accusers
-  pub counted : length accusers ≤ timeout.confirmations + 1

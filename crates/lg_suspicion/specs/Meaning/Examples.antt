@@ -3,7 +3,7 @@ use Rattle.std.specs.Prelude.{◌≡◌, ℕ, List, [], ◌∷◌, refl}
 use Rattle.lg_timing.specs.Meaning.Tables.{ratio_of}
 use Rattle.lg_timing.specs.Meaning.TimeoutRange.{TimeoutRange}
 use Rattle.lg_timing.specs.Meaning.Timeouts.{timeout_of}
-use Rattle.lg_suspicion.specs.Meaning.Accusers.{kept_of, suspicion_after, deadline_of, deadline_by_set, set_of}
+use Rattle.lg_suspicion.specs.Meaning.Accusers.{counted_accusers, suspicion_after, deadline_of, deadline_by_set, set_of}
 
 abbrev d : List ℕ
 d = 100 ∷ []
@@ -16,12 +16,12 @@ abbrev five : TimeoutRange
 five = record { min = 5000; max = 30000; confirmations = 3 }
 
 -- d accuses twice, then e
-two_accusers : kept_of 3 (e ∷ d ∷ d ∷ []) ≡ d ∷ e ∷ []
-unfolding kept_of
+two_accusers : counted_accusers 3 (e ∷ d ∷ d ∷ []) ≡ d ∷ e ∷ []
+unfolding counted_accusers
 two_accusers = refl
 
 confirmed_once : deadline_of (suspicion_after 2000 five (e ∷ d ∷ d ∷ [])) ≡ 19500
-unfolding kept_of timeout_of ratio_of
+unfolding counted_accusers timeout_of ratio_of
 confirmed_once = refl
 
 by_the_set : deadline_by_set 2000 five (set_of (e ∷ d ∷ d ∷ [])) ≡ 19500
@@ -32,11 +32,11 @@ by_the_set = refl
 abbrev six : List (List ℕ)
 six = (102 ∷ []) ∷ (101 ∷ []) ∷ (100 ∷ []) ∷ (99 ∷ []) ∷ (98 ∷ []) ∷ (97 ∷ []) ∷ []
 
-first_four : kept_of 3 six ≡ (97 ∷ []) ∷ (98 ∷ []) ∷ (99 ∷ []) ∷ (100 ∷ []) ∷ []
-unfolding kept_of
+first_four : counted_accusers 3 six ≡ (97 ∷ []) ∷ (98 ∷ []) ∷ (99 ∷ []) ∷ (100 ∷ []) ∷ []
+unfolding counted_accusers
 first_four = refl
 
 -- where none confirms, the first one alone
-first_alone : kept_of 0 six ≡ (97 ∷ []) ∷ []
-unfolding kept_of
+first_alone : counted_accusers 0 six ≡ (97 ∷ []) ∷ []
+unfolding counted_accusers
 first_alone = refl

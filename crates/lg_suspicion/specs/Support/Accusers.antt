@@ -1,0 +1,7 @@
+-- How many accusers a suspicion has.
+use Rattle.std.specs.Prelude.{ℕ, ◌+◌, ◌≤◌, List, length}
+use Rattle.lg_timing.specs.Meaning.TimeoutRange.{TimeoutRange}
+
+pub record HasAccusers (timeout : TimeoutRange) (accusers : List (List ℕ)) : Type 0 where
+  pub some : 1 ≤ length accusers
+  pub counted : length accusers ≤ timeout.confirmations + 1
