@@ -78,7 +78,7 @@ impl Claim {
     }
 }
 
-/// Claims are kept in the order of the members that they are about.
+/// Claims stand in the order of the members that they are about.
 impl Keyed for Claim {
     ghost key_of = { name_of };
 

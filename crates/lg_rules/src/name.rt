@@ -62,7 +62,7 @@ impl Clone for Name {
 
 impl Copy for Name {}
 
-/// The name `a`, which fills the rows of fixed capacity where no name is kept.
+/// The name `a`, which fills what has no name yet in arrays of fixed length.
 impl Default for Name {
     ghost use Rattle.std.specs.Prelude.{◌≡◌, ◌∷◌, []};
 

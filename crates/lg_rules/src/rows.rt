@@ -9,11 +9,11 @@ ghost use Rattle.lg_rules.specs.Support.Places.{HasRow, LacksRow};
 use crate::name::Name;
 use arrayvec::ArrayVec;
 
-/// What is kept in the order of a name.
+/// A row that stands among others in the order of their names.
 pub trait Keyed {
     ghost key_of: { Self → List ℕ };
 
-    /// The name by which it is kept.
+    /// The name of the row.
     fn key(&self) -> Name
         ensures { result ≡ key_of self.now };
 }
