@@ -1,34 +1,93 @@
 -- What a packet counts in the queue.
-use Rattle.std.proofs.Common.{◌≡◌, ℕ, suc, zero, ◌+◌, ◌<◌, true, false, List, [], ◌∷◌, ◌++◌, length, map, take, drop, get_or, set, refl, ◌∙◌, ap, arith}
-use Rattle.std.specs.Prelude.{nat_eq}
-use Rattle.std.specs.List.{list_any}
-use Rattle.std.specs.Cmp.Lexicographic.{pointwise}
-use Rattle.std.proofs.lemmas.List.Edits.{map_over_more}
+use Rattle.std.proofs.Common.{◌≡◌, ℕ, suc, zero, ◌+◌, ◌<◌, ◌≤◌, Bool, true, false, ◌||◌, List, [], ◌∷◌, ◌++◌, length, map, take, drop, get_or, set, refl, sym, ◌∙◌, ap, subst, arith}
+use Rattle.std.specs.declared.cmp.Ordering.TheVariants.{Less}
+use Rattle.std.specs.Prelude.{option_map}
+use Rattle.std.specs.List.{AllByRecursion, refill}
+use Rattle.std.proofs.lemmas.List.{take-append-le, take_all}
+use Rattle.std.proofs.lemmas.Option.{slice_get_within, get_or_from_slice_get, slice_get-map}
 use Rattle.lg_rules.specs.declared.claim.Claim.{Claim}
 use Rattle.lg_rules.specs.Meaning.Claim.{name_of}
-use Rattle.lg_rules.specs.Meaning.Rows.{name_cmp, is_among}
-use Rattle.lg_rules.proofs.KeyOrder.{names_eq}
+use Rattle.lg_rules.specs.Meaning.Rows.{name_cmp, is_same, is_among, AreAbove}
+use Rattle.lg_rules.proofs.KeyOrder.{names_order, same_key, other_key, same_back, less_apart}
+use Rattle.lg_gossip.specs.declared.choice.TakenRow.{TakenRow}
 use Rattle.lg_gossip.specs.declared.queued.Queued.{Queued}
-use Rattle.lg_gossip.specs.Meaning.Queue.{queued_claim, sent_once}
+use Rattle.lg_gossip.specs.Meaning.Queue.{queued_name, queued_claim, sent_once}
+use Rattle.lg_gossip.specs.Support.Places.{IsRowOf, rows_at}
+use Rattle.lg_gossip.specs.Support.Sound.{AreInOrder}
+use Rattle.lg_gossip.proofs.BySends.{above_at}
+use Rattle.lg_gossip.proofs.Each.{holds_at}
+use Rattle.lg_gossip.proofs.Places.{claims-more}
 
--- the names of the claims of some rows
-pub holds_among : (n : List ℕ) (rows : List Queued) → list_any (λ r. pointwise nat_eq r.claim.name n) rows ≡ is_among name_cmp n (map name_of (map queued_claim rows))
-holds_among n [] = refl
-holds_among n (r ∷ rs) = rw (names_eq r.claim.name n, holds_among n rs) refl
+-- one more claim counts at its member's row,
+counted : (taken : List Claim) (c : Claim) (n : List ℕ) → is_same name_cmp c.name n ≡ true → is_among name_cmp n (map name_of (taken ++ c ∷ [])) ≡ true
+counted [] c n s = rw s refl
+counted (t ∷ ts) c n s = rw (counted ts c n s) (or-true (is_same name_cmp t.name n))
+  where
+    or-true : (b : Bool) → (b || true) ≡ true
+    or-true true = refl
+    or-true false = refl
 
-pub sent : (taken : List Claim) (q : Queued) → is_among name_cmp q.claim.name (map name_of taken) ≡ true → ◌≡◌ {A = Queued} record { claim = q.claim; sends = q.sends + 1 } (sent_once taken q)
-sent taken q e = rw e refl
+-- and at no other
+uncounted : (taken : List Claim) (c : Claim) (n : List ℕ) → is_same name_cmp c.name n ≡ false → is_among name_cmp n (map name_of (taken ++ c ∷ [])) ≡ is_among name_cmp n (map name_of taken)
+uncounted [] c n d = rw d refl
+uncounted (t ∷ ts) c n d = ap (λ b. is_same name_cmp t.name n || b) (uncounted ts c n d)
 
-pub unsent : (taken : List Claim) (q : Queued) → is_among name_cmp q.claim.name (map name_of taken) ≡ false → ◌≡◌ {A = Queued} record { claim = q.claim; sends = q.sends } (sent_once taken q)
-unsent taken q e = rw e refl
+at-other : (taken : List Claim) (c : Claim) (q : Queued) → is_same name_cmp c.name (queued_name q) ≡ false → sent_once (taken ++ c ∷ []) q ≡ sent_once taken q
+at-other taken c q d = rw (uncounted taken c (queued_name q) d) refl
 
-any_default : (k : ℕ) (d e : Queued) (ys : List Queued) → k < length ys → get_or ys k d ≡ get_or ys k e
-any_default k d e [] l = absurd (omega arith)
-any_default zero d e (y ∷ ys) l = refl
-any_default (suc k) d e (y ∷ ys) l = any_default k d e ys (omega arith)
+at-others : (taken : List Claim) (c : Claim) (rows : List Queued) → AreAbove name_cmp c.name (map queued_name rows) → map (sent_once (taken ++ c ∷ [])) rows ≡ map (sent_once taken) rows
+at-others taken c [] a = refl
+at-others taken c (q ∷ qs) a = rw (at-other taken c q (other_key names_order c.name (queued_name q) (less_apart names_order c.name (queued_name q) a.0)), at-others taken c qs a.1) refl
 
--- one more row is counted
-pub count-more : (taken : List Claim) (xs ys : List Queued) (k : ℕ) (d new : Queued) → k < length xs → length ys ≡ length xs → ys ≡ map (sent_once taken) (take k xs) ++ drop k xs → new ≡ sent_once taken (get_or ys k d)
-    → set ys k new ≡ map (sent_once taken) (take (k + 1) xs) ++ drop (k + 1) xs
-count-more taken xs ys k d new l n so is =
-    ap (set ys k) is ∙ map_over_more (sent_once taken) xs ys k (get_or ys k d) l so (any_default k d (get_or ys k d) ys (omega arith))
+-- So a packet that takes one more row is counted at its place.
+pub count-more : (taken : List Claim) (place : ℕ) (q : Queued) (rows : List Queued) → place < length rows → q ≡ get_or rows place q → AreInOrder rows
+    → set (map (sent_once taken) rows) place record { claim = q.claim; sends = q.sends + 1 } ≡ map (sent_once (taken ++ queued_claim q ∷ [])) rows
+count-more taken place q [] l r o = absurd (omega arith)
+count-more taken zero q (x ∷ xs) l r o =
+    let more : sent_once (taken ++ q.claim ∷ []) q ≡ record { claim = q.claim; sends = q.sends + 1 } = rw (counted taken q.claim (queued_name q) (same_key names_order (queued_name q) (queued_name q) refl)) refl in
+    let head : ◌≡◌ {A = Queued} record { claim = q.claim; sends = q.sends + 1 } (sent_once (taken ++ q.claim ∷ []) x) = sym more ∙ ap (sent_once (taken ++ q.claim ∷ [])) r in
+    let rest = sym (at-others taken q.claim xs (subst (λ y. AreAbove name_cmp (queued_name y) (map queued_name xs)) (sym r) o.0)) in
+    λ i. head i ∷ rest i
+count-more taken (suc place) q (x ∷ xs) l r o =
+    let less : name_cmp (queued_name x) (queued_name q) ≡ Less = subst (λ y. name_cmp (queued_name x) (queued_name y) ≡ Less) (sym r) (above_at (queued_name x) place q xs (omega arith) o.0) in
+    let other : is_same name_cmp q.claim.name (queued_name x) ≡ false = same_back names_order (queued_name q) (queued_name x) ∙ other_key names_order (queued_name x) (queued_name q) (less_apart names_order (queued_name x) (queued_name q) less) in
+    let head = sym (at-other taken q.claim x other) in
+    let rest = count-more taken place q xs (omega arith) r o.1 in
+    λ i. head i ∷ rest i
+
+-- a packet that takes nothing is counted nowhere
+pub count-none : (rows : List Queued) → rows ≡ map (sent_once []) rows
+count-none [] = refl
+count-none (q ∷ qs) = ap (λ rs. q ∷ rs) (count-none qs)
+
+-- a row that is taken was sent no more often than any
+pub sent-most : (most : ℕ) (rows : List Queued) (t : TakenRow) → AllByRecursion (λ r. r.sends ≤ most) rows → IsRowOf rows t → t.sends ≤ most
+sent-most most rows t few one =
+    let there = holds_at (λ r. r.sends ≤ most) t.place one.row rows (slice_get_within rows t.place one.row one.stands) few in
+    omega (arith, one.sends, ap (λ r. r.sends) (get_or_from_slice_get rows t.place one.row one.row one.stands), there)
+
+pub count-next : (rows now : List Queued) (k : ℕ) (d : TakenRow) (e : Queued) (ts : List TakenRow) → k < length ts → AllByRecursion (IsRowOf rows) ts → AreInOrder rows
+    → now ≡ map (sent_once (map queued_claim (rows_at rows (take k ts)))) rows
+    → set now (get_or ts k d).place record { claim = (get_or now (get_or ts k d).place e).claim; sends = (get_or ts k d).sends + 1 }
+    ≡ map (sent_once (map queued_claim (rows_at rows (take (k + 1) ts)))) rows
+count-next rows now k d e ts l a o is =
+    let t = get_or ts k d in
+    let one = holds_at (IsRowOf rows) k d ts l a in
+    let taken = map queued_claim (rows_at rows (take k ts)) in
+    let within = slice_get_within rows t.place one.row one.stands in
+    let there : get_or now t.place e ≡ sent_once taken one.row = ap (λ rs. get_or rs t.place e) is
+    ∙ get_or_from_slice_get (map (sent_once taken) rows) t.place (sent_once taken one.row) e (slice_get-map (sent_once taken) rows t.place ∙ ap (option_map (sent_once taken)) one.stands) in
+    let row : ◌≡◌ {A = Queued} record { claim = (get_or now t.place e).claim; sends = t.sends + 1 } record { claim = one.row.claim; sends = one.row.sends + 1 } =
+    λ i. record { claim = (there i).claim; sends = one.sends i + 1 } in
+    let read : one.row ≡ get_or rows t.place one.row = sym (get_or_from_slice_get rows t.place one.row one.row one.stands) in
+    let more : taken ++ queued_claim one.row ∷ [] ≡ map queued_claim (rows_at rows (take (k + 1) ts)) =
+    ap (λ r. taken ++ queued_claim r ∷ []) read ∙ claims-more rows [] taken k d one.row ts l a refl in
+    ap (λ r. set now t.place r) row
+    ∙ ap (λ rs. set rs t.place record { claim = one.row.claim; sends = one.row.sends + 1 }) is
+    ∙ count-more taken t.place one.row rows within read o
+    ∙ ap (λ cs. map (sent_once cs) rows) more
+
+-- what is written over a whole row of places is all that is there
+pub refill-whole : (n : ℕ) (before after : List Queued) → length after ≡ n → refill n before after ≡ after
+refill-whole n before after l =
+    take-append-le n after (drop (length after) before) (omega (arith, l)) ∙ take_all n after (omega (arith, l))

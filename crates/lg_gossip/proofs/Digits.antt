@@ -13,3 +13,6 @@ one_more n some small = ap length (decimal_step n some small) ∙ length-append 
 -- a usize has at most twenty
 pub at_most_twenty : (n : ℕ) → 10 ≤ n → n < 2 ^ 64 → 1 + decimal_digits (n / 10) ≤ 20
 at_most_twenty n some small = omega (arith, one_more n some small, length-decimal-le 20 n (omega arith) (omega arith) small)
+
+-- all three, for the code
+pub ruleset digit_steps = (one_digit, one_more, at_most_twenty)

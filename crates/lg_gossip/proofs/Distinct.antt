@@ -10,9 +10,9 @@ use Rattle.lg_rules.specs.Meaning.Rows.{name_cmp, is_same, AreAbove}
 use Rattle.lg_rules.proofs.KeyOrder.{names_order, other_key, same_back, less_apart}
 use Rattle.lg_rules.proofs.Tests.{both}
 use Rattle.lg_gossip.specs.declared.queued.Queued.{Queued}
-use Rattle.lg_gossip.specs.Meaning.Queue.{queued_name, queued_claim, is_sooner, put_in_turn, in_turn, is_beside, may_go, room_beside, rows_taken}
+use Rattle.lg_gossip.specs.Meaning.Queue.{queued_name, queued_claim, is_sooner, put_by_sends, by_sends, is_beside, may_go, room_beside, rows_taken}
 use Rattle.lg_gossip.specs.Support.Sound.{AreInOrder}
-use Rattle.lg_gossip.proofs.Each.{all-put_in_turn, all-in_turn, all-take}
+use Rattle.lg_gossip.proofs.Each.{all-put_by_sends, all-by_sends, all-take}
 use Rattle.lg_gossip.proofs.Taken.{IsTaken, are_taken, in_order-filter}
 
 -- each row is about another member than one
@@ -32,16 +32,16 @@ apart-in_order (q ∷ qs) o = (others qs o.0, apart-in_order qs o.1)
     others [] a = tt
     others (r ∷ rs) a = (other_key names_order (queued_name q) (queued_name r) (less_apart names_order (queued_name q) (queued_name r) a.0), others rs a.1)
 
-apart-put_in_turn : (q : Queued) (rows : List Queued) → AreOthers (queued_name q) rows → AreApart rows → AreApart (put_in_turn q rows)
-apart-put_in_turn q [] o a = (tt, tt)
-apart-put_in_turn q (r ∷ rs) o a = elim (cases_Bool (is_sooner q r)) [
+apart-put_by_sends : (q : Queued) (rows : List Queued) → AreOthers (queued_name q) rows → AreApart rows → AreApart (put_by_sends q rows)
+apart-put_by_sends q [] o a = (tt, tt)
+apart-put_by_sends q (r ∷ rs) o a = elim (cases_Bool (is_sooner q r)) [
   | inl t ↦ rw t (o, a)
-  | inr f ↦ rw f (all-put_in_turn (λ x. is_same name_cmp (queued_name r) (queued_name x) ≡ false) q rs (same_back names_order (queued_name r) (queued_name q) ∙ o.0) a.0, apart-put_in_turn q rs o.1 a.1)
+  | inr f ↦ rw f (all-put_by_sends (λ x. is_same name_cmp (queued_name r) (queued_name x) ≡ false) q rs (same_back names_order (queued_name r) (queued_name q) ∙ o.0) a.0, apart-put_by_sends q rs o.1 a.1)
 ]
 
-apart-in_turn : (rows : List Queued) → AreApart rows → AreApart (in_turn rows)
-apart-in_turn [] a = tt
-apart-in_turn (q ∷ qs) a = apart-put_in_turn q (in_turn qs) (all-in_turn (λ x. is_same name_cmp (queued_name q) (queued_name x) ≡ false) qs a.0) (apart-in_turn qs a.1)
+apart-by_sends : (rows : List Queued) → AreApart rows → AreApart (by_sends rows)
+apart-by_sends [] a = tt
+apart-by_sends (q ∷ qs) a = apart-put_by_sends q (by_sends qs) (all-by_sends (λ x. is_same name_cmp (queued_name q) (queued_name x) ≡ false) qs a.0) (apart-by_sends qs a.1)
 
 apart-take : (k : ℕ) (rows : List Queued) → AreApart rows → AreApart (take k rows)
 apart-take zero rows a = tt
@@ -60,7 +60,7 @@ distinct (q ∷ qs) a = (others qs a.0, distinct qs a.1)
 
 pub distinct-taken : (buddy : Option Claim) (limit : ℕ) (rows : List Queued) → AreInOrder rows → IsDistinct (is_same name_cmp) (map name_of (map queued_claim (rows_taken buddy limit rows)))
 distinct-taken buddy limit rows o =
-    distinct (rows_taken buddy limit rows) (apart-take (room_beside buddy) _ (apart-in_turn _ (apart-in_order _ (in_order-filter (may_go buddy limit) rows o))))
+    distinct (rows_taken buddy limit rows) (apart-take (room_beside buddy) _ (apart-by_sends _ (apart-in_order _ (in_order-filter (may_go buddy limit) rows o))))
 
 -- and none is about the buddy's
 beside : (buddy : Claim) (limit : ℕ) (q : Queued) → may_go (Some buddy) limit q ≡ true → is_same name_cmp buddy.name (queued_name q) ≡ false

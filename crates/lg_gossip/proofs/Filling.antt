@@ -1,9 +1,29 @@
 -- A packet filled from the fields of a queue.
-use Rattle.std.proofs.Common.{◌≡◌, ℕ, ◌++◌, List, map, Option, ◌∙◌, ap}
+use Rattle.std.proofs.Common.{◌≡◌, ℕ, ◌++◌, List, length, map, Option, sym, ◌∙◌, ap}
+use Rattle.std.specs.List.{refill}
+use Rattle.std.proofs.lemmas.List.{length-map}
 use Rattle.std.specs.Option.{option_to_list}
 use Rattle.lg_rules.specs.declared.claim.Claim.{Claim}
+use Rattle.lg_gossip.specs.declared.choice.TakenRow.{TakenRow}
 use Rattle.lg_gossip.specs.declared.queued.Queued.{Queued}
 use Rattle.lg_gossip.specs.Meaning.Queue.{GossipQueue, queued_claim, buddy_of, limit_of, rows_taken, taken_of, fill_of, sent_once, filled}
+use Rattle.lg_gossip.specs.Support.Places.{rows_at}
+use Rattle.lg_gossip.proofs.Counting.{refill-whole}
+
+-- the rows at the places that were chosen, whichever slices they are read through
+pub taken-at : (rows read again : List Queued) (places shown : List TakenRow) (buddy : Option Claim) (limit : ℕ) → read ≡ rows → again ≡ rows → shown ≡ places
+    → rows_at read places ≡ rows_taken buddy limit read → rows_at again shown ≡ rows_taken buddy limit rows
+taken-at rows read again places shown buddy limit r a s t =
+    ap (λ rs. rows_at rs shown) (a ∙ sym r) ∙ ap (rows_at read) s ∙ t ∙ ap (rows_taken buddy limit) r
+
+-- a packet is counted over all rows
+pub counted-whole : (rows again read after : List Queued) (places shown : List TakenRow) (buddy : Option Claim) (limit : ℕ) → read ≡ rows → shown ≡ places
+    → rows_at read places ≡ rows_taken buddy limit read → again ≡ rows → after ≡ map (sent_once (map queued_claim (rows_at again shown))) again
+    → refill (length rows) rows after ≡ map (sent_once (map queued_claim (rows_taken buddy limit rows))) rows
+counted-whole rows again read after places shown buddy limit r s t a is =
+    let whole = is ∙ ap (λ rs. map (sent_once (map queued_claim (rows_at again shown))) rs) a
+    ∙ ap (λ ts. map (sent_once (map queued_claim ts)) rows) (taken-at rows read again places shown buddy limit r a s t) in
+    refill-whole (length rows) rows after (ap length whole ∙ length-map rows (sent_once (map queued_claim (rows_taken buddy limit rows)))) ∙ whole
 
 -- what is chosen among the rows of a queue
 pub record IsChosen (queue : GossipQueue) (to : Option Claim) (n : ℕ) (buddy : Option Claim) (limit : ℕ) (taken : List Queued) : Type 0 where

@@ -2,8 +2,11 @@ pub mod Counting
 pub mod Digits
 pub mod Distinct
 pub mod Each
+pub mod Choosing
 pub mod Filling
+pub mod Passed
+pub mod Places
 pub mod RowsByName
 pub mod Soundness
 pub mod Taken
-pub mod Turns
+pub mod BySends

@@ -11,8 +11,8 @@ use Rattle.lg_rules.proofs.KeyOrder.{names_order, tied, turned, cases_key}
 use Rattle.lg_rules.proofs.Cases.{held_once}
 use Rattle.lg_rules.proofs.Rises.{among-cons_other}
 use Rattle.lg_gossip.specs.declared.queued.Queued.{Queued}
-use Rattle.lg_gossip.specs.Meaning.Queue.{queued_name, queued_claim, in_turn, may_go, room_beside, rows_taken}
-use Rattle.lg_gossip.proofs.Each.{all-filter, all-in_turn, all-take, all-both, passed}
+use Rattle.lg_gossip.specs.Meaning.Queue.{queued_name, queued_claim, by_sends, may_go, room_beside, rows_taken}
+use Rattle.lg_gossip.proofs.Each.{all-filter, all-by_sends, all-take, all-both, passed}
 use Rattle.lg_gossip.specs.Support.Sound.{AreInOrder}
 
 -- names above one
@@ -35,7 +35,7 @@ in_order-filter p (x ∷ xs) o = elim (cases_Bool (p x)) [
 ]
 
 -- each row of a queue is that of its name
-its_own : (rows : List Queued) → AreInOrder rows → AllByRecursion (λ q. row_at name_cmp queued_name (queued_name q) rows ≡ Some q) rows
+pub its_own : (rows : List Queued) → AreInOrder rows → AllByRecursion (λ q. row_at name_cmp queued_name (queued_name q) rows ≡ Some q) rows
 its_own [] o = tt
 its_own (x ∷ xs) o = (here, all-both _ _ _ xs there (above (queued_name x) xs o.0) (its_own xs o.1))
   where
@@ -54,8 +54,8 @@ pub are_taken : (buddy : Option Claim) (limit : ℕ) (rows : List Queued) → Ar
 are_taken buddy limit rows o =
     let p = may_go buddy limit in
     let open_rows = filter p rows in
-    all-take (IsTaken buddy limit rows) (room_beside buddy) (in_turn open_rows)
-    (all-in_turn (IsTaken buddy limit rows) open_rows
+    all-take (IsTaken buddy limit rows) (room_beside buddy) (by_sends open_rows)
+    (all-by_sends (IsTaken buddy limit rows) open_rows
     (all-both _ _ (IsTaken buddy limit rows) open_rows (λ q a b. record { its_own = a; may = b }) (all-filter _ p rows (its_own rows o)) (passed p rows)))
 
 -- what the queue holds of a name among those taken

@@ -1,2 +1,4 @@
 -- What only carries the proofs.
+pub mod Bounds
+pub mod Places
 pub mod Sound

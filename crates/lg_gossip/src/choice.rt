@@ -1,18 +1,28 @@
 //! Which claims a packet takes.
-ghost use Rattle.std.specs.Prelude.{◌≡◌, ◌≤◌, ◌++◌, length, map, take, insert, nat_le, option_copied};
-ghost use Rattle.std.specs.List.{prefix_len};
+ghost use Rattle.std.specs.Prelude.{◌≡◌, ◌≤◌, ◌<◌, ◌+◌, ◌++◌, ℕ, not, length, map, take, insert};
+ghost use Rattle.std.specs.Prelude.{if◌then◌else◌, nat_eq, nat_le, nat_lt, option_copied, slice_index_or};
+ghost use Rattle.std.specs.List.{AllByRecursion, prefix_len};
 ghost use Rattle.std.specs.Option.{option_to_list};
 ghost use Rattle.arrayvec.specs.ArrayVec.{array_vec_len};
-ghost use Rattle.lg_gossip.specs.Meaning.Queue.{buddy_of, queued_claim, room_beside, rows_taken};
+ghost use Rattle.lg_gossip.specs.declared.queued.Queued.{Queued as Row};
+ghost use Rattle.lg_gossip.specs.Meaning.Queue.{buddy_of, is_beside, queued_claim, room_beside, rows_taken, sent_once};
 ghost use Rattle.lg_gossip.specs.Support.Sound.{AreInOrder};
+ghost use Rattle.lg_gossip.specs.Support.Places.{IsRowOf, rows_at};
 
-use crate::queue::MAX_CLAIMS;
+use crate::limit::MAX_SENDS;
+use crate::queue::{MAX_CLAIMS, MAX_QUEUED};
 use crate::queued::Queued;
 use arrayvec::ArrayVec;
-use lg_rules::{Claim, Record, Status};
+use lg_rules::{Claim, Record, Status, seat_of};
 
-/// The rows that are kept while one more is put among them: a packet's, and that one.
-const MAX_KEPT: usize = MAX_CLAIMS + 1;
+/// A row that a packet takes.
+#[derive(Clone, Copy, Default)]
+pub(crate) struct TakenRow {
+    /// Where it stands among the rows of the queue, from 0.
+    place: usize,
+    /// How often it was sent before.
+    sends: u32,
+}
 
 /// The record of the member that a packet goes to, where that is Suspect.
 pub(crate) fn buddy_of(to: Option<&Record>) -> Option<Claim>
@@ -27,7 +37,8 @@ pub(crate) fn buddy_of(to: Option<&Record>) -> Option<Claim>
 /// How many claims of the queue a packet holds beside its buddy.
 fn room_beside(buddy: &Option<Claim>) -> usize
     ensures room { result ≡ room_beside buddy.now }
-    ensures most { result ≤ 6 }
+    ensures some { 0 < result }
+    ensures most { result ≤ MAX_CLAIMS }
 {
     match buddy {
         Some(_) => MAX_CLAIMS - 1,
@@ -35,24 +46,53 @@ fn room_beside(buddy: &Option<Claim>) -> usize
     }
 }
 
+/// The place of the row about a buddy's member, or one behind all rows where there is none.
+fn place_of_buddy(rows: &[Queued], buddy: &Option<Claim>) -> usize
+    requires { AreInOrder rows.now }
+    ensures { (k : ℕ) (d : Row) → k < length rows.now
+        → is_beside buddy.now (slice_index_or rows.now k d) ≡ not (nat_eq k result) }
+{
+    match buddy {
+        Some(buddy) => match seat_of(rows, &buddy.name) {
+            Ok(place) => place,
+            Err(_) => rows.len(),
+        },
+        None => rows.len(),
+    }
+}
+
 /// How many rows were sent as often or fewer times, up to the first that wasn't.
-fn place_after(rows: &[Queued], sends: u32) -> usize
+fn place_after(rows: &[TakenRow], sends: u32) -> usize
     ensures place { result ≡ prefix_len (λ r. nat_le r.sends sends) rows.now }
     ensures within { result ≤ length rows.now }
 {
     rows.iter().take_while(|row| row.sends <= sends).count()
 }
 
-/// Puts a row behind those that were sent as often, and keeps the first so many.
-fn keep(first: &mut ArrayVec<Queued, MAX_KEPT>, row: Queued, room: usize)
-    requires room { room ≤ 6 }
+/// Takes a row behind those that were sent as often, where it is then among the first so many. A later row that was
+/// sent as often as the answer, or more often, isn't among them; `bound` says so of the rows before this one.
+fn take_row(
+    first: &mut ArrayVec<TakenRow, MAX_CLAIMS>,
+    row: TakenRow,
+    room: usize,
+    bound: u64,
+) -> u64
+    requires some { 0 < room }
+    requires most { room ≤ MAX_CLAIMS }
     requires fits { array_vec_len first.old ≤ room }
-    ensures rows { first.new.items ≡ take room (insert first.old.items (prefix_len (λ r. nat_le r.sends row.sends) first.old.items) row) }
-    ensures fits { array_vec_len first.new ≤ room }
+    ensures bound { let place = prefix_len (λ r. nat_le r.sends row.sends) first.old.items in
+        result ≡ if nat_lt place room then bound else row.sends }
+    ensures rows { let place = prefix_len (λ r. nat_le r.sends row.sends) first.old.items in
+        first.new.items ≡ take room (insert first.old.items place row) }
 {
     let place = place_after(first.as_slice(), row.sends);
-    first.insert(place, row);
-    first.truncate(room);
+    if place < room {
+        first.truncate(room - 1);
+        first.insert(place, row);
+        bound
+    } else {
+        u64::from(row.sends)
+    }
 }
 
 /// The rows that a packet takes beside its buddy: of those below the limit the first by their sends and
@@ -61,32 +101,64 @@ pub(crate) fn rows_taken(
     rows: &[Queued],
     buddy: &Option<Claim>,
     limit: u64,
-) -> ArrayVec<Queued, MAX_KEPT>
+) -> ArrayVec<TakenRow, MAX_CLAIMS>
     requires { AreInOrder rows.now }
-    ensures rows { result.items ≡ rows_taken buddy.now limit rows.now }
+    ensures rows { rows_at rows.now result.items ≡ rows_taken buddy.now limit rows.now }
+    ensures places { AllByRecursion (IsRowOf rows.now) result.items }
     ensures few { array_vec_len result ≤ room_beside buddy.now }
 {
     let room = room_beside(buddy);
+    let passed_over = place_of_buddy(rows, buddy);
     let mut first = ArrayVec::new();
-    for row in rows {
-        if row.may_go(buddy, limit) {
-            keep(&mut first, *row, room);
+    // A row that was sent so often, or more often, isn't among the first.
+    let mut bound = limit;
+    for (place, row) in rows.iter().enumerate() {
+        let sends = row.sends;
+        if u64::from(sends) < bound && place != passed_over {
+            bound = take_row(&mut first, TakenRow { place, sends }, room, bound);
         }
     }
     first
 }
 
-/// The claims of a packet: its buddy, if it has one, and those that it took of the queue.
-pub(crate) fn claims_of(buddy: &Option<Claim>, taken: &[Queued]) -> ArrayVec<Claim, MAX_CLAIMS>
-    requires { length taken.now ≤ room_beside buddy.now }
-    ensures { result.items ≡ option_to_list buddy.now ++ map queued_claim taken.now }
+/// Writes the claims of some rows behind those that are there.
+fn push_claims(claims: &mut ArrayVec<Claim, MAX_CLAIMS>, rows: &[Queued], taken: &[TakenRow])
+    requires places { AllByRecursion (IsRowOf rows.now) taken.now }
+    requires room { array_vec_len claims.old + length taken.now ≤ MAX_CLAIMS }
+    ensures { claims.new.items ≡ claims.old.items ++ map queued_claim (rows_at rows.now taken.now) }
 {
-    let mut claims = ArrayVec::new();
+    for row in taken {
+        claims.push(rows[row.place].claim);
+    }
+}
+
+/// Writes the claims of a packet: its buddy, if it has one, and those that it takes of the queue.
+pub(crate) fn write_claims(
+    claims: &mut ArrayVec<Claim, MAX_CLAIMS>,
+    buddy: &Option<Claim>,
+    rows: &[Queued],
+    taken: &[TakenRow],
+)
+    requires places { AllByRecursion (IsRowOf rows.now) taken.now }
+    requires room { length taken.now ≤ room_beside buddy.now }
+    ensures { claims.new.items ≡ option_to_list buddy.now ++ map queued_claim (rows_at rows.now taken.now) }
+{
+    claims.clear();
     if let Some(buddy) = buddy {
         claims.push(*buddy);
     }
+    push_claims(claims, rows, taken);
+}
+
+/// Counts a packet at the rows that it takes.
+pub(crate) fn count_sends(rows: &mut [Queued], taken: &[TakenRow])
+    requires order { AreInOrder rows.old }
+    requires most { length rows.old ≤ MAX_QUEUED }
+    requires few { AllByRecursion (λ r. r.sends ≤ MAX_SENDS) rows.old }
+    requires places { AllByRecursion (IsRowOf rows.old) taken.now }
+    ensures { rows.new ≡ map (sent_once (map queued_claim (rows_at rows.old taken.now))) rows.old }
+{
     for row in taken {
-        claims.push(row.claim);
+        rows[row.place].sends = row.sends + 1;
     }
-    claims
 }

@@ -2,24 +2,34 @@
 ghost use Rattle.std.specs.Prelude.{◌≡◌, ◌≤◌, ◌*◌};
 ghost use Rattle.lg_gossip.specs.Meaning.Queue.{decimal_digits, limit_of};
 
+/// The greatest `lambda`, the number of times that a claim is sent for each decimal digit of the number of members:
+/// 10 (this project's choice).
+pub const MAX_LAMBDA: u64 = 10;
+
+/// The most decimal digits of a number of members: those of the greatest `usize`.
+pub(crate) const MAX_DIGITS: u64 = 20;
+
+/// The most packets that take a claim from a queue: 200.
+pub const MAX_SENDS: u64 = MAX_LAMBDA * MAX_DIGITS;
+
 /// How many decimal digits a number of members has.
-#[tactic(auto, using(crate::proofs::Digits::one_digit, crate::proofs::Digits::one_more, crate::proofs::Digits::at_most_twenty))]
-fn decimal_digits(members: usize) -> u64
-    ensures digits { result ≡ decimal_digits members }
-    ensures most { result ≤ 20 }
+#[tactic(auto, using(crate::proofs::Digits::digit_steps))]
+fn decimal_digits(live: usize) -> u64
+    ensures digits { result ≡ decimal_digits live }
+    ensures most { result ≤ MAX_DIGITS }
 {
-    if members < 10 {
+    if live < 10 {
         1
     } else {
-        1 + decimal_digits(members / 10)
+        1 + decimal_digits(live / 10)
     }
 }
 
 /// How often a claim may be sent among so many members: `lambda` times for each decimal digit.
-pub(crate) fn send_limit(lambda: u64, members: usize) -> u64
-    requires { lambda ≤ 10 }
-    ensures limit { result ≡ limit_of lambda members }
-    ensures most { result ≤ lambda * 20 }
+pub(crate) fn send_limit(lambda: u64, live: usize) -> u64
+    requires { lambda ≤ MAX_LAMBDA }
+    ensures limit { result ≡ limit_of lambda live }
+    ensures most { result ≤ lambda * MAX_DIGITS }
 {
-    lambda * decimal_digits(members)
+    lambda * decimal_digits(live)
 }

@@ -1,13 +1,13 @@
 //! The queue of claims.
 ghost use Rattle.std.specs.Prelude.{◌≡◌, ◌≤◌, ◌<◌, [], length, map, None, option_copied};
-ghost use Rattle.std.specs.List.{AllByRecursion, IsDistinct};
+ghost use Rattle.std.specs.List.{IsDistinct};
 ghost use Rattle.arrayvec.specs.ArrayVec.{array_vec_len};
 ghost use Rattle.lg_rules.specs.Meaning.Rows.{name_cmp, is_same, row_at, put_row};
 ghost use Rattle.lg_rules.specs.Meaning.Claim.{name_of};
-ghost use Rattle.lg_gossip.specs.Meaning.Queue.{queued_name, queued_claim, put_of, fill_of, filled, sent_once};
+ghost use Rattle.lg_gossip.specs.Meaning.Queue.{queued_name, put_of, fill_of, filled};
 
-use crate::choice::{buddy_of, claims_of, rows_taken};
-use crate::limit::send_limit;
+use crate::choice::{buddy_of, count_sends, rows_taken, write_claims};
+use crate::limit::{MAX_LAMBDA, send_limit};
 use crate::queued::Queued;
 use arrayvec::ArrayVec;
 use lg_rules::{Claim, Record, seat_of};
@@ -46,7 +46,8 @@ impl Model for Queue {
 
 /// Puts a row in the place of its name.
 fn put_row(rows: &mut ArrayVec<Queued, MAX_QUEUED>, queued: Queued)
-    requires { (row_at name_cmp queued_name queued.claim.name rows.old.items ≡ None) → array_vec_len rows.old < 256 }
+    requires { let standing = row_at name_cmp queued_name queued.claim.name rows.old.items in
+        (standing ≡ None) → array_vec_len rows.old < MAX_QUEUED }
     ensures { rows.new.items ≡ put_row name_cmp queued_name queued rows.old.items }
 {
     match seat_of(rows.as_slice(), &queued.claim.name) {
@@ -55,21 +56,11 @@ fn put_row(rows: &mut ArrayVec<Queued, MAX_QUEUED>, queued: Queued)
     }
 }
 
-/// Counts a packet that took these rows.
-fn count(rows: &mut ArrayVec<Queued, MAX_QUEUED>, taken: &[Queued])
-    requires { AllByRecursion (λ q. q.sends ≤ 200) rows.old.items }
-    ensures { rows.new.items ≡ map (sent_once (map queued_claim taken.now)) rows.old.items }
-{
-    for row in rows.as_mut_slice() {
-        row.count(taken);
-    }
-}
-
 impl Queue {
     /// An empty queue whose claims may be sent `lambda` times for each decimal digit of the number of
     /// members. `lambda` is at most 10.
     pub fn new(lambda: u64) -> Queue
-        requires { lambda ≤ 10 }
+        requires { lambda ≤ MAX_LAMBDA }
         ensures { result ≡ record { lambda = lambda; rows = [] } }
     {
         Queue {
@@ -87,7 +78,7 @@ impl Queue {
 
     /// Forgets all claims, and begins anew with another `lambda`, at most 10.
     pub fn restart(&mut self, lambda: u64)
-        requires { lambda ≤ 10 }
+        requires { lambda ≤ MAX_LAMBDA }
         ensures { self.new ≡ record { lambda = lambda; rows = [] } }
     {
         let Queue {
@@ -102,28 +93,44 @@ impl Queue {
     ///
     /// Either a claim about its member is queued already, or fewer than 256 claims are.
     pub fn put(&mut self, claim: Claim)
-        requires { (row_at name_cmp queued_name claim.name self.old.rows ≡ None) → length self.old.rows < 256 }
+        requires { (row_at name_cmp queued_name claim.name self.old.rows ≡ None) → length self.old.rows < MAX_QUEUED }
         ensures { self.new ≡ put_of claim self.old }
     {
         put_row(&mut self.rows, Queued::fresh(claim));
     }
 
-    /// The claims of the next packet. `members` is the number of members that haven't failed, oneself included.
-    /// It may be any number.
+    /// Writes the claims of the next packet into `claims`, in the place of what was there. `live` is the number of
+    /// members that haven't failed, oneself included. It may be any number.
     ///
     /// They are the claims that were sent fewer times than the limit, by their sends and then by their
     /// names, the first six. Each of them counts as sent once more. Where `to` is the record of the member
     /// that a Ping goes to, and is Suspect, that record stands first (Lifeguard's buddy system). It doesn't
     /// count as sent, and the queue's claim about that member is passed over, so at most five others follow.
-    pub fn fill(&mut self, to: Option<&Record>, members: usize) -> ArrayVec<Claim, MAX_CLAIMS>
-        ensures apart { IsDistinct (is_same name_cmp) (map name_of result.items) }
-        ensures claims { result.items ≡ fill_of self.old (option_copied to.entry) members }
-        ensures queue { self.new ≡ filled self.old (option_copied to.entry) members }
+    pub fn fill_into(
+        &mut self,
+        to: Option<&Record>,
+        live: usize,
+        claims: &mut ArrayVec<Claim, MAX_CLAIMS>,
+    )
+        ensures apart { IsDistinct (is_same name_cmp) (map name_of claims.new.items) }
+        ensures claims { claims.new.items ≡ fill_of self.old (option_copied to.entry) live }
+        ensures queue { self.new ≡ filled self.old (option_copied to.entry) live }
     {
         let buddy = buddy_of(to);
-        let limit = send_limit(self.lambda, members);
+        let limit = send_limit(self.lambda, live);
         let taken = rows_taken(self.rows.as_slice(), &buddy, limit);
-        count(&mut self.rows, taken.as_slice());
-        claims_of(&buddy, taken.as_slice())
+        write_claims(claims, &buddy, self.rows.as_slice(), taken.as_slice());
+        count_sends(self.rows.as_mut_slice(), taken.as_slice());
+    }
+
+    /// The claims of the next packet, as `fill_into` writes them.
+    pub fn fill(&mut self, to: Option<&Record>, live: usize) -> ArrayVec<Claim, MAX_CLAIMS>
+        ensures apart { IsDistinct (is_same name_cmp) (map name_of result.items) }
+        ensures claims { result.items ≡ fill_of self.old (option_copied to.entry) live }
+        ensures queue { self.new ≡ filled self.old (option_copied to.entry) live }
+    {
+        let mut claims = ArrayVec::new();
+        self.fill_into(to, live, &mut claims);
+        claims
     }
 }

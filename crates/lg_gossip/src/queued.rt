@@ -1,7 +1,5 @@
 //! A claim to be sent, and how often it was.
-ghost use Rattle.std.specs.Prelude.{◌≡◌, ◌≤◌, map, nat_eq};
-ghost use Rattle.std.specs.List.{list_any};
-ghost use Rattle.std.specs.Cmp.Lexicographic.{pointwise};
+ghost use Rattle.std.specs.Prelude.{◌≡◌};
 
 use lg_rules::{Claim, Keyed, Name};
 
@@ -16,7 +14,7 @@ pub struct Queued {
 }
 
 impl Queued {
-    ghost use Rattle.lg_gossip.specs.Meaning.Queue.{fresh, is_beside, may_go, queued_claim, sent_once};
+    ghost use Rattle.lg_gossip.specs.Meaning.Queue.{fresh};
 
     /// A claim that no packet took yet.
     pub(crate) fn fresh(claim: Claim) -> Queued
@@ -24,40 +22,6 @@ impl Queued {
     {
         Queued { claim, sends: 0 }
     }
-
-    /// Whether it is about another member than the buddy of a packet, if the packet has one.
-    fn is_beside(&self, buddy: &Option<Claim>) -> bool
-        ensures { result ≡ is_beside buddy.now self.now }
-    {
-        match buddy {
-            Some(buddy) => self.claim.name != buddy.name,
-            None => true,
-        }
-    }
-
-    /// Whether a packet with this buddy, or with none, may take it.
-    pub(crate) fn may_go(&self, buddy: &Option<Claim>, limit: u64) -> bool
-        ensures { result ≡ may_go buddy.now limit self.now }
-    {
-        u64::from(self.sends) < limit && self.is_beside(buddy)
-    }
-
-    /// Counts a packet that took these rows.
-    pub(crate) fn count(&mut self, taken: &[Queued])
-        requires { self.old.sends ≤ 200 }
-        ensures { self.new ≡ sent_once (map queued_claim taken.now) self.old }
-    {
-        if holds(taken, &self.claim.name) {
-            self.sends += 1;
-        }
-    }
-}
-
-/// Whether one of these rows is about a member.
-fn holds(rows: &[Queued], name: &Name) -> bool
-    ensures { result ≡ list_any (λ r. pointwise nat_eq r.claim.name name.now) rows.now }
-{
-    rows.iter().any(|row| row.claim.name == *name)
 }
 
 /// Claims wait in the order of the members that they are about.

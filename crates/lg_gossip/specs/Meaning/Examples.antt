@@ -1,5 +1,6 @@
 -- Worked rows.
-use Rattle.std.specs.Prelude.{◌≡◌, ℕ, List, [], ◌∷◌, Some, None, refl}
+use Rattle.std.specs.Prelude.{◌≡◌, ℕ, List, [], ◌∷◌, ◌++◌, Some, None, refl}
+use Rattle.lg_rules.specs.declared.addr.Addr.{Addr}
 use Rattle.lg_rules.specs.declared.claim.Claim.{Claim}
 use Rattle.lg_rules.specs.declared.claim.Status.{Status}
 use Rattle.lg_rules.specs.declared.claim.Status.TheVariants.{Alive, Suspect}
@@ -9,7 +10,9 @@ use Rattle.std.specs.Fmt.{digits}
 
 -- on the member with a name of one letter
 abbrev on : ℕ → Status → ℕ → Claim
-on letter status i = record { name = letter ∷ []; addr = record { octets = 127 ∷ 0 ∷ 0 ∷ 1 ∷ []; port = 7000 }; status = status; incarnation = i }
+on letter status i =
+    let addr : Addr = record { octets = 127 ∷ 0 ∷ 0 ∷ 1 ∷ []; port = 7000 } in
+    record { name = letter ∷ []; addr = addr; status = status; incarnation = i }
 
 abbrev suspect-c : Claim
 suspect-c = on 99 (Suspect (97 ∷ [])) 2
@@ -27,14 +30,18 @@ of_rows rows = record { lambda = 4; rows = rows }
 puts : put_of (alive 100) (put_of suspect-c (of_rows [])) ≡ of_rows (row suspect-c 0 ∷ row (alive 100) 0 ∷ [])
 puts = refl
 
-replaces : put_of (alive 99) (of_rows (row suspect-c 3 ∷ row (alive 100) 1 ∷ [])) ≡ of_rows (row (alive 99) 0 ∷ row (alive 100) 1 ∷ [])
+replaces :
+    put_of (alive 99) (of_rows (row suspect-c 3 ∷ row (alive 100) 1 ∷ []))
+    ≡ of_rows (row (alive 99) 0 ∷ row (alive 100) 1 ∷ [])
 replaces = refl
 
 to_buddy : fill_of (of_rows (row suspect-c 0 ∷ row (alive 100) 0 ∷ [])) (Some suspect-c) 9 ≡ suspect-c ∷ alive 100 ∷ []
 unfolding taken_of digits
 to_buddy = refl
 
-counts_no_buddy : filled (of_rows (row suspect-c 0 ∷ row (alive 100) 0 ∷ [])) (Some suspect-c) 9 ≡ of_rows (row suspect-c 0 ∷ row (alive 100) 1 ∷ [])
+counts_no_buddy :
+    filled (of_rows (row suspect-c 0 ∷ row (alive 100) 0 ∷ [])) (Some suspect-c) 9
+    ≡ of_rows (row suspect-c 0 ∷ row (alive 100) 1 ∷ [])
 unfolding taken_of digits
 counts_no_buddy = refl
 
@@ -42,17 +49,27 @@ fewest_first : fill_of (of_rows (row suspect-c 0 ∷ row (alive 100) 1 ∷ [])) 
 unfolding taken_of digits
 fewest_first = refl
 
-by_sends : fill_of (of_rows (row (alive 99) 2 ∷ row (alive 100) 1 ∷ row (alive 101) 2 ∷ [])) None 9 ≡ alive 100 ∷ alive 99 ∷ alive 101 ∷ []
+sent_less_first :
+    fill_of (of_rows (row (alive 99) 2 ∷ row (alive 100) 1 ∷ row (alive 101) 2 ∷ [])) None 9
+    ≡ alive 100 ∷ alive 99 ∷ alive 101 ∷ []
 unfolding taken_of digits
-by_sends = refl
+sent_less_first = refl
 
--- seven claims on d to j, and a packet to the Suspect c
-five_others : fill_of (of_rows (row (alive 100) 0 ∷ row (alive 101) 0 ∷ row (alive 102) 0 ∷ row (alive 103) 0 ∷ row (alive 104) 0 ∷ row (alive 105) 0 ∷ row (alive 106) 0 ∷ [])) (Some suspect-c) 9
+-- seven claims on d to j
+abbrev seven : GossipQueue
+seven =
+    let four = row (alive 100) 0 ∷ row (alive 101) 0 ∷ row (alive 102) 0 ∷ row (alive 103) 0 ∷ [] in
+    of_rows (four ++ row (alive 104) 0 ∷ row (alive 105) 0 ∷ row (alive 106) 0 ∷ [])
+
+-- and a packet to the Suspect c
+five_others :
+    fill_of seven (Some suspect-c) 9
     ≡ suspect-c ∷ alive 100 ∷ alive 101 ∷ alive 102 ∷ alive 103 ∷ alive 104 ∷ []
 unfolding taken_of digits
 five_others = refl
 
-six_without : taken_of (of_rows (row (alive 100) 0 ∷ row (alive 101) 0 ∷ row (alive 102) 0 ∷ row (alive 103) 0 ∷ row (alive 104) 0 ∷ row (alive 105) 0 ∷ row (alive 106) 0 ∷ [])) (Some (alive 99)) 9
+six_without :
+    taken_of seven (Some (alive 99)) 9
     ≡ alive 100 ∷ alive 101 ∷ alive 102 ∷ alive 103 ∷ alive 104 ∷ alive 105 ∷ []
 unfolding taken_of digits
 six_without = refl

@@ -1,5 +1,6 @@
 -- The queue of claims that packets take with them (SWIM, section 4.1), and the buddy (Lifeguard's buddy system).
-use Rattle.std.specs.Prelude.{ℕ, ◌+◌, ◌*◌, Bool, true, false, ◌&&◌, ◌||◌, not, List, [], ◌∷◌, ◌++◌, length, map, filter, take, Option, Some, None, nat_lt, ◌==◌, if◌then◌else◌, decimal}
+use Rattle.std.specs.Prelude.{ℕ, ◌+◌, ◌-◌, ◌*◌, Bool, true, false, ◌&&◌, ◌||◌, not, Option, Some, None, nat_lt, ◌==◌}
+use Rattle.std.specs.Prelude.{List, [], ◌∷◌, ◌++◌, length, map, filter, take, if◌then◌else◌, decimal}
 use Rattle.std.specs.Option.{option_to_list}
 use Rattle.std.specs.Ordering.{is_lt}
 use Rattle.lg_rules.specs.declared.claim.Claim.{Claim}
@@ -39,18 +40,18 @@ decimal_digits n = length (decimal n)
 abbrev pub limit_of : ℕ → ℕ → ℕ
 limit_of lambda n = lambda * decimal_digits n
 
--- whether a claim has its turn before another: it was sent fewer times, or as often and its member's name is lesser
+-- whether a claim comes before another: it was sent fewer times, or as often and its member's name is lesser
 abbrev pub is_sooner : Queued → Queued → Bool
 is_sooner q r = nat_lt q.sends r.sends || (q.sends == r.sends && is_lt (name_cmp (queued_name q) (queued_name r)))
 
--- these claims by their turns
-abbrev pub put_in_turn : Queued → List Queued → List Queued
-put_in_turn q [] = q ∷ []
-put_in_turn q (r ∷ rs) = if is_sooner q r then q ∷ r ∷ rs else r ∷ put_in_turn q rs
+-- these claims by their sends, and then by the names of their members
+abbrev pub put_by_sends : Queued → List Queued → List Queued
+put_by_sends q [] = q ∷ []
+put_by_sends q (r ∷ rs) = if is_sooner q r then q ∷ r ∷ rs else r ∷ put_by_sends q rs
 
-abbrev pub in_turn : List Queued → List Queued
-in_turn [] = []
-in_turn (q ∷ qs) = put_in_turn q (in_turn qs)
+abbrev pub by_sends : List Queued → List Queued
+by_sends [] = []
+by_sends (q ∷ qs) = put_by_sends q (by_sends qs)
 
 abbrev pub is_suspect : Status → Bool
 is_suspect Alive = false
@@ -62,10 +63,14 @@ abbrev pub buddy_of : Option Claim → Option Claim
 buddy_of None = None
 buddy_of (Some to) = if is_suspect to.status then Some to else None
 
--- A packet holds six claims: with a buddy five of the queue, and none of it about the buddy's member.
+-- so many claims a packet holds at most (this project's choice)
+abbrev pub most_claims : ℕ
+most_claims = 6
+
+-- With a buddy one fewer of them is of the queue, and none of it about the buddy's member.
 abbrev pub room_beside : Option Claim → ℕ
-room_beside None = 6
-room_beside (Some buddy) = 5
+room_beside None = most_claims
+room_beside (Some buddy) = most_claims - 1
 
 abbrev pub is_beside : Option Claim → Queued → Bool
 is_beside None q = true
@@ -75,9 +80,9 @@ is_beside (Some buddy) q = not (is_same name_cmp (queued_name q) buddy.name)
 abbrev pub may_go : Option Claim → ℕ → Queued → Bool
 may_go buddy limit q = nat_lt q.sends limit && is_beside buddy q
 
--- the rows that it takes: the first by their turns
+-- the rows that it takes: the first by their sends
 abbrev pub rows_taken : Option Claim → ℕ → List Queued → List Queued
-rows_taken buddy limit rows = take (room_beside buddy) (in_turn (filter (may_go buddy limit) rows))
+rows_taken buddy limit rows = take (room_beside buddy) (by_sends (filter (may_go buddy limit) rows))
 
 -- the claims that a packet takes of the queue, to a member with this record or with none, among n members
 unfoldable pub taken_of : GossipQueue → Option Claim → ℕ → List Claim
@@ -89,7 +94,9 @@ fill_of queue to n = option_to_list (buddy_of to) ++ taken_of queue to n
 
 -- a row after a packet that took these claims
 abbrev pub sent_once : List Claim → Queued → Queued
-sent_once taken q = record { claim = q.claim; sends = if is_among name_cmp q.claim.name (map name_of taken) then q.sends + 1 else q.sends }
+sent_once taken q =
+    let is_taken = is_among name_cmp q.claim.name (map name_of taken) in
+    record { claim = q.claim; sends = if is_taken then q.sends + 1 else q.sends }
 
 -- the queue after that packet
 abbrev pub filled : GossipQueue → Option Claim → ℕ → GossipQueue

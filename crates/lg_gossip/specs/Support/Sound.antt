@@ -2,6 +2,7 @@
 use Rattle.std.specs.Prelude.{ℕ, ◌*◌, ◌≤◌, List, map}
 use Rattle.std.specs.List.{AllByRecursion}
 use Rattle.lg_rules.specs.Meaning.Rows.{name_cmp, Rises}
+use Rattle.lg_gossip.specs.declared.limit.TheConstants.{MAX_LAMBDA, MAX_DIGITS}
 use Rattle.lg_gossip.specs.declared.queued.Queued.{Queued}
 use Rattle.lg_gossip.specs.Meaning.Queue.{queued_name}
 
@@ -9,11 +10,11 @@ use Rattle.lg_gossip.specs.Meaning.Queue.{queued_name}
 abbrev pub AreInOrder : List Queued → Type 0
 AreInOrder rows = Rises name_cmp (map queued_name rows)
 
--- no claim was sent more often than some number of members allows: a usize has at most twenty digits
+-- no claim was sent more often than some number of members allows
 abbrev pub AreWithin : ℕ → List Queued → Type 0
-AreWithin lambda rows = AllByRecursion (λ q. q.sends ≤ lambda * 20) rows
+AreWithin lambda rows = AllByRecursion (λ q. q.sends ≤ lambda * MAX_DIGITS) rows
 
 pub record IsSound (lambda : ℕ) (rows : List Queued) : Type 0 where
-  pub often : lambda ≤ 10
+  pub often : lambda ≤ MAX_LAMBDA
   pub in_order : AreInOrder rows
   pub within : AreWithin lambda rows

@@ -9,7 +9,7 @@ use Rattle.std.proofs.lemmas.List.{append-nil}
 use Rattle.std.proofs.lemmas.List.Elements.{filter-append}
 use Rattle.lg_rules.specs.Meaning.Rows.{name_cmp, AreAbove}
 use Rattle.lg_gossip.specs.declared.queued.Queued.{Queued}
-use Rattle.lg_gossip.specs.Meaning.Queue.{queued_name, is_sooner, put_in_turn, in_turn}
+use Rattle.lg_gossip.specs.Meaning.Queue.{queued_name, is_sooner, put_by_sends, by_sends}
 use Rattle.lg_gossip.proofs.Each.{all-filter}
 use Rattle.lg_gossip.specs.Support.Sound.{AreInOrder}
 
@@ -70,7 +70,7 @@ not_sooner x r n = elim (cases_lt x.sends r.sends) [
 ]
 
 -- A row behind which no name is greater goes last among those that were sent as often.
-both-put : (q x : Queued) (rows : List Queued) → name_cmp (queued_name x) (queued_name q) ≡ Less → put_in_turn x (put_last q rows) ≡ put_last q (put_in_turn x rows)
+both-put : (q x : Queued) (rows : List Queued) → name_cmp (queued_name x) (queued_name q) ≡ Less → put_by_sends x (put_last q rows) ≡ put_last q (put_by_sends x rows)
 both-put q x [] lesser = elim (cases_lt q.sends x.sends) [
   | inl l ↦ rw (later q x lesser l, lt-leb x.sends q.sends l) refl
   | inr g ↦ rw (sooner q x lesser g, le-leb x.sends q.sends g) refl
@@ -97,12 +97,12 @@ both-put q x (r ∷ rs) lesser = elim (cases_lt q.sends r.sends) [
 abbrev pub AreBefore : Queued → List Queued → Type 0
 AreBefore q rows = AllByRecursion (λ x. name_cmp (queued_name x) (queued_name q) ≡ Less) rows
 
-pub in_turn-last : (q : Queued) (rows : List Queued) → AreBefore q rows → in_turn (rows ++ q ∷ []) ≡ put_last q (in_turn rows)
-in_turn-last q [] b = refl
-in_turn-last q (x ∷ xs) b = ap (put_in_turn x) (in_turn-last q xs b.1) ∙ both-put q x (in_turn xs) b.0
+pub by_sends-last : (q : Queued) (rows : List Queued) → AreBefore q rows → by_sends (rows ++ q ∷ []) ≡ put_last q (by_sends rows)
+by_sends-last q [] b = refl
+by_sends-last q (x ∷ xs) b = ap (put_by_sends x) (by_sends-last q xs b.1) ∙ both-put q x (by_sends xs) b.0
 
 -- the rows before a place have lesser names than the row there
-above_at : (n : List ℕ) (k : ℕ) (d : Queued) (rows : List Queued) → k < length rows → AreAbove name_cmp n (map queued_name rows) → name_cmp n (queued_name (get_or rows k d)) ≡ Less
+pub above_at : (n : List ℕ) (k : ℕ) (d : Queued) (rows : List Queued) → k < length rows → AreAbove name_cmp n (map queued_name rows) → name_cmp n (queued_name (get_or rows k d)) ≡ Less
 above_at n k d [] l a = absurd (omega arith)
 above_at n zero d (x ∷ xs) l a = a.0
 above_at n (suc k) d (x ∷ xs) l a = above_at n k d xs (omega arith) a.1
@@ -117,17 +117,17 @@ module _ (p : Queued → Bool) (room k : ℕ) (q : Queued) (rows : List Queued) 
   one_further = let next : k + 1 ≡ suc k = omega arith in rw next (take-suc rows k q l ∙ ap (λ x. take k rows ++ x ∷ []) (sym read))
 
   -- a row that passes the test is kept among the first so many
-  pub goes_in : (first : List Queued) → p q ≡ true → first ≡ take room (in_turn (filter p (take k rows)))
-      → take room (insert first (prefix_len (λ r. nat_le r.sends q.sends) first) q) ≡ take room (in_turn (filter p (take (k + 1) rows)))
+  pub goes_in : (first : List Queued) → p q ≡ true → first ≡ take room (by_sends (filter p (take k rows)))
+      → take room (insert first (prefix_len (λ r. nat_le r.sends q.sends) first) q) ≡ take room (by_sends (filter p (take (k + 1) rows)))
   goes_in first t is =
       let before : AreBefore q (filter p (take k rows)) = all-filter _ p (take k rows) (subst (λ x. AreBefore x (take k rows)) (sym read) (before_place k q rows l o)) in
       let more : filter p (take (k + 1) rows) ≡ filter p (take k rows) ++ q ∷ [] = ap (filter p) one_further ∙ filter-append p (take k rows) (q ∷ []) ∙ ap (λ b. filter p (take k rows) ++ (if b then q ∷ [] else [])) t in
       ap (take room) (insert-put_last q first ∙ ap (put_last q) is)
-      ∙ take-put_last room q (in_turn (filter p (take k rows)))
-      ∙ ap (take room) (sym (ap in_turn more ∙ in_turn-last q (filter p (take k rows)) before))
+      ∙ take-put_last room q (by_sends (filter p (take k rows)))
+      ∙ ap (take room) (sym (ap by_sends more ∙ by_sends-last q (filter p (take k rows)) before))
 
   -- another changes nothing
-  pub stays_out : p q ≡ false → take room (in_turn (filter p (take k rows))) ≡ take room (in_turn (filter p (take (k + 1) rows)))
+  pub stays_out : p q ≡ false → take room (by_sends (filter p (take k rows))) ≡ take room (by_sends (filter p (take (k + 1) rows)))
   stays_out f =
       let same : filter p (take (k + 1) rows) ≡ filter p (take k rows) ++ [] = ap (filter p) one_further ∙ filter-append p (take k rows) (q ∷ []) ∙ ap (λ b. filter p (take k rows) ++ (if b then q ∷ [] else [])) f in
-      ap (λ rs. take room (in_turn rs)) (sym (same ∙ append-nil (filter p (take k rows))))
+      ap (λ rs. take room (by_sends rs)) (sym (same ∙ append-nil (filter p (take k rows))))

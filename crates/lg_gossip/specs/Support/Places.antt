@@ -1,0 +1,14 @@
+-- Rows by their places.
+use Rattle.std.specs.Prelude.{◌≡◌, List, Some, slice_get, filter_map}
+use Rattle.lg_gossip.specs.declared.choice.TakenRow.{TakenRow}
+use Rattle.lg_gossip.specs.declared.queued.Queued.{Queued}
+
+-- there is a row at this place, and it was sent so often
+pub record IsRowOf (rows : List Queued) (taken : TakenRow) : Type 0 where
+  pub row : Queued
+  pub stands : slice_get rows taken.place ≡ Some row
+  pub sends : taken.sends ≡ row.sends
+
+-- the rows at these places
+abbrev pub rows_at : List Queued → List TakenRow → List Queued
+rows_at rows taken = filter_map (λ t. slice_get rows t.place) taken
