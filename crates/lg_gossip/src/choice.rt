@@ -71,6 +71,8 @@ fn place_after(rows: &[TakenRow], sends: u32) -> usize
 
 /// Takes a row behind those that were sent as often, where it is then among the first so many. A later row that was
 /// sent as often as the answer, or more often, isn't among them; `bound` says so of the rows before this one.
+// Most rows aren't taken, and the loop over them is shorter where this isn't inlined.
+#[inline(never)]
 fn take_row(
     first: &mut ArrayVec<TakenRow, MAX_CLAIMS>,
     row: TakenRow,
