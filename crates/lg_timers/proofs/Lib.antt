@@ -1,6 +1,7 @@
 pub mod CancelLaws
 pub mod KeyLaws
 pub mod Pending
+pub mod RowOrder
 pub mod SetLaws
 pub mod TimerSets
 pub mod TurnLaws

@@ -32,10 +32,37 @@ pub struct Timer {
     pub id: TimerId,
 }
 
+impl TimerId {
+    ghost use Rattle.std.specs.Prelude.{◌≡◌};
+    ghost use Rattle.lg_timers.specs.Meaning.Timers.{kind_of};
+
+    /// Its kind as a number, 1 to 6 in the order in which the kinds stand.
+    fn kind(&self) -> u8
+        ensures { result ≡ kind_of self.now }
+    {
+        match self {
+            TimerId::RoundEnd => 1,
+            TimerId::Suspicion(_) => 2,
+            TimerId::Direct => 3,
+            TimerId::RelayNack(_) => 4,
+            TimerId::RelayEnd(_) => 5,
+            TimerId::RoundStart => 6,
+        }
+    }
+}
+
 impl Timer {
     ghost use Rattle.std.specs.Prelude.{◌≡◌};
     ghost use Rattle.std.specs.Ordering.{is_lt};
-    ghost use Rattle.lg_timers.specs.Meaning.Timers.{timer_cmp, has_id};
+    ghost use Rattle.lg_timers.specs.Meaning.Timers.{kind_of, timer_cmp, has_id};
+
+    /// Its kind as a number: 1 for the end of a round, 2 for a suspicion, 3 where helpers are asked, 4 for
+    /// the nack of a relay, 5 for the end of a relay and 6 for the start of a round.
+    pub fn kind(&self) -> u8
+        ensures { result ≡ kind_of self.now.id }
+    {
+        self.id.kind()
+    }
 
     /// Whether it fires before another one, where both are due.
     pub(crate) fn is_before(&self, other: &Timer) -> bool
@@ -44,10 +71,11 @@ impl Timer {
         self.cmp(other).is_lt()
     }
 
-    /// Whether it has an id.
+    /// Whether it has an id. A name is read only where the kinds are the same.
+    #[tactic(auto, using(lg_rules::proofs::KeyOrder::names_eq))]
     pub(crate) fn has_id(&self, id: &TimerId) -> bool
         ensures { result ≡ has_id id.now self.now }
     {
-        self.id.cmp(id).is_eq()
+        self.id == *id
     }
 }

@@ -1,6 +1,8 @@
 //! The set of timers.
-ghost use Rattle.std.specs.Prelude.{◌≡◌, ◌<◌, ◌≤◌, ◌==◌, false, List, [], length, reverse};
-ghost use Rattle.lg_timers.specs.Meaning.Timers.{in_turn, is_set, with_timer, without_timer, least_of, earlier, due_of, left_by};
+ghost use Rattle.std.specs.Prelude.{◌≡◌, ◌<◌, ◌≤◌, ◌==◌, false, List, [], length, position, slice_set};
+ghost use Rattle.arrayvec.specs.ArrayVec.{array_vec_len};
+ghost use Rattle.lg_timers.specs.Meaning.Timers.{in_turn, has_id, is_set, with_timer, without_timer};
+ghost use Rattle.lg_timers.specs.Meaning.Timers.{least_of, earlier, due_of, left_by};
 ghost use Rattle.lg_timers.specs.Support.InTurn.{IsTimerSet};
 
 use crate::timer::{Timer, TimerId};
@@ -11,26 +13,25 @@ use std::marker::Model;
 /// The most timers that are set at once: 400 (this project's choice).
 pub const MAX_TIMERS: usize = 400;
 
-/// The timers that are set, one of an id at most and at most 400.
+/// The timers that are set, one of an id at most and at most [`MAX_TIMERS`].
 ///
 /// A contract sees them in the order in which they fire, however they are kept. No call takes memory.
 #[derive(Debug, Drop)]
 pub struct Timers {
-    // In the order in which they were set.
     timers: ArrayVec<Timer, MAX_TIMERS>,
 }
 
 impl Model for Timers {
-    ghost use Rattle.std.specs.Prelude.{List, reverse};
+    ghost use Rattle.std.specs.Prelude.{List};
     ghost use Rattle.lg_timers.specs.declared.timer.Timer.{Timer as OneTimer};
     ghost use Rattle.lg_timers.specs.Meaning.Timers.{in_turn};
-    ghost use Rattle.lg_timers.specs.Support.InTurn.{AreKept};
+    ghost use Rattle.lg_timers.specs.Support.InTurn.{AreApart};
 
     ghost Value = { List OneTimer };
 
-    ghost view = { λ t. in_turn (reverse t.timers.items) };
+    ghost view = { λ t. in_turn t.timers.items };
 
-    ghost invariant = { λ t. AreKept t.timers.items };
+    ghost invariant = { λ t. AreApart t.timers.items };
 }
 
 impl Default for Timers {
@@ -55,7 +56,7 @@ fn earlier(least: Option<Timer>, timer: Timer) -> Timer
 
 /// The timer that fires first.
 fn least_of(timers: &[Timer]) -> Option<Timer>
-    ensures { result ≡ least_of (in_turn (reverse timers.now)) }
+    ensures { result ≡ least_of (in_turn timers.now) }
 {
     let mut least = None;
     for timer in timers {
@@ -64,11 +65,19 @@ fn least_of(timers: &[Timer]) -> Option<Timer>
     least
 }
 
-/// Whether one of these timers has an id.
-fn holds(timers: &[Timer], id: &TimerId) -> bool
-    ensures { result ≡ is_set id.now timers.now }
+/// The place of the timer of an id.
+fn place_of(timers: &[Timer], id: &TimerId) -> Option<usize>
+    ensures { result ≡ position (has_id id.now) timers.now }
 {
-    timers.iter().any(|timer| timer.has_id(id))
+    timers.iter().position(|timer| timer.has_id(id))
+}
+
+/// Writes a timer in the place of another.
+fn put_at(timers: &mut ArrayVec<Timer, MAX_TIMERS>, place: usize, timer: Timer)
+    requires { place < array_vec_len timers.old }
+    ensures { timers.new.items ≡ slice_set timers.old.items place timer }
+{
+    timers[place] = timer;
 }
 
 impl Timers {
@@ -82,45 +91,42 @@ impl Timers {
         }
     }
 
-    /// How many timers are set, at most 400.
-    pub fn len(&self) -> usize
-        ensures len { result ≡ length self.now }
-        ensures few { length self.now ≤ 400 }
-        ensures set { IsTimerSet self.now }
-    {
-        self.timers.len()
-    }
-
-    /// Whether no timer is set.
-    pub fn is_empty(&self) -> bool
-        ensures { result ≡ (length self.now == 0) }
-    {
-        self.timers.is_empty()
-    }
-
     /// Whether there is no room for one more.
-    pub fn is_full(&self) -> bool
-        ensures full { result ≡ (length self.now == 400) }
-        ensures few { length self.now ≤ 400 }
+    fn is_full(&self) -> bool
+        ensures full { result ≡ (length self.now == MAX_TIMERS) }
+        ensures few { length self.now ≤ MAX_TIMERS }
     {
         self.timers.is_full()
     }
 
     /// Whether a timer of an id is set.
-    pub fn is_set(&self, id: &TimerId) -> bool
+    fn is_set(&self, id: &TimerId) -> bool
         ensures { result ≡ is_set id.now self.now }
     {
-        holds(&self.timers, id)
+        place_of(&self.timers, id).is_some()
     }
 
-    /// Sets one more timer. Fewer than 400 are set, and none of its id.
+    /// Sets one more timer. Fewer than [`MAX_TIMERS`] are set, and none of its id.
     pub fn set(&mut self, timer: Timer)
-        requires room { length self.old < 400 }
+        requires room { length self.old < MAX_TIMERS }
         requires apart { is_set timer.id self.old ≡ false }
         ensures { self.new ≡ with_timer timer self.old }
     {
+        // The checker has no plan for a push of the whole parameter here.
         let Timer { deadline, id } = timer;
         self.timers.push(Timer { deadline, id });
+    }
+
+    /// Sets a timer in the place of that of its id, or one more where none of its id is set. Then fewer
+    /// than [`MAX_TIMERS`] are.
+    pub fn reset(&mut self, timer: Timer)
+        requires { is_set timer.id self.old ≡ false → length self.old < MAX_TIMERS }
+        ensures { self.new ≡ with_timer timer (without_timer timer.id self.old) }
+    {
+        match place_of(&self.timers, &timer.id) {
+            Some(place) => put_at(&mut self.timers, place, timer),
+            None => self.timers.push(timer),
+        }
     }
 
     /// Cancels the timer of an id, and answers whether one was set. The others stay.
@@ -128,12 +134,13 @@ impl Timers {
         ensures was_set { result ≡ is_set id.now self.old }
         ensures others { self.new ≡ without_timer id.now self.old }
     {
-        // Where none is set, no timer is moved.
-        let was_set = self.is_set(id);
-        if was_set {
-            self.timers.retain(|timer| !timer.has_id(id));
+        match place_of(&self.timers, id) {
+            Some(place) => {
+                self.timers.swap_remove(place);
+                true
+            }
+            None => false,
         }
-        was_set
     }
 
     /// Cancels all timers: none is set then.

@@ -1,23 +1,58 @@
 -- Timers in the order in which they fire (this project's choice).
-use Rattle.std.specs.Prelude.{ℕ, Bool, true, not, ◌&&◌, List, [], ◌∷◌, filter, Option, Some, None, nat_le, if◌then◌else◌}
+use Rattle.std.specs.Prelude.{
+  ℕ,
+  Bool,
+  true,
+  not,
+  ◌&&◌,
+  List,
+  [],
+  ◌∷◌,
+  filter,
+  Option,
+  Some,
+  None,
+  nat_le,
+  if◌then◌else◌,
+}
 use Rattle.std.specs.List.{list_any}
 use Rattle.std.specs.declared.cmp.Ordering.{Ordering}
 use Rattle.std.specs.Ordering.{is_lt}
 use Rattle.lg_rules.specs.Meaning.Rows.{name_cmp, is_same, put_row}
 use Rattle.lg_timers.specs.declared.timer.Timer.{Timer}
 use Rattle.lg_timers.specs.declared.timer.TimerId.{TimerId}
-use Rattle.lg_timers.specs.declared.timer.TimerId.TheVariants.{RoundEnd, Suspicion, Direct, RelayNack, RelayEnd, RoundStart}
+use Rattle.lg_timers.specs.declared.timer.TimerId.TheVariants.{
+  RoundEnd,
+  Suspicion,
+  Direct,
+  RelayNack,
+  RelayEnd,
+  RoundStart,
+}
 
--- the kind of a timer as a number, and behind it the bytes of its member's name or its relay's number
+-- the kind of a timer as a number
+abbrev pub kind_of : TimerId → ℕ
+kind_of RoundEnd = 1
+kind_of (Suspicion member) = 2
+kind_of Direct = 3
+kind_of (RelayNack number) = 4
+kind_of (RelayEnd number) = 5
+kind_of RoundStart = 6
+
+-- whom a timer is about: the bytes of its member's name, or its relay's number
+abbrev pub subject_of : TimerId → List ℕ
+subject_of RoundEnd = []
+subject_of (Suspicion member) = member
+subject_of Direct = []
+subject_of (RelayNack number) = number ∷ []
+subject_of (RelayEnd number) = number ∷ []
+subject_of RoundStart = []
+
+-- an id as a list of numbers
 abbrev pub id_key : TimerId → List ℕ
-id_key RoundEnd = 1 ∷ []
-id_key (Suspicion member) = 2 ∷ member
-id_key Direct = 3 ∷ []
-id_key (RelayNack number) = 4 ∷ number ∷ []
-id_key (RelayEnd number) = 5 ∷ number ∷ []
-id_key RoundStart = 6 ∷ []
+id_key id = kind_of id ∷ subject_of id
 
--- the deadline before these: timers are ordered by these lists, number by number
+-- the deadline before its id: timers are ordered by these lists, number by number
 abbrev pub timer_key : Timer → List ℕ
 timer_key t = t.deadline ∷ id_key t.id
 

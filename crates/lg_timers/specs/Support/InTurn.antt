@@ -1,5 +1,5 @@
 -- What holds of each set of timers.
-use Rattle.std.specs.Prelude.{List, map, reverse, IsTrue}
+use Rattle.std.specs.Prelude.{List, map, IsTrue}
 use Rattle.lg_rules.specs.Meaning.Rows.{name_cmp, Rises}
 use Rattle.lg_timers.specs.declared.timer.Timer.{Timer}
 use Rattle.lg_timers.specs.Meaning.Timers.{timer_key, have_distinct_ids}
@@ -9,6 +9,6 @@ pub record IsTimerSet (timers : List Timer) : Type 0 where
   pub rises : Rises name_cmp (map timer_key timers)
   pub distinct : IsTrue (have_distinct_ids timers)
 
--- timers as they are kept, in the order in which they were set
-pub record AreKept (timers : List Timer) : Type 0 where
-  pub distinct : IsTrue (have_distinct_ids (reverse timers))
+-- timers in any order, one of an id at most
+pub record AreApart (timers : List Timer) : Type 0 where
+  pub distinct : IsTrue (have_distinct_ids timers)

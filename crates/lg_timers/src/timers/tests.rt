@@ -1,5 +1,5 @@
 //! Which timers fire, and when.
-use super::{MAX_TIMERS, Timers};
+use super::Timers;
 use crate::timer::{Timer, TimerId};
 use lg_rules::Name;
 use lg_timing::Moment;
@@ -41,14 +41,12 @@ fn the_order_in_which_they_fire(rt: HostRuntime) {
     for at in [3, 7, 0, 9, 5, 1, 8, 2, 6, 4] {
         put(&mut timers, order[at]);
     }
-    assert_eq!(rt; timers.len(), 10);
     assert_eq!(rt; timers.take_due(moment(7999)), None);
     for next in order {
         let least = timers.least();
         assert_eq!(rt; timers.take_due(moment(9500)), least);
         assert_eq!(rt; least, Some(next));
     }
-    assert!(rt; timers.is_empty());
     assert_eq!(rt; timers.least(), None);
 }
 
@@ -66,12 +64,45 @@ fn one_of_an_id(rt: HostRuntime) {
 }
 
 #[test]
+fn another_deadline(rt: HostRuntime) {
+    let mut timers = Timers::new();
+    for (deadline, number) in [(500, 1), (600, 2), (700, 1)] {
+        if !timers.is_full() {
+            timers.reset(timer(deadline, TimerId::RelayEnd(number)));
+        }
+    }
+    assert_eq!(rt;
+        timers.take_due(moment(700)),
+        Some(timer(600, TimerId::RelayEnd(2)))
+    );
+    assert_eq!(rt;
+        timers.take_due(moment(700)),
+        Some(timer(700, TimerId::RelayEnd(1)))
+    );
+    assert_eq!(rt; timers.least(), None);
+}
+
+#[test]
+fn the_numbers_of_the_kinds(rt: HostRuntime) {
+    for (id, number) in [
+        (TimerId::RoundEnd, 1),
+        (TimerId::Suspicion(name(b"c")), 2),
+        (TimerId::Direct, 3),
+        (TimerId::RelayNack(9), 4),
+        (TimerId::RelayEnd(9), 5),
+        (TimerId::RoundStart, 6),
+    ] {
+        assert_eq!(rt; timer(0, id).kind(), number);
+    }
+}
+
+#[test]
 fn none_after_all_are_cancelled(rt: HostRuntime) {
     let mut timers = Timers::new();
     put(&mut timers, timer(500, TimerId::RelayNack(7)));
     put(&mut timers, timer(600, TimerId::RoundStart));
     timers.clear();
-    assert!(rt; timers.is_empty());
+    assert_eq!(rt; timers.least(), None);
     assert_eq!(rt; timers.take_due(moment(600)), None);
     put(&mut timers, timer(700, TimerId::RoundStart));
     assert_eq!(rt; timers.least(), Some(timer(700, TimerId::RoundStart)));
@@ -86,14 +117,12 @@ fn four_hundred_timers(rt: HostRuntime) {
             timer(u64::from(number * 7 % 31), TimerId::RelayEnd(number)),
         );
     }
-    assert_eq!(rt; timers.len(), MAX_TIMERS);
     assert!(rt; timers.is_full());
     for number in 0..400u32 {
         if number % 3 == 0 {
             assert!(rt; timers.cancel(&TimerId::RelayEnd(number)), "{number}");
         }
     }
-    assert_eq!(rt; timers.len(), 266);
     for deadline in 0..31u32 {
         for number in 0..400u32 {
             if number % 3 != 0 && number * 7 % 31 == deadline {
@@ -102,5 +131,5 @@ fn four_hundred_timers(rt: HostRuntime) {
             }
         }
     }
-    assert!(rt; timers.is_empty());
+    assert_eq!(rt; timers.least(), None);
 }
