@@ -1,5 +1,6 @@
 //! The set of timers.
 ghost use Rattle.std.specs.Prelude.{◌≡◌, ◌<◌, ◌≤◌, ◌==◌, false, List, [], length, position, slice_set};
+ghost use Rattle.std.specs.Option.{option_copied};
 ghost use Rattle.arrayvec.specs.ArrayVec.{array_vec_len};
 ghost use Rattle.lg_timers.specs.Meaning.Timers.{in_turn, has_id, is_set, with_timer, without_timer};
 ghost use Rattle.lg_timers.specs.Meaning.Timers.{least_of, earlier, due_of, left_by};
@@ -45,11 +46,11 @@ impl Default for Timers {
 }
 
 /// The first of one timer, if there is one, and another.
-fn earlier(least: Option<Timer>, timer: Timer) -> Timer
-    ensures { result ≡ earlier least timer }
+fn earlier<'a>(least: Option<&'a Timer>, timer: &'a Timer) -> &'a Timer
+    ensures { result.now ≡ earlier (option_copied least.entry) timer.now }
 {
     match least {
-        Some(other) if other.is_before(&timer) => other,
+        Some(other) if other.is_before(timer) => other,
         _ => timer,
     }
 }
@@ -60,9 +61,9 @@ fn least_of(timers: &[Timer]) -> Option<Timer>
 {
     let mut least = None;
     for timer in timers {
-        least = Some(earlier(least, *timer));
+        least = Some(earlier(least, timer));
     }
-    least
+    least.copied()
 }
 
 /// The place of the timer of an id.
