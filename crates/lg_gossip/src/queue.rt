@@ -5,6 +5,7 @@ ghost use Rattle.arrayvec.specs.ArrayVec.{array_vec_len};
 ghost use Rattle.lg_rules.specs.Meaning.Rows.{name_cmp, is_same, row_at, put_row};
 ghost use Rattle.lg_rules.specs.Meaning.Claim.{name_of};
 ghost use Rattle.lg_gossip.specs.Meaning.Queue.{queued_name, put_of, fill_of, filled};
+ghost use Rattle.lg_gossip.specs.Support.Sound.{AreInOrder};
 
 use crate::choice::{buddy_of, count_sends, rows_taken, write_claims};
 use crate::limit::{MAX_LAMBDA, send_limit};
@@ -46,8 +47,9 @@ impl Model for Queue {
 
 /// Puts a row in the place of its name.
 fn put_row(rows: &mut ArrayVec<Queued, MAX_QUEUED>, queued: Queued)
-    requires { let standing = row_at name_cmp queued_name queued.claim.name rows.old.items in
+    requires room { let standing = row_at name_cmp queued_name queued.claim.name rows.old.items in
         (standing ≡ None) → array_vec_len rows.old < MAX_QUEUED }
+    requires rises { AreInOrder rows.old.items }
     ensures { rows.new.items ≡ put_row name_cmp queued_name queued rows.old.items }
 {
     match seat_of(rows.as_slice(), &queued.claim.name) {
