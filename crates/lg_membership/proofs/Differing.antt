@@ -4,8 +4,8 @@ use Rattle.std.specs.Prelude.{filter, is_some}
 use Rattle.std.proofs.lemmas.Bool.{cases_Bool}
 use Rattle.lg_rules.specs.declared.claim.Claim.{Claim}
 use Rattle.lg_rules.specs.Meaning.Rows.{name_cmp, is_among}
-use Rattle.lg_rules.specs.Meaning.View.{Membership, view, told_all, news, changed}
-use Rattle.lg_rules.proofs.Changes.{changed-told, length-told}
+use Rattle.lg_rules.specs.Meaning.View.{Standing, view, hear_claims, changed_names, changed}
+use Rattle.lg_rules.proofs.Changes.{changed-heard, length-changed}
 use Rattle.lg_membership.specs.declared.origin.Origin.{Origin}
 use Rattle.lg_membership.specs.Meaning.Log.{config, me, said, addr_in}
 use Rattle.lg_membership.specs.Support.Reached.{IsReached}
@@ -25,23 +25,23 @@ abbrev among : List (List ℕ) → Claim → Bool
 among names r = is_among name_cmp r.name names
 
 differing-opened : (now : ℕ) (origin : Origin) (cs : List Claim) (s : State) → IsReached s → is_some s.config ≡ true
-    → filter (among (news (standing s) cs)) (shown (apply_all now origin cs s)) ≡ changed (shown s) (shown (apply_all now origin cs s))
+    → filter (among (changed_names (standing s) cs)) (shown (apply_all now origin cs s)) ≡ changed (shown s) (shown (apply_all now origin cs s))
 differing-opened now origin cs s r opened =
     let after = apply_all now origin cs s in
     let still : is_some after.config ≡ true = ap is_some (config-apply_all now origin cs s) ∙ opened in
     let is = standing-apply_all now origin cs s in
-    let differ = changed-told (me r.log) (addr_in (config r.log)) (said r.log) cs (standing s) (ap standing r.is) in
-    ap (filter (among (news (standing s) cs))) (shown-view after still ∙ ap view is)
+    let differ = changed-heard (me r.log) (addr_in (config r.log)) (said r.log) cs (standing s) (ap standing r.is) in
+    ap (filter (among (changed_names (standing s) cs))) (shown-view after still ∙ ap view is)
     ∙ sym differ
     ∙ (λ i. changed (sym (shown-view s opened) i) (sym (shown-view after still ∙ ap view is) i))
 
 -- The records of the names whose records claims changed are those that differ.
 pub shown-differing : (now : ℕ) (origin : Origin) (cs : List Claim) (s : State) → IsReached s
-    → filter (among (news (standing s) cs)) (shown (apply_all now origin cs s)) ≡ changed (shown s) (shown (apply_all now origin cs s))
+    → filter (among (changed_names (standing s) cs)) (shown (apply_all now origin cs s)) ≡ changed (shown s) (shown (apply_all now origin cs s))
 shown-differing now origin cs s r = elim (cases_Bool (is_some s.config)) [
   | inl opened ↦ differing-opened now origin cs s r opened
   | inr unopened ↦ (
       let after = apply_all now origin cs s in
       let none : shown after ≡ [] = shown-none after (ap is_some (config-apply_all now origin cs s) ∙ unopened) in
-      ap (filter (among (news (standing s) cs))) none ∙ sym (ap (changed (shown s)) none))
+      ap (filter (among (changed_names (standing s) cs))) none ∙ sym (ap (changed (shown s)) none))
 ]

@@ -1,8 +1,9 @@
 -- Each fact changes the state as its definitions do.
-use Rattle.std.proofs.Common.{◌≡◌, ◌≢◌, ℕ, List, [], ◌∷◌, Some, inl, inr, sym, ◌∙◌, ap}
+use Rattle.std.proofs.Common.{◌≡◌, ◌≢◌, ℕ, Bool, cond, List, [], ◌∷◌, Some, inl, inr, sym, ◌∙◌, ap}
 use Rattle.lg_rules.specs.declared.claim.Claim.{Claim}
 use Rattle.lg_rules.specs.Meaning.Own.{own_of}
-use Rattle.lg_rules.specs.Meaning.Table.{members_of}
+use Rattle.lg_rules.specs.Meaning.Rows.{name_cmp, is_same}
+use Rattle.lg_rules.specs.Meaning.Table.{known_of}
 use Rattle.lg_rules.proofs.KeyOrder.{names_order, cases_key, same_key, other_key}
 use Rattle.lg_rules.proofs.OwnLaws.{own-same, own-other, own_of_name}
 use Rattle.lg_rules.proofs.Tables.{heard-table, table-own}
@@ -19,7 +20,7 @@ pub open-state : (opening : Config) (log : Log) → open_with opening (state_of 
 open-state opening log = λ i. record {
   config = Some opening;
   own = own_of opening.name opening.addr [];
-  members = members_of opening.name [];
+  members = known_of opening.name [];
   suspicions = sym (suspicions-opened opening log) i;
   queue = record { lambda = opening.lambda; rows = sym (queue-opened opening log) i };
 }
@@ -49,15 +50,20 @@ own_name log = own_of_name (me log) (addr_in (config log)) (said log)
 pub apply-state : (now : ℕ) (origin : Origin) (c : Claim) (log : Log) → apply now origin c (state_of log) ≡ state_of (Said now origin c ∷ log)
 unfolding apply
 apply-state now origin c log = elim (cases_key names_order c.name (me log)) [
-  | inl same ↦ rw (same_key names_order c.name (own log).name (same ∙ sym (own_name log))) (own-applied now origin c log same)
-  | inr other ↦ rw (other_key names_order c.name (own log).name (λ e. other (e ∙ own_name log))) (other-applied now origin c log other)
+  | inl same ↦ either (same_key names_order c.name (own log).name (same ∙ sym (own_name log))) ∙ own-applied now origin c log same
+  | inr other ↦ either (other_key names_order c.name (own log).name (λ e. other (e ∙ own_name log))) ∙ other-applied now origin c log other
 ]
+  where
+    either : {b : Bool} → is_same name_cmp c.name (own log).name ≡ b
+        → cond (is_same name_cmp c.name (own log).name) (apply_own c (state_of log)) (apply_other now origin c (state_of log))
+        ≡ cond b (apply_own c (state_of log)) (apply_other now origin c (state_of log))
+    either e = ap (λ b. cond b (apply_own c (state_of log)) (apply_other now origin c (state_of log))) e
 
 pub send-state : (taken : List Claim) (log : Log) → send taken (state_of log) ≡ state_of (Sent taken ∷ log)
 send-state taken log = λ i. record {
   config = config log;
   own = own log;
-  members = members_of (me log) (said log);
+  members = known_of (me log) (said log);
   suspicions = suspicions-sent taken log i;
   queue = record { lambda = lambda_in (config log); rows = queue-sent log taken i };
 }

@@ -6,7 +6,7 @@ use Rattle.lg_rules.specs.Meaning.Table.{roster}
 use Rattle.lg_rules.proofs.KeyOrder.{names_order, cases_key}
 use Rattle.lg_rules.proofs.Rises.{rises-put, among-put, among-put_same, same_members, length-put}
 use Rattle.lg_rules.proofs.Roster.{rises-roster, roster-own, length-roster, own_unknown}
-use Rattle.lg_rules.proofs.Tables.{IsTaken, Taken, Kept, Out, heard_cases}
+use Rattle.lg_rules.proofs.Tables.{IsTaken, Taken, Unbeaten, Out, heard_cases}
 use Rattle.lg_membership.specs.declared.origin.Origin.{Origin}
 use Rattle.lg_membership.specs.Meaning.Log.{Fact, Log, Said, me, said, known}
 
@@ -64,7 +64,7 @@ known-grows now origin log c m among = elim (cases_key names_order c.name (me lo
   | inl same ↦ ap (is_among name_cmp m) (known-own now origin log c same) ∙ among
   | inr other ↦ elim (heard_cases (me log) c (said log) other) [
     | Taken t ↦ ap (is_among name_cmp m) (known-taken now origin log c t) ∙ among-put names_order m c.name (known log) ∙ or_right (is_same name_cmp c.name m) among
-    | Kept k ↦ ap (is_among name_cmp m) (known-passed now origin log c k.names) ∙ among
+    | Unbeaten k ↦ ap (is_among name_cmp m) (known-passed now origin log c k.names) ∙ among
     | Out o ↦ ap (is_among name_cmp m) (known-passed now origin log c o.names) ∙ among
   ]
 ]

@@ -3,14 +3,14 @@ use Rattle.std.proofs.Common.{◌≡◌, ◌≢◌, ℕ, Bool, List, [], ◌∷�
 use Rattle.std.specs.Prelude.{filter_map, option_map}
 use Rattle.std.proofs.lemmas.Bool.{cases_Bool}
 use Rattle.lg_rules.specs.declared.claim.Claim.{Claim}
-use Rattle.lg_rules.specs.Meaning.Own.{own_answer, own_heard}
+use Rattle.lg_rules.specs.Meaning.Own.{own_hearing, own_heard}
 use Rattle.lg_timing.specs.declared.config.Config.{Config}
 use Rattle.lg_rules.specs.Meaning.Rows.{name_cmp, is_among, put_key, put_row}
 use Rattle.lg_rules.proofs.Cases.{Missing, Holding, held}
 use Rattle.lg_rules.proofs.KeyOrder.{names_order}
 use Rattle.lg_rules.proofs.Rises.{put-there}
 use Rattle.lg_rules.proofs.RowLaws.{rows_equal, rows-put, rows-skip}
-use Rattle.lg_rules.proofs.Tables.{Taken, Kept, Out, heard_cases}
+use Rattle.lg_rules.proofs.Tables.{Taken, Unbeaten, Out, heard_cases}
 use Rattle.lg_gossip.specs.Meaning.Queue.{fresh, queued_name, sent_once}
 use Rattle.lg_membership.specs.declared.origin.Origin.{Origin}
 use Rattle.lg_membership.specs.Meaning.Log.{Fact, Log, Opened, Said, Sent, config, me, said, own, table, known}
@@ -24,10 +24,10 @@ abbrev names_after : ℕ → Origin → Log → Claim → List (List ℕ)
 names_after now origin log c = known (Said now origin c ∷ log)
 
 -- a claim is put
-rows-told : (now : ℕ) (origin : Origin) (log : Log) (c p : Claim) → put_by origin log c ≡ Some p
+rows-queued : (now : ℕ) (origin : Origin) (log : Log) (c p : Claim) → put_by origin log c ≡ Some p
     → put_row name_cmp queued_name (fresh p) (queue_rows log) ≡ queue_rows (Said now origin c ∷ log)
 unfolding queue_rows
-rows-told now origin log c p put =
+rows-queued now origin log c p put =
     rows-put names_order queued_name (queued log) (queued (Said now origin c ∷ log)) (fresh p) (known log) (rises-known log) (queued_keyed log)
     (queued-put now origin log c p put) (queued-put_other now origin log c p put)
     ∙ ap (filter_map (queued (Said now origin c ∷ log))) (sym (put_by-grows now origin log c p put))
@@ -60,22 +60,22 @@ queue-by now origin log c (Some p) none some = λ i. record { lambda = lambda_in
 
 -- the queue once a claim about oneself is said
 pub queue-own : (now : ℕ) (origin : Origin) (log : Log) (c : Claim) → c.name ≡ me log
-    → queue_with (put_of_own (own_answer c.status c.incarnation (own log).number) (own_heard (own log) c)) (queue log) ≡ queue (Said now origin c ∷ log)
+    → queue_with (put_of_own (own_hearing (own log) c) (own_heard (own log) c)) (queue log) ≡ queue (Said now origin c ∷ log)
 queue-own now origin log c same =
-    let put = put_of_own (own_answer c.status c.incarnation (own log).number) (own_heard (own log) c) in
+    let put = put_of_own (own_hearing (own log) c) (own_heard (own log) c) in
     let says = put_by-own origin log c same in
-    queue-by now origin log c put (λ e. rows-stay now origin log c (says ∙ e) (known-own now origin log c same)) (λ p e. rows-told now origin log c p (says ∙ e))
+    queue-by now origin log c put (λ e. rows-stay now origin log c (says ∙ e) (known-own now origin log c same)) (λ p e. rows-queued now origin log c p (says ∙ e))
 
 -- the queue once a claim about another is said
 pub queue-other : (now : ℕ) (origin : Origin) (log : Log) (c : Claim) → c.name ≢ me log → queue_with (put_of_other origin (table log) (suspicions log) c) (queue log) ≡ queue (Said now origin c ∷ log)
 queue-other now origin log c other =
     let put = put_of_other origin (table log) (suspicions log) c in
     let says = put_by-other origin log c other in
-    let told : (p : Claim) → put ≡ Some p → put_row name_cmp queued_name (fresh p) (queue_rows log) ≡ queue_rows (Said now origin c ∷ log) = λ p e. rows-told now origin log c p (says ∙ e) in
+    let joined : (p : Claim) → put ≡ Some p → put_row name_cmp queued_name (fresh p) (queue_rows log) ≡ queue_rows (Said now origin c ∷ log) = λ p e. rows-queued now origin log c p (says ∙ e) in
     elim (heard_cases (me log) c (said log) other) [
-      | Taken t ↦ queue-by now origin log c put (λ e. rows-join now origin log c (says ∙ e) (known-taken now origin log c t)) told
-      | Kept k ↦ queue-by now origin log c put (λ e. rows-stay now origin log c (says ∙ e) (known-passed now origin log c k.names)) told
-      | Out o ↦ queue-by now origin log c put (λ e. rows-stay now origin log c (says ∙ e) (known-passed now origin log c o.names)) told
+      | Taken t ↦ queue-by now origin log c put (λ e. rows-join now origin log c (says ∙ e) (known-taken now origin log c t)) joined
+      | Unbeaten k ↦ queue-by now origin log c put (λ e. rows-stay now origin log c (says ∙ e) (known-passed now origin log c k.names)) joined
+      | Out o ↦ queue-by now origin log c put (λ e. rows-stay now origin log c (says ∙ e) (known-passed now origin log c o.names)) joined
     ]
 
 -- rows that are mapped

@@ -6,15 +6,15 @@ use Rattle.lg_rules.specs.Meaning.Claim.{name_of}
 use Rattle.lg_rules.specs.declared.claim.Claim.{Claim}
 use Rattle.lg_rules.specs.declared.own.OwnHeard.{OwnHeard}
 use Rattle.lg_rules.specs.declared.own.OwnHeard.TheVariants.{Refuted, Raised, Ousted, Ignored}
-use Rattle.lg_rules.specs.Meaning.Own.{Oneself, own_answer, answered, own_heard, own_record}
+use Rattle.lg_rules.specs.Meaning.Own.{Oneself, own_hearing, own_heard, own_record}
 use Rattle.lg_rules.specs.Meaning.Rows.{name_cmp, is_same, is_among, put_key, row_at}
 use Rattle.lg_rules.specs.Meaning.Table.{takes, roster}
 use Rattle.lg_rules.proofs.Cases.{Missing, Holding, held, held_once}
 use Rattle.lg_rules.proofs.KeyOrder.{names_order, cases_key, same_key, other_key, key_is}
-use Rattle.lg_rules.proofs.OwnLaws.{own_of_name}
+use Rattle.lg_rules.proofs.OwnLaws.{own_heard_name, own_of_name}
 use Rattle.lg_rules.proofs.Rises.{among-put_same, put-there}
 use Rattle.lg_rules.proofs.RowLaws.{Keyed, AgreeBut}
-use Rattle.lg_rules.proofs.Tables.{Taken, Kept, Out, heard_cases, row_at-table}
+use Rattle.lg_rules.proofs.Tables.{Taken, Unbeaten, Out, heard_cases, row_at-table}
 use Rattle.lg_rules.specs.Meaning.Table.{record_of}
 use Rattle.lg_gossip.specs.declared.queued.Queued.{Queued}
 use Rattle.lg_gossip.specs.Meaning.Queue.{fresh, queued_name, sent_once}
@@ -28,19 +28,13 @@ use Rattle.lg_membership.proofs.KnownLaws.{rises-known, own_known, known-own, kn
 
 -- What a claim puts into the queue, about oneself or another.
 pub put_by-own : (origin : Origin) (log : Log) (c : Claim) → c.name ≡ me log
-    → put_by origin log c ≡ put_of_own (own_answer c.status c.incarnation (own log).number) (own_heard (own log) c)
+    → put_by origin log c ≡ put_of_own (own_hearing (own log) c) (own_heard (own log) c)
 unfolding put_by
 put_by-own origin log c same = rw (same_key names_order c.name (me log) same) refl
 
 pub put_by-other : (origin : Origin) (log : Log) (c : Claim) → c.name ≢ me log → put_by origin log c ≡ put_of_other origin (table log) (suspicions log) c
 unfolding put_by
 put_by-other origin log c other = rw (other_key names_order c.name (me log) other) refl
-
-answered_name : (o : OwnHeard) (i : ℕ) (oneself : Oneself) → (answered o i oneself).name ≡ oneself.name
-answered_name Refuted i oneself = refl
-answered_name Raised i oneself = refl
-answered_name Ousted i oneself = refl
-answered_name Ignored i oneself = refl
 
 put_own_name : (o : OwnHeard) (oneself : Oneself) (p : Claim) → put_of_own o oneself ≡ Some p → p.name ≡ oneself.name
 put_own_name Refuted oneself p e = ap (λ (r : Claim). r.name) (sym (held_once (own_record oneself) p e))
@@ -49,10 +43,9 @@ put_own_name Ousted oneself p e = absurd cc
 put_own_name Ignored oneself p e = absurd cc
 
 -- what a claim about oneself puts is about oneself
-pub own_put_name : (log : Log) (c p : Claim) → put_of_own (own_answer c.status c.incarnation (own log).number) (own_heard (own log) c) ≡ Some p → p.name ≡ me log
+pub own_put_name : (log : Log) (c p : Claim) → put_of_own (own_hearing (own log) c) (own_heard (own log) c) ≡ Some p → p.name ≡ me log
 own_put_name log c p e =
-    let answer = own_answer c.status c.incarnation (own log).number in
-    put_own_name answer (own_heard (own log) c) p e ∙ answered_name answer c.incarnation (own log) ∙ own_of_name (me log) _ (said log)
+    put_own_name (own_hearing (own log) c) (own_heard (own log) c) p e ∙ own_heard_name (own log) c ∙ own_of_name (me log) _ (said log)
 
 -- What is queued about a name is about it.
 put_or_name : (o before : Option Claim) (m : List ℕ) (p : Claim) → (before ≡ Some p → p.name ≡ m) → put_or o m before ≡ Some p → p.name ≡ m
@@ -109,7 +102,7 @@ put_other_name now origin log c p e other =
     let name = ap (λ (q : Claim). put_key name_cmp q.name (known log)) (put_is origin (table log) (suspicions log) c p e) in
     elim (heard_cases (me log) c (said log) other) [
       | Taken t ↦ known-taken now origin log c t ∙ name
-      | Kept k ↦ known-passed now origin log c k.names ∙ sym (put-there names_order c.name (known log) (rises-known log) (roster_known log c.name k.among)) ∙ name
+      | Unbeaten k ↦ known-passed now origin log c k.names ∙ sym (put-there names_order c.name (known log) (rises-known log) (roster_known log c.name k.among)) ∙ name
       | Out o ↦ (
           let bad : None ≡ Some p = sym (out_none origin (table log) (suspicions log) c o.taken (row_out log c.name o.out)) ∙ e in
           absurd cc)

@@ -3,12 +3,12 @@ use Rattle.std.proofs.Common.{◌≡◌, ◌≢◌, ℕ, ◌<◌, ◌≤◌, Boo
 use Rattle.lg_rules.specs.declared.claim.Claim.{Claim}
 use Rattle.lg_rules.specs.Meaning.Rows.{name_cmp, is_same, row_at}
 use Rattle.lg_rules.proofs.KeyOrder.{names_order, same_key, other_key}
-use Rattle.lg_rules.specs.Meaning.Own.{own_answer, own_heard}
+use Rattle.lg_rules.specs.Meaning.Own.{own_hearing, own_heard}
 use Rattle.lg_rules.proofs.RowLaws.{rows_room}
 use Rattle.lg_rules.specs.Meaning.Claim.{name_of}
 use Rattle.lg_rules.specs.Meaning.Table.{record_of, takes}
 use Rattle.lg_rules.proofs.Views.{rises-table}
-use Rattle.lg_rules.proofs.Tables.{Taken, Kept, Out, heard_cases, row_at-table, length_table-le}
+use Rattle.lg_rules.proofs.Tables.{Taken, Unbeaten, Out, heard_cases, row_at-table, length_table-le}
 use Rattle.lg_rules.proofs.Roster.{own_unknown}
 use Rattle.lg_gossip.specs.Meaning.Queue.{queued_name}
 use Rattle.lg_membership.specs.declared.origin.Origin.{Origin}
@@ -38,13 +38,13 @@ has_place (Some p) log places = places p refl
 put_in-log : (origin : Origin) (log : Log) (c : Claim) → put_in origin c (state_of log) ≡ put_by origin log c
 unfolding put_by
 put_in-log origin log c =
-    ap (λ n. cond (is_same name_cmp c.name n) (put_of_own (own_answer c.status c.incarnation (own log).number) (own_heard (own log) c)) (put_of_other origin (table log) (suspicions log) c)) (own_name log)
+    ap (λ n. cond (is_same name_cmp c.name n) (put_of_own (own_hearing (own log) c) (own_heard (own log) c)) (put_of_other origin (table log) (suspicions log) c)) (own_name log)
 
 -- a claim that is taken has a seat for the suspicion of its member
 seat_at : (c : Claim) (log : Log) → c.name ≢ me log → takes (table log) c ≡ true → row_at name_cmp suspected_name c.name (suspicions log) ≡ None → length (suspicions log) < 255
 seat_at c log other taken = elim (heard_cases (me log) c (said log) other) [
   | Taken t ↦ seat_of log c t
-  | Kept k ↦ (let bad : false ≡ true = sym k.taken ∙ taken in absurd cc)
+  | Unbeaten k ↦ (let bad : false ≡ true = sym k.taken ∙ taken in absurd cc)
   | Out o ↦ (let bad : false ≡ true = sym o.taken ∙ taken in absurd cc)
 ]
 

@@ -12,7 +12,7 @@ use Rattle.lg_rules.proofs.Tables.{record_of-other}
 use Rattle.lg_timing.specs.declared.config.Config.{Config}
 use Rattle.lg_timing.specs.Meaning.Timeouts.{range_of}
 use Rattle.lg_suspicion.specs.Meaning.Accusers.{suspicion_after, accused}
-use Rattle.lg_suspicion.proofs.AccuserLaws.{kept-one, accused-after}
+use Rattle.lg_suspicion.proofs.AccuserLaws.{counted-one, accused-after}
 use Rattle.std.proofs.lemmas.Bool.{cases_Bool, eq-eqb}
 use Rattle.lg_gossip.specs.Meaning.Queue.{is_suspect}
 use Rattle.lg_membership.specs.declared.suspected.Suspected.{Suspected}
@@ -117,7 +117,7 @@ suspected-raised now origin log c accuser opening opened is stands beaten =
     ∙ ap (suspected_by opening later c.name) stands
     ∙ ap (λ b. cond b (suspicion_since opening c.name (accusers_in c.name c.incarnation (c ∷ said log)) (raise_of c.name c.incarnation later)) None) suspect
     ∙ (λ j. suspicion_since opening c.name (accusers j) (front j))
-    ∙ ap (λ kept. Some record { name = c.name; suspicion = record { raised = said_at later; timeout = range_of (live later) opening; accusers = kept } }) (kept-one (range_of (live later) opening).confirmations accuser)
+    ∙ ap (λ names. Some record { name = c.name; suspicion = record { raised = said_at later; timeout = range_of (live later) opening; accusers = names } }) (counted-one (range_of (live later) opening).confirmations accuser)
 
 -- One more accusation at the incarnation of the record adds its accuser.
 pub record HasAccuser (now : ℕ) (origin : Origin) (log : Log) (c : Claim) (accuser : List ℕ) : Type 0 where

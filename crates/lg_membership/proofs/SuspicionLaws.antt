@@ -9,21 +9,21 @@ use Rattle.lg_rules.specs.declared.members.Heard.{Heard}
 use Rattle.lg_rules.specs.declared.members.Heard.TheVariants.{Overrode, Accused, Same, Ignored, NoRoom}
 use Rattle.lg_rules.specs.Meaning.Claim.{accuser_of}
 use Rattle.lg_rules.specs.Meaning.Rows.{name_cmp, is_same, is_among, put_key, put_row, row_at, without_row, Rises}
-use Rattle.lg_rules.specs.Meaning.Table.{roster, record_of, takes, kept_answer, answer_of, heard, members_in}
+use Rattle.lg_rules.specs.Meaning.Table.{roster, record_of, takes, standing_hearing, hearing_of, heard, live_in}
 use Rattle.lg_rules.proofs.Cases.{Missing, Holding, held, held_once}
 use Rattle.lg_rules.proofs.KeyOrder.{names_order, cases_key}
 use Rattle.lg_rules.proofs.Rises.{put-there}
 use Rattle.lg_rules.proofs.Roster.{rises-roster, roster-nil, roster-own, own_unknown, length-roster}
 use Rattle.lg_rules.proofs.RowLaws.{AgreeBut, rows_equal, rows_same, rows-skip, rows-put, rows-without, row_at-rows, rises-rows, rows_room, length_rows-le}
-use Rattle.lg_rules.proofs.Tables.{IsTaken, IsKept, Taken, Kept, Out, heard_cases, heard-table, row_at-table}
+use Rattle.lg_rules.proofs.Tables.{IsTaken, IsUnbeaten, Taken, Unbeaten, Out, heard_cases, heard-table, row_at-table}
 use Rattle.lg_timing.specs.declared.config.Config.{Config}
-use Rattle.lg_suspicion.specs.Meaning.Accusers.{SuspicionValue, counts, accused}
+use Rattle.lg_suspicion.specs.Meaning.Accusers.{SuspicionValue, accuser_counts, accused}
 use Rattle.lg_gossip.specs.Meaning.Queue.{is_suspect}
 use Rattle.lg_membership.specs.declared.suspected.Suspected.{Suspected}
 use Rattle.lg_membership.specs.declared.origin.Origin.{Origin}
 use Rattle.lg_membership.specs.Meaning.Log.{Fact, Log, Opened, Said, Sent, config, me, said, table, live}
 use Rattle.lg_membership.specs.Meaning.Suspicions.{suspected, suspicions, suspected_name, accuses}
-use Rattle.lg_membership.specs.Support.Changes.{Change, Nothing, Standing, ended, accusing, overriding, change_by, change_of, row_about, suspicions_after}
+use Rattle.lg_membership.specs.Support.Changes.{Change, Nothing, Putting, ended, accusing, overriding, change_by, change_of, row_about, suspicions_after}
 use Rattle.lg_membership.proofs.QueueLaws.{none_rows}
 use Rattle.lg_membership.proofs.Removing.{without-missing}
 use Rattle.lg_membership.proofs.QueuedLaws.{row_out}
@@ -139,7 +139,7 @@ changed-unopened : (now : ℕ) (origin : Origin) (log : Log) (c : Claim) → con
 changed-unopened now origin log c e =
     let none = suspicions-unopened log e in
     (λ i. suspicions_after (change_of (e i) now (table log) (none i) c) (none i))
-    ∙ none_changed (answer_of (table log) c) now (members_in (heard (table log) c)) c
+    ∙ none_changed (hearing_of (table log) c) now (live_in (heard (table log) c)) c
     ∙ sym (suspicions-unopened (Said now origin c ∷ log) e)
 
 -- what a status is
@@ -154,7 +154,7 @@ kind_of (Suspect a) = IsSuspect a refl
 kind_of Failed = IsFailed refl
 
 -- a claim that is taken
-overrode : (log : Log) (c : Claim) → takes (table log) c ≡ true → answer_of (table log) c ≡ Overrode
+overrode : (log : Log) (c : Claim) → takes (table log) c ≡ true → hearing_of (table log) c ≡ Overrode
 overrode log c t = rw t refl
 
 -- a suspicion that ends, if there is one, leaves those of the others
@@ -169,19 +169,19 @@ changed-taken : (now : ℕ) (origin : Origin) (log : Log) (c : Claim) (opening :
     → suspicions_after (change now log c) (suspicions log) ≡ suspicions (Said now origin c ∷ log)
 changed-taken now origin log c opening opened other t =
     let later = Said now origin c ∷ log in
-    let n = members_in (heard (table log) c) in
+    let n = live_in (heard (table log) c) in
     let rows = suspicions log in
     let row = row_about c rows in
     let by_status : change now log c ≡ overriding (Some opening) now n c.name row c.status =
     ap (λ h. change_by h (config log) now n row c) (overrode log c t.taken) ∙ ap (λ o. overriding o now n c.name row c.status) opened in
-    let fewer : n ≡ live later = ap members_in (heard-table (me log) c (said log) other) in
+    let fewer : n ≡ live later = ap live_in (heard-table (me log) c (said log) other) in
     let left = ended-after c.name rows (rises-suspicions log) in
     elim (kind_of c.status) [
       | IsAlive is ↦ (
           ap (λ ch. suspicions_after ch rows) (by_status ∙ ap (overriding (Some opening) now n c.name row) is)
           ∙ left ∙ rows_end now origin log c (suspected-ended later c.name c t.stands (ap is_suspect is)) t.names)
       | IsSuspect accuser is ↦ (
-          let raised : overriding (Some opening) now n c.name row c.status ≡ Standing (raised_at opening later c.name accuser) =
+          let raised : overriding (Some opening) now n c.name row c.status ≡ Putting (raised_at opening later c.name accuser) =
           ap (overriding (Some opening) now n c.name row) is ∙ ap (λ k. overriding (Some opening) now k c.name row (Suspect accuser)) fewer in
           ap (λ ch. suspicions_after ch rows) (by_status ∙ raised)
           ∙ rows_put now origin log c (raised_at opening later c.name accuser) refl (suspected-raised now origin log c accuser opening opened is t.stands t.beaten) t.names)
@@ -205,12 +205,12 @@ quiet_change Same opened now n row c e = refl
 quiet_change Ignored opened now n row c e = refl
 quiet_change NoRoom opened now n row c e = refl
 
-data KeptAs (c r : Claim) : Type 0 where
-  Accuses : (accuser : List ℕ) → c.status ≡ Suspect accuser → is_suspect r.status ≡ true → c.incarnation ≡ r.incarnation → kept_answer c (Some r) ≡ Accused → KeptAs c r
-  Says : is_quiet (kept_answer c (Some r)) ≡ true → (is_suspect r.status ≡ true → (is_suspect c.status && eqb c.incarnation r.incarnation) ≡ false) → KeptAs c r
+data UnbeatenAs (c r : Claim) : Type 0 where
+  Accuses : (accuser : List ℕ) → c.status ≡ Suspect accuser → is_suspect r.status ≡ true → c.incarnation ≡ r.incarnation → standing_hearing c (Some r) ≡ Accused → UnbeatenAs c r
+  Says : is_quiet (standing_hearing c (Some r)) ≡ true → (is_suspect r.status ≡ true → (is_suspect c.status && eqb c.incarnation r.incarnation) ≡ false) → UnbeatenAs c r
 
-kept_as : (c r : Claim) → KeptAs c r
-kept_as c r = elim (cases_Bool (eqb c.incarnation r.incarnation)) [
+unbeaten_as : (c r : Claim) → UnbeatenAs c r
+unbeaten_as c r = elim (cases_Bool (eqb c.incarnation r.incarnation)) [
   | inl t ↦ elim (kind_of c.status) [
     | IsAlive cs ↦ elim (kind_of r.status) [
       | IsAlive rs ↦ Says (rw (t, cs, rs) refl) (λ e. rw cs refl)
@@ -235,34 +235,34 @@ kept_as c r = elim (cases_Bool (eqb c.incarnation r.incarnation)) [
     never true = refl
     never false = refl
 
-answer-kept : (log : Log) (c : Claim) (k : IsKept (me log) c (said log)) → answer_of (table log) c ≡ kept_answer c (Some k.r)
-answer-kept log c k =
+hearing-unbeaten : (log : Log) (c : Claim) (k : IsUnbeaten (me log) c (said log)) → hearing_of (table log) c ≡ standing_hearing c (Some k.r)
+hearing-unbeaten log c k =
     let row = row_at-table (me log) (said log) c.name ∙ ap (λ b. cond b (record_of (said log) c.name) None) k.among ∙ k.before in
-    rw k.taken (ap (kept_answer c) row)
+    rw k.taken (ap (standing_hearing c) row)
 
-accused-not : (s : SuspicionValue) (a : List ℕ) → counts s a ≡ false → accused s a ≡ s
+accused-not : (s : SuspicionValue) (a : List ℕ) → accuser_counts s a ≡ false → accused s a ≡ s
 accused-not s a e = rw e refl
 
-changed-kept : (now : ℕ) (origin : Origin) (log : Log) (c : Claim) (opening : Config) → config log ≡ Some opening → IsKept (me log) c (said log)
+changed-unbeaten : (now : ℕ) (origin : Origin) (log : Log) (c : Claim) (opening : Config) → config log ≡ Some opening → IsUnbeaten (me log) c (said log)
     → suspicions_after (change now log c) (suspicions log) ≡ suspicions (Said now origin c ∷ log)
-changed-kept now origin log c opening opened k =
-    let n = members_in (heard (table log) c) in
+changed-unbeaten now origin log c opening opened k =
+    let n = live_in (heard (table log) c) in
     let rows = suspicions log in
     let ns = roster (me log) (said log) in
     let said_same = k.after ∙ sym k.before in
     let there = put-there names_order c.name ns (rises-roster (me log) (said log)) k.among in
-    elim (kept_as c k.r) [
+    elim (unbeaten_as c k.r) [
       | Accuses a is suspect same answer ↦ (
           let has = suspected-accused now origin log c k.r a opening opened is k.before k.after suspect same in
           let row = has.row in
           let grown : Suspected = record { name = row.name; suspicion = accused row.suspicion a } in
           let by_row : change now log c ≡ accusing (Some a) (Some row) =
-          ap (λ h. change_by h (config log) now n (row_about c rows) c) (answer-kept log c k ∙ answer)
+          ap (λ h. change_by h (config log) now n (row_about c rows) c) (hearing-unbeaten log c k ∙ answer)
           ∙ ap (λ s. accusing (accuser_of s) (row_at name_cmp suspected_name c.name rows)) is
           ∙ ap (accusing (Some a)) (row_at-suspicions log c.name k.among ∙ has.before) in
-          elim (cases_Bool (counts row.suspicion a)) [
+          elim (cases_Bool (accuser_counts row.suspicion a)) [
             | inl t ↦ (
-                let stands : accusing (Some a) (Some row) ≡ Standing grown = rw t refl in
+                let stands : accusing (Some a) (Some row) ≡ Putting grown = rw t refl in
                 ap (λ ch. suspicions_after ch rows) (by_row ∙ stands) ∙ rows_put now origin log c grown has.named has.after (k.names ∙ sym there))
             | inr f ↦ (
                 let stays : accusing (Some a) (Some row) ≡ Nothing = rw f refl in
@@ -272,7 +272,7 @@ changed-kept now origin log c opening opened k =
           ])
       | Says quiet calm ↦ (
           let stays : change now log c ≡ Nothing =
-          ap (λ h. change_by h (config log) now n (row_about c rows) c) (answer-kept log c k) ∙ quiet_change (kept_answer c (Some k.r)) (config log) now n (row_about c rows) c quiet in
+          ap (λ h. change_by h (config log) now n (row_about c rows) c) (hearing-unbeaten log c k) ∙ quiet_change (standing_hearing c (Some k.r)) (config log) now n (row_about c rows) c quiet in
           let same_row : suspected (Said now origin c ∷ log) c.name ≡ suspected log c.name =
           suspected-quiet now origin log c c.name said_same (λ r is suspect. quiet_about r is suspect calm) in
           ap (λ ch. suspicions_after ch rows) stays ∙ rows_stay now origin log c same_row k.names)
@@ -294,8 +294,8 @@ changed-kept now origin log c opening opened k =
 changed-out : (now : ℕ) (origin : Origin) (log : Log) (c : Claim) → takes (table log) c ≡ false → is_among name_cmp c.name (roster (me log) (said log)) ≡ false
     → roster (me log) (c ∷ said log) ≡ roster (me log) (said log) → suspicions_after (change now log c) (suspicions log) ≡ suspicions (Said now origin c ∷ log)
 changed-out now origin log c taken out names =
-    let answer : answer_of (table log) c ≡ NoRoom = rw (taken, row_out log c.name out) refl in
-    ap (λ h. suspicions_after (change_by h (config log) now (members_in (heard (table log) c)) (row_about c (suspicions log)) c) (suspicions log)) answer
+    let answer : hearing_of (table log) c ≡ NoRoom = rw (taken, row_out log c.name out) refl in
+    ap (λ h. suspicions_after (change_by h (config log) now (live_in (heard (table log) c)) (row_about c (suspicions log)) c) (suspicions log)) answer
     ∙ rows_out now origin log c out names
 
 pub suspicions-other : (now : ℕ) (origin : Origin) (log : Log) (c : Claim) → c.name ≢ me log → suspicions_after (change now log c) (suspicions log) ≡ suspicions (Said now origin c ∷ log)
@@ -303,7 +303,7 @@ suspicions-other now origin log c other = elim (held (config log)) [
   | Missing none ↦ changed-unopened now origin log c none
   | Holding opening opened ↦ elim (heard_cases (me log) c (said log) other) [
     | Taken t ↦ changed-taken now origin log c opening opened other t
-    | Kept k ↦ changed-kept now origin log c opening opened k
+    | Unbeaten k ↦ changed-unbeaten now origin log c opening opened k
     | Out o ↦ changed-out now origin log c o.taken o.out o.names
   ]
 ]

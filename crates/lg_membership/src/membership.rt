@@ -1,7 +1,7 @@
 //! What a member knows of its group.
 ghost use Rattle.std.specs.Prelude.{◌≡◌, ◌≢◌, [], ◌∷◌, ◌&&◌, ◌||◌, None};
 ghost use Rattle.lg_rules.specs.Meaning.Rows.{name_cmp, is_same};
-ghost use Rattle.lg_rules.specs.Meaning.Table.{members_in};
+ghost use Rattle.lg_rules.specs.Meaning.Table.{live_in};
 ghost use Rattle.lg_rules.specs.Meaning.View.{is_rise};
 ghost use Rattle.lg_timing.specs.Meaning.Config.{IsChecked};
 ghost use Rattle.lg_gossip.specs.Meaning.Queue.{taken_of, fill_of};
@@ -16,14 +16,14 @@ use crate::applied::{Applied, Deadline};
 use crate::origin::Origin;
 use crate::suspicions::{Suspicions, suspect};
 use arrayvec::ArrayVec;
-use lg_gossip::{MAX_CLAIMS, Queue};
-use lg_rules::{Addr, Claim, Heard, Members, Name, Own, OwnHeard};
+use lg_gossip::Queue;
+use lg_rules::{Addr, Claim, Heard, MAX_CLAIMS, Members, Name, Own, OwnHeard};
 use lg_timing::{Config, Moment};
 use std::marker::Model;
 
 mod readers;
 
-pub use readers::MAX_MEMBERS;
+pub use lg_rules::MAX_MEMBERS;
 
 /// What a member knows of its group (SWIM, section 4; Lifeguard): its own number, the records of the others, their
 /// suspicions, and the queue of claims to be sent.
@@ -217,11 +217,11 @@ impl Membership {
     /// The claims of the next packet that is no Ping: those of the queue that have their turn, which count as sent once more
     /// (SWIM, section 4.1).
     pub fn fill(&mut self) -> ArrayVec<Claim, MAX_CLAIMS>
-        ensures claims { result.items ≡ fill_of self.old.queue None (members_in self.old.members.table) }
-        ensures state { let taken = taken_of self.old.queue None (members_in self.old.members.table) in
+        ensures claims { result.items ≡ fill_of self.old.queue None (live_in self.old.members.table) }
+        ensures state { let taken = taken_of self.old.queue None (live_in self.old.members.table) in
             self.new ≡ send taken self.old }
         ensures log { (log : Log) → self.old ≡ state_of log
-            → self.new ≡ state_of (Sent (taken_of self.old.queue None (members_in self.old.members.table)) ∷ log) }
+            → self.new ≡ state_of (Sent (taken_of self.old.queue None (live_in self.old.members.table)) ∷ log) }
     {
         self.queue.fill(None, self.members.live())
     }

@@ -11,7 +11,7 @@ ghost use Rattle.lg_membership.specs.Support.Room.{HasSeat};
 use crate::applied::Deadline;
 use crate::suspected::Suspected;
 use arrayvec::ArrayVec;
-use lg_rules::{Claim, Heard, MAX_OTHERS, Name, Status, put_row, seat_of};
+use lg_rules::{Claim, Heard, MAX_MEMBERS, MAX_OTHERS, Name, Status, put_row, seat_of};
 use lg_suspicion::Suspicion;
 use lg_timing::{Config, Moment};
 
@@ -27,10 +27,11 @@ fn raise(
     name: &Name,
     accuser: &Name,
 ) -> Deadline
+    requires rises { Rises name_cmp (map suspected_name suspicions.old.items) }
     requires seat { HasSeat name.now suspicions.old.items }
     requires good { IsGood config.now }
     requires some { 1 ≤ live }
-    requires most { live ≤ 256 }
+    requires most { live ≤ MAX_MEMBERS }
     ensures rows { suspicions.new.items
         ≡ suspicions_after (raised config.now now live name.now accuser.now) suspicions.old.items }
     ensures deadline { result ≡ deadline_after (raised config.now now live name.now accuser.now) }
@@ -77,7 +78,7 @@ fn override_row(
     requires seat { HasSeat claim.now.name suspicions.old.items }
     requires good { IsGood config.now }
     requires some { 1 ≤ live }
-    requires most { live ≤ 256 }
+    requires most { live ≤ MAX_MEMBERS }
     ensures rows { let row = row_about claim.now suspicions.old.items in
         suspicions.new.items
         ≡ suspicions_after (overriding config.now now live claim.now.name row claim.now.status) suspicions.old.items }
@@ -92,6 +93,7 @@ fn override_row(
 
 /// One more accuses a member that is suspected already.
 fn join(suspicions: &mut Suspicions, name: &Name, accuser: &Name) -> Deadline
+    requires { Rises name_cmp (map suspected_name suspicions.old.items) }
     ensures rows { let row = row_at name_cmp suspected_name name.now suspicions.old.items in
         suspicions.new.items ≡ suspicions_after (accusing (Some accuser.now) row) suspicions.old.items }
     ensures deadline { let row = row_at name_cmp suspected_name name.now suspicions.old.items in
@@ -110,6 +112,7 @@ fn join(suspicions: &mut Suspicions, name: &Name, accuser: &Name) -> Deadline
 
 /// A claim accuses a member that is suspected already.
 fn accuse(suspicions: &mut Suspicions, claim: &Claim) -> Deadline
+    requires { Rises name_cmp (map suspected_name suspicions.old.items) }
     ensures rows { let row = row_about claim.now suspicions.old.items in
         suspicions.new.items ≡ suspicions_after (accusing (accuser_of claim.now.status) row) suspicions.old.items }
     ensures deadline { let row = row_about claim.now suspicions.old.items in
@@ -134,7 +137,7 @@ pub fn suspect(
     requires seat { heard ≡ Heard.Overrode → HasSeat claim.now.name suspicions.old.items }
     requires good { IsGood config.now }
     requires some { 1 ≤ live }
-    requires most { live ≤ 256 }
+    requires most { live ≤ MAX_MEMBERS }
     ensures rows { let row = row_about claim.now suspicions.old.items in
         suspicions.new.items
         ≡ suspicions_after (change_by heard config.now now live row claim.now) suspicions.old.items }

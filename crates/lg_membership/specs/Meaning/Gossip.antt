@@ -7,7 +7,7 @@ use Rattle.lg_rules.specs.Meaning.Rows.{name_cmp, is_same, is_among}
 use Rattle.lg_rules.specs.Meaning.Table.{takes}
 use Rattle.lg_rules.specs.declared.own.OwnHeard.{OwnHeard}
 use Rattle.lg_rules.specs.declared.own.OwnHeard.TheVariants.{Refuted, Raised, Ousted, Ignored}
-use Rattle.lg_rules.specs.Meaning.Own.{Oneself, own_answer, own_heard, own_record}
+use Rattle.lg_rules.specs.Meaning.Own.{Oneself, own_hearing, own_heard, own_record}
 use Rattle.lg_timing.specs.declared.config.Config.{Config}
 use Rattle.lg_gossip.specs.declared.queued.Queued.{Queued}
 use Rattle.lg_gossip.specs.Meaning.Queue.{GossipQueue}
@@ -35,7 +35,7 @@ put_of_other origin rows suspects c = put_if origin (takes rows c || confirms ro
 unfoldable pub put_by : Origin → Log → Claim → Option Claim
 put_by origin log c =
     if is_same name_cmp c.name (me log)
-    then put_of_own (own_answer c.status c.incarnation (own log).number) (own_heard (own log) c)
+    then put_of_own (own_hearing (own log) c) (own_heard (own log) c)
     else put_of_other origin (table log) (suspicions log) c
 
 -- the claim about a member that was put last

@@ -4,7 +4,7 @@ use Rattle.lg_rules.specs.declared.addr.Addr.{Addr}
 use Rattle.lg_rules.specs.declared.claim.Claim.{Claim}
 use Rattle.lg_rules.specs.Meaning.Claim.{name_of}
 use Rattle.lg_rules.specs.Meaning.Rows.{name_cmp, put_key, put_row}
-use Rattle.lg_rules.specs.Meaning.Table.{roster, table_of, members_in}
+use Rattle.lg_rules.specs.Meaning.Table.{roster, table_of, live_in}
 use Rattle.lg_rules.specs.Meaning.Own.{Oneself, own_of, own_record}
 use Rattle.lg_timing.specs.declared.config.Config.{Config}
 use Rattle.lg_membership.specs.declared.origin.Origin.{Origin}
@@ -54,7 +54,7 @@ table log = table_of (me log) (said log)
 
 -- how many members haven't failed, oneself included (n)
 abbrev pub live : Log → ℕ
-live log = members_in (table log)
+live log = live_in (table log)
 
 -- the names that are known
 abbrev pub known : Log → List (List ℕ)

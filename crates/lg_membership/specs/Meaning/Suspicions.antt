@@ -7,10 +7,10 @@ use Rattle.lg_rules.specs.declared.members.Heard.TheVariants.{Overrode, Accused,
 use Rattle.lg_rules.specs.Meaning.Claim.{accuser_of}
 use Rattle.lg_rules.specs.Meaning.Past.{or_else}
 use Rattle.lg_rules.specs.Meaning.Rows.{name_cmp, is_same, row_at}
-use Rattle.lg_rules.specs.Meaning.Table.{roster, record_of, answer_of}
+use Rattle.lg_rules.specs.Meaning.Table.{roster, record_of, hearing_of}
 use Rattle.lg_timing.specs.declared.config.Config.{Config}
 use Rattle.lg_timing.specs.Meaning.Timeouts.{range_of}
-use Rattle.lg_suspicion.specs.Meaning.Accusers.{suspicion_after, counts}
+use Rattle.lg_suspicion.specs.Meaning.Accusers.{suspicion_after, accuser_counts}
 use Rattle.lg_gossip.specs.Meaning.Queue.{is_suspect}
 use Rattle.lg_membership.specs.declared.suspected.Suspected.{Suspected}
 use Rattle.lg_membership.specs.Meaning.Log.{Fact, Log, Opened, Said, Sent, config, me, said, live}
@@ -78,8 +78,8 @@ is_accusation NoRoom = false
 abbrev pub counts_in : Option (List ℕ) → Option Suspected → Bool
 counts_in None row = false
 counts_in (Some accuser) None = false
-counts_in (Some accuser) (Some row) = counts row.suspicion accuser
+counts_in (Some accuser) (Some row) = accuser_counts row.suspicion accuser
 
 abbrev pub confirms : List Claim → List Suspected → Claim → Bool
 confirms table rows c =
-    is_accusation (answer_of table c) && counts_in (accuser_of c.status) (row_at name_cmp suspected_name c.name rows)
+    is_accusation (hearing_of table c) && counts_in (accuser_of c.status) (row_at name_cmp suspected_name c.name rows)

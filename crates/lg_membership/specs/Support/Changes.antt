@@ -7,26 +7,26 @@ use Rattle.lg_rules.specs.declared.members.Heard.{Heard}
 use Rattle.lg_rules.specs.declared.members.Heard.TheVariants.{Overrode, Accused, Same, Ignored, NoRoom}
 use Rattle.lg_rules.specs.Meaning.Claim.{accuser_of}
 use Rattle.lg_rules.specs.Meaning.Rows.{name_cmp, put_row, row_at, without_row}
-use Rattle.lg_rules.specs.Meaning.Table.{answer_of, heard, members_in}
+use Rattle.lg_rules.specs.Meaning.Table.{hearing_of, heard, live_in}
 use Rattle.lg_timing.specs.declared.config.Config.{Config}
 use Rattle.lg_timing.specs.Meaning.Timeouts.{range_of}
-use Rattle.lg_suspicion.specs.Meaning.Accusers.{counts, accused, deadline_of}
+use Rattle.lg_suspicion.specs.Meaning.Accusers.{accuser_counts, accused, deadline_of}
 use Rattle.lg_membership.specs.declared.applied.Deadline.{Deadline}
 use Rattle.lg_membership.specs.declared.applied.Deadline.TheVariants.{Stays, Ends, Stands}
 use Rattle.lg_membership.specs.declared.suspected.Suspected.{Suspected}
 use Rattle.lg_membership.specs.Meaning.Suspicions.{suspected_name}
 
--- nothing; the suspicion of a member ends; or one stands, raised anew or with one more accuser
+-- nothing; the suspicion of a member ends; or one is put, raised anew or with one more accuser
 pub data Change : Type 0 where
   Nothing : Change
   Ending : List ℕ → Change
-  Standing : Suspected → Change
+  Putting : Suspected → Change
 
 -- a claim that overrides the record raises a suspicion, or ends the one that there is
 abbrev pub raised : Option Config → ℕ → ℕ → List ℕ → List ℕ → Change
 raised None now n m accuser = Nothing
 raised (Some opening) now n m accuser =
-    Standing record { name = m; suspicion = record { raised = now; timeout = range_of n opening; accusers = accuser ∷ [] } }
+    Putting record { name = m; suspicion = record { raised = now; timeout = range_of n opening; accusers = accuser ∷ [] } }
 
 abbrev pub ended : List ℕ → Option Suspected → Change
 ended m None = Nothing
@@ -42,8 +42,8 @@ abbrev pub accusing : Option (List ℕ) → Option Suspected → Change
 accusing None row = Nothing
 accusing (Some accuser) None = Nothing
 accusing (Some accuser) (Some row) =
-    if counts row.suspicion accuser
-    then Standing record { name = row.name; suspicion = accused row.suspicion accuser }
+    if accuser_counts row.suspicion accuser
+    then Putting record { name = row.name; suspicion = accused row.suspicion accuser }
     else Nothing
 
 abbrev pub change_by : Heard → Option Config → ℕ → ℕ → Option Suspected → Claim → Change
@@ -57,18 +57,18 @@ row_about c rows = row_at name_cmp suspected_name c.name rows
 
 abbrev pub change_of : Option Config → ℕ → List Claim → List Suspected → Claim → Change
 change_of opened now table rows c =
-    change_by (answer_of table c) opened now (members_in (heard table c)) (row_about c rows) c
+    change_by (hearing_of table c) opened now (live_in (heard table c)) (row_about c rows) c
 
 -- the suspicions then, and what becomes of the deadline of the claim's member
 abbrev pub suspicions_after : Change → List Suspected → List Suspected
 suspicions_after Nothing rows = rows
 suspicions_after (Ending m) rows = without_row name_cmp suspected_name m rows
-suspicions_after (Standing r) rows = put_row name_cmp suspected_name r rows
+suspicions_after (Putting r) rows = put_row name_cmp suspected_name r rows
 
 abbrev pub deadline_after : Change → Deadline
 deadline_after Nothing = Stays
 deadline_after (Ending m) = Ends
-deadline_after (Standing r) = Stands (deadline_of r.suspicion)
+deadline_after (Putting r) = Stands (deadline_of r.suspicion)
 
 -- whether a suspicion was raised or has one accuser more
 abbrev pub stands : Deadline → Bool

@@ -4,10 +4,10 @@ use Rattle.lg_rules.specs.declared.claim.Claim.{Claim}
 use Rattle.lg_rules.specs.declared.own.OwnHeard.{OwnHeard}
 use Rattle.lg_rules.specs.declared.own.OwnHeard.TheVariants.{Refuted, Raised, Ousted, Ignored}
 use Rattle.lg_rules.specs.Meaning.Claim.{name_of}
-use Rattle.lg_rules.specs.Meaning.Own.{Oneself, own_of, own_answer, own_heard}
+use Rattle.lg_rules.specs.Meaning.Own.{Oneself, own_of, own_hearing, own_heard}
 use Rattle.lg_rules.specs.Meaning.Rows.{name_cmp, is_same, put_row}
-use Rattle.lg_rules.specs.Meaning.Table.{Known, members_of, takes, heard}
-use Rattle.lg_rules.specs.Meaning.View.{Membership, is_rise}
+use Rattle.lg_rules.specs.Meaning.Table.{Known, known_of, takes, heard}
+use Rattle.lg_rules.specs.Meaning.View.{Standing, is_rise}
 use Rattle.lg_timing.specs.declared.config.Config.{Config}
 use Rattle.lg_gossip.specs.Meaning.Queue.{GossipQueue, put_of, sent_once}
 use Rattle.lg_membership.specs.declared.applied.Applied.{Applied}
@@ -31,7 +31,7 @@ abbrev pub state_of : Log → State
 state_of log = record {
   config = config log;
   own = own log;
-  members = members_of (me log) (said log);
+  members = known_of (me log) (said log);
   suspicions = suspicions log;
   queue = queue log;
 }
@@ -41,13 +41,13 @@ abbrev pub open_with : Config → State → State
 open_with opening s = record {
   config = Some opening;
   own = own_of opening.name opening.addr [];
-  members = members_of opening.name [];
+  members = known_of opening.name [];
   suspicions = [];
   queue = record { lambda = opening.lambda; rows = [] };
 }
 
 -- oneself and the records of the others
-abbrev pub standing : State → Membership
+abbrev pub standing : State → Standing
 standing s = record { own = s.own; table = s.members.table }
 
 -- the member table, oneself included
@@ -65,7 +65,7 @@ change_in now c s = change_of s.config now s.members.table s.suspicions c
 
 -- what hearing a claim about oneself does
 abbrev pub own_hearing_in : Claim → State → OwnHeard
-own_hearing_in c s = own_answer c.status c.incarnation s.own.number
+own_hearing_in c s = own_hearing s.own c
 
 -- what a claim puts into the queue
 abbrev pub put_in : Origin → Claim → State → Option Claim

@@ -3,18 +3,14 @@ ghost use Rattle.std.specs.Prelude.{◌≡◌, ◌≤◌, ◌<◌, [], length, m
 ghost use Rattle.arrayvec.specs.ArrayVec.{array_vec_len};
 ghost use Rattle.lg_rules.specs.Meaning.Claim.{name_of};
 ghost use Rattle.lg_rules.specs.Meaning.Rows.{name_cmp, is_among, row_at, Rises};
-ghost use Rattle.lg_rules.specs.Meaning.Table.{members_in};
+ghost use Rattle.lg_rules.specs.Meaning.Table.{live_in};
 ghost use Rattle.lg_membership.specs.Meaning.Log.{Log, view, live};
 ghost use Rattle.lg_membership.specs.Support.State.{state_of, shown, with_found};
 
 use super::{Membership, is_same_name};
 use arrayvec::ArrayVec;
-use lg_gossip::MAX_CLAIMS;
-use lg_rules::{Incarnation, MAX_OTHERS, Name, Record, put_row};
+use lg_rules::{Incarnation, MAX_CLAIMS, MAX_MEMBERS, MAX_OTHERS, Name, Record, put_row};
 use lg_timing::Config;
-
-/// The most members that are known, oneself included: 256 (this project's choice).
-pub const MAX_MEMBERS: usize = MAX_OTHERS + 1;
 
 impl Membership {
     /// What the member was opened with; none before the opening.
@@ -47,7 +43,7 @@ impl Membership {
 
     /// How many members haven't failed, oneself included: 1 to 256.
     pub fn live(&self) -> usize
-        ensures count { result ≡ members_in self.now.members.table }
+        ensures count { result ≡ live_in self.now.members.table }
         ensures few { result ≤ MAX_MEMBERS }
         ensures log { (log : Log) → self.now ≡ state_of log → result ≡ live log }
     {

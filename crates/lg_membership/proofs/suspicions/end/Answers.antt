@@ -1,5 +1,6 @@
 use Rattle.std.proofs.Common.{◌≡◌, ℕ, List, Option, Some, ap, subst, sym, ◌∙◌}
-use Rattle.lg_rules.specs.Meaning.Rows.{name_cmp, HasRow}
+use Rattle.lg_rules.specs.Meaning.Rows.{name_cmp}
+use Rattle.lg_rules.specs.Support.Places.{HasRow}
 use Rattle.lg_rules.proofs.KeyOrder.{names_order}
 use Rattle.lg_membership.specs.declared.suspected.Suspected.{Suspected}
 use Rattle.lg_membership.specs.Meaning.Suspicions.{suspected_name}

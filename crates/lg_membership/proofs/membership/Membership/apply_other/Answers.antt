@@ -2,7 +2,7 @@ use Rattle.std.proofs.Common.{◌≡◌, ◌≢◌, ◌&&◌, ◌||◌, Bool, Op
 use Rattle.lg_rules.specs.declared.claim.Claim.{Claim}
 use Rattle.lg_rules.specs.declared.members.Heard.{Heard}
 use Rattle.lg_rules.specs.Meaning.Claim.{accuser_of}
-use Rattle.lg_rules.specs.Meaning.Table.{takes, answer_of, heard, members_in}
+use Rattle.lg_rules.specs.Meaning.Table.{takes, hearing_of, heard, live_in}
 use Rattle.lg_membership.specs.declared.applied.Deadline.{Deadline}
 use Rattle.lg_membership.specs.Meaning.Gossip.{put_if, put_of_other}
 use Rattle.lg_membership.specs.Meaning.Suspicions.{is_accusation, counts_in}
@@ -24,7 +24,7 @@ suspect-deadline-requires-clause-rises c = (reached-ordered _ c.self.invariant).
 pub suspect-deadline-requires-clause-seat : goal.suspect-deadline-requires-clause-seat
 suspect-deadline-requires-clause-seat c = λ overrode.
     other_seat c.args.claim.now _ c.self.invariant (λ same. c.requires (same ∙ ap (λ (s : State). s.own.name) c.self.view_is))
-    (overrode-takes c.self.inside.members.table c.args.claim.now (sym c.hear-heard.ensures.answer ∙ overrode))
+    (overrode-takes c.self.inside.members.table c.args.claim.now (sym c.hear-heard.ensures.hearing ∙ overrode))
 
 pub put-requires : goal.put-requires
 put-requires c =
@@ -32,9 +32,9 @@ put-requires c =
     let claim = c.args.claim.now in
     let table = inside.members.table in
     let row = row_about claim inside.suspicions.items in
-    let n = members_in (heard table claim) in
-    let live = c.live-live.ensures.count ∙ ap members_in c.hear-heard.ensures.table in
-    let answer = c.hear-heard.ensures.answer in
+    let n = live_in (heard table claim) in
+    let live = c.live-live.ensures.count ∙ ap live_in c.hear-heard.ensures.table in
+    let answer = c.hear-heard.ensures.hearing in
     let deadline = c.suspect-deadline.ensures.deadline ∙ (λ i. deadline_after (change_by (answer i) inside.config c.args.now (live i) row claim)) in
     let counts = c.is_to_be_passed_on-counts.ensures ∙ counts_for table inside.config c.args.now n row claim answer deadline in
     let puts = c.put_of_other.ensures ∙ ap (λ b. put_if c.args.origin b claim) counts in
@@ -47,10 +47,10 @@ invariant_of-self c =
     let claim = c.args.claim.now in
     let table = inside.members.table in
     let row = row_about claim inside.suspicions.items in
-    let n = members_in (heard table claim) in
-    let live = c.live-live.ensures.count ∙ ap members_in c.hear-heard.ensures.table in
-    let answer = c.hear-heard.ensures.answer in
-    let change : change_by c.hear-heard.result inside.config c.args.now c.live-live.result row claim ≡ change_by (answer_of table claim) inside.config c.args.now n row claim =
+    let n = live_in (heard table claim) in
+    let live = c.live-live.ensures.count ∙ ap live_in c.hear-heard.ensures.table in
+    let answer = c.hear-heard.ensures.hearing in
+    let change : change_by c.hear-heard.result inside.config c.args.now c.live-live.result row claim ≡ change_by (hearing_of table claim) inside.config c.args.now n row claim =
     λ i. change_by (answer i) inside.config c.args.now (live i) row claim in
     let deadline = c.suspect-deadline.ensures.deadline ∙ ap deadline_after change in
     let rows = c.suspect-deadline.ensures.rows ∙ ap (λ ch. suspicions_after ch inside.suspicions.items) change in

@@ -1,5 +1,5 @@
 use Rattle.std.proofs.Common.{◌≡◌, None, ap, sym, ◌∙◌}
-use Rattle.lg_rules.specs.Meaning.Table.{members_in}
+use Rattle.lg_rules.specs.Meaning.Table.{live_in}
 use Rattle.lg_gossip.specs.Meaning.Queue.{taken_of, filled}
 use Rattle.lg_membership.specs.Support.State.{State, send}
 use Rattle.lg_membership.proofs.FactLaws.{send-state}
@@ -10,7 +10,7 @@ pub invariant_of-self : goal.invariant_of-self
 invariant_of-self c =
     let inside = c.self.inside in
     let queue = c.fill.ensures.queue ∙ ap (λ n. filled inside.queue None n) c.live.ensures.count in
-    reached-send _ _ (λ s. taken_of s.queue None (members_in s.members.table))
+    reached-send _ _ (λ s. taken_of s.queue None (live_in s.members.table))
     (λ i. record { config = inside.config; own = inside.own; members = inside.members; suspicions = inside.suspicions.items; queue = queue i })
     c.self.invariant
 
@@ -18,8 +18,8 @@ pub returns-clause-log : goal.returns-clause-log
 returns-clause-log c = λ log is.
     let inside = c.self.inside in
     let queue = c.fill.ensures.queue ∙ ap (λ n. filled inside.queue None n) c.live.ensures.count in
-    let sent : State → State = λ s. send (taken_of s.queue None (members_in s.members.table)) s in
+    let sent : State → State = λ s. send (taken_of s.queue None (live_in s.members.table)) s in
     (λ i. record { config = inside.config; own = inside.own; members = inside.members; suspicions = inside.suspicions.items; queue = queue i })
     ∙ ap sent c.self.view_is
-    ∙ ap (send (taken_of c.args.self.now.queue None (members_in c.args.self.now.members.table))) is
+    ∙ ap (send (taken_of c.args.self.now.queue None (live_in c.args.self.now.members.table))) is
     ∙ send-state _ log
