@@ -13,3 +13,4 @@ pub mod Hearings
 pub mod Chosen
 pub mod Shown
 pub mod Differing
+pub mod AppliedLaws

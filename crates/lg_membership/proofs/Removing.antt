@@ -2,6 +2,7 @@
 use Rattle.std.proofs.Common.{◌≡◌, ℕ, zero, suc, ◌<◌, Bool, false, true, not, ◌||◌, List, [], ◌∷◌, length, map, get_or, None, subst, Some, inl, inr, refl, sym, ◌∙◌, ap, arith}
 use Rattle.std.specs.Prelude.{filter}
 use Rattle.std.specs.List.{list_any, remove}
+use Rattle.std.proofs.lemmas.Bool.{cases_Bool}
 use Rattle.std.specs.declared.cmp.Ordering.{Ordering}
 use Rattle.std.specs.declared.cmp.Ordering.TheVariants.{Less, Equal, Greater}
 use Rattle.lg_rules.specs.Meaning.Rows.{is_same, is_among, row_at, without_row, AreAbove, Rises}
@@ -41,3 +42,15 @@ module _ {K : Type 0} {cmp : K → K → Ordering} (order : IsKeyOrder cmp) {R :
       rw (same_key order (key x) n named) (sym (without-above n xs (subst (λ k. AreAbove cmp k (map key xs)) named rise.0)))
   remove-without n (x ∷ xs) (suc k) d rise within named =
       rw (other_key order (key x) n (λ e. less_apart order (key x) (key (get_or xs k d)) (above-at (key x) xs k d rise.0 (omega arith)) (e ∙ sym named))) (ap (λ rs. x ∷ rs) (remove-without n xs k d rise.1 (omega arith) named))
+
+  -- no row that is left has the key
+  pub row_at-without : (n : K) (rows : List R) → row_at cmp key n (without_row cmp key n rows) ≡ None
+  row_at-without n [] = refl
+  row_at-without n (x ∷ xs) = elim (cases_Bool (is_same cmp (key x) n)) [
+    | inl t ↦ rw t (row_at-without n xs)
+    | inr f ↦ rw f (elim (compared (cmp n (key x))) [
+      | Below l ↦ rw l refl
+      | Tied t ↦ (let bad : false ≡ true = sym f ∙ same_key order (key x) n (sym (order.exact n (key x) t)) in absurd cc)
+      | Above g ↦ rw g (row_at-without n xs)
+    ])
+  ]

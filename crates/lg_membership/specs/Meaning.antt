@@ -2,4 +2,5 @@
 pub mod Log
 pub mod Suspicions
 pub mod Gossip
+pub mod Applied
 pub mod Examples

@@ -8,7 +8,9 @@ ghost use Rattle.lg_gossip.specs.Meaning.Queue.{taken_of, fill_of};
 ghost use Rattle.lg_membership.specs.Meaning.Log.{Fact, Log, Opened, Said, Sent};
 ghost use Rattle.lg_membership.specs.Meaning.Gossip.{put_of_own, put_if};
 ghost use Rattle.lg_membership.specs.Meaning.Suspicions.{is_accusation};
-ghost use Rattle.lg_membership.specs.Support.State.{state_of, open_with, apply, apply_own, apply_other, applied, applied_own, applied_other, send, shown, queue_with, is_refuted};
+ghost use Rattle.lg_membership.specs.Meaning.Applied.{is_refuted, IsApplied};
+ghost use Rattle.lg_membership.specs.Support.State.{state_of, open_with, apply, apply_own, apply_other};
+ghost use Rattle.lg_membership.specs.Support.State.{applied, applied_own, applied_other, send, queue_with};
 ghost use Rattle.lg_membership.specs.Support.Changes.{is_override, stands};
 ghost use Rattle.lg_membership.specs.Support.Room.{HasPlace};
 
@@ -173,6 +175,8 @@ impl Membership {
         ensures applied { result ≡ applied now claim.now self.old }
         // Whatever was said before, the log goes on by this claim.
         ensures log { (log : Log) → self.old ≡ state_of log → self.new ≡ state_of (Said now origin claim.now ∷ log) }
+        // What is answered is what the claim changes of its member's record and suspicion.
+        ensures meaning { (log : Log) → self.old ≡ state_of log → IsApplied now origin claim.now log result }
     {
         if is_same_name(&claim.name, &self.own.name()) {
             self.apply_own(claim)

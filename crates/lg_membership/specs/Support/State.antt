@@ -2,7 +2,6 @@
 use Rattle.std.specs.Prelude.{ℕ, Bool, true, false, List, [], ◌∷◌, map, Option, Some, None, if◌then◌else◌}
 use Rattle.lg_rules.specs.declared.claim.Claim.{Claim}
 use Rattle.lg_rules.specs.declared.own.OwnHeard.{OwnHeard}
-use Rattle.lg_rules.specs.declared.own.OwnHeard.TheVariants.{Refuted, Raised, Ousted, Ignored}
 use Rattle.lg_rules.specs.Meaning.Claim.{name_of}
 use Rattle.lg_rules.specs.Meaning.Own.{Oneself, own_of, own_hearing, own_heard}
 use Rattle.lg_rules.specs.Meaning.Rows.{name_cmp, is_same, put_row}
@@ -17,6 +16,7 @@ use Rattle.lg_membership.specs.declared.suspected.Suspected.{Suspected}
 use Rattle.lg_membership.specs.Meaning.Log.{Log, config, me, said, own, view_in}
 use Rattle.lg_membership.specs.Meaning.Suspicions.{suspicions}
 use Rattle.lg_membership.specs.Meaning.Gossip.{queue, put_of_own, put_of_other}
+use Rattle.lg_membership.specs.Meaning.Applied.{is_refuted}
 use Rattle.lg_membership.specs.Support.Changes.{Change, change_of, suspicions_after, deadline_after}
 
 pub record State : Type 0 where
@@ -96,10 +96,6 @@ unfoldable pub apply : ℕ → Origin → Claim → State → State
 apply now origin c s = if is_same name_cmp c.name s.own.name then apply_own c s else apply_other now origin c s
 
 -- what applying it did
-abbrev pub is_refuted : OwnHeard → Bool
-is_refuted Refuted = true
-is_refuted _ = false
-
 abbrev pub applied_own : Claim → State → Applied
 applied_own c s =
     record { changed = is_rise (own_hearing_in c s); refuted = is_refuted (own_hearing_in c s); deadline = Stays }

@@ -1,0 +1,151 @@
+-- What applying a claim says of the record and the suspicion of the claim's member.
+use Rattle.std.proofs.Common.{◌≡◌, ◌≢◌, ℕ, Bool, true, false, cond, List, [], ◌∷◌, map, Option, Some, None, inl, inr, refl, sym, ◌∙◌, ap, subst}
+use Rattle.std.proofs.lemmas.Bool.{cases_Bool, false≢true}
+use Rattle.std.specs.Prelude.{⊤, option_map}
+use Rattle.lg_rules.specs.declared.claim.Claim.{Claim}
+use Rattle.lg_rules.specs.declared.claim.Status.{Status}
+use Rattle.lg_rules.specs.declared.claim.Status.TheVariants.{Alive, Suspect, Failed}
+use Rattle.lg_rules.specs.declared.members.Heard.{Heard}
+use Rattle.lg_rules.specs.declared.members.Heard.TheVariants.{Overrode, Accused, Same, Ignored, NoRoom}
+use Rattle.lg_rules.specs.declared.own.OwnHeard.TheVariants.{Ignored as Unheeded}
+use Rattle.lg_rules.specs.Meaning.Claim.{accuser_of, name_of}
+use Rattle.lg_rules.specs.Meaning.Own.{Oneself, own_hearing}
+use Rattle.lg_rules.specs.Meaning.Rows.{name_cmp, is_same, put_row, row_at, without_row, Rises}
+use Rattle.lg_rules.specs.Meaning.Table.{hearing_of, heard, live_in}
+use Rattle.lg_rules.specs.Meaning.View.{changes_record}
+use Rattle.lg_rules.proofs.Cases.{Missing, Holding, held}
+use Rattle.lg_rules.proofs.KeyOrder.{names_order, cases_key, same_key, other_key}
+use Rattle.lg_rules.proofs.OwnLaws.{own_hearing-other}
+use Rattle.lg_rules.proofs.Ranks.{ranked}
+use Rattle.lg_rules.proofs.RowLaws.{row_at-put}
+use Rattle.lg_rules.proofs.Views.{Follows, IsChange, Changes, Leaves, view_hearing}
+use Rattle.lg_timing.specs.declared.config.Config.{Config}
+use Rattle.lg_suspicion.specs.Meaning.Accusers.{accuser_counts, accused, deadline_of}
+use Rattle.lg_membership.specs.declared.applied.Applied.{Applied}
+use Rattle.lg_membership.specs.declared.applied.Deadline.{Deadline}
+use Rattle.lg_membership.specs.declared.origin.Origin.{Origin}
+use Rattle.lg_membership.specs.declared.suspected.Suspected.{Suspected}
+use Rattle.lg_membership.specs.Meaning.Log.{Fact, Log, Said, config, me, said, own, table, addr_in}
+use Rattle.lg_membership.specs.Meaning.Suspicions.{suspicions, suspected_name}
+use Rattle.lg_membership.specs.Meaning.Applied.{record_in, suspicion_in, is_refuted, IsRecordChange, IsDeadlineChange, IsApplied}
+use Rattle.lg_membership.specs.Support.Changes.{Change, Nothing, Ending, Putting, raised, ended, overriding, accusing, change_by, change_of, row_about, suspicions_after, deadline_after}
+use Rattle.lg_membership.specs.Support.State.{State, state_of, standing, apply_own, apply_other, applied_own, applied_other, applied}
+use Rattle.lg_membership.proofs.Applying.{applied-changed}
+use Rattle.lg_membership.proofs.Chosen.{found_key}
+use Rattle.lg_membership.proofs.FactLaws.{own_name}
+use Rattle.lg_membership.proofs.Removing.{row_at-without}
+use Rattle.lg_membership.proofs.SuspicionLaws.{suspicions-own, suspicions-other}
+
+-- The record: it changes to one that overrides it, so to another.
+follows_another : (r : Claim) (before : Option Claim) → Follows r before → before ≢ Some r
+follows_another r None follows e = absurd cc
+follows_another r (Some b) follows e = absurd (false≢true (sym (ranked.not_itself r) ∙ subst (Follows r) e follows))
+
+changes_to : (before after : Option Claim) (r : Claim) → after ≡ Some r → Follows r before → IsRecordChange before after true
+changes_to before after r is follows = λ same. follows_another r before follows (sym same ∙ is)
+
+record-changed : (now : ℕ) (origin : Origin) (c : Claim) (log : Log)
+    → IsRecordChange (record_in log c.name) (record_in (Said now origin c ∷ log) c.name) (changes_record (standing (state_of log)) c)
+record-changed now origin c log = elim (view_hearing (me log) (addr_in (config log)) c (said log)) [
+  | Changes change ↦ (
+      subst (λ b. IsRecordChange (record_in log c.name) (record_in (Said now origin c ∷ log) c.name) b) (sym change.changes)
+      (changes_to (record_in log c.name) (record_in (Said now origin c ∷ log) c.name) change.r change.row change.follows))
+  | Leaves none same ↦ (
+      subst (λ b. IsRecordChange (record_in log c.name) (record_in (Said now origin c ∷ log) c.name) b) (sym none)
+      (ap (row_at name_cmp name_of c.name) same))
+]
+
+-- The deadline: what a claim changes of the suspicions is about its member.
+abbrev IsAbout : List ℕ → List Suspected → Change → Type 0
+IsAbout n rows Nothing = ⊤
+IsAbout n rows (Ending m) = (m ≡ n) × (row_at name_cmp suspected_name n rows ≢ None)
+IsAbout n rows (Putting r) = r.name ≡ n
+
+about-raised : (o : Option Config) (now n : ℕ) (m accuser : List ℕ) (rows : List Suspected) → IsAbout m rows (raised o now n m accuser)
+about-raised None now n m accuser rows = tt
+about-raised (Some opening) now n m accuser rows = refl
+
+about-ended : (m : List ℕ) (rows : List Suspected) (o : Option Suspected) → row_at name_cmp suspected_name m rows ≡ o → IsAbout m rows (ended m o)
+about-ended m rows None is = tt
+about-ended m rows (Some row) is = (refl, λ none. (let bad : Some row ≡ None = sym is ∙ none in absurd cc))
+
+about-overriding : (o : Option Config) (now n : ℕ) (m : List ℕ) (rows : List Suspected) (s : Status)
+    → IsAbout m rows (overriding o now n m (row_at name_cmp suspected_name m rows) s)
+about-overriding o now n m rows Alive = about-ended m rows (row_at name_cmp suspected_name m rows) refl
+about-overriding o now n m rows (Suspect accuser) = about-raised o now n m accuser rows
+about-overriding o now n m rows Failed = about-ended m rows (row_at name_cmp suspected_name m rows) refl
+
+about-accused : (m : List ℕ) (rows : List Suspected) (accuser : Option (List ℕ)) (o : Option Suspected) → row_at name_cmp suspected_name m rows ≡ o
+    → IsAbout m rows (accusing accuser o)
+about-accused m rows None o is = tt
+about-accused m rows (Some accuser) None is = tt
+about-accused m rows (Some accuser) (Some row) is = elim (cases_Bool (accuser_counts row.suspicion accuser)) [
+  | inl t ↦ rw t (found_key names_order suspected_name m rows row is)
+  | inr f ↦ rw f tt
+]
+
+about-change : (h : Heard) (o : Option Config) (now n : ℕ) (c : Claim) (rows : List Suspected) → IsAbout c.name rows (change_by h o now n (row_about c rows) c)
+about-change Overrode o now n c rows = about-overriding o now n c.name rows c.status
+about-change Accused o now n c rows = about-accused c.name rows (accuser_of c.status) (row_about c rows) refl
+about-change Same o now n c rows = tt
+about-change Ignored o now n c rows = tt
+about-change NoRoom o now n c rows = tt
+
+-- so it is what becomes of the member's suspicion and its deadline
+deadline-change : (n : List ℕ) (rows : List Suspected) (ch : Change) → IsAbout n rows ch
+    → IsDeadlineChange (row_at name_cmp suspected_name n rows) (row_at name_cmp suspected_name n (suspicions_after ch rows)) (deadline_after ch)
+deadline-change n rows Nothing is = refl
+deadline-change n rows (Ending m) is =
+    (is.1, ap (λ k. row_at name_cmp suspected_name n (without_row name_cmp suspected_name k rows)) is.0 ∙ row_at-without names_order suspected_name n rows)
+deadline-change n rows (Putting r) is =
+    ap (option_map (λ (q : Suspected). deadline_of q.suspicion))
+    (row_at-put names_order suspected_name n r rows
+      ∙ ap (λ b. cond b (Some r) (row_at name_cmp suspected_name n rows)) (same_key names_order r.name n is))
+
+deadline-other : (now : ℕ) (origin : Origin) (c : Claim) (log : Log) → c.name ≢ me log
+    → IsDeadlineChange (suspicion_in log c.name) (suspicion_in (Said now origin c ∷ log) c.name) (applied_other now c (state_of log)).deadline
+deadline-other now origin c log other =
+    let rows = suspicions log in
+    let ch = change_of (config log) now (table log) rows c in
+    let is = about-change (hearing_of (table log) c) (config log) now (live_in (heard (table log) c)) c rows in
+    subst (λ (after : List Suspected). IsDeadlineChange (suspicion_in log c.name) (row_at name_cmp suspected_name c.name after) (deadline_after ch))
+    (suspicions-other now origin log c other) (deadline-change c.name rows ch is)
+
+-- What applying a claim says, of oneself and of another.
+applied-is : (now : ℕ) (c : Claim) (s : State) (b : Bool) → is_same name_cmp c.name s.own.name ≡ b → applied now c s ≡ cond b (applied_own c s) (applied_other now c s)
+unfolding applied
+applied-is now c s b e = ap (λ x. cond x (applied_own c s) (applied_other now c s)) e
+
+pub applied-own : (now : ℕ) (c : Claim) (s : State) → c.name ≡ s.own.name → applied now c s ≡ applied_own c s
+applied-own now c s same = applied-is now c s true (same_key names_order c.name s.own.name same)
+
+pub applied-other : (now : ℕ) (c : Claim) (s : State) → c.name ≢ s.own.name → applied now c s ≡ applied_other now c s
+applied-other now c s other = applied-is now c s false (other_key names_order c.name s.own.name other)
+
+changed-log : (now : ℕ) (origin : Origin) (c : Claim) (log : Log)
+    → IsRecordChange (record_in log c.name) (record_in (Said now origin c ∷ log) c.name) (applied now c (state_of log)).changed
+changed-log now origin c log =
+    subst (λ b. IsRecordChange (record_in log c.name) (record_in (Said now origin c ∷ log) c.name) b) (sym (applied-changed now c (state_of log))) (record-changed now origin c log)
+
+pub applied-log : (now : ℕ) (origin : Origin) (c : Claim) (log : Log) → IsApplied now origin c log (applied now c (state_of log))
+applied-log now origin c log = elim (cases_key names_order c.name (me log)) [
+  | inl same ↦ (
+      let is = applied-own now c (state_of log) (same ∙ sym (own_name log)) in
+      record {
+        changed = changed-log now origin c log;
+        refuted = ap (λ (a : Applied). a.refuted) is;
+        deadline =
+            subst (λ (d : Deadline). IsDeadlineChange (suspicion_in log c.name) (suspicion_in (Said now origin c ∷ log) c.name) d) (sym (ap (λ (a : Applied). a.deadline) is))
+            (ap (row_at name_cmp suspected_name c.name) (sym (suspicions-own now origin log c same)));
+      })
+  | inr other ↦ (
+      let apart : c.name ≢ (own log).name = λ e. other (e ∙ own_name log) in
+      let is = applied-other now c (state_of log) apart in
+      record {
+        changed = changed-log now origin c log;
+        refuted = ap (λ (a : Applied). a.refuted) is ∙ sym (ap is_refuted (own_hearing-other (own log) c apart));
+        deadline =
+            subst (λ (d : Deadline). IsDeadlineChange (suspicion_in log c.name) (suspicion_in (Said now origin c ∷ log) c.name) d) (sym (ap (λ (a : Applied). a.deadline) is))
+            (deadline-other now origin c log other);
+      })
+]

@@ -1,0 +1,49 @@
+-- What applying a claim does, by the log before the claim and after it.
+use Rattle.std.specs.Prelude.{ℕ, ◌≡◌, ◌≢◌, Bool, true, false, List, ◌∷◌, Option, Some, None, option_map}
+use Rattle.lg_rules.specs.declared.claim.Claim.{Claim}
+use Rattle.lg_rules.specs.declared.own.OwnHeard.{OwnHeard}
+use Rattle.lg_rules.specs.declared.own.OwnHeard.TheVariants.{Refuted, Raised, Ousted, Ignored}
+use Rattle.lg_rules.specs.Meaning.Claim.{name_of}
+use Rattle.lg_rules.specs.Meaning.Own.{own_hearing, own_record}
+use Rattle.lg_rules.specs.Meaning.Rows.{name_cmp, row_at}
+use Rattle.lg_rules.specs.Meaning.View.{view_of}
+use Rattle.lg_suspicion.specs.Meaning.Accusers.{deadline_of}
+use Rattle.lg_membership.specs.declared.applied.Applied.{Applied}
+use Rattle.lg_membership.specs.declared.applied.Deadline.{Deadline}
+use Rattle.lg_membership.specs.declared.applied.Deadline.TheVariants.{Stays, Ends, Stands}
+use Rattle.lg_membership.specs.declared.origin.Origin.{Origin}
+use Rattle.lg_membership.specs.declared.suspected.Suspected.{Suspected}
+use Rattle.lg_membership.specs.Meaning.Log.{Fact, Log, Said, own, table}
+use Rattle.lg_membership.specs.Meaning.Suspicions.{suspicions, suspected_name}
+
+-- the record of a member, oneself included; from the opening on it is that of the view
+abbrev pub record_in : Log → List ℕ → Option Claim
+record_in log m = row_at name_cmp name_of m (view_of (own_record (own log)) (table log))
+
+-- the suspicion of another member
+abbrev pub suspicion_in : Log → List ℕ → Option Suspected
+suspicion_in log m = row_at name_cmp suspected_name m (suspicions log)
+
+-- whether a claim about oneself is a suspicion that is refuted
+abbrev pub is_refuted : OwnHeard → Bool
+is_refuted Refuted = true
+is_refuted Raised = false
+is_refuted Ousted = false
+is_refuted Ignored = false
+
+-- a record changed, or is as before
+abbrev pub IsRecordChange : Option Claim → Option Claim → Bool → Type 0
+IsRecordChange before after true = after ≢ before
+IsRecordChange before after false = after ≡ before
+
+-- A suspicion is as before; or there was one and is none; or there is one, with this deadline.
+abbrev pub IsDeadlineChange : Option Suspected → Option Suspected → Deadline → Type 0
+IsDeadlineChange before after Stays = after ≡ before
+IsDeadlineChange before after Ends = (before ≢ None) × (after ≡ None)
+IsDeadlineChange before after (Stands deadline) = option_map (λ r. deadline_of r.suspicion) after ≡ Some deadline
+
+-- A claim is said after a log: what it changes of the record and of the deadline of its member, and whether it is refuted.
+pub record IsApplied (now : ℕ) (origin : Origin) (c : Claim) (log : Log) (applied : Applied) : Type 0 where
+  pub changed : IsRecordChange (record_in log c.name) (record_in (Said now origin c ∷ log) c.name) applied.changed
+  pub refuted : applied.refuted ≡ is_refuted (own_hearing (own log) c)
+  pub deadline : IsDeadlineChange (suspicion_in log c.name) (suspicion_in (Said now origin c ∷ log) c.name) applied.deadline
