@@ -1,52 +1,61 @@
 -- After an accepted list, the state accepts an event exactly where the list with it is accepted.
-use Rattle.std.proofs.Common.{◌≡◌, ℕ, ◌+◌, suc, Bool, true, false, ◌&&◌, ◌||◌, not, cond, leb, ltb, eqb, List, [], ◌∷◌, ◌++◌, reverse, length, map, Option, Some, None, IsTrue, refl, ap, ◌∙◌, arith, length-append}
+use Rattle.std.proofs.Common.{◌≡◌, ℕ, ◌+◌, suc, Bool, true, false, ◌&&◌, ◌||◌, not, cond, leb, ltb, eqb, List, [], ◌∷◌, ◌++◌, reverse, length, Option, Some, None, IsTrue, refl, ap, ◌∙◌, arith, length-append}
 use Rattle.std.specs.List.{list_any}
+use Rattle.std.specs.Prelude.{Result, Ok, Err, is_ok}
 use Rattle.std.proofs.lemmas.List.{length-reverse}
 use Rattle.std.proofs.lemmas.List.Folds.{list_any-append}
 use Rattle.lg_rules.specs.declared.claim.Claim.{Claim}
+use Rattle.lg_timing.specs.declared.config.Config.{Config}
+use Rattle.lg_timing.specs.declared.config.ConfigFault.{ConfigFault}
+use Rattle.lg_timing.specs.Meaning.Config.{check_of, IsChecked}
+use Rattle.lg_timers.specs.declared.timer.Timer.{Timer}
+use Rattle.lg_membership.specs.declared.origin.Origin.{Origin}
+use Rattle.lg_membership.specs.declared.origin.Origin.TheVariants.{Seed, Group}
+use Rattle.lg_membership.specs.Meaning.Log as group
 use Rattle.lg_detector.specs.declared.event.Event.{Event}
 use Rattle.lg_detector.specs.declared.event.Event.TheVariants.{Open, Tick, Heard, Ask, Health}
-use Rattle.lg_timers.specs.declared.timer.Timer.{Timer}
-use Rattle.lg_detector.specs.Meaning.Marks.{Log, Came, Opened, Said, Fired, events, config, table}
-use Rattle.lg_detector.specs.Meaning.Events.{log_of, alive_seed, say, told, acked, asked_in, due, fired, fired_claims, is_open, opens_well, is_accepted}
-use Rattle.lg_detector.specs.Support.Answers.{state_after, accepts_of}
+use Rattle.lg_detector.specs.Meaning.Log.{Log, Came, Fired, OfGroup, events, group_log}
+use Rattle.lg_detector.specs.Meaning.Timing.{due}
+use Rattle.lg_detector.specs.Meaning.Apply.{apply, apply_all}
+use Rattle.lg_detector.specs.Meaning.Open.{seed_claims}
+use Rattle.lg_detector.specs.Meaning.Hear.{hear_claims, ack, asked_in}
+use Rattle.lg_detector.specs.Meaning.Tick.{expire, fired_claims}
+use Rattle.lg_detector.specs.Meaning.Step.{log_of, is_open, opens_well, is_accepted, most_events}
+use Rattle.lg_detector.specs.Support.State.{State}
+use Rattle.lg_detector.specs.Support.Step.{state_after, accepts_of}
 
-events-say : (seed : Bool) (cs : List Claim) (log : Log) → events (say seed cs log) ≡ events log
-events-say seed [] log = refl
-events-say seed (c ∷ cs) log = events-say seed cs (Said seed c ∷ log)
+events-apply_all : (origin : Origin) (cs : List Claim) (log : Log) → events (apply_all origin cs log) ≡ events log
+events-apply_all origin [] log = refl
+events-apply_all origin (c ∷ cs) log = events-apply_all origin cs (apply origin c log)
 
-events-acked : (o : Option ℕ) (log : Log) → events (acked o log) ≡ events log
-events-acked None log = refl
-events-acked (Some number) log = refl
+events-ack : (o : Option ℕ) (log : Log) → events (ack o log) ≡ events log
+events-ack None log = refl
+events-ack (Some number) log = refl
 
-events-fired : (o : Option Timer) (log : Log) → events (fired o log) ≡ events log
-events-fired None log = refl
-events-fired (Some timer) log = events-say false (fired_claims timer.id (table log)) (Fired timer ∷ log)
+events-expire : (o : Option Timer) (log : Log) → events (expire o log) ≡ events log
+events-expire None log = refl
+events-expire (Some timer) log = events-apply_all Group (fired_claims timer.id (group.view (group_log log))) (Fired timer ∷ log)
+
+one_more : (n m : ℕ) → n ≡ m → n + 1 ≡ suc m
+one_more n m e = omega arith
 
 events-log_of : (past : List Event) → events (log_of past) ≡ length past
 events-log_of [] = refl
-events-log_of (Open now opening ∷ past) = events-say true (map alive_seed opening.seeds.items) (Opened opening ∷ Came now ∷ log_of past) ∙ one_more (events-log_of past)
-  where
-    one_more : events (log_of past) ≡ length past → events (log_of past) + 1 ≡ suc (length past)
-    one_more e = omega arith
+events-log_of (Open now opening ∷ past) =
+    events-apply_all Seed (seed_claims opening) (OfGroup (group.Opened opening) ∷ Came now ∷ log_of past) ∙ one_more _ _ (events-log_of past)
 events-log_of (Heard now source packet ∷ past) =
-    let heard = told packet.claims.items now (log_of past) in
-    events-acked (asked_in (config heard) packet.body) heard ∙ events-say false packet.claims.items (Came now ∷ log_of past) ∙ one_more (events-log_of past)
-  where
-    one_more : events (log_of past) ≡ length past → events (log_of past) + 1 ≡ suc (length past)
-    one_more e = omega arith
-events-log_of (Tick now words ∷ past) = events-fired (due (Came now ∷ log_of past)) (Came now ∷ log_of past) ∙ one_more (events-log_of past)
-  where
-    one_more : events (log_of past) ≡ length past → events (log_of past) + 1 ≡ suc (length past)
-    one_more e = omega arith
-events-log_of (Ask now name ∷ past) = rw (events-log_of past) (omega arith)
-events-log_of (Health now ∷ past) = rw (events-log_of past) (omega arith)
+    let heard = hear_claims now packet (log_of past) in
+    events-ack (asked_in (group.config (group_log heard)) packet.body) heard
+    ∙ events-apply_all Group packet.claims.items (Came now ∷ log_of past) ∙ one_more _ _ (events-log_of past)
+events-log_of (Tick now words ∷ past) = events-expire (due (Came now ∷ log_of past)) (Came now ∷ log_of past) ∙ one_more _ _ (events-log_of past)
+events-log_of (Ask now name ∷ past) = one_more _ _ (events-log_of past)
+events-log_of (Health now ∷ past) = one_more _ _ (events-log_of past)
 
 pub events-after : (f : List Event) → (state_after f).events ≡ length f
 events-after f = events-log_of (reverse f) ∙ length-reverse f
 
 abbrev accepts_by : ℕ → Bool → Bool → Bool
-accepts_by n well opens = cond (eqb n 0) well (not opens && ltb n 4000000000)
+accepts_by n well opens = cond (eqb n 0) well (not opens && ltb n most_events)
 
 none_open : (first rest : Bool) (few : Bool) → (first && (not rest && few)) ≡ true → (first ≡ true) × (rest ≡ false)
 none_open true true few e = absurd cc
@@ -70,5 +79,17 @@ accepts-after (x ∷ xs) e accepted =
     let len : length (xs ++ e ∷ []) + 1 ≡ suc (length xs) + 1 = omega (arith, length-append xs (e ∷ [])) in
     left ∙ rw (is.0, opens, len) (limit (opens_well e) (is_open e) (length xs))
   where
-    limit : (well opens : Bool) (n : ℕ) → accepts_by (suc n) well opens ≡ (not opens && leb (suc n + 1) 4000000000)
+    limit : (well opens : Bool) (n : ℕ) → accepts_by (suc n) well opens ≡ (not opens && leb (suc n + 1) most_events)
     limit well opens n = grind arith
+
+-- An opening that is accepted has a good configuration.
+checked : (r : Result (Unit {0}) ConfigFault) → is_ok r ≡ true → r ≡ Ok tt
+checked (Ok u) e = refl
+checked (Err f) e = absurd cc
+
+well : (first good : Bool) (few : Bool) → cond first good (false && few) ≡ true → good ≡ true
+well true good few e = e
+well false good few e = absurd cc
+
+pub opened_checked : (s : State) (now : ℕ) (opening : Config) → IsTrue (accepts_of s (Open now opening)) → IsChecked opening
+opened_checked s now opening accepted = checked (check_of opening) (well (eqb s.events 0) (is_ok (check_of opening)) (ltb s.events most_events) accepted)

@@ -1,32 +1,24 @@
 -- What a tick changes of the records.
-use Rattle.std.proofs.Common.{◌≡◌, ℕ, Bool, true, false, cond, List, Option, Some, None, refl, ◌∙◌, ap}
+use Rattle.std.proofs.Common.{◌≡◌, ℕ, List, Option, Some, None, refl, ◌∙◌, ap}
 use Rattle.lg_rules.specs.declared.claim.Claim.{Claim}
 use Rattle.lg_rules.specs.Meaning.View.{changed}
 use Rattle.lg_timers.specs.declared.timer.Timer.{Timer}
-use Rattle.lg_detector.specs.Meaning.Timing.{is_round_start}
-use Rattle.lg_detector.specs.Support.State.{State, come, tell_all, start_round, fire}
-use Rattle.lg_detector.specs.Support.Answers.{shown_of, due_in, claims_of, fire_due, tick}
-
-shown-fire : (timer : Timer) (s : State) → shown_of (fire timer s) ≡ shown_of s
-unfolding fire
-shown-fire timer s = either (is_round_start timer.id)
-  where
-    either : (b : Bool) → shown_of (cond b (start_round s) s) ≡ shown_of s
-    either true = refl
-    either false = refl
+use Rattle.lg_membership.specs.declared.origin.Origin.TheVariants.{Group}
+use Rattle.lg_membership.specs.Support.State.{shown}
+use Rattle.lg_detector.specs.Support.State.{State, come, apply_all, fire}
+use Rattle.lg_detector.specs.Support.Step.{view_in}
+use Rattle.lg_detector.specs.Support.Tick.{due, fire_due, claims_by, expire, tick}
+use Rattle.lg_detector.proofs.Reaching.{membership-fire}
 
 -- a timer that fires changes no record by itself
-shown-fire_due : (o : Option Timer) (s : State) → shown_of (fire_due o s) ≡ shown_of s
-shown-fire_due None s = refl
-shown-fire_due (Some timer) s = shown-fire timer s
+view-fire_due : (o : Option Timer) (s : State) → view_in (fire_due o s) ≡ view_in s
+view-fire_due None s = refl
+view-fire_due (Some timer) s = ap shown (membership-fire timer s)
 
-abbrev expire : State → State
-expire s = tell_all false (claims_of (due_in s) s.members.table) (fire_due (due_in s) s)
-
-pub tick_differing : (s here fired : State) (now : ℕ) (o : Option Timer) (claims : List Claim) → here ≡ come now s → o ≡ due_in here → fired ≡ fire_due o here
-    → claims ≡ claims_of o here.members.table → changed (shown_of fired) (shown_of (tell_all false claims fired)) ≡ changed (shown_of s) (shown_of (tick now s))
+pub tick_differing : (s here fired : State) (now : ℕ) (o : Option Timer) (claims : List Claim) → here ≡ come now s → o ≡ due here → fired ≡ fire_due o here
+    → claims ≡ claims_by o (view_in here) → changed (view_in fired) (view_in (apply_all Group claims fired)) ≡ changed (view_in s) (view_in (tick now s))
 tick_differing s here fired now o claims came is fires says =
-    let back : shown_of fired ≡ shown_of s = ap shown_of fires ∙ shown-fire_due o here ∙ ap shown_of came in
-    let state : tell_all false claims fired ≡ tick now s =
-    (λ i. tell_all false (says i) (fires i)) ∙ (λ i. tell_all false (claims_of (is i) here.members.table) (fire_due (is i) here)) ∙ ap expire came in
-    λ i. changed (back i) (shown_of (state i))
+    let back : view_in fired ≡ view_in s = ap view_in fires ∙ view-fire_due o here ∙ ap view_in came in
+    let state : apply_all Group claims fired ≡ tick now s =
+    (λ i. apply_all Group (says i) (fires i)) ∙ (λ i. apply_all Group (claims_by (is i) (view_in here)) (fire_due (is i) here)) ∙ ap (λ (t : State). expire (due t) t) came in
+    λ i. changed (back i) (view_in (state i))

@@ -1,24 +1,29 @@
 -- The timers that are set, when suspicions change.
-use Rattle.std.proofs.Common.{◌≡◌, ℕ, suc, ◌≤◌, List, [], ◌∷◌, length, map, Option, Some, None, refl, sym, ◌∙◌, ap, arith}
+use Rattle.std.proofs.Common.{◌≡◌, ℕ, suc, ◌≤◌, List, [], ◌∷◌, length, map, Option, Some, None, refl, sym, ◌∙◌, ap, subst, arith}
 use Rattle.lg_rules.specs.Meaning.Rows.{name_cmp, Rises}
 use Rattle.lg_timers.specs.declared.timer.TimerId.TheVariants.{RoundStart}
 use Rattle.lg_timers.specs.Meaning.Timers.{with_timer, without_timer, in_turn}
 use Rattle.lg_timers.proofs.Pending.{NoSuspicion, no_suspicion-nil, no_suspicion-start, rows-not_start, without-in_turn, without-none, firsts-without, firsts-put, pending-first, length_in_turn-le}
-use Rattle.lg_detector.specs.declared.suspected.Suspected.{Suspected}
-use Rattle.lg_detector.specs.Meaning.Suspicions.{suspected_name}
+use Rattle.lg_membership.specs.declared.suspected.Suspected.{Suspected}
+use Rattle.lg_membership.specs.Meaning.Suspicions.{suspected_name}
+use Rattle.lg_membership.specs.Support.Changes.{Change, Nothing, Ending, Standing, IsAbout, suspicions_after, deadline_after}
 use Rattle.lg_detector.specs.Meaning.Timing.{start_timer, suspicion_timer, start_timers, pending_of}
-use Rattle.lg_detector.specs.Support.Changes.{Change, Stays, Ends, Stands, suspicions_after, timers_after}
+use Rattle.lg_detector.specs.Support.State.{follow}
 
 no_suspicion : (start : Option ℕ) → NoSuspicion (start_timers start)
 no_suspicion None = no_suspicion-nil
 no_suspicion (Some d) = no_suspicion-start (start_timer d) refl
 
 -- The timers after a change of the suspicions.
-pub pending-after : (start : Option ℕ) (change : Change) (rows : List Suspected) → Rises name_cmp (map suspected_name rows)
-    → timers_after change (pending_of start rows) ≡ pending_of start (suspicions_after change rows)
-pending-after start Stays rows rises = refl
-pending-after start (Ends m) rows rises = sym (firsts-without suspected_name suspicion_timer (λ r. refl) m (start_timers start) rows (no_suspicion start))
-pending-after start (Stands r) rows rises = sym (firsts-put suspected_name suspicion_timer (λ r. refl) r (start_timers start) rows (no_suspicion start) rises)
+pub pending-after : (start : Option ℕ) (m : List ℕ) (change : Change) (rows : List Suspected) → IsAbout m change → Rises name_cmp (map suspected_name rows)
+    → follow m (deadline_after change) (pending_of start rows) ≡ pending_of start (suspicions_after change rows)
+pending-after start m Nothing rows about rises = refl
+pending-after start m (Ending k) rows about rises =
+    subst (λ n. follow n (deadline_after (Ending k)) (pending_of start rows) ≡ pending_of start (suspicions_after (Ending k) rows)) about
+    (sym (firsts-without suspected_name suspicion_timer (λ r. refl) k (start_timers start) rows (no_suspicion start)))
+pending-after start m (Standing r) rows about rises =
+    subst (λ n. follow n (deadline_after (Standing r)) (pending_of start rows) ≡ pending_of start (suspicions_after (Standing r) rows)) about
+    (sym (firsts-put suspected_name suspicion_timer (λ r. refl) r (start_timers start) rows (no_suspicion start) rises))
 
 -- The timers once a round started.
 pub pending-restart : (start : Option ℕ) (d : ℕ) (rows : List Suspected) → with_timer (start_timer d) (without_timer RoundStart (pending_of start rows)) ≡ pending_of (Some d) rows

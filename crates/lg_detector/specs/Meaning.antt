@@ -1,7 +1,10 @@
 -- What is right: whoever wants to believe the contracts reads these.
-pub mod Marks
-pub mod Suspicions
-pub mod Gossip
+pub mod Log
 pub mod Timing
-pub mod Events
+pub mod Apply
+pub mod Open
+pub mod Hear
+pub mod Tick
+pub mod Ask
+pub mod Step
 pub mod Examples

@@ -1,7 +1,9 @@
 -- What only carries the proofs.
-pub mod Changes
 pub mod State
-pub mod Answers
+pub mod Open
+pub mod Hear
+pub mod Tick
+pub mod Ask
+pub mod Step
 pub mod Reached
-pub mod Room
 pub mod Kept

@@ -1,18 +1,24 @@
 //! The detector.
 ghost use Rattle.std.specs.Prelude.{◌≡◌, ◌++◌, [], ◌∷◌, List, IfOk, IsTrue, true, false};
-ghost use Rattle.lg_detector.specs.Meaning.Events.{is_accepted, is_open, opens_well};
-ghost use Rattle.lg_detector.specs.Support.Answers.{accepts_of, next, out, react, state_after, answer_after, fired_out, sends_out, changed_out, answer_out};
 ghost use Rattle.lg_detector.specs.declared.event.Event.{Event as Happened};
+ghost use Rattle.lg_detector.specs.Meaning.Step.{is_accepted, is_open, opens_well, reply_after};
+ghost use Rattle.lg_detector.specs.Support.Step as state;
+ghost use Rattle.lg_detector.specs.Support.Step.{accepts_at, accepts_of, state_after};
 
 use crate::event::Event;
-use crate::parts::Parts;
-use crate::reply::{Answer, Reply};
+use crate::reply::Reply;
+use lg_membership::Membership;
+use lg_timers::Timers;
+use lg_timing::{Moment, Score};
 use std::alloc::{AllocError, Global};
 use std::marker::Model;
 
-mod marks;
-mod reacting;
+mod ask;
+mod facts;
+mod hear;
+mod open;
 mod readers;
+mod tick;
 
 /// No memory could be had. The call that answers it has changed nothing.
 pub type NoMemory = AllocError;
@@ -28,9 +34,25 @@ pub struct Detector {
     parts: Box<Parts>,
 }
 
+/// What a detector keeps, on the heap.
+#[derive(Drop)]
+struct Parts {
+    /// How many events came.
+    events: u64,
+    /// The greatest moment handed in.
+    moment: Moment,
+    /// The health score.
+    score: Score,
+    /// The timers that are set: the start of the next round, and one for each suspicion.
+    timers: Timers,
+    /// What it knows of its group.
+    membership: Membership,
+}
+
 impl Model for Detector {
     ghost use Rattle.lg_detector.specs.Support.State.{State};
     ghost use Rattle.lg_detector.specs.Support.Reached.{IsReached};
+
     ghost use Rattle.lg_detector.specs.Support.Kept.{state_in};
 
     ghost Value = { State };
@@ -46,7 +68,16 @@ impl Detector {
     pub fn blank(alloc: Global) -> Result<Detector, NoMemory>
         ensures { IfOk result (λ detector. detector ≡ state_after []) }
     {
-        let parts = Box::new(alloc, Parts::new())?;
+        let parts = Box::new(
+            alloc,
+            Parts {
+                events: 0,
+                moment: Moment::default(),
+                score: Score::new(0),
+                timers: Timers::new(),
+                membership: Membership::blank(),
+            },
+        )?;
         Ok(Detector { parts })
     }
 
@@ -55,93 +86,71 @@ impl Detector {
     pub fn accepts(&self, event: &Event) -> bool
         ensures state { result ≡ accepts_of self.now event.now }
         // After an accepted list, exactly where the list with this event is accepted.
-        ensures list { (f : List Happened) → is_accepted f ≡ true → self.now ≡ state_after f → result ≡ is_accepted (f ++ event.now ∷ []) }
+        ensures list { (f : List Happened) → is_accepted f ≡ true → self.now ≡ state_after f
+            → result ≡ is_accepted (f ++ event.now ∷ []) }
     {
-        self.can_come(event)
-    }
-
-    /// The same, by the state.
-    fn can_come(&self, event: &Event) -> bool
-        ensures { result ≡ accepts_of self.now event.now }
-    {
-        if self.parts.events == 0 {
-            opens_well(event)
-        } else {
-            !is_opening(event) && self.parts.events < MAX_EVENTS
-        }
+        can_come(self.parts.events, event)
     }
 
     /// Leads the state on by an event that is accepted, and writes the reply to it in the place of what `reply` held. It takes
     /// no memory, and always succeeds.
     pub fn step(&mut self, event: &Event, reply: &mut Reply)
         requires { IsTrue (accepts_of self.old event.now) }
-        ensures state { self.new ≡ next self.old event.now }
-        ensures reply { reply.new ≡ out self.old event.now }
-        // After any list of events, the list goes on by this one, and the reply is the answer after the list.
+        ensures state { self.new ≡ state.step self.old event.now }
+        ensures reply { reply.new ≡ state.reply self.old event.now }
+        // After any list of events, the list goes on by this one, and the reply is that of the definitions after the list.
         ensures after { (f : List Happened) → self.old ≡ state_after f → self.new ≡ state_after (f ++ event.now ∷ []) }
-        ensures answer { (f : List Happened) → self.old ≡ state_after f → reply.new ≡ answer_after f event.now }
+        ensures answer { (f : List Happened) → self.old ≡ state_after f → reply.new ≡ reply_after f event.now }
     {
-        self.react(event, reply);
+        self.advance(event, reply);
     }
 
     /// Leads the state on by an event, without a reply. An event that isn't accepted changes nothing. It takes no memory, and
     /// always succeeds.
     pub fn absorb(&mut self, event: &Event)
-        ensures state { self.new ≡ next self.old event.now }
-        ensures after { (f : List Happened) → self.old ≡ state_after f → IsTrue (accepts_of self.old event.now) → self.new ≡ state_after (f ++ event.now ∷ []) }
+        ensures state { self.new ≡ state.step self.old event.now }
+        ensures after { (f : List Happened) → self.old ≡ state_after f → IsTrue (accepts_of self.old event.now)
+            → self.new ≡ state_after (f ++ event.now ∷ []) }
         ensures refused { accepts_of self.old event.now ≡ false → self.new ≡ self.old }
     {
-        if self.can_come(event) {
+        if can_come(self.parts.events, event) {
             let mut reply = Reply::default();
-            self.react(event, &mut reply);
+            self.advance(event, &mut reply);
         }
     }
 
     /// Leads the state on by an event that is accepted, and writes the reply to it.
-    fn react(&mut self, event: &Event, reply: &mut Reply)
+    fn advance(&mut self, event: &Event, reply: &mut Reply)
         requires { IsTrue (accepts_of self.old event.now) }
-        ensures state { self.new ≡ react self.old event.now }
-        ensures reply { reply.new ≡ out self.old event.now }
+        ensures state { self.new ≡ state.advance self.old event.now }
+        ensures reply { reply.new ≡ state.reply self.old event.now }
     {
-        self.lead(event, reply);
-        reply.ousted = self.ousted();
+        self.react(event, reply);
+        reply.ousted = self.is_ousted();
         reply.next = self.next();
     }
+}
 
+impl Detector {
     /// Leads the state on by an event that is accepted, and writes the parts of the reply that the event makes.
-    fn lead(&mut self, event: &Event, reply: &mut Reply)
+    fn react(&mut self, event: &Event, reply: &mut Reply)
         requires { IsTrue (accepts_of self.old event.now) }
-        ensures state { self.new ≡ react self.old event.now }
-        ensures fired { reply.new.fired ≡ fired_out self.old event.now }
-        ensures sends { reply.new.sends.items ≡ sends_out self.old event.now }
-        ensures differing { reply.new.changed.items ≡ changed_out self.old event.now }
-        ensures answer { reply.new.answer ≡ answer_out self.old event.now }
+        ensures state { self.new ≡ state.advance self.old event.now }
+        ensures fired { reply.new.fired ≡ state.fired_by self.old event.now }
+        ensures sends { reply.new.sends.items ≡ state.sends_by self.old event.now }
+        ensures differing { reply.new.changed.items ≡ state.changed_by self.old event.now }
+        ensures answer { reply.new.answer ≡ state.answer_by self.old event.now }
     {
         match event {
-            Event::Open { now, config } => {
-                reply.say_nothing();
-                self.open(*now, config);
-            }
+            Event::Open { now, config } => self.open_with(*now, config, reply),
             Event::Tick { now, .. } => self.tick(*now, reply),
             Event::Heard {
                 now,
                 source,
                 packet,
-            } => {
-                reply.say_nothing();
-                self.hear(*now, packet.claims.as_slice(), &mut reply.changed);
-                self.respond(*source, &packet.body, &mut reply.sends);
-            }
-            Event::Ask { now, name } => {
-                reply.say_nothing();
-                reply.answer = Some(Answer::Status(self.record_of(name)));
-                self.come(*now);
-            }
-            Event::Health { now } => {
-                reply.say_nothing();
-                reply.answer = Some(self.health());
-                self.come(*now);
-            }
+            } => self.hear(*now, *source, packet, reply),
+            Event::Ask { now, name } => self.ask(*now, name, reply),
+            Event::Health { now } => self.ask_health(*now, reply),
         }
     }
 }
@@ -159,13 +168,25 @@ fn opens_well(event: &Event) -> bool
 {
     match event {
         Event::Open { config, .. } => config.check().is_ok(),
-        Event::Tick { .. } | Event::Heard { .. } | Event::Ask { .. } | Event::Health { .. } =>
-            false,
+        _ => false,
     }
 }
 
-/// The states lead on as the lists of events do, and give out the answers after them.
+/// Whether an event can come after so many others.
+fn can_come(events: u64, event: &Event) -> bool
+    ensures { result ≡ accepts_at events event.now }
+{
+    if events == 0 {
+        opens_well(event)
+    } else {
+        !is_opening(event) && events < MAX_EVENTS
+    }
+}
+
+/// The law by itself: the states that the contracts speak of are functions of the list of events. One that accepts an event
+/// leads on as the list does, and gives the reply of the definitions.
 pub fn states_lead_on()
-    ensures next { (f : List Happened) (e : Happened) → IsTrue (accepts_of (state_after f) e) → next (state_after f) e ≡ state_after (f ++ e ∷ []) }
-    ensures out { (f : List Happened) (e : Happened) → out (state_after f) e ≡ answer_after f e }
+    ensures next { (f : List Happened) (e : Happened) → IsTrue (accepts_of (state_after f) e)
+        → state.step (state_after f) e ≡ state_after (f ++ e ∷ []) }
+    ensures reply { (f : List Happened) (e : Happened) → state.reply (state_after f) e ≡ reply_after f e }
 {}

@@ -3,18 +3,13 @@
 
 mod detector;
 mod event;
-mod parts;
 mod reply;
-mod showing;
-mod suspected;
-mod suspicion_changes;
-mod suspicions;
 
 pub use detector::{Detector, MAX_EVENTS, NoMemory, states_lead_on};
 pub use event::Event;
+pub use lg_membership::MAX_MEMBERS;
 pub use lg_timers::{Timer, TimerId};
 pub use reply::{Answer, MAX_CHANGED, MAX_SENDS, Outgoing, Reply};
-pub use showing::MAX_MEMBERS;
 
 #[cfg(test)]
 mod tests;

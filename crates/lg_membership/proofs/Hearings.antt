@@ -8,13 +8,16 @@ use Rattle.lg_rules.specs.declared.members.Heard.{Heard}
 use Rattle.lg_rules.specs.declared.members.Heard.TheVariants.{Overrode, Accused, Same, Ignored, NoRoom}
 use Rattle.lg_rules.specs.Meaning.Claim.{accuser_of, name_of}
 use Rattle.lg_rules.specs.Meaning.Rows.{name_cmp, row_at}
-use Rattle.lg_rules.specs.Meaning.Table.{takes, standing_status, standing_hearing, hearing_of}
+use Rattle.lg_rules.specs.Meaning.Table.{takes, standing_status, standing_hearing, hearing_of, heard, live_in}
+use Rattle.lg_rules.proofs.KeyOrder.{names_order}
 use Rattle.lg_timing.specs.declared.config.Config.{Config}
-use Rattle.lg_suspicion.specs.Meaning.Accusers.{accuser_counts}
+use Rattle.lg_suspicion.specs.Meaning.Accusers.{accuser_counts, accused}
 use Rattle.lg_membership.specs.declared.applied.Deadline.{Deadline}
 use Rattle.lg_membership.specs.declared.suspected.Suspected.{Suspected}
-use Rattle.lg_membership.specs.Meaning.Suspicions.{is_accusation, counts_in, confirms}
-use Rattle.lg_membership.specs.Support.Changes.{accusing, change_by, change_of, row_about, deadline_after, stands, is_override}
+use Rattle.lg_membership.specs.Meaning.Suspicions.{suspected_name, is_accusation, counts_in}
+use Rattle.lg_membership.specs.Support.Changes.{Change, Nothing, Ending, Standing, IsAbout, raised, ended, overriding, accusing, change_by, row_about, deadline_after, stands, is_override}
+use Rattle.lg_membership.specs.Support.State.{State, change_in}
+use Rattle.lg_membership.proofs.Chosen.{found_key}
 
 -- a claim that isn't taken overrides nothing
 status_kept : (s t : Status) → is_override (standing_status s t) ≡ false
@@ -70,3 +73,39 @@ pub counts_for : (table : List Claim) (opened : Option Config) (now n : ℕ) (ro
 counts_for table opened now n row c answer deadline =
     (λ i. is_override (answer i) || (is_accusation (answer i) && stands (deadline i)))
     ∙ (λ i. override-takes table c i || confirms-stands (hearing_of table c) opened now n row c i)
+
+-- What a claim changes concerns its member.
+raised_about : (opened : Option Config) (now n : ℕ) (m a : List ℕ) → IsAbout m (raised opened now n m a)
+raised_about None now n m a = tt
+raised_about (Some opening) now n m a = refl
+
+ended_about : (m : List ℕ) (row : Option Suspected) → IsAbout m (ended m row)
+ended_about m None = tt
+ended_about m (Some row) = refl
+
+overriding_about : (opened : Option Config) (now n : ℕ) (m : List ℕ) (row : Option Suspected) (s : Status) → IsAbout m (overriding opened now n m row s)
+overriding_about opened now n m row Alive = ended_about m row
+overriding_about opened now n m row (Suspect a) = raised_about opened now n m a
+overriding_about opened now n m row Failed = ended_about m row
+
+either_about : (b : Bool) (m : List ℕ) (row : Suspected) → row.name ≡ m → IsAbout m (cond b (Standing row) Nothing)
+either_about true m row named = named
+either_about false m row named = tt
+
+accusing_about : (m : List ℕ) (a : Option (List ℕ)) (row : Option Suspected) → ((r : Suspected) → row ≡ Some r → r.name ≡ m) → IsAbout m (accusing a row)
+accusing_about m None row named = tt
+accusing_about m (Some a) None named = tt
+accusing_about m (Some a) (Some row) named = either_about (accuser_counts row.suspicion a) m record { name = row.name; suspicion = accused row.suspicion a } (named row refl)
+
+by_about : (h : Heard) (opened : Option Config) (now n : ℕ) (row : Option Suspected) (c : Claim) → ((r : Suspected) → row ≡ Some r → r.name ≡ c.name)
+    → IsAbout c.name (change_by h opened now n row c)
+by_about Overrode opened now n row c named = overriding_about opened now n c.name row c.status
+by_about Accused opened now n row c named = accusing_about c.name (accuser_of c.status) row named
+by_about Same opened now n row c named = tt
+by_about Ignored opened now n row c named = tt
+by_about NoRoom opened now n row c named = tt
+
+pub change_about : (now : ℕ) (c : Claim) (s : State) → IsAbout c.name (change_in now c s)
+change_about now c s =
+    by_about (hearing_of s.members.table c) s.config now (live_in (heard s.members.table c)) (row_about c s.suspicions) c
+    (found_key names_order suspected_name c.name s.suspicions)

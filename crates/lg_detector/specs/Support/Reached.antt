@@ -1,15 +1,10 @@
 -- A state that some log has, where the detector was opened with a good configuration, if it was opened.
-use Rattle.std.specs.Prelude.{◌≡◌, ⊤, Option, Some, None}
-use Rattle.lg_timing.specs.declared.config.Config.{Config}
-use Rattle.lg_timing.specs.Meaning.Config.{IsChecked}
-use Rattle.lg_detector.specs.Meaning.Marks.{Log}
+use Rattle.std.specs.Prelude.{◌≡◌}
+use Rattle.lg_membership.specs.Support.Reached.{IsGood}
+use Rattle.lg_detector.specs.Meaning.Log.{Log}
 use Rattle.lg_detector.specs.Support.State.{State, state_of}
-
-abbrev pub IsGood : Option Config → Type 0
-IsGood None = ⊤
-IsGood (Some opening) = IsChecked opening
 
 pub record IsReached (s : State) : Type 0 where
   pub log : Log
   pub is : s ≡ state_of log
-  pub good : IsGood s.config
+  pub good : IsGood s.membership.config

@@ -1,5 +1,5 @@
 -- What a claim about another changes of the suspicions, by the values before it.
-use Rattle.std.specs.Prelude.{ℕ, Bool, true, false, List, [], ◌∷◌, Option, Some, None, if◌then◌else◌}
+use Rattle.std.specs.Prelude.{◌≡◌, ℕ, Bool, true, false, List, [], ◌∷◌, Option, Some, None, if◌then◌else◌}
 use Rattle.lg_rules.specs.declared.claim.Claim.{Claim}
 use Rattle.lg_rules.specs.declared.claim.Status.{Status}
 use Rattle.lg_rules.specs.declared.claim.Status.TheVariants.{Alive, Suspect, Failed}
@@ -58,6 +58,12 @@ row_about c rows = row_at name_cmp suspected_name c.name rows
 abbrev pub change_of : Option Config → ℕ → List Claim → List Suspected → Claim → Change
 change_of opened now table rows c =
     change_by (hearing_of table c) opened now (live_in (heard table c)) (row_about c rows) c
+
+-- such a change concerns one member
+abbrev pub IsAbout : List ℕ → Change → Type 0
+IsAbout m Nothing = Unit {0}
+IsAbout m (Ending k) = k ≡ m
+IsAbout m (Standing r) = r.name ≡ m
 
 -- the suspicions then, and what becomes of the deadline of the claim's member
 abbrev pub suspicions_after : Change → List Suspected → List Suspected

@@ -1,13 +1,13 @@
 use Rattle.std.proofs.Common.{IsTrue, ap, ◌∙◌, sym, subst}
-use Rattle.lg_detector.specs.Support.Answers.{accepts_of, next}
 use Rattle.lg_detector.specs.Support.State.{State}
-use Rattle.lg_detector.proofs.EventLaws.{next-accepted, next-after}
+use Rattle.lg_detector.specs.Support.Step.{accepts_of, step}
+use Rattle.lg_detector.proofs.StepLaws.{step-accepted, step-after}
 use Rattle.lg_detector.proofs.detector.Detector.absorb.Goals as goal
 
 pub returns-then-can_come-clause-after : goal.returns-then-can_come-clause-after
 returns-then-can_come-clause-after c =
     λ f is accepted.
-    c.react.ensures.state
-    ∙ sym (next-accepted c.args.self.now c.args.event.now accepted)
-    ∙ ap (λ (s : State). next s c.args.event.now) is
-    ∙ next-after f c.args.event.now (subst (λ (s : State). IsTrue (accepts_of s c.args.event.now)) is accepted)
+    c.advance.ensures.state
+    ∙ sym (step-accepted c.args.self.now c.args.event.now accepted)
+    ∙ ap (λ (s : State). step s c.args.event.now) is
+    ∙ step-after f c.args.event.now (subst (λ (s : State). IsTrue (accepts_of s c.args.event.now)) is accepted)

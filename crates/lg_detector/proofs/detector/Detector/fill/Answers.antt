@@ -1,12 +1,13 @@
-use Rattle.std.proofs.Common.{None, ap, ◌∙◌}
-use Rattle.lg_rules.specs.Meaning.Table.{members_in}
-use Rattle.lg_gossip.specs.Meaning.Queue.{taken_of}
+use Rattle.std.proofs.Common.{◌≡◌, ap, sym, subst, ◌∙◌}
 use Rattle.lg_detector.specs.Support.Kept.{state_in}
-use Rattle.lg_detector.specs.Support.State.{State, send}
+use Rattle.lg_detector.specs.Support.Reached.{IsReached}
 use Rattle.lg_detector.proofs.Reaching.{reached-send}
 use Rattle.lg_detector.proofs.detector.Detector.fill.Goals as goal
 
 pub invariant_of-self : goal.invariant_of-self
 invariant_of-self c =
-    let sent : State → State = λ s. send (taken_of s.queue None (members_in s.members.table)) s in
-    reached-send _ _ (λ s. taken_of s.queue None (members_in s.members.table)) (c.fill.ensures.state ∙ ap (λ parts. sent (state_in parts)) c.deref_mut.ensures.value) c.self.invariant
+    let parts = c.deref_mut.result.now in
+    let before : IsReached (state_in parts) = subst IsReached (sym (ap state_in c.deref_mut.ensures.value)) c.self.invariant in
+    reached-send (state_in parts) _
+    (λ i. record { events = parts.events; moment = parts.moment; score = parts.score; timers = parts.timers; membership = c.fill.ensures.state i })
+    before

@@ -1,16 +1,28 @@
-use Rattle.std.proofs.Common.{ap, ◌∙◌}
-use Rattle.lg_detector.specs.Meaning.Events.{or_zero}
-use Rattle.lg_detector.specs.Support.Answers.{deadline_of, out}
-use Rattle.lg_detector.specs.Support.State.{State}
+use Rattle.std.proofs.Common.{ap, ◌∙◌, sym, subst, IsTrue}
+use Rattle.lg_detector.specs.Support.Step.{accepts_of, advance}
+use Rattle.lg_detector.proofs.Accepting.{opened_checked}
 use Rattle.lg_detector.proofs.detector.Detector.react.Goals as goal
 
-pub returns-clause-reply : goal.returns-clause-reply
-unfolding out
-returns-clause-reply c = λ i. record {
-  fired = c.lead.ensures.fired i;
-  sends = record { items = c.lead.ensures.sends i };
-  changed = record { items = c.lead.ensures.differing i };
-  answer = c.lead.ensures.answer i;
-  ousted = (c.ousted-reply.ensures ∙ ap (λ (s : State). s.own.ousted) c.lead.ensures.state) i;
-  next = (c.next-reply.ensures ∙ ap (λ (s : State). or_zero (deadline_of s)) c.lead.ensures.state) i;
-}
+pub open_with-requires-clause-good : goal.open_with-requires-clause-good
+open_with-requires-clause-good c =
+    opened_checked c.args.self.now c.in-Open.now c.in-Open.config (subst (λ e. IsTrue (accepts_of c.args.self.now e)) c.in-Open.is c.requires)
+
+pub returns-in-Open-clause-state : goal.returns-in-Open-clause-state
+unfolding advance
+returns-in-Open-clause-state c = c.open_with.ensures.state ∙ ap (advance c.args.self.now) (sym c.in-Open.is)
+
+pub returns-in-Tick-clause-state : goal.returns-in-Tick-clause-state
+unfolding advance
+returns-in-Tick-clause-state c = c.tick.ensures.state ∙ ap (advance c.args.self.now) (sym c.in-Tick.is)
+
+pub returns-in-Heard-clause-state : goal.returns-in-Heard-clause-state
+unfolding advance
+returns-in-Heard-clause-state c = c.hear.ensures.state ∙ ap (advance c.args.self.now) (sym c.in-Heard.is)
+
+pub returns-in-Ask-clause-state : goal.returns-in-Ask-clause-state
+unfolding advance
+returns-in-Ask-clause-state c = c.ask.ensures.state ∙ ap (advance c.args.self.now) (sym c.in-Ask.is)
+
+pub returns-in-Health-clause-state : goal.returns-in-Health-clause-state
+unfolding advance
+returns-in-Health-clause-state c = c.ask_health.ensures.state ∙ ap (advance c.args.self.now) (sym c.in-Health.is)

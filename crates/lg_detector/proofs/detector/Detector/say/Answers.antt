@@ -1,21 +1,15 @@
-use Rattle.std.proofs.Common.{sym, ◌∙◌}
-use Rattle.lg_detector.proofs.Differing.{shown_few, shown_differing}
+use Rattle.std.proofs.Common.{◌≡◌, ℕ, List, ap, sym, subst, ◌∙◌}
+use Rattle.std.specs.Prelude.{filter}
+use Rattle.lg_rules.specs.Meaning.Rows.{name_cmp, is_among}
+use Rattle.lg_detector.specs.Support.Reached.{IsReached}
+use Rattle.lg_detector.specs.Support.Step.{view_in}
+use Rattle.lg_detector.proofs.Applying.{say_differing}
 use Rattle.lg_detector.proofs.detector.Detector.say.Goals as goal
 
-pub show-requires : goal.show-requires
-show-requires c =
-    let s = c.args.self.now in
-    let after = c.tell_all-names.new.self in
-    let state = c.tell_all-names.ensures.state in
-    let named = c.as_slice.ensures.value ∙ c.tell_all-names.ensures.names in
-    shown_few s after c.self.invariant.log c.args.claims.now c.as_slice.result.now (sym c.self.view_is ∙ c.self.invariant.is) state named c.requires
-
-pub returns-then-is_open-clause-differing : goal.returns-then-is_open-clause-differing
-returns-then-is_open-clause-differing c =
-    let s = c.args.self.now in
-    let after = c.tell_all-names.new.self in
-    let state = c.tell_all-names.ensures.state in
-    let named = c.as_slice.ensures.value ∙ c.tell_all-names.ensures.names in
-    c.show.ensures
-    ∙ shown_differing s after c.self.invariant.log c.args.claims.now c.as_slice.result.now (sym c.self.view_is ∙ c.self.invariant.is) state named
-    (sym c.is_open.ensures ∙ c.if-is_open.true)
+pub returns-clause-differing : goal.returns-clause-differing
+returns-clause-differing c =
+    let reached : IsReached c.args.self.now = subst IsReached c.self.view_is c.self.invariant in
+    let named = c.as_slice.ensures.value ∙ c.apply_all-names.ensures.names in
+    c.put_records.ensures
+    ∙ (λ i. filter (λ r. is_among name_cmp r.name (named i)) (view_in (c.apply_all-names.ensures.state i)))
+    ∙ say_differing c.args.self.now c.args.claims.now reached

@@ -1,0 +1,166 @@
+-- Each fact changes the state as its definitions do.
+use Rattle.std.proofs.Common.{◌≡◌, ◌≢◌, ℕ, ◌+◌, Bool, true, false, cond, List, [], ◌∷◌, Option, Some, None, inl, inr, refl, sym, ◌∙◌, ap, subst}
+use Rattle.std.specs.Prelude.{ℤ}
+use Rattle.std.proofs.lemmas.Bool.{cases_Bool}
+use Rattle.lg_rules.specs.declared.claim.Claim.{Claim}
+use Rattle.lg_rules.specs.declared.own.OwnHeard.{OwnHeard}
+use Rattle.lg_rules.specs.declared.own.OwnHeard.TheVariants.{Refuted, Raised, Ousted, Ignored}
+use Rattle.lg_rules.specs.Meaning.Own.{own_answer}
+use Rattle.lg_rules.specs.Meaning.Rows.{name_cmp, is_same}
+use Rattle.lg_rules.proofs.KeyOrder.{names_order, cases_key, same_key, other_key}
+use Rattle.lg_timing.specs.declared.config.Config.{Config}
+use Rattle.lg_timing.specs.Meaning.Score.{ScoreValue, score_of}
+use Rattle.lg_timers.specs.declared.timer.Timer.{Timer}
+use Rattle.lg_membership.specs.declared.applied.Applied.{Applied}
+use Rattle.lg_membership.specs.declared.origin.Origin.{Origin}
+use Rattle.lg_membership.specs.Meaning.Log as group
+use Rattle.lg_membership.specs.Meaning.Suspicions.{suspicions}
+use Rattle.lg_membership.specs.Support.Changes.{Change, IsAbout, suspicions_after, deadline_after}
+use Rattle.lg_membership.specs.Support.State as known
+use Rattle.lg_membership.proofs.FactLaws.{open-state as member-open, apply-state as member-apply, send-state as member-send, own_name}
+use Rattle.lg_membership.proofs.Reaching.{apply-own, apply-other}
+use Rattle.lg_membership.proofs.SuspicionLaws.{rises-suspicions, suspicions-opened}
+use Rattle.lg_membership.proofs.Hearings.{change_about}
+use Rattle.lg_detector.specs.Meaning.Log.{Log, Came, Fired, OfGroup, events, moment, group_log}
+use Rattle.lg_detector.specs.Meaning.Timing.{mark_of, mark_by, earned, max_in, score, round_start, pending_of, pending, scaled_interval, is_round_start}
+use Rattle.lg_detector.specs.Meaning.Apply as log_of_it
+use Rattle.lg_detector.specs.Support.State.{State, state_of, come, begin, marked_if, follow, apply, send, start_round, fire}
+use Rattle.lg_detector.proofs.TimerLaws.{pending-after, pending-restart, pending-alone}
+
+pub come-state : (now : ℕ) (log : Log) → come now (state_of log) ≡ state_of (Came now ∷ log)
+come-state now log = refl
+
+pub begin-state : (opening : Config) (log : Log) → begin opening (state_of log) ≡ state_of (OfGroup (group.Opened opening) ∷ log)
+begin-state opening log = λ i. record {
+  events = events log;
+  moment = moment log;
+  score = record { value = 0; max = opening.max_score };
+  timers = (pending-alone (moment log) ∙ ap (pending_of (Some (moment log))) (sym (suspicions-opened opening (group_log log)))) i;
+  membership = member-open opening (group_log log) i;
+}
+
+-- The score, when a claim is said.
+abbrev with_marks : ℕ → List ℤ → ScoreValue
+with_marks max past = record { value = score_of max past; max = max }
+
+marked-by : (max : ℕ) (hearing : OwnHeard) (past : List ℤ) → marked_if (known.is_refuted hearing) (with_marks max past) ≡ with_marks max (mark_of hearing past)
+marked-by max Refuted past = refl
+marked-by max Raised past = refl
+marked-by max Ousted past = refl
+marked-by max Ignored past = refl
+
+earned-own : (log : group.Log) (c : Claim) (past : List ℤ) → c.name ≡ group.me log → mark_by log c past ≡ mark_of (own_answer c.status c.incarnation (group.own log).number) past
+unfolding mark_by
+earned-own log c past same = rw (same_key names_order c.name (group.me log) same) refl
+
+earned-other : (log : group.Log) (c : Claim) (past : List ℤ) → c.name ≢ group.me log → mark_by log c past ≡ past
+unfolding mark_by
+earned-other log c past other = rw (other_key names_order c.name (group.me log) other) refl
+
+applied-own : (now : ℕ) (c : Claim) (s : known.State) → c.name ≡ s.own.name → known.applied now c s ≡ known.applied_own c s
+unfolding known.applied
+applied-own now c s same = rw (same_key names_order c.name s.own.name same) refl
+
+applied-other : (now : ℕ) (c : Claim) (s : known.State) → c.name ≢ s.own.name → known.applied now c s ≡ known.applied_other now c s
+unfolding known.applied
+applied-other now c s other = rw (other_key names_order c.name s.own.name other) refl
+
+abbrev said : Origin → Claim → Log → Log
+said origin c log = log_of_it.apply origin c log
+
+own-said : (origin : Origin) (c : Claim) (log : Log) → c.name ≡ group.me (group_log log) → apply origin c (state_of log) ≡ state_of (said origin c log)
+unfolding apply
+own-said origin c log same =
+    let g = group_log log in
+    let max = max_in (group.config g) in
+    let to_own = applied-own (moment log) c (known.state_of g) (same ∙ sym (own_name g)) in
+    let member = member-apply (moment log) origin c g in
+    let rows : suspicions g ≡ suspicions (group_log (said origin c log)) =
+    sym (ap (λ (s : known.State). s.suspicions) (apply-own (moment log) origin c (known.state_of g) (same ∙ sym (own_name g)))) ∙ ap (λ (s : known.State). s.suspicions) member in
+    let marks = ap (λ (a : Applied). marked_if a.refuted (score log)) to_own
+    ∙ marked-by max (own_answer c.status c.incarnation (group.own g).number) (earned log)
+    ∙ ap (with_marks max) (sym (earned-own g c (earned log) same)) in
+    let times = ap (λ (a : Applied). follow c.name a.deadline (pending log)) to_own ∙ ap (pending_of (round_start log)) rows in
+    λ i. record {
+      events = events log;
+      moment = moment log;
+      score = marks i;
+      timers = times i;
+      membership = member i;
+    }
+
+other-said : (origin : Origin) (c : Claim) (log : Log) → c.name ≢ group.me (group_log log) → apply origin c (state_of log) ≡ state_of (said origin c log)
+unfolding apply
+other-said origin c log other =
+    let g = group_log log in
+    let s = known.state_of g in
+    let apart = λ (same : c.name ≡ s.own.name). other (same ∙ own_name g) in
+    let max = max_in (group.config g) in
+    let to_other = applied-other (moment log) c s apart in
+    let member = member-apply (moment log) origin c g in
+    let change = known.change_in (moment log) c s in
+    let rows : suspicions_after change (suspicions g) ≡ suspicions (group_log (said origin c log)) =
+    sym (ap (λ (t : known.State). t.suspicions) (apply-other (moment log) origin c s apart)) ∙ ap (λ (t : known.State). t.suspicions) member in
+    let marks = ap (λ (a : Applied). marked_if a.refuted (score log)) to_other ∙ ap (with_marks max) (sym (earned-other g c (earned log) other)) in
+    let times = ap (λ (a : Applied). follow c.name a.deadline (pending log)) to_other
+    ∙ pending-after (round_start log) c.name change (suspicions g) (change_about (moment log) c s) (rises-suspicions g)
+    ∙ ap (pending_of (round_start log)) rows in
+    λ i. record {
+      events = events log;
+      moment = moment log;
+      score = marks i;
+      timers = times i;
+      membership = member i;
+    }
+
+pub apply-state : (origin : Origin) (c : Claim) (log : Log) → apply origin c (state_of log) ≡ state_of (said origin c log)
+apply-state origin c log = elim (cases_key names_order c.name (group.me (group_log log))) [
+  | inl same ↦ own-said origin c log same
+  | inr other ↦ other-said origin c log other
+]
+
+pub send-state : (log : Log) → send (state_of log) ≡ state_of (log_of_it.send log)
+send-state log =
+    let taken = log_of_it.taken log in
+    let member = member-send taken (group_log log) in
+    λ i. record {
+      events = events log;
+      moment = moment log;
+      score = score log;
+      timers = pending_of (round_start log) (member i).suspicions;
+      membership = member i;
+    }
+
+-- a timer that fires, and is the start of a round or isn't
+left-state : (timer : Timer) (log : Log) → is_round_start timer.id ≡ false → state_of log ≡ state_of (Fired timer ∷ log)
+left-state timer log other = λ i. record {
+  events = events log;
+  moment = moment log;
+  score = score log;
+  timers = ap (λ b. pending_of (cond b (Some (later log)) (round_start log)) (suspicions (group_log log))) (sym other) i;
+  membership = known.state_of (group_log log);
+}
+  where
+    later : Log → ℕ
+    later log = moment log + scaled_interval (group.config (group_log log)) (score log)
+
+restart-state : (timer : Timer) (log : Log) → is_round_start timer.id ≡ true → start_round (state_of log) ≡ state_of (Fired timer ∷ log)
+restart-state timer log starts = λ i. record {
+  events = events log;
+  moment = moment log;
+  score = score log;
+  timers = (
+      pending-restart (round_start log) (later log) (suspicions (group_log log))
+      ∙ ap (λ b. pending_of (cond b (Some (later log)) (round_start log)) (suspicions (group_log log))) (sym starts)) i;
+  membership = known.state_of (group_log log);
+}
+  where
+    later : Log → ℕ
+    later log = moment log + scaled_interval (group.config (group_log log)) (score log)
+
+pub fire-state : (timer : Timer) (log : Log) → fire timer (state_of log) ≡ state_of (Fired timer ∷ log)
+unfolding fire
+fire-state timer log = elim (cases_Bool (is_round_start timer.id)) [
+  | inl t ↦ ap (λ b. cond b (start_round (state_of log)) (state_of log)) t ∙ restart-state timer log t
+  | inr f ↦ ap (λ b. cond b (start_round (state_of log)) (state_of log)) f ∙ left-state timer log f
+]

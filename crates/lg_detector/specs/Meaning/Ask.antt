@@ -1,0 +1,23 @@
+-- The events Ask and Health: questions, which change nothing but the moment.
+use Rattle.std.specs.Prelude.{ℕ, List}
+use Rattle.lg_rules.specs.Meaning.Claim.{name_of}
+use Rattle.lg_rules.specs.Meaning.Rows.{name_cmp, row_at}
+use Rattle.lg_membership.specs.Meaning.Log as group
+use Rattle.lg_detector.specs.declared.reply.Answer.{Answer}
+use Rattle.lg_detector.specs.declared.reply.Answer.TheVariants.{Status, Health}
+use Rattle.lg_detector.specs.Meaning.Log.{Log, group_log}
+use Rattle.lg_detector.specs.Meaning.Timing.{score}
+use Rattle.lg_detector.specs.Meaning.Apply.{come}
+
+abbrev pub ask : ℕ → Log → Log
+ask now log = come now log
+
+-- the answer is the record of the name, where it is known
+abbrev pub status : List ℕ → Log → Answer
+status name log = Status (row_at name_cmp name_of name (group.view (group_log log)))
+
+-- or the score, the own number, and how many members haven't failed
+abbrev pub health : Log → Answer
+health log =
+    let members = group_log log in
+    Health (score log).value (group.own members).number (group.live members)

@@ -1,0 +1,32 @@
+-- What happens to a detector, as facts, and what is read off them.
+use Rattle.std.specs.Prelude.{ℕ, ◌+◌, max, List, [], ◌∷◌}
+use Rattle.lg_membership.specs.Meaning.Log as group
+use Rattle.lg_timers.specs.declared.timer.Timer.{Timer}
+
+-- A log tells what happened in facts, the latest first: an event came at a moment; a timer fired; or something that concerns
+-- the group: the member was opened, a claim was said, a packet was sent that took claims of the queue.
+pub data Fact : Type 0 where
+  Came : ℕ → Fact
+  Fired : Timer → Fact
+  OfGroup : group.Fact → Fact
+
+abbrev pub Log : Type 0
+Log = List Fact
+
+-- how many events came
+abbrev pub events : Log → ℕ
+events [] = 0
+events (Came now ∷ log) = events log + 1
+events (_ ∷ log) = events log
+
+-- the greatest moment handed in (this project's choice)
+abbrev pub moment : Log → ℕ
+moment [] = 0
+moment (Came now ∷ log) = max now (moment log)
+moment (_ ∷ log) = moment log
+
+-- what concerns the group, of which known members, records, suspicions and queue are functions
+abbrev pub group_log : Log → group.Log
+group_log [] = []
+group_log (OfGroup fact ∷ log) = fact ∷ group_log log
+group_log (_ ∷ log) = group_log log

@@ -1,0 +1,120 @@
+//! The event Heard.
+ghost use Rattle.std.specs.Prelude.{◌≡◌, ◌<◌, ◌≤◌, None, length, option_copied};
+ghost use Rattle.lg_rules.specs.Meaning.Rows.{name_cmp, is_same};
+ghost use Rattle.lg_rules.specs.Meaning.Table.{members_in};
+ghost use Rattle.lg_rules.specs.Meaning.View.{changed};
+ghost use Rattle.lg_gossip.specs.Meaning.Queue.{fill_of};
+ghost use Rattle.lg_membership.specs.declared.origin.Origin.TheVariants.{Group};
+ghost use Rattle.lg_detector.specs.Meaning.Hear.{asked_in};
+ghost use Rattle.lg_detector.specs.Support.Hear.{hear, hear_claims, respond, sends_to};
+ghost use Rattle.lg_detector.specs.Support.State.{apply_all, send};
+ghost use Rattle.lg_detector.specs.Support.Step.{view_in};
+
+use super::{Detector, MAX_EVENTS};
+use crate::reply::{MAX_CHANGED, MAX_SENDS, Outgoing, Reply};
+use arrayvec::ArrayVec;
+use lg_gossip::MAX_CLAIMS;
+use lg_packet::{Body, Packet};
+use lg_rules::{Addr, Claim, Name, Record};
+use lg_timing::{Config, Moment};
+
+/// Whether two names are one.
+fn is_same_name(name: &Name, other: &Name) -> bool
+    ensures { result ≡ is_same name_cmp name.now other.now }
+{
+    name.cmp(other).is_eq()
+}
+
+/// The number of the Ack that a body asks of a member: a Ping for it does (SWIM, section 3.1).
+fn asked_of(config: Option<&Config>, body: &Body) -> Option<u32>
+    ensures { result ≡ asked_in (option_copied config.entry) body.now }
+{
+    let Some(opening) = config else {
+        return None;
+    };
+    match body {
+        Body::Ping { number, target } => {
+            if is_same_name(target, &opening.name) {
+                Some(*number)
+            } else {
+                None
+            }
+        }
+        Body::Ack { .. } => None,
+    }
+}
+
+impl Detector {
+    /// A packet is heard from a source: its claims are said, and its body is answered.
+    pub(super) fn hear(
+        &mut self,
+        now: Moment,
+        source: Addr,
+        packet: &Packet,
+        reply: &mut Reply,
+    )
+        requires { self.old.events < MAX_EVENTS }
+        ensures state { self.new ≡ hear now packet.now self.old }
+        ensures fired { reply.new.fired ≡ None }
+        ensures sends { reply.new.sends.items ≡ sends_to source packet.now.body (hear_claims now packet.now self.old) }
+        ensures differing { reply.new.changed.items ≡ changed (view_in self.old) (view_in (hear_claims now packet.now self.old)) }
+        ensures answer { reply.new.answer ≡ None }
+    {
+        reply.say_nothing();
+        self.come(now);
+        self.say(packet.claims.as_slice(), &mut reply.changed);
+        self.respond(source, &packet.body, &mut reply.sends);
+    }
+
+    /// Claims are said one after another. Writes the records that differ then, in the place of what the row held.
+    pub(super) fn say(&mut self, claims: &[Claim], differing: &mut ArrayVec<Record, MAX_CHANGED>)
+        requires { length claims.now ≤ MAX_CLAIMS }
+        ensures state { self.new ≡ apply_all Group claims.now self.old }
+        ensures differing { differing.new.items ≡ changed (view_in self.old) (view_in (apply_all Group claims.now self.old)) }
+    {
+        // What the invariant says of the state at the start is needed at the end.
+        let _ = &self.parts;
+        let names = self.apply_all(claims);
+        self.put_records(names.as_slice(), differing);
+    }
+
+    /// Answers the body of a packet, in the place of what `sends` held.
+    fn respond(
+        &mut self,
+        source: Addr,
+        body: &Body,
+        sends: &mut ArrayVec<Outgoing, MAX_SENDS>,
+    )
+        ensures state { self.new ≡ respond body.now self.old }
+        ensures sends { sends.new.items ≡ sends_to source body.now self.old }
+    {
+        sends.clear();
+        if let Some(number) = self.asked(body) {
+            let sender = self.name();
+            let claims = self.fill();
+            sends.push(Outgoing {
+                to: source,
+                packet: Packet {
+                    sender,
+                    body: Body::Ack { number },
+                    claims,
+                },
+            });
+        }
+    }
+
+    /// The number of the Ack that a body asks of oneself.
+    fn asked(&self, body: &Body) -> Option<u32>
+        ensures { result ≡ asked_in self.now.membership.config body.now }
+    {
+        asked_of(self.parts.membership.config(), body)
+    }
+
+    /// The claims of the next packet that is no Ping; those of the queue are counted as sent.
+    fn fill(&mut self) -> ArrayVec<Claim, MAX_CLAIMS>
+        ensures claims { result.items ≡ fill_of self.old.membership.queue None (members_in self.old.membership.members.table) }
+        ensures state { self.new ≡ send self.old }
+    {
+        self.parts.membership.fill()
+    }
+}

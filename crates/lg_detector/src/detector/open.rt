@@ -1,0 +1,52 @@
+//! The event Open.
+ghost use Rattle.std.specs.Prelude.{◌≡◌, ◌<◌, [], None, map};
+ghost use Rattle.lg_timing.specs.Meaning.Config.{IsChecked};
+ghost use Rattle.lg_membership.specs.declared.origin.Origin.TheVariants.{Seed as OfSeed};
+ghost use Rattle.lg_detector.specs.Meaning.Open.{alive_seed};
+ghost use Rattle.lg_detector.specs.Support.Open.{open_with};
+ghost use Rattle.lg_detector.specs.Support.State.{apply_all};
+
+use super::{Detector, MAX_EVENTS};
+use crate::reply::Reply;
+use lg_membership::Origin;
+use lg_rules::{Claim, Incarnation, Status};
+use lg_timing::{Config, Moment, Seed};
+
+/// A seed, as a claim: alive at number 0.
+fn alive(seed: &Seed) -> Claim
+    ensures { result ≡ alive_seed seed.now }
+{
+    Claim {
+        name: seed.name,
+        addr: seed.addr,
+        status: Status::Alive,
+        incarnation: Incarnation::default(),
+    }
+}
+
+impl Detector {
+    /// The detector is opened, and its seeds are said.
+    pub(super) fn open_with(&mut self, now: Moment, config: &Config, reply: &mut Reply)
+        requires room { self.old.events < MAX_EVENTS }
+        requires good { IsChecked config.now }
+        ensures state { self.new ≡ open_with now config.now self.old }
+        ensures fired { reply.new.fired ≡ None }
+        ensures sends { reply.new.sends.items ≡ [] }
+        ensures differing { reply.new.changed.items ≡ [] }
+        ensures answer { reply.new.answer ≡ None }
+    {
+        reply.say_nothing();
+        self.come(now);
+        self.begin(config);
+        self.apply_seeds(config.seeds.as_slice());
+    }
+
+    /// The seeds are said.
+    fn apply_seeds(&mut self, seeds: &[Seed])
+        ensures { self.new ≡ apply_all OfSeed (map alive_seed seeds.now) self.old }
+    {
+        for seed in seeds {
+            self.apply(Origin::Seed, &alive(seed));
+        }
+    }
+}
