@@ -4,7 +4,7 @@ use Rattle.std.specs.Prelude.{filter}
 use Rattle.std.proofs.lemmas.List.{drop_more, append-nil, drop_all}
 use Rattle.lg_rules.specs.declared.claim.Claim.{Claim}
 use Rattle.lg_rules.specs.Meaning.Rows.{name_cmp, is_among}
-use Rattle.lg_rules.specs.Meaning.View.{Membership, told, is_news, news, changed}
+use Rattle.lg_rules.specs.Meaning.View.{Standing, hear_claim, changes_record, changed_names, changed}
 use Rattle.lg_membership.specs.declared.origin.Origin.{Origin}
 use Rattle.lg_membership.specs.declared.origin.Origin.TheVariants.{Group}
 use Rattle.lg_membership.specs.Support.State as known
@@ -29,13 +29,13 @@ membership-apply_all origin [] s = refl
 membership-apply_all origin (c ∷ cs) s =
     membership-apply_all origin cs (apply origin c s) ∙ (λ i. known.apply_all (moment-apply origin c s i) origin cs (membership-apply origin c s i))
 
-standing-said : (origin : Origin) (c : Claim) (s : State) → known.standing (apply origin c s).membership ≡ told (known.standing s.membership) c
+standing-said : (origin : Origin) (c : Claim) (s : State) → known.standing (apply origin c s).membership ≡ hear_claim (known.standing s.membership) c
 standing-said origin c s = ap known.standing (membership-apply origin c s) ∙ standing-apply s.moment origin c s.membership
 
 -- after the first so many claims, the records of these names have changed
 pub record IsOnTheWay (first now : State) (claims : List Claim) (i : ℕ) (names : List (List ℕ)) : Type 0 where
   pub state : apply_all Group (drop i claims) now ≡ apply_all Group claims first
-  pub changed : names ++ news (known.standing now.membership) (drop i claims) ≡ news (known.standing first.membership) claims
+  pub changed : names ++ changed_names (known.standing now.membership) (drop i claims) ≡ changed_names (known.standing first.membership) claims
   pub few : length names ≤ i
 
 next_claim : (cs : List Claim) (i : ℕ) (c : Claim) → i < length cs → c ≡ get_or cs i c → drop i cs ≡ c ∷ drop (i + 1) cs
@@ -67,7 +67,7 @@ length-with_name true names c = omega (arith, length-append names (c.name ∷ []
 length-with_name false names c = omega arith
 
 goes_on : (first now : State) (claims : List Claim) (i : ℕ) (names : List (List ℕ)) (c : Claim) → IsOnTheWay first now claims i names → i < length claims → c ≡ get_or claims i c
-    → IsOnTheWay first (apply Group c now) claims (i + 1) (with_name (is_news (known.standing now.membership) c) names c)
+    → IsOnTheWay first (apply Group c now) claims (i + 1) (with_name (changes_record (known.standing now.membership) c) names c)
 goes_on first now claims i names c way lt is =
     let step = next_claim claims i c lt is in
     let rest = drop (i + 1) claims in
@@ -76,11 +76,11 @@ goes_on first now claims i names c way lt is =
       state = sym (ap (λ cs. apply_all Group cs now) step) ∙ way.state;
       changed =
           sym (
-          ap (λ cs. names ++ news here cs) step
-          ∙ either (is_news here c) names (news (told here c) rest) c
-          ∙ ap (λ (m : Membership). with_name (is_news here c) names c ++ news m rest) (sym (standing-said Group c now)))
+          ap (λ cs. names ++ changed_names here cs) step
+          ∙ either (changes_record here c) names (changed_names (hear_claim here c) rest) c
+          ∙ ap (λ (m : Standing). with_name (changes_record here c) names c ++ changed_names m rest) (sym (standing-said Group c now)))
           ∙ way.changed;
-      few = omega (arith, way.few, length-with_name (is_news here c) names c);
+      few = omega (arith, way.few, length-with_name (changes_record here c) names c);
     }
 
 pub goes_on_named : (first now after : State) (claims : List Claim) (i : ℕ) (names later : List (List ℕ)) (c : Claim) (b : Bool) → IsOnTheWay first now claims i names → i < length claims
@@ -92,15 +92,15 @@ goes_on_named first now after claims i names later c b way lt is state changes n
 pub all_said : (first now : State) (claims : List Claim) (i : ℕ) (names : List (List ℕ)) → IsOnTheWay first now claims i names → length claims ≤ i → now ≡ apply_all Group claims first
 all_said first now claims i names way le = ap (λ cs. apply_all Group cs now) (sym (drop_all i claims le)) ∙ way.state
 
-pub all_named : (first now : State) (claims : List Claim) (i : ℕ) (names : List (List ℕ)) → IsOnTheWay first now claims i names → length claims ≤ i → names ≡ news (known.standing first.membership) claims
-all_named first now claims i names way le = sym (append-nil names) ∙ ap (λ cs. names ++ news (known.standing now.membership) cs) (sym (drop_all i claims le)) ∙ way.changed
+pub all_named : (first now : State) (claims : List Claim) (i : ℕ) (names : List (List ℕ)) → IsOnTheWay first now claims i names → length claims ≤ i → names ≡ changed_names (known.standing first.membership) claims
+all_named first now claims i names way le = sym (append-nil names) ∙ ap (λ cs. names ++ changed_names (known.standing now.membership) cs) (sym (drop_all i claims le)) ∙ way.changed
 
 -- The records of the names whose records claims changed are those that differ.
 pub say_differing : (s : State) (cs : List Claim) → IsReached s
-    → filter (λ r. is_among name_cmp r.name (news (known.standing s.membership) cs)) (view_in (apply_all Group cs s)) ≡ changed (view_in s) (view_in (apply_all Group cs s))
+    → filter (λ r. is_among name_cmp r.name (changed_names (known.standing s.membership) cs)) (view_in (apply_all Group cs s)) ≡ changed (view_in s) (view_in (apply_all Group cs s))
 say_differing s cs r =
     let is = membership-apply_all Group cs s in
-    let test : Claim → Bool = λ c. is_among name_cmp c.name (news (known.standing s.membership) cs) in
+    let test : Claim → Bool = λ c. is_among name_cmp c.name (changed_names (known.standing s.membership) cs) in
     ap (λ (m : known.State). filter test (known.shown m)) is
     ∙ shown-differing s.moment Group cs s.membership (reached-member s r)
     ∙ ap (λ (m : known.State). changed (known.shown s.membership) (known.shown m)) (sym is)

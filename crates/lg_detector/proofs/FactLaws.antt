@@ -5,8 +5,9 @@ use Rattle.std.proofs.lemmas.Bool.{cases_Bool}
 use Rattle.lg_rules.specs.declared.claim.Claim.{Claim}
 use Rattle.lg_rules.specs.declared.own.OwnHeard.{OwnHeard}
 use Rattle.lg_rules.specs.declared.own.OwnHeard.TheVariants.{Refuted, Raised, Ousted, Ignored}
-use Rattle.lg_rules.specs.Meaning.Own.{own_answer}
+use Rattle.lg_rules.specs.Meaning.Own.{own_hearing}
 use Rattle.lg_rules.specs.Meaning.Rows.{name_cmp, is_same}
+use Rattle.lg_rules.proofs.OwnLaws.{own_hearing-other}
 use Rattle.lg_rules.proofs.KeyOrder.{names_order, cases_key, same_key, other_key}
 use Rattle.lg_timing.specs.declared.config.Config.{Config}
 use Rattle.lg_timing.specs.Meaning.Score.{ScoreValue, score_of}
@@ -14,6 +15,7 @@ use Rattle.lg_timers.specs.declared.timer.Timer.{Timer}
 use Rattle.lg_membership.specs.declared.applied.Applied.{Applied}
 use Rattle.lg_membership.specs.declared.origin.Origin.{Origin}
 use Rattle.lg_membership.specs.Meaning.Log as group
+use Rattle.lg_membership.specs.Meaning.Applied.{is_refuted}
 use Rattle.lg_membership.specs.Meaning.Suspicions.{suspicions}
 use Rattle.lg_membership.specs.Support.Changes.{Change, IsAbout, suspicions_after, deadline_after}
 use Rattle.lg_membership.specs.Support.State as known
@@ -22,7 +24,7 @@ use Rattle.lg_membership.proofs.Reaching.{apply-own, apply-other}
 use Rattle.lg_membership.proofs.SuspicionLaws.{rises-suspicions, suspicions-opened}
 use Rattle.lg_membership.proofs.Hearings.{change_about}
 use Rattle.lg_detector.specs.Meaning.Log.{Log, Came, Fired, OfGroup, events, moment, group_log}
-use Rattle.lg_detector.specs.Meaning.Timing.{mark_of, mark_by, earned, max_in, score, round_start, pending_of, pending, scaled_interval, is_round_start}
+use Rattle.lg_detector.specs.Meaning.Timing.{mark_of, earned, max_in, score, round_start, pending_of, pending, scaled_interval, is_round_start}
 use Rattle.lg_detector.specs.Meaning.Apply as log_of_it
 use Rattle.lg_detector.specs.Support.State.{State, state_of, come, begin, marked_if, follow, apply, send, start_round, fire}
 use Rattle.lg_detector.proofs.TimerLaws.{pending-after, pending-restart, pending-alone}
@@ -43,19 +45,11 @@ begin-state opening log = λ i. record {
 abbrev with_marks : ℕ → List ℤ → ScoreValue
 with_marks max past = record { value = score_of max past; max = max }
 
-marked-by : (max : ℕ) (hearing : OwnHeard) (past : List ℤ) → marked_if (known.is_refuted hearing) (with_marks max past) ≡ with_marks max (mark_of hearing past)
+marked-by : (max : ℕ) (hearing : OwnHeard) (past : List ℤ) → marked_if (is_refuted hearing) (with_marks max past) ≡ with_marks max (mark_of hearing past)
 marked-by max Refuted past = refl
 marked-by max Raised past = refl
 marked-by max Ousted past = refl
 marked-by max Ignored past = refl
-
-earned-own : (log : group.Log) (c : Claim) (past : List ℤ) → c.name ≡ group.me log → mark_by log c past ≡ mark_of (own_answer c.status c.incarnation (group.own log).number) past
-unfolding mark_by
-earned-own log c past same = rw (same_key names_order c.name (group.me log) same) refl
-
-earned-other : (log : group.Log) (c : Claim) (past : List ℤ) → c.name ≢ group.me log → mark_by log c past ≡ past
-unfolding mark_by
-earned-other log c past other = rw (other_key names_order c.name (group.me log) other) refl
 
 applied-own : (now : ℕ) (c : Claim) (s : known.State) → c.name ≡ s.own.name → known.applied now c s ≡ known.applied_own c s
 unfolding known.applied
@@ -78,8 +72,7 @@ own-said origin c log same =
     let rows : suspicions g ≡ suspicions (group_log (said origin c log)) =
     sym (ap (λ (s : known.State). s.suspicions) (apply-own (moment log) origin c (known.state_of g) (same ∙ sym (own_name g)))) ∙ ap (λ (s : known.State). s.suspicions) member in
     let marks = ap (λ (a : Applied). marked_if a.refuted (score log)) to_own
-    ∙ marked-by max (own_answer c.status c.incarnation (group.own g).number) (earned log)
-    ∙ ap (with_marks max) (sym (earned-own g c (earned log) same)) in
+    ∙ marked-by max (own_hearing (group.own g) c) (earned log) in
     let times = ap (λ (a : Applied). follow c.name a.deadline (pending log)) to_own ∙ ap (pending_of (round_start log)) rows in
     λ i. record {
       events = events log;
@@ -101,7 +94,8 @@ other-said origin c log other =
     let change = known.change_in (moment log) c s in
     let rows : suspicions_after change (suspicions g) ≡ suspicions (group_log (said origin c log)) =
     sym (ap (λ (t : known.State). t.suspicions) (apply-other (moment log) origin c s apart)) ∙ ap (λ (t : known.State). t.suspicions) member in
-    let marks = ap (λ (a : Applied). marked_if a.refuted (score log)) to_other ∙ ap (with_marks max) (sym (earned-other g c (earned log) other)) in
+    let marks = ap (λ (a : Applied). marked_if a.refuted (score log)) to_other 
+    ∙ ap (λ (h : OwnHeard). with_marks max (mark_of h (earned log))) (sym (own_hearing-other (group.own g) c apart)) in
     let times = ap (λ (a : Applied). follow c.name a.deadline (pending log)) to_other
     ∙ pending-after (round_start log) c.name change (suspicions g) (change_about (moment log) c s) (rises-suspicions g)
     ∙ ap (pending_of (round_start log)) rows in

@@ -6,7 +6,7 @@ use Rattle.lg_timers.specs.Meaning.Timers.{with_timer, without_timer, in_turn}
 use Rattle.lg_timers.proofs.Pending.{NoSuspicion, no_suspicion-nil, no_suspicion-start, rows-not_start, without-in_turn, without-none, firsts-without, firsts-put, pending-first, length_in_turn-le}
 use Rattle.lg_membership.specs.declared.suspected.Suspected.{Suspected}
 use Rattle.lg_membership.specs.Meaning.Suspicions.{suspected_name}
-use Rattle.lg_membership.specs.Support.Changes.{Change, Nothing, Ending, Standing, IsAbout, suspicions_after, deadline_after}
+use Rattle.lg_membership.specs.Support.Changes.{Change, Nothing, Ending, Putting, IsAbout, suspicions_after, deadline_after}
 use Rattle.lg_detector.specs.Meaning.Timing.{start_timer, suspicion_timer, start_timers, pending_of}
 use Rattle.lg_detector.specs.Support.State.{follow}
 
@@ -21,8 +21,8 @@ pending-after start m Nothing rows about rises = refl
 pending-after start m (Ending k) rows about rises =
     subst (λ n. follow n (deadline_after (Ending k)) (pending_of start rows) ≡ pending_of start (suspicions_after (Ending k) rows)) about
     (sym (firsts-without suspected_name suspicion_timer (λ r. refl) k (start_timers start) rows (no_suspicion start)))
-pending-after start m (Standing r) rows about rises =
-    subst (λ n. follow n (deadline_after (Standing r)) (pending_of start rows) ≡ pending_of start (suspicions_after (Standing r) rows)) about
+pending-after start m (Putting r) rows about rises =
+    subst (λ n. follow n (deadline_after (Putting r)) (pending_of start rows) ≡ pending_of start (suspicions_after (Putting r) rows)) about
     (sym (firsts-put suspected_name suspicion_timer (λ r. refl) r (start_timers start) rows (no_suspicion start) rises))
 
 -- The timers once a round started.

@@ -4,7 +4,8 @@ use Rattle.std.specs.Prelude.{nat_eq}
 use Rattle.std.specs.declared.cmp.Ordering.TheVariants.{Less}
 use Rattle.std.proofs.lemmas.Bool.{cases_lt, eq-eqb, ne_eqb}
 use Rattle.lg_rules.specs.declared.claim.Claim.{Claim}
-use Rattle.lg_rules.specs.Meaning.Rows.{name_cmp, is_same, row_at, HasRow}
+use Rattle.lg_rules.specs.Meaning.Rows.{name_cmp, is_same, row_at}
+use Rattle.lg_rules.specs.Support.Places.{HasRow}
 use Rattle.lg_rules.proofs.KeyOrder.{names_order, same_key, other_key, less_apart}
 use Rattle.lg_gossip.specs.declared.queued.Queued.{Queued}
 use Rattle.lg_gossip.specs.Meaning.Queue.{queued_name, is_beside}

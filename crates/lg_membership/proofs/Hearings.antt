@@ -15,7 +15,7 @@ use Rattle.lg_suspicion.specs.Meaning.Accusers.{accuser_counts, accused}
 use Rattle.lg_membership.specs.declared.applied.Deadline.{Deadline}
 use Rattle.lg_membership.specs.declared.suspected.Suspected.{Suspected}
 use Rattle.lg_membership.specs.Meaning.Suspicions.{suspected_name, is_accusation, counts_in}
-use Rattle.lg_membership.specs.Support.Changes.{Change, Nothing, Ending, Standing, IsAbout, raised, ended, overriding, accusing, change_by, row_about, deadline_after, stands, is_override}
+use Rattle.lg_membership.specs.Support.Changes.{Change, Nothing, Ending, Putting, IsAbout, raised, ended, overriding, accusing, change_by, row_about, deadline_after, stands, is_override}
 use Rattle.lg_membership.specs.Support.State.{State, change_in}
 use Rattle.lg_membership.proofs.Chosen.{found_key}
 
@@ -88,7 +88,7 @@ overriding_about opened now n m row Alive = ended_about m row
 overriding_about opened now n m row (Suspect a) = raised_about opened now n m a
 overriding_about opened now n m row Failed = ended_about m row
 
-either_about : (b : Bool) (m : List ℕ) (row : Suspected) → row.name ≡ m → IsAbout m (cond b (Standing row) Nothing)
+either_about : (b : Bool) (m : List ℕ) (row : Suspected) → row.name ≡ m → IsAbout m (cond b (Putting row) Nothing)
 either_about true m row named = named
 either_about false m row named = tt
 

@@ -1,10 +1,8 @@
 -- The health score and the timers that are set (Lifeguard, local health aware probe; SWIM, section 3.1).
 use Rattle.std.specs.Prelude.{ℕ, ◌+◌, ◌*◌, ℤ, pos, Bool, true, false, List, [], ◌∷◌, ◌++◌, map, Option, Some, None, option_map, if◌then◌else◌}
-use Rattle.lg_rules.specs.declared.claim.Claim.{Claim}
 use Rattle.lg_rules.specs.declared.own.OwnHeard.{OwnHeard}
 use Rattle.lg_rules.specs.declared.own.OwnHeard.TheVariants.{Refuted}
-use Rattle.lg_rules.specs.Meaning.Own.{own_answer}
-use Rattle.lg_rules.specs.Meaning.Rows.{name_cmp, is_same}
+use Rattle.lg_rules.specs.Meaning.Own.{own_hearing}
 use Rattle.lg_timing.specs.declared.config.Config.{Config}
 use Rattle.lg_timing.specs.Meaning.Score.{ScoreValue, score_of}
 use Rattle.lg_suspicion.specs.Meaning.Accusers.{deadline_of}
@@ -22,16 +20,10 @@ abbrev pub mark_of : OwnHeard → List ℤ → List ℤ
 mark_of Refuted past = pos 1 ∷ past
 mark_of _ past = past
 
-unfoldable pub mark_by : group.Log → Claim → List ℤ → List ℤ
-mark_by log c past =
-    if is_same name_cmp c.name (group.me log)
-    then mark_of (own_answer c.status c.incarnation (group.own log).number) past
-    else past
-
 abbrev pub earned : Log → List ℤ
 earned [] = []
 earned (OfGroup (group.Opened opening) ∷ log) = []
-earned (OfGroup (group.Said now origin c) ∷ log) = mark_by (group_log log) c (earned log)
+earned (OfGroup (group.Said now origin c) ∷ log) = mark_of (own_hearing (group.own (group_log log)) c) (earned log)
 earned (_ ∷ log) = earned log
 
 -- the score: their sum, held between 0 and the greatest score at every mark

@@ -1,7 +1,7 @@
 -- The event Heard, by the state.
 use Rattle.std.specs.Prelude.{ℕ, List, [], ◌∷◌, Option, Some, None}
 use Rattle.lg_rules.specs.declared.addr.Addr.{Addr}
-use Rattle.lg_rules.specs.Meaning.Table.{members_in}
+use Rattle.lg_rules.specs.Meaning.Table.{live_in}
 use Rattle.lg_gossip.specs.Meaning.Queue.{fill_of}
 use Rattle.lg_packet.specs.declared.packet.Body.{Body}
 use Rattle.lg_packet.specs.declared.packet.Body.TheVariants.{Ack}
@@ -27,7 +27,7 @@ hear now packet s = respond packet.body (hear_claims now packet s)
 abbrev pub ack_sent : Addr → Option ℕ → State → List Outgoing
 ack_sent source None s = []
 ack_sent source (Some number) s =
-    let claims = fill_of s.membership.queue None (members_in s.membership.members.table) in
+    let claims = fill_of s.membership.queue None (live_in s.membership.members.table) in
     record {
       to = source;
       packet = record { sender = s.membership.own.name; body = Ack number; claims = record { items = claims } }

@@ -1,7 +1,7 @@
 -- The state of a detector as plain data, and what each fact does to it.
 use Rattle.std.specs.Prelude.{ℕ, ◌+◌, max, pos, Bool, true, false, List, [], ◌∷◌, Option, None, if◌then◌else◌}
 use Rattle.lg_rules.specs.declared.claim.Claim.{Claim}
-use Rattle.lg_rules.specs.Meaning.Table.{members_in}
+use Rattle.lg_rules.specs.Meaning.Table.{live_in}
 use Rattle.lg_timing.specs.declared.config.Config.{Config}
 use Rattle.lg_timing.specs.Meaning.Score.{ScoreValue, marked}
 use Rattle.lg_gossip.specs.Meaning.Queue.{taken_of}
@@ -80,7 +80,7 @@ fire timer s = if is_round_start timer.id then start_round s else s
 
 -- a packet is sent that is no Ping
 abbrev pub taken : State → List Claim
-taken s = taken_of s.membership.queue None (members_in s.membership.members.table)
+taken s = taken_of s.membership.queue None (live_in s.membership.members.table)
 
 abbrev pub send : State → State
 send s = record s { membership = group.send (taken s) s.membership }

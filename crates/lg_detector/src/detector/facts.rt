@@ -1,6 +1,6 @@
 //! What happens inside an event.
 ghost use Rattle.std.specs.Prelude.{◌≡◌, ◌<◌, ◌≤◌, length, option_copied};
-ghost use Rattle.lg_rules.specs.Meaning.View.{news};
+ghost use Rattle.lg_rules.specs.Meaning.View.{changed_names};
 ghost use Rattle.lg_timing.specs.Meaning.Config.{IsChecked};
 ghost use Rattle.lg_timers.specs.declared.timer.TimerId.TheVariants.{RoundStart};
 ghost use Rattle.lg_timers.specs.Meaning.Timers.{is_set, with_timer, without_timer};
@@ -18,15 +18,6 @@ use lg_rules::{Claim, Name};
 use lg_timers::{MAX_TIMERS, Timer, TimerId, Timers};
 use lg_timing::{Config, Moment, Score};
 
-/// Sets a timer in the place of the one of its id, if that is set.
-fn set_anew(timers: &mut Timers, timer: Timer)
-    requires { length timers.old < MAX_TIMERS }
-    ensures { timers.new ≡ with_timer timer (without_timer timer.id timers.old) }
-{
-    timers.cancel(&timer.id);
-    timers.set(timer);
-}
-
 /// Follows what became of the deadline of a member's suspicion.
 fn follow(timers: &mut Timers, member: &Name, deadline: Deadline)
     requires { length timers.old < MAX_TIMERS }
@@ -38,7 +29,7 @@ fn follow(timers: &mut Timers, member: &Name, deadline: Deadline)
         Deadline::Ends => {
             timers.cancel(&id);
         }
-        Deadline::Stands(deadline) => set_anew(timers, Timer { deadline, id }),
+        Deadline::Stands(deadline) => timers.reset(Timer { deadline, id }),
     }
 }
 
@@ -108,7 +99,7 @@ impl Detector {
     pub(super) fn apply_all(&mut self, claims: &[Claim]) -> ArrayVec<Name, MAX_CLAIMS>
         requires { length claims.now ≤ MAX_CLAIMS }
         ensures state { self.new ≡ apply_all Group claims.now self.old }
-        ensures names { result.items ≡ news (standing self.old.membership) claims.now }
+        ensures names { result.items ≡ changed_names (standing self.old.membership) claims.now }
     {
         let mut names = ArrayVec::new();
         for claim in claims {
@@ -136,12 +127,9 @@ impl Detector {
         let parts = &mut *self.parts;
         let interval = scaled_interval(&parts.score, parts.membership.config());
         let deadline = parts.moment.milliseconds() + interval;
-        set_anew(
-            &mut parts.timers,
-            Timer {
-                deadline,
-                id: TimerId::RoundStart,
-            },
-        );
+        parts.timers.reset(Timer {
+            deadline,
+            id: TimerId::RoundStart,
+        });
     }
 }

@@ -1,7 +1,7 @@
 //! The event Heard.
 ghost use Rattle.std.specs.Prelude.{◌≡◌, ◌<◌, ◌≤◌, None, length, option_copied};
 ghost use Rattle.lg_rules.specs.Meaning.Rows.{name_cmp, is_same};
-ghost use Rattle.lg_rules.specs.Meaning.Table.{members_in};
+ghost use Rattle.lg_rules.specs.Meaning.Table.{live_in};
 ghost use Rattle.lg_rules.specs.Meaning.View.{changed};
 ghost use Rattle.lg_gossip.specs.Meaning.Queue.{fill_of};
 ghost use Rattle.lg_membership.specs.declared.origin.Origin.TheVariants.{Group};
@@ -112,7 +112,7 @@ impl Detector {
 
     /// The claims of the next packet that is no Ping; those of the queue are counted as sent.
     fn fill(&mut self) -> ArrayVec<Claim, MAX_CLAIMS>
-        ensures claims { result.items ≡ fill_of self.old.membership.queue None (members_in self.old.membership.members.table) }
+        ensures claims { result.items ≡ fill_of self.old.membership.queue None (live_in self.old.membership.members.table) }
         ensures state { self.new ≡ send self.old }
     {
         self.parts.membership.fill()

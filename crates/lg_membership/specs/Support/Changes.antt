@@ -63,7 +63,7 @@ change_of opened now table rows c =
 abbrev pub IsAbout : List ℕ → Change → Type 0
 IsAbout m Nothing = Unit {0}
 IsAbout m (Ending k) = k ≡ m
-IsAbout m (Standing r) = r.name ≡ m
+IsAbout m (Putting r) = r.name ≡ m
 
 -- the suspicions then, and what becomes of the deadline of the claim's member
 abbrev pub suspicions_after : Change → List Suspected → List Suspected

@@ -8,8 +8,8 @@ use Rattle.lg_detector.specs.Support.Reached.{IsReached}
 use Rattle.lg_detector.proofs.Reaching.{few_timers, reached-round}
 use Rattle.lg_detector.proofs.detector.Detector.start_round.Goals as goal
 
-pub set_anew-requires : goal.set_anew-requires
-set_anew-requires c =
+pub reset-requires : goal.reset-requires
+reset-requires c = λ unset.
     let parts = c.deref_mut-parts.result.now in
     few_timers (state_in parts) (subst IsReached (sym (ap state_in c.deref_mut-parts.ensures.value)) c.self.invariant)
 
@@ -20,7 +20,7 @@ invariant_of-self c =
     let interval = c.scaled_interval-interval.ensures.interval ∙ ap (λ (o : Option Config). scaled_interval o parts.score) c.config.ensures in
     let deadline : c.milliseconds.result + c.scaled_interval-interval.result ≡ parts.moment + scaled_interval parts.membership.config parts.score =
     λ i. c.milliseconds.ensures.milliseconds i + interval i in
-    let timers = c.set_anew.ensures ∙ ap (λ d. with_timer (start_timer d) (without_timer RoundStart parts.timers)) deadline in
+    let timers = c.reset.ensures ∙ ap (λ d. with_timer (start_timer d) (without_timer RoundStart parts.timers)) deadline in
     reached-round (state_in parts) _
     (λ i. record { events = parts.events; moment = parts.moment; score = parts.score; timers = timers i; membership = parts.membership })
     before
