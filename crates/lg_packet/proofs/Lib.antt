@@ -9,3 +9,4 @@ pub mod Places
 pub mod FieldPlaces
 pub mod ClaimPlaces
 pub mod PacketPlaces
+pub mod Decoding

@@ -1,7 +1,10 @@
 //! What holds of the spellings of packets.
-ghost use Rattle.std.specs.Prelude.{◌≡◌, ℕ, List, [], ◌∷◌, ◌++◌, Some};
+ghost use Rattle.std.specs.Prelude.{◌≡◌, ◌<◌, ℕ, List, [], ◌∷◌, ◌++◌, Some, Result};
+ghost use Rattle.std.specs.List.{AllByRecursion};
 ghost use Rattle.lg_packet.specs.declared.packet.Packet.{Packet};
 ghost use Rattle.lg_packet.specs.declared.fault.Fault.{Fault};
+ghost use Rattle.lg_packet.specs.Meaning.Decoding.{DecodesTo};
+ghost use Rattle.lg_packet.specs.Meaning.Reading.{packet_of};
 ghost use Rattle.lg_packet.specs.Meaning.Fault.{Stands, fault_behind, fault_of};
 ghost use Rattle.lg_packet.specs.Meaning.Spelling.{IsPacket, spelling};
 
@@ -9,6 +12,12 @@ ghost use Rattle.lg_packet.specs.Meaning.Spelling.{IsPacket, spelling};
 pub fn one_spelling()
     ensures apart { (p q : Packet) → IsPacket p → IsPacket q → spelling p ≡ spelling q → p ≡ q }
     ensures whole { (p q : Packet) (rest : List ℕ) → IsPacket p → IsPacket q → spelling p ++ rest ≡ spelling q → rest ≡ [] }
+{}
+
+/// Bytes decode to one thing, which reading their fields from left to right gives.
+pub fn one_reading()
+    ensures one { (bytes : List ℕ) (r s : Result Packet Fault) → DecodesTo bytes r → DecodesTo bytes s → r ≡ s }
+    ensures read { (bytes : List ℕ) → AllByRecursion (λ b. b < 256) bytes → DecodesTo bytes (packet_of bytes) }
 {}
 
 /// The fault of bytes is that of the first byte that can't stand where it stands, whatever follows

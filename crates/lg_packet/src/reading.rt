@@ -4,6 +4,7 @@ ghost use Rattle.std.specs.Int.{w16, w32};
 ghost use Rattle.std.specs.List.{list_all};
 ghost use Rattle.lg_rules.specs.Meaning.Name.{is_name_byte};
 ghost use Rattle.lg_packet.specs.declared.packet.Packet.{Packet};
+ghost use Rattle.lg_packet.specs.Meaning.Decoding.{DecodesTo};
 ghost use Rattle.lg_packet.specs.Meaning.Fault.{fault_of};
 ghost use Rattle.lg_packet.specs.Meaning.Reading.{Gives, literal_at, kind_at, name_at, name_bytes_at, number_at, head_at, body_at, octets_at, addr_at, incarnation_at, claim_kind_at, status_at, claim_at, count_at, claims_at, packet_at, packet_of};
 ghost use Rattle.lg_packet.specs.Meaning.Spelling.{Spells};
@@ -266,6 +267,8 @@ pub fn decode(bytes: &[u8]) -> Result<Packet, Fault>
     ensures only { (p : Packet) → Spells bytes.now p → result ≡ Ok p }
     // Which fault it is.
     ensures fault { IfErr result (λ f. f ≡ fault_of bytes.now) }
+    // A packet is answered exactly where the bytes spell it, and their fault exactly where they spell none.
+    ensures decodes { DecodesTo bytes.now result }
     // What a packet is as a function of its bytes.
     ensures exact { result ≡ packet_of bytes.now }
 {

@@ -1,10 +1,14 @@
 //! Writing packets.
-ghost use Rattle.std.specs.Prelude.{◌≡◌, ◌+◌, ◌≤◌, ◌++◌, length};
+ghost use Rattle.std.specs.Prelude.{◌≡◌, ◌+◌, ◌*◌, ◌≤◌, ◌++◌, IsTrue, Ok, length};
 ghost use Rattle.std.specs.Int.{w32, to_be_bytes};
 ghost use Rattle.arrayvec.specs.ArrayVec.{array_vec_len};
-ghost use Rattle.lg_packet.specs.Meaning.Spelling.{spelled_name, spelled_body, spelled_addr, spelled_accuser, spelled_claim, spelled_claims, spelling};
+ghost use Rattle.lg_rules.specs.Meaning.Name.{is_name};
+ghost use Rattle.lg_packet.specs.Meaning.Spelling.{AreClaims, IsAddr, IsBody, IsClaim, IsStatus, Spells};
+ghost use Rattle.lg_packet.specs.Meaning.Spelling.{spelled_accuser, spelled_addr, spelled_body, spelled_claim};
+ghost use Rattle.lg_packet.specs.Meaning.Spelling.{spelled_claims, spelled_head, spelled_name, spelling};
+ghost use Rattle.lg_packet.specs.Meaning.Reading.{packet_of};
 
-use crate::kind::{claim_kind_of, kind_of};
+use crate::kind::{Kind, claim_kind_of, kind_of};
 use crate::packet::{Body, Packet};
 use arrayvec::ArrayVec;
 use lg_rules::{Addr, Claim, Name, Status};
@@ -24,10 +28,20 @@ fn put(out: &mut Row, bytes: &[u8])
     prove!(written.is_ok());
 }
 
+/// The magic, the version and the kind.
+fn put_head(out: &mut Row, kind: Kind)
+    requires { array_vec_len out.old + 4 ≤ 543 }
+    ensures items { out.new.items ≡ out.old.items ++ spelled_head kind }
+    ensures len { array_vec_len out.new ≡ array_vec_len out.old + 4 }
+{
+    put(out, &[0x53, 0x4c, 1, kind as u8]);
+}
+
 fn put_name(out: &mut Row, name: &Name)
     requires { array_vec_len out.old + 33 ≤ 543 }
     ensures items { out.new.items ≡ out.old.items ++ spelled_name name.now }
     ensures len { array_vec_len out.new ≤ array_vec_len out.old + 33 }
+    ensures name { IsTrue (is_name name.now) }
 {
     let text = name.as_bytes();
     out.push(text.len() as u8);
@@ -38,6 +52,7 @@ fn put_body(out: &mut Row, body: &Body)
     requires { array_vec_len out.old + 37 ≤ 543 }
     ensures items { out.new.items ≡ out.old.items ++ spelled_body body.now }
     ensures len { array_vec_len out.new ≤ array_vec_len out.old + 37 }
+    ensures body { IsBody body.now }
 {
     match body {
         Body::Ping { number, target } => {
@@ -52,15 +67,18 @@ fn put_addr(out: &mut Row, addr: &Addr)
     requires { array_vec_len out.old + 6 ≤ 543 }
     ensures items { out.new.items ≡ out.old.items ++ spelled_addr addr.now }
     ensures len { array_vec_len out.new ≡ array_vec_len out.old + 6 }
+    ensures addr { IsAddr addr.now }
 {
-    put(out, &addr.octets);
-    put(out, &addr.port.to_be_bytes());
+    let [a, b, c, d] = addr.octets;
+    let [high, low] = addr.port.to_be_bytes();
+    put(out, &[a, b, c, d, high, low]);
 }
 
 fn put_accuser(out: &mut Row, status: &Status)
     requires { array_vec_len out.old + 33 ≤ 543 }
     ensures items { out.new.items ≡ out.old.items ++ spelled_accuser status.now }
     ensures len { array_vec_len out.new ≤ array_vec_len out.old + 33 }
+    ensures status { IsStatus status.now }
 {
     match status {
         Status::Suspect(accuser) => put_name(out, accuser),
@@ -72,6 +90,7 @@ fn put_claim(out: &mut Row, claim: &Claim)
     requires { array_vec_len out.old + 77 ≤ 543 }
     ensures items { out.new.items ≡ out.old.items ++ spelled_claim claim.now }
     ensures len { array_vec_len out.new ≤ array_vec_len out.old + 77 }
+    ensures claim { IsClaim claim.now }
 {
     out.push(claim_kind_of(&claim.status) as u8);
     put_name(out, &claim.name);
@@ -83,7 +102,8 @@ fn put_claim(out: &mut Row, claim: &Claim)
 fn put_claims(out: &mut Row, claims: &[Claim])
     requires few { length claims.now ≤ 6 }
     requires room { array_vec_len out.old + 463 ≤ 543 }
-    ensures { out.new.items ≡ out.old.items ++ spelled_claims claims.now }
+    ensures items { out.new.items ≡ out.old.items ++ spelled_claims claims.now }
+    ensures claims { AreClaims claims.now }
 {
     out.push(claims.len() as u8);
     for claim in claims {
@@ -96,10 +116,15 @@ fn put_claims(out: &mut Row, claims: &[Claim])
 /// It is never refused, and allocates nothing.
 #[tactic(auto, unfolding(crate::specs::Meaning::Spelling::spelling))]
 pub fn encode(packet: &Packet, out: &mut ArrayVec<u8, MAX_PACKET>)
-    ensures { out.new.items ≡ spelling packet.now }
+    // The row holds the spelling of the packet.
+    ensures exact { out.new.items ≡ spelling packet.now }
+    // Each packet has a spelling.
+    ensures spells { Spells out.new.items packet.now }
+    // Reading the row gives the packet back.
+    ensures read_back { packet_of out.new.items ≡ Ok packet.now }
 {
     out.clear();
-    put(out, &[0x53, 0x4c, 1, kind_of(&packet.body) as u8]);
+    put_head(out, kind_of(&packet.body));
     put_name(out, &packet.sender);
     put_body(out, &packet.body);
     put_claims(out, &packet.claims);
