@@ -13,7 +13,7 @@ use Rattle.lg_packet.specs.declared.packet.Body.TheVariants.{Ping, Ack}
 use Rattle.lg_packet.specs.declared.packet.Packet.{Packet}
 use Rattle.lg_packet.specs.Meaning.Spelling.{byte_of_kind}
 use Rattle.lg_packet.specs.Meaning.Reading.{◌>>=◌, literal_at, kind_at, name_at, number_at, head_at, body_at, count_at, claims_at, packet_at, packet_of}
-use Rattle.lg_packet.specs.Meaning.Fault.{Part, MarkByte, VersionByte, KindByte, LengthByte, CountByte, ClaimKindByte, body_parts, packet_parts, fault_of}
+use Rattle.lg_packet.specs.Meaning.Fault.{Part, MagicByte, VersionByte, KindByte, LengthByte, CountByte, ClaimKindByte, body_parts, packet_parts, fault_of}
 use Rattle.lg_packet.proofs.Outcomes.{fault_or, fault_then}
 use Rattle.lg_packet.proofs.Places.{fault_from, by_places}
 use Rattle.lg_packet.proofs.FieldPlaces.{literal_fault, kind_fault, name_fault, number_fault, count_fault}
@@ -25,9 +25,9 @@ head_fault bytes =
     let on = λ (x : Kind × List ℕ). fault_from x.1 (LengthByte ∷ (body_parts (byte_of_kind x.0) ++ CountByte ∷ [])) in
     let from_version = λ (s : List ℕ). literal_at 1 faults.Version s >>= kind_at in
     let from_second = λ (r : List ℕ). literal_at 0x4c faults.Magic r >>= from_version in
-    literal_fault 0x53 faults.Magic (MarkByte 0x53) (MarkByte 0x4c ∷ VersionByte ∷ KindByte ∷ []) bytes (λ b. refl) refl (λ b. refl)
-    ∙ fault_then (literal_at 0x53 faults.Magic bytes) from_second (λ r. fault_from r (MarkByte 0x4c ∷ VersionByte ∷ KindByte ∷ [])) on (λ r.
-    literal_fault 0x4c faults.Magic (MarkByte 0x4c) (VersionByte ∷ KindByte ∷ []) r (λ b. refl) refl (λ b. refl)
+    literal_fault 0x53 faults.Magic (MagicByte 0x53) (MagicByte 0x4c ∷ VersionByte ∷ KindByte ∷ []) bytes (λ b. refl) refl (λ b. refl)
+    ∙ fault_then (literal_at 0x53 faults.Magic bytes) from_second (λ r. fault_from r (MagicByte 0x4c ∷ VersionByte ∷ KindByte ∷ [])) on (λ r.
+    literal_fault 0x4c faults.Magic (MagicByte 0x4c) (VersionByte ∷ KindByte ∷ []) r (λ b. refl) refl (λ b. refl)
     ∙ fault_then (literal_at 0x4c faults.Magic r) from_version (λ s. fault_from s (VersionByte ∷ KindByte ∷ [])) on (λ s.
     literal_fault 1 faults.Version VersionByte (KindByte ∷ []) s (λ b. refl) refl (λ b. refl)
     ∙ fault_then (literal_at 1 faults.Version s) kind_at (λ t. fault_from t (KindByte ∷ [])) on kind_fault))

@@ -7,17 +7,17 @@ use lg_rules::{Claim, Name};
 /// The most claims of a packet: 6 (this project's choice).
 pub const MAX_CLAIMS: usize = 6;
 
-/// What a packet asks or answers (SWIM, section 3.1).
+/// What a packet asks for or acknowledges (SWIM, section 3.1).
 #[derive(Clone, Copy, Debug, PartialEq, Eq)]
 pub enum Body {
     /// Asks a member for an Ack with this number.
     Ping {
         /// The number of the probe.
         number: u32,
-        /// The member that is to answer.
+        /// The member that is asked.
         target: Name,
     },
-    /// Answers a Ping.
+    /// Acknowledges a Ping.
     Ack {
         /// The number of the Ping.
         number: u32,
@@ -29,7 +29,7 @@ pub enum Body {
 pub struct Packet {
     /// The member that sent it.
     pub sender: Name,
-    /// What it asks or answers.
+    /// What it asks for or acknowledges.
     pub body: Body,
     /// What it says of members, in the order in which it is heard (SWIM, section 4.1).
     pub claims: ArrayVec<Claim, MAX_CLAIMS>,
@@ -51,8 +51,8 @@ impl Packet {
     }
 }
 
-/// An Ack numbered 0 of the member `a` without claims, which fills the rows of fixed capacity where
-/// no packet is kept.
+/// An Ack numbered 0 of the member `a` without claims, which fills those places of a row of fixed
+/// capacity that hold no packet.
 impl Default for Packet {
     ghost use Rattle.std.specs.Prelude.{◌≡◌, [], ◌∷◌};
     ghost use Rattle.lg_packet.specs.declared.packet.Body.TheVariants.{Ack};

@@ -267,7 +267,7 @@ pub fn decode(bytes: &[u8]) -> Result<Packet, Fault>
     ensures only { (p : Packet) → Spells bytes.now p → result ≡ Ok p }
     // Which fault it is.
     ensures fault { IfErr result (λ f. f ≡ fault_of bytes.now) }
-    // A packet is answered exactly where the bytes spell it, and their fault exactly where they spell none.
+    // It is a packet exactly where the bytes spell it, and their fault exactly where they spell none.
     ensures decodes { DecodesTo bytes.now result }
     // What a packet is as a function of its bytes.
     ensures exact { result ≡ packet_of bytes.now }

@@ -206,7 +206,7 @@ fn reads_and_writes_a_ping_and_an_ack(rt: HostRuntime) -> Result<(), Fail> {
 }
 
 #[test]
-fn answers_the_first_fault(rt: HostRuntime) -> Result<(), Fail> {
+fn refuses_by_the_first_fault(rt: HostRuntime) -> Result<(), Fail> {
     let rows: [(&[u8], Fault); 16] = [
         (b"", Fault::Short),
         (b"S", Fault::Short),

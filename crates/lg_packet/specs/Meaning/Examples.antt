@@ -45,16 +45,16 @@ pub record Fails (bytes : List ℕ) (f : Fault) : Type 0 where
   pub read : packet_of bytes ≡ Err f
   pub placed : fault_of bytes ≡ f
 
--- no bytes, and the first byte of the mark alone
+-- no bytes, and the first byte of the magic alone
 nothing : Fails [] faults.Short
 unfolding packet_of packet_at head_at name_at body_at claims_at fault_of first_fault fault_behind
 nothing = record { read = refl; placed = refl }
 
-half_a_mark : Fails (0x53 ∷ []) faults.Short
+half_of_the_magic : Fails (0x53 ∷ []) faults.Short
 unfolding packet_of packet_at head_at name_at body_at claims_at fault_of first_fault fault_behind
-half_a_mark = record { read = refl; placed = refl }
+half_of_the_magic = record { read = refl; placed = refl }
 
--- each byte of the mark is judged by itself
+-- each byte of the magic is judged by itself
 other_first : Fails (0 ∷ []) faults.Magic
 unfolding packet_of packet_at head_at name_at body_at claims_at fault_of first_fault fault_behind
 other_first = record { read = refl; placed = refl }

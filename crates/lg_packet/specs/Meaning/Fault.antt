@@ -7,7 +7,7 @@ use Rattle.lg_packet.specs.declared.fault.Fault.TheVariants as faults
 
 -- what can be due at a place: of an incarnation, a byte behind those of it that are there
 pub data Part : Type 0 where
-  MarkByte : ℕ → Part
+  MagicByte : ℕ → Part
   VersionByte : Part
   KindByte : Part
   LengthByte : Part
@@ -19,7 +19,7 @@ pub data Part : Type 0 where
 
 -- whether a byte can stand where this is due
 abbrev pub is_allowed : Part → ℕ → Bool
-is_allowed (MarkByte mark) b = b == mark
+is_allowed (MagicByte magic) b = b == magic
 is_allowed VersionByte b = b == 1
 is_allowed KindByte b = b == 1 || b == 3
 is_allowed LengthByte b = nat_le 1 b && nat_le b 32
@@ -31,7 +31,7 @@ is_allowed (IncarnationByte before) b = nat_lt (length before) 3 || nat_le (from
 
 -- the fault of a byte that can't (each byte of a number can)
 abbrev pub fault_at : Part → Fault
-fault_at (MarkByte mark) = faults.Magic
+fault_at (MagicByte magic) = faults.Magic
 fault_at VersionByte = faults.Version
 fault_at KindByte = faults.Kind
 fault_at LengthByte = faults.Name
@@ -69,7 +69,7 @@ brought _ b = []
 
 -- the parts of a packet before its first byte
 abbrev pub packet_parts : List Part
-packet_parts = MarkByte 0x53 ∷ MarkByte 0x4c ∷ VersionByte ∷ KindByte ∷ []
+packet_parts = MagicByte 0x53 ∷ MagicByte 0x4c ∷ VersionByte ∷ KindByte ∷ []
 
 -- the parts that are still due behind one more byte, and behind a front
 abbrev pub due_behind : List Part → ℕ → List Part

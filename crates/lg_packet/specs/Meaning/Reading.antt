@@ -57,7 +57,7 @@ name_at (n ∷ bytes) = if n == 0 then Err faults.Name else if nat_lt 32 n then 
 abbrev pub number_at : Width → List ℕ → Result (ℕ × List ℕ) Fault
 number_at w bytes = if nat_lt (length bytes) (byte_len w) then Err faults.Short else Ok (from_be_bytes w (take (byte_len w) bytes), drop (byte_len w) bytes)
 
--- the mark, the version and the kind
+-- the magic, the version and the kind
 unfoldable pub head_at : List ℕ → Result (Kind × List ℕ) Fault
 head_at bytes = do
   first ← literal_at 0x53 faults.Magic bytes

@@ -46,7 +46,7 @@ abbrev pub spelled_body : Body → List ℕ
 spelled_body (Ping number target) = spelled_number number ++ spelled_name target
 spelled_body (Ack number) = spelled_number number
 
--- the mark, the version and the kind
+-- the magic, the version and the kind
 abbrev pub spelled_head : Kind → List ℕ
 spelled_head kind = 0x53 ∷ 0x4c ∷ 1 ∷ byte_of_kind kind ∷ []
 
