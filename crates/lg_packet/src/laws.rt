@@ -11,7 +11,8 @@ ghost use Rattle.lg_packet.specs.Meaning.Spelling.{IsPacket, spelling};
 /// No two packets have one spelling, and no spelling begins another.
 pub fn one_spelling()
     ensures apart { (p q : Packet) → IsPacket p → IsPacket q → spelling p ≡ spelling q → p ≡ q }
-    ensures whole { (p q : Packet) (rest : List ℕ) → IsPacket p → IsPacket q → spelling p ++ rest ≡ spelling q → rest ≡ [] }
+    ensures whole { (p q : Packet) (rest : List ℕ) → IsPacket p → IsPacket q
+        → spelling p ++ rest ≡ spelling q → rest ≡ [] }
 {}
 
 /// Bytes decode to one thing, which reading their fields from left to right gives.
@@ -23,6 +24,7 @@ pub fn one_reading()
 /// The fault of bytes is that of the first byte that can't stand where it stands, whatever follows
 /// it, or [`Fault::Short`](crate::Fault::Short) where each can.
 pub fn first_bad_byte()
-    ensures bad { (front rest : List ℕ) (b : ℕ) (f : Fault) → Stands front → fault_behind front b ≡ Some f → fault_of (front ++ b ∷ rest) ≡ f }
+    ensures bad { (front rest : List ℕ) (b : ℕ) (f : Fault) → Stands front
+        → fault_behind front b ≡ Some f → fault_of (front ++ b ∷ rest) ≡ f }
     ensures none { (bytes : List ℕ) → Stands bytes → fault_of bytes ≡ Fault.Short }
 {}

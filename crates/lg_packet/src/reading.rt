@@ -6,7 +6,10 @@ ghost use Rattle.lg_rules.specs.Meaning.Name.{is_name_byte};
 ghost use Rattle.lg_packet.specs.declared.packet.Packet.{Packet};
 ghost use Rattle.lg_packet.specs.Meaning.Decoding.{DecodesTo};
 ghost use Rattle.lg_packet.specs.Meaning.Fault.{fault_of};
-ghost use Rattle.lg_packet.specs.Meaning.Reading.{Gives, literal_at, kind_at, name_at, name_bytes_at, number_at, head_at, body_at, octets_at, addr_at, incarnation_at, claim_kind_at, status_at, claim_at, count_at, claims_at, packet_at, packet_of};
+ghost use Rattle.lg_packet.specs.Meaning.Reading.{addr_at, body_at, claim_at, claim_kind_at, claims_at, count_at};
+ghost use Rattle.lg_packet.specs.Meaning.Reading.{head_at, incarnation_at, kind_at, literal_at, name_at, name_bytes_at};
+ghost use Rattle.lg_packet.specs.Meaning.Reading.{number_at, octets_at, packet_at, packet_of, status_at};
+ghost use Rattle.lg_packet.specs.Support.Gives.{Gives};
 ghost use Rattle.lg_packet.specs.Meaning.Spelling.{Spells};
 
 use crate::fault::Fault;
@@ -71,7 +74,7 @@ impl Reader<'_> {
     /// As many bytes of a name. Those that are there are judged before an end that comes too soon.
     fn name_bytes(&mut self, len: usize) -> Result<Name, Fault>
         requires some { 1 ≤ len }
-        requires few { len ≤ 32 }
+        requires few { len ≤ MAX_NAME }
         ensures { Gives (λ x. (x, self.new.rest.now)) result (name_bytes_at len self.old.rest.now) }
     {
         let (text, rest) = self.rest.split_at(len.min(self.rest.len()));
@@ -200,7 +203,7 @@ impl Reader<'_> {
     /// The count of claims.
     fn count(&mut self) -> Result<usize, Fault>
         ensures value { Gives (λ x. (x, self.new.rest.now)) result (count_at self.old.rest.now) }
-        ensures few { IfOk result (λ x. x ≤ 6) }
+        ensures few { IfOk result (λ x. x ≤ MAX_CLAIMS) }
     {
         let [count, rest @ ..] = self.rest else {
             return Err(Fault::Short);
@@ -215,7 +218,7 @@ impl Reader<'_> {
 
     /// As many claims.
     fn claims(&mut self, count: usize) -> Result<ArrayVec<Claim, MAX_CLAIMS>, Fault>
-        requires { count ≤ 6 }
+        requires { count ≤ MAX_CLAIMS }
         ensures { Gives (λ x. (x.items, self.new.rest.now)) result (claims_at count self.old.rest.now) }
     {
         let mut claims = ArrayVec::new();

@@ -9,19 +9,28 @@ ghost use Rattle.lg_packet.specs.Meaning.Spelling.{spelled_claims, spelled_head,
 ghost use Rattle.lg_packet.specs.Meaning.Reading.{packet_of};
 
 use crate::kind::{Kind, claim_kind_of, kind_of};
-use crate::packet::{Body, Packet};
+use crate::packet::{Body, MAX_CLAIMS, Packet};
 use arrayvec::ArrayVec;
-use lg_rules::{Addr, Claim, Name, Status};
+use lg_rules::{Addr, Claim, MAX_NAME, Name, Status};
+
+/// The room for the length and the bytes of a name: 33.
+const NAME_ROOM: usize = 1 + MAX_NAME;
+
+/// The room for a body (this project's choice). The longest so far is a Ping's, of 37.
+const BODY_ROOM: usize = 43;
+
+/// The room for the kind, the name, the address, the incarnation and the accuser of a claim: 77.
+const CLAIM_ROOM: usize = 1 + NAME_ROOM + 6 + 4 + NAME_ROOM;
 
 /// The room for the bytes of a packet, 543 (this project's choice): 4 of head, 33 of the sender's name,
-/// 43 of the body, 1 of the count, and 6 claims of at most 77. The longest body so far is a Ping's, of 37.
-pub const MAX_PACKET: usize = 4 + 33 + 43 + 1 + 6 * 77;
+/// 43 of the body, 1 of the count, and 6 claims of at most 77.
+pub const MAX_PACKET: usize = 4 + NAME_ROOM + BODY_ROOM + 1 + MAX_CLAIMS * CLAIM_ROOM;
 
 /// Bytes that are being written.
 type Row = ArrayVec<u8, MAX_PACKET>;
 
 fn put(out: &mut Row, bytes: &[u8])
-    requires { array_vec_len out.old + length bytes.now ≤ 543 }
+    requires { array_vec_len out.old + length bytes.now ≤ MAX_PACKET }
     ensures { out.new.items ≡ out.old.items ++ bytes.now }
 {
     let written = out.try_extend_from_slice(bytes);
@@ -30,7 +39,7 @@ fn put(out: &mut Row, bytes: &[u8])
 
 /// The magic, the version and the kind.
 fn put_head(out: &mut Row, kind: Kind)
-    requires { array_vec_len out.old + 4 ≤ 543 }
+    requires { array_vec_len out.old + 4 ≤ MAX_PACKET }
     ensures items { out.new.items ≡ out.old.items ++ spelled_head kind }
     ensures len { array_vec_len out.new ≡ array_vec_len out.old + 4 }
 {
@@ -38,9 +47,9 @@ fn put_head(out: &mut Row, kind: Kind)
 }
 
 fn put_name(out: &mut Row, name: &Name)
-    requires { array_vec_len out.old + 33 ≤ 543 }
+    requires { array_vec_len out.old + NAME_ROOM ≤ MAX_PACKET }
     ensures items { out.new.items ≡ out.old.items ++ spelled_name name.now }
-    ensures len { array_vec_len out.new ≤ array_vec_len out.old + 33 }
+    ensures len { array_vec_len out.new ≤ array_vec_len out.old + NAME_ROOM }
     ensures name { IsTrue (is_name name.now) }
 {
     let text = name.as_bytes();
@@ -49,9 +58,9 @@ fn put_name(out: &mut Row, name: &Name)
 }
 
 fn put_body(out: &mut Row, body: &Body)
-    requires { array_vec_len out.old + 37 ≤ 543 }
+    requires { array_vec_len out.old + BODY_ROOM ≤ MAX_PACKET }
     ensures items { out.new.items ≡ out.old.items ++ spelled_body body.now }
-    ensures len { array_vec_len out.new ≤ array_vec_len out.old + 37 }
+    ensures len { array_vec_len out.new ≤ array_vec_len out.old + BODY_ROOM }
     ensures body { IsBody body.now }
 {
     match body {
@@ -64,7 +73,7 @@ fn put_body(out: &mut Row, body: &Body)
 }
 
 fn put_addr(out: &mut Row, addr: &Addr)
-    requires { array_vec_len out.old + 6 ≤ 543 }
+    requires { array_vec_len out.old + 6 ≤ MAX_PACKET }
     ensures items { out.new.items ≡ out.old.items ++ spelled_addr addr.now }
     ensures len { array_vec_len out.new ≡ array_vec_len out.old + 6 }
     ensures addr { IsAddr addr.now }
@@ -75,9 +84,9 @@ fn put_addr(out: &mut Row, addr: &Addr)
 }
 
 fn put_accuser(out: &mut Row, status: &Status)
-    requires { array_vec_len out.old + 33 ≤ 543 }
+    requires { array_vec_len out.old + NAME_ROOM ≤ MAX_PACKET }
     ensures items { out.new.items ≡ out.old.items ++ spelled_accuser status.now }
-    ensures len { array_vec_len out.new ≤ array_vec_len out.old + 33 }
+    ensures len { array_vec_len out.new ≤ array_vec_len out.old + NAME_ROOM }
     ensures status { IsStatus status.now }
 {
     match status {
@@ -87,9 +96,9 @@ fn put_accuser(out: &mut Row, status: &Status)
 }
 
 fn put_claim(out: &mut Row, claim: &Claim)
-    requires { array_vec_len out.old + 77 ≤ 543 }
+    requires { array_vec_len out.old + CLAIM_ROOM ≤ MAX_PACKET }
     ensures items { out.new.items ≡ out.old.items ++ spelled_claim claim.now }
-    ensures len { array_vec_len out.new ≤ array_vec_len out.old + 77 }
+    ensures len { array_vec_len out.new ≤ array_vec_len out.old + CLAIM_ROOM }
     ensures claim { IsClaim claim.now }
 {
     out.push(claim_kind_of(&claim.status) as u8);
@@ -100,8 +109,8 @@ fn put_claim(out: &mut Row, claim: &Claim)
 }
 
 fn put_claims(out: &mut Row, claims: &[Claim])
-    requires few { length claims.now ≤ 6 }
-    requires room { array_vec_len out.old + 463 ≤ 543 }
+    requires few { length claims.now ≤ MAX_CLAIMS }
+    requires room { array_vec_len out.old + 1 + MAX_CLAIMS * CLAIM_ROOM ≤ MAX_PACKET }
     ensures items { out.new.items ≡ out.old.items ++ spelled_claims claims.now }
     ensures claims { AreClaims claims.now }
 {

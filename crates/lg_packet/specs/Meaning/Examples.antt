@@ -1,43 +1,45 @@
 -- Worked rows.
 use Rattle.std.specs.Prelude.{◌≡◌, ℕ, List, [], ◌∷◌, take, Ok, Err, refl}
 use Rattle.lg_rules.specs.declared.addr.Addr.{Addr}
+use Rattle.lg_rules.specs.declared.claim.Claim.{Claim}
 use Rattle.lg_rules.specs.declared.claim.Status.TheVariants.{Alive, Suspect}
 use Rattle.lg_packet.specs.declared.fault.Fault.{Fault}
 use Rattle.lg_packet.specs.declared.fault.Fault.TheVariants as faults
 use Rattle.lg_packet.specs.declared.packet.Body.TheVariants.{Ping, Ack}
 use Rattle.lg_packet.specs.declared.packet.Packet.{Packet}
 use Rattle.lg_packet.specs.Meaning.Spelling.{spelling}
-use Rattle.lg_packet.specs.Meaning.Reading.{name_at, head_at, body_at, addr_at, incarnation_at, status_at, claim_at, claims_at, packet_at, packet_of}
+use Rattle.lg_packet.specs.Meaning.Reading.{name_at, head_at, body_at, claims_at, packet_at, packet_of}
+use Rattle.lg_packet.specs.Meaning.Reading.{addr_at, incarnation_at, status_at, claim_at}
 use Rattle.lg_packet.specs.Meaning.Fault.{fault_of, first_fault, fault_behind}
 
 -- a Ping from a for b, numbered 7
-ping : Packet
+abbrev ping : Packet
 ping = record { sender = 97 ∷ []; body = Ping 7 (98 ∷ []); claims = record { items = [] } }
 
-ping_bytes : List ℕ
+abbrev ping_bytes : List ℕ
 ping_bytes = 0x53 ∷ 0x4c ∷ 1 ∷ 1 ∷ 1 ∷ 97 ∷ 0 ∷ 0 ∷ 0 ∷ 7 ∷ 1 ∷ 98 ∷ 0 ∷ []
 
 -- an Ack of b, numbered 7
-ack : Packet
+abbrev ack : Packet
 ack = record { sender = 98 ∷ []; body = Ack 7; claims = record { items = [] } }
 
-ack_bytes : List ℕ
+abbrev ack_bytes : List ℕ
 ack_bytes = 0x53 ∷ 0x4c ∷ 1 ∷ 3 ∷ 1 ∷ 98 ∷ 0 ∷ 0 ∷ 0 ∷ 7 ∷ 0 ∷ []
 
 spelled_ping : spelling ping ≡ ping_bytes
-unfolding spelling ping ping_bytes
+unfolding spelling
 spelled_ping = refl
 
 spelled_ack : spelling ack ≡ ack_bytes
-unfolding spelling ack ack_bytes
+unfolding spelling
 spelled_ack = refl
 
 read_ping : packet_of ping_bytes ≡ Ok ping
-unfolding packet_of packet_at head_at name_at body_at claims_at ping ping_bytes
+unfolding packet_of packet_at head_at name_at body_at claims_at
 read_ping = refl
 
 read_ack : packet_of ack_bytes ≡ Ok ack
-unfolding packet_of packet_at head_at name_at body_at claims_at ack ack_bytes
+unfolding packet_of packet_at head_at name_at body_at claims_at
 read_ack = refl
 
 -- the fault by reading, and the fault by places
@@ -91,7 +93,7 @@ half_a_name = record { read = refl; placed = refl }
 
 -- the Ping without its last byte, and with one more
 short_ping : Fails (take 12 ping_bytes) faults.Short
-unfolding packet_of packet_at head_at name_at body_at claims_at fault_of first_fault fault_behind ping_bytes
+unfolding packet_of packet_at head_at name_at body_at claims_at fault_of first_fault fault_behind
 short_ping = record { read = refl; placed = refl }
 
 longer_ping : Fails (0x53 ∷ 0x4c ∷ 1 ∷ 1 ∷ 1 ∷ 97 ∷ 0 ∷ 0 ∷ 0 ∷ 7 ∷ 1 ∷ 98 ∷ 0 ∷ 0 ∷ []) faults.Trailing
@@ -105,33 +107,42 @@ abbrev at_port : ℕ → Addr
 at_port port = record { octets = 127 ∷ 0 ∷ 0 ∷ 1 ∷ []; port = port }
 
 -- a says to b that c is there
-alive : Packet
-alive = record { sender = 97 ∷ []; body = Ping 7 (98 ∷ []); claims = record { items = record { name = 99 ∷ []; addr = at_port 7003; status = Alive; incarnation = 0 } ∷ [] } }
+abbrev alive : Packet
+alive =
+    let claim : Claim = record { name = 99 ∷ []; addr = at_port 7003; status = Alive; incarnation = 0 } in
+    record { sender = 97 ∷ []; body = Ping 7 (98 ∷ []); claims = record { items = claim ∷ [] } }
 
-alive_bytes : List ℕ
-alive_bytes = 0x53 ∷ 0x4c ∷ 1 ∷ 1 ∷ 1 ∷ 97 ∷ 0 ∷ 0 ∷ 0 ∷ 7 ∷ 1 ∷ 98 ∷ 1 ∷ 1 ∷ 1 ∷ 99 ∷ 0x7f ∷ 0 ∷ 0 ∷ 1 ∷ 0x1b ∷ 0x5b ∷ 0 ∷ 0 ∷ 0 ∷ 0 ∷ []
+abbrev alive_bytes : List ℕ
+alive_bytes =
+    0x53 ∷ 0x4c ∷ 1 ∷ 1 ∷ 1 ∷ 97 ∷ 0 ∷ 0 ∷ 0 ∷ 7 ∷ 1 ∷ 98 ∷ 1 ∷ 1 ∷ 1 ∷ 99 ∷ 0x7f ∷ 0 ∷ 0 ∷ 1 ∷ 0x1b ∷ 0x5b ∷ 0
+    ∷ 0 ∷ 0 ∷ 0 ∷ []
 
 spelled_alive : spelling alive ≡ alive_bytes
-unfolding spelling alive alive_bytes
+unfolding spelling
 spelled_alive = refl
 
 read_alive : packet_of alive_bytes ≡ Ok alive
-unfolding packet_of packet_at head_at name_at body_at claims_at claim_at addr_at incarnation_at status_at alive alive_bytes
+unfolding packet_of packet_at head_at name_at body_at claims_at claim_at addr_at incarnation_at status_at
 read_alive = refl
 
 -- a says to b that it is suspected at the greatest incarnation, by a
-suspect : Packet
-suspect = record { sender = 97 ∷ []; body = Ping 1 (98 ∷ []); claims = record { items = record { name = 98 ∷ []; addr = at_port 7000; status = Suspect (97 ∷ []); incarnation = 1000000000 } ∷ [] } }
+abbrev suspect : Packet
+suspect =
+    let accused = Suspect (97 ∷ []) in
+    let claim : Claim = record { name = 98 ∷ []; addr = at_port 7000; status = accused; incarnation = 1000000000 } in
+    record { sender = 97 ∷ []; body = Ping 1 (98 ∷ []); claims = record { items = claim ∷ [] } }
 
-suspect_bytes : List ℕ
-suspect_bytes = 0x53 ∷ 0x4c ∷ 1 ∷ 1 ∷ 1 ∷ 97 ∷ 0 ∷ 0 ∷ 0 ∷ 1 ∷ 1 ∷ 98 ∷ 1 ∷ 2 ∷ 1 ∷ 98 ∷ 0x7f ∷ 0 ∷ 0 ∷ 1 ∷ 0x1b ∷ 0x58 ∷ 0x3b ∷ 0x9a ∷ 0xca ∷ 0 ∷ 1 ∷ 97 ∷ []
+abbrev suspect_bytes : List ℕ
+suspect_bytes =
+    0x53 ∷ 0x4c ∷ 1 ∷ 1 ∷ 1 ∷ 97 ∷ 0 ∷ 0 ∷ 0 ∷ 1 ∷ 1 ∷ 98 ∷ 1 ∷ 2 ∷ 1 ∷ 98 ∷ 0x7f ∷ 0 ∷ 0 ∷ 1 ∷ 0x1b ∷ 0x58
+    ∷ 0x3b ∷ 0x9a ∷ 0xca ∷ 0 ∷ 1 ∷ 97 ∷ []
 
 spelled_suspect : spelling suspect ≡ suspect_bytes
-unfolding spelling suspect suspect_bytes
+unfolding spelling
 spelled_suspect = refl
 
 read_suspect : packet_of suspect_bytes ≡ Ok suspect
-unfolding packet_of packet_at head_at name_at body_at claims_at claim_at addr_at incarnation_at status_at suspect suspect_bytes
+unfolding packet_of packet_at head_at name_at body_at claims_at claim_at addr_at incarnation_at status_at
 read_suspect = refl
 
 -- seven claims, and a claim of a fourth kind
@@ -144,10 +155,16 @@ unfolding packet_of packet_at head_at name_at body_at claims_at claim_at fault_o
 fourth_kind = record { read = refl; placed = refl }
 
 -- an incarnation above the greatest, which is judged at its fourth byte
-third_byte : Fails (0x53 ∷ 0x4c ∷ 1 ∷ 3 ∷ 1 ∷ 98 ∷ 0 ∷ 0 ∷ 0 ∷ 7 ∷ 1 ∷ 1 ∷ 1 ∷ 99 ∷ 0x7f ∷ 0 ∷ 0 ∷ 1 ∷ 0x1b ∷ 0x5b ∷ 0xff ∷ 0xff ∷ 0xff ∷ []) faults.Short
-unfolding packet_of packet_at head_at name_at body_at claims_at claim_at addr_at incarnation_at fault_of first_fault fault_behind
+third_byte : Fails
+    (0x53 ∷ 0x4c ∷ 1 ∷ 3 ∷ 1 ∷ 98 ∷ 0 ∷ 0 ∷ 0 ∷ 7 ∷ 1 ∷ 1 ∷ 1 ∷ 99 ∷ 0x7f ∷ 0 ∷ 0 ∷ 1 ∷ 0x1b ∷ 0x5b ∷ 0xff
+    ∷ 0xff ∷ 0xff ∷ []) faults.Short
+unfolding packet_of packet_at head_at name_at body_at claims_at claim_at addr_at incarnation_at
+    fault_of first_fault fault_behind
 third_byte = record { read = refl; placed = refl }
 
-fourth_byte : Fails (0x53 ∷ 0x4c ∷ 1 ∷ 3 ∷ 1 ∷ 98 ∷ 0 ∷ 0 ∷ 0 ∷ 7 ∷ 1 ∷ 1 ∷ 1 ∷ 99 ∷ 0x7f ∷ 0 ∷ 0 ∷ 1 ∷ 0x1b ∷ 0x5b ∷ 0x3b ∷ 0x9a ∷ 0xca ∷ 1 ∷ []) faults.Incarnation
-unfolding packet_of packet_at head_at name_at body_at claims_at claim_at addr_at incarnation_at fault_of first_fault fault_behind
+fourth_byte : Fails
+    (0x53 ∷ 0x4c ∷ 1 ∷ 3 ∷ 1 ∷ 98 ∷ 0 ∷ 0 ∷ 0 ∷ 7 ∷ 1 ∷ 1 ∷ 1 ∷ 99 ∷ 0x7f ∷ 0 ∷ 0 ∷ 1 ∷ 0x1b ∷ 0x5b ∷ 0x3b
+    ∷ 0x9a ∷ 0xca ∷ 1 ∷ []) faults.Incarnation
+unfolding packet_of packet_at head_at name_at body_at claims_at claim_at addr_at incarnation_at
+    fault_of first_fault fault_behind
 fourth_byte = record { read = refl; placed = refl }

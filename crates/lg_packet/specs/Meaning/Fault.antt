@@ -1,7 +1,9 @@
 -- What is wrong with bytes that are no packet, by places: the first place whose byte can't stand there.
-use Rattle.std.specs.Prelude.{◌≡◌, ℕ, Bool, true, ◌&&◌, ◌||◌, List, [], ◌∷◌, ◌++◌, length, replicate, nat_lt, nat_le, ◌==◌, Option, Some, None, unwrap_or, if◌then◌else◌}
+use Rattle.std.specs.Prelude.{◌≡◌, ℕ, Bool, true, ◌&&◌, ◌||◌, nat_lt, nat_le, ◌==◌, if◌then◌else◌}
+use Rattle.std.specs.Prelude.{List, [], ◌∷◌, ◌++◌, length, replicate, Option, Some, None, unwrap_or}
 use Rattle.std.specs.Int.{w32, from_be_bytes}
 use Rattle.lg_rules.specs.Meaning.Name.{is_name_byte}
+use Rattle.lg_packet.specs.Meaning.Bounds.{greatest_incarnation, most_claims, most_name_bytes}
 use Rattle.lg_packet.specs.declared.fault.Fault.{Fault}
 use Rattle.lg_packet.specs.declared.fault.Fault.TheVariants as faults
 
@@ -22,12 +24,13 @@ abbrev pub is_allowed : Part → ℕ → Bool
 is_allowed (MagicByte magic) b = b == magic
 is_allowed VersionByte b = b == 1
 is_allowed KindByte b = b == 1 || b == 3
-is_allowed LengthByte b = nat_le 1 b && nat_le b 32
+is_allowed LengthByte b = nat_le 1 b && nat_le b most_name_bytes
 is_allowed NameByte b = is_name_byte b
 is_allowed NumberByte b = true
-is_allowed CountByte b = nat_le b 6
+is_allowed CountByte b = nat_le b most_claims
 is_allowed ClaimKindByte b = nat_le 1 b && nat_le b 3
-is_allowed (IncarnationByte before) b = nat_lt (length before) 3 || nat_le (from_be_bytes w32 (before ++ b ∷ [])) 1000000000
+is_allowed (IncarnationByte before) b =
+    nat_lt (length before) 3 || nat_le (from_be_bytes w32 (before ++ b ∷ [])) greatest_incarnation
 
 -- the fault of a byte that can't (each byte of a number can)
 abbrev pub fault_at : Part → Fault

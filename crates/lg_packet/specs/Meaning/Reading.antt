@@ -1,5 +1,8 @@
--- Reading the fields of a packet from left to right, with the first fault that is met.
-use Rattle.std.specs.Prelude.{◌≡◌, ℕ, zero, suc, List, [], ◌∷◌, length, take, drop, Option, Some, None, Result, Ok, Err, nat_lt, ◌==◌, if◌then◌else◌}
+-- What reading the fields of a packet from left to right gives, with the first fault that is met. To believe
+-- packet_of, at the end, nothing here need be read: by the law one_reading of src/laws.rt it is what bytes decode to,
+-- as Decoding.antt says it, and they decode to nothing else.
+use Rattle.std.specs.Prelude.{ℕ, zero, suc, nat_lt, ◌==◌, if◌then◌else◌}
+use Rattle.std.specs.Prelude.{List, [], ◌∷◌, length, take, drop, Option, Some, None, Result, Ok, Err}
 use Rattle.std.specs.List.{list_all}
 use Rattle.std.specs.Int.{Width, w16, w32, byte_len, from_be_bytes}
 use Rattle.lg_rules.specs.Meaning.Name.{is_name_byte}
@@ -7,6 +10,7 @@ use Rattle.lg_rules.specs.declared.addr.Addr.{Addr}
 use Rattle.lg_rules.specs.declared.claim.Claim.{Claim}
 use Rattle.lg_rules.specs.declared.claim.Status.{Status}
 use Rattle.lg_rules.specs.declared.claim.Status.TheVariants.{Alive, Suspect, Failed}
+use Rattle.lg_packet.specs.Meaning.Bounds.{greatest_incarnation, most_claims, most_name_bytes}
 use Rattle.lg_packet.specs.declared.fault.Fault.{Fault}
 use Rattle.lg_packet.specs.declared.fault.Fault.TheVariants as faults
 use Rattle.lg_packet.specs.declared.kind.ClaimKind.{ClaimKind}
@@ -21,11 +25,6 @@ infixl 10 ◌>>=◌
 abbrev pub ◌>>=◌ : {A B : Type 0} → Result A Fault → (A → Result B Fault) → Result B Fault
 (Ok x) >>= f = f x
 (Err e) >>= f = Err e
-
--- What a function returned, seen by view, is what reading gives.
-abbrev pub Gives : {X Y : Type 0} → (X → Y) → Result X Fault → Result Y Fault → Type 0
-Gives view (Ok x) read = read ≡ Ok (view x)
-Gives view (Err f) read = read ≡ Err f
 
 -- A field is a value and the bytes behind it. Here is one byte that is due, which has no value.
 abbrev pub literal_at : ℕ → Fault → List ℕ → Result (List ℕ) Fault
@@ -52,10 +51,13 @@ name_bytes_at n bytes =
 
 unfoldable pub name_at : List ℕ → Result (List ℕ × List ℕ) Fault
 name_at [] = Err faults.Short
-name_at (n ∷ bytes) = if n == 0 then Err faults.Name else if nat_lt 32 n then Err faults.Name else name_bytes_at n bytes
+name_at (n ∷ bytes) =
+    if n == 0 then Err faults.Name else if nat_lt most_name_bytes n then Err faults.Name else name_bytes_at n bytes
 
 abbrev pub number_at : Width → List ℕ → Result (ℕ × List ℕ) Fault
-number_at w bytes = if nat_lt (length bytes) (byte_len w) then Err faults.Short else Ok (from_be_bytes w (take (byte_len w) bytes), drop (byte_len w) bytes)
+number_at w bytes =
+    if nat_lt (length bytes) (byte_len w) then Err faults.Short
+    else Ok (from_be_bytes w (take (byte_len w) bytes), drop (byte_len w) bytes)
 
 -- the magic, the version and the kind
 unfoldable pub head_at : List ℕ → Result (Kind × List ℕ) Fault
@@ -89,10 +91,12 @@ addr_at bytes = do
 unfoldable pub incarnation_at : List ℕ → Result (ℕ × List ℕ) Fault
 incarnation_at bytes = do
   number ← number_at w32 bytes
-  if nat_lt 1000000000 number.0 then Err faults.Incarnation else Ok number
+  if nat_lt greatest_incarnation number.0 then Err faults.Incarnation else Ok number
 
 abbrev pub claim_kind_of_byte : ℕ → Option ClaimKind
-claim_kind_of_byte b = if b == 1 then Some claims.Alive else if b == 2 then Some claims.Suspect else if b == 3 then Some claims.Failed else None
+claim_kind_of_byte b =
+    if b == 1 then Some claims.Alive
+    else if b == 2 then Some claims.Suspect else if b == 3 then Some claims.Failed else None
 
 abbrev pub claim_kind_before : List ℕ → Option ClaimKind → Result (ClaimKind × List ℕ) Fault
 claim_kind_before rest None = Err faults.ClaimKind
@@ -121,7 +125,7 @@ claim_at bytes = do
 
 abbrev pub count_at : List ℕ → Result (ℕ × List ℕ) Fault
 count_at [] = Err faults.Short
-count_at (n ∷ rest) = if nat_lt 6 n then Err faults.Count else Ok (n, rest)
+count_at (n ∷ rest) = if nat_lt most_claims n then Err faults.Count else Ok (n, rest)
 
 -- n claims
 unfoldable pub claims_at : ℕ → List ℕ → Result (List Claim × List ℕ) Fault

@@ -7,6 +7,7 @@ use Rattle.lg_rules.specs.declared.addr.Addr.{Addr}
 use Rattle.lg_rules.specs.declared.claim.Claim.{Claim}
 use Rattle.lg_rules.specs.declared.claim.Status.{Status}
 use Rattle.lg_rules.specs.declared.claim.Status.TheVariants.{Alive, Suspect, Failed}
+use Rattle.lg_packet.specs.Meaning.Bounds.{greatest_incarnation, most_claims}
 use Rattle.lg_packet.specs.declared.kind.ClaimKind.{ClaimKind}
 use Rattle.lg_packet.specs.declared.kind.ClaimKind.TheVariants as claims
 use Rattle.lg_packet.specs.declared.kind.Kind.{Kind}
@@ -61,7 +62,9 @@ spelled_accuser Failed = []
 
 -- the kind, the name, the address, the incarnation and the accuser
 abbrev pub spelled_claim : Claim → List ℕ
-spelled_claim c = byte_of_claim_kind (claim_kind_of c.status) ∷ (spelled_name c.name ++ (spelled_addr c.addr ++ (spelled_number c.incarnation ++ spelled_accuser c.status)))
+spelled_claim c =
+    byte_of_claim_kind (claim_kind_of c.status)
+    ∷ (spelled_name c.name ++ (spelled_addr c.addr ++ (spelled_number c.incarnation ++ spelled_accuser c.status)))
 
 -- a byte of count, and that many claims
 abbrev pub spelled_claims : List Claim → List ℕ
@@ -69,7 +72,8 @@ spelled_claims cs = length cs ∷ flat_map spelled_claim cs
 
 -- the head, the sender, the body and the claims
 unfoldable pub spelling : Packet → List ℕ
-spelling p = spelled_head (kind_of p.body) ++ (spelled_name p.sender ++ (spelled_body p.body ++ spelled_claims p.claims.items))
+spelling p =
+    spelled_head (kind_of p.body) ++ (spelled_name p.sender ++ (spelled_body p.body ++ spelled_claims p.claims.items))
 
 -- What has a spelling: names that are names, numbers of four bytes, addresses of four bytes and a port of two,
 -- incarnations of at most 1,000,000,000, and at most 6 claims.
@@ -91,10 +95,10 @@ pub record IsClaim (c : Claim) : Type 0 where
   pub name : IsTrue (is_name c.name)
   pub addr : IsAddr c.addr
   pub status : IsStatus c.status
-  pub incarnation : c.incarnation ≤ 1000000000
+  pub incarnation : c.incarnation ≤ greatest_incarnation
 
 pub record AreClaims (cs : List Claim) : Type 0 where
-  pub few : length cs ≤ 6
+  pub few : length cs ≤ most_claims
   pub each : AllByRecursion IsClaim cs
 
 pub record IsPacket (p : Packet) : Type 0 where

@@ -1,7 +1,8 @@
 use Rattle.std.proofs.Common.{◌≤◌, ◌∙◌, ℕ, List, length, Result, sym, subst, arith}
 use Rattle.std.proofs.lemmas.Result.{MatchResult-at_ok}
 use Rattle.lg_packet.specs.declared.fault.Fault.{Fault}
-use Rattle.lg_packet.specs.Meaning.Reading.{Gives, name_bytes_at}
+use Rattle.lg_packet.specs.Meaning.Reading.{name_bytes_at}
+use Rattle.lg_packet.specs.Support.Gives.{Gives}
 use Rattle.lg_packet.proofs.NameFields.{good_name, name_short, name_whole}
 use Rattle.lg_packet.proofs.reading.Reader.name_bytes.Goals as goal
 
