@@ -3,6 +3,7 @@ use Rattle.std.proofs.Common.{◌≡◌, ℕ, suc, ◌-◌, ◌+◌, ◌≤◌, 
 use Rattle.std.proofs.lemmas.List.{append-nil, length_push}
 use Rattle.lg_rules.specs.declared.claim.Claim.{Claim}
 use Rattle.lg_packet.specs.declared.fault.Fault.{Fault}
+use Rattle.lg_packet.specs.declared.packet.Packet.{Packet}
 use Rattle.lg_packet.specs.Meaning.Reading.{◌>>=◌, claim_at, claims_at}
 
 -- what is read, with the claims that were read before it
@@ -42,3 +43,8 @@ all_read front rest turn count total done so_far =
     let k : count - turn ≡ 0 = omega arith in
     let ended : behind_some front (claims_at (count - turn) rest) ≡ Ok (front, rest) = rw k (ap (λ (cs : List Claim). Ok (cs, rest)) (append-nil front)) in
     sym so_far.comes ∙ ended
+
+-- the same of the claims of a packet, of which all else is as it was before
+pub record Fills (before packet : Packet) (rest : List ℕ) (turn count : ℕ) (total : Result (List Claim × List ℕ) Fault) : Type 0 where
+  pub reads : Reads packet.claims.items rest turn count total
+  pub front : packet ≡ record before { claims = packet.claims }

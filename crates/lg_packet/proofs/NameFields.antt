@@ -1,13 +1,17 @@
 -- The bytes of a name at the front of others.
-use Rattle.std.proofs.Common.{◌≡◌, ℕ, min, ◌<◌, ◌≤◌, Bool, true, false, cond, eqb, ltb, IsTrue, List, [], ◌∷◌, ◌++◌, length, take, drop, None, Ok, Err, refl, sym, ap, subst, ◌∙◌, arith, length-append}
+use Rattle.std.proofs.Common.{◌≡◌, ℕ, ◌≤◌, Bool, true, false, cond, eqb, ltb, IsTrue, List, [], ◌∷◌, ◌++◌, length, take, drop, Option, None, Result, Ok, Err, refl, sym, ap, subst, ◌∙◌, arith, length-append}
 use Rattle.std.specs.List.{list_all}
-use Rattle.std.proofs.lemmas.Bool.{le-ltb, lt-ltb, ltb-false, le-leb, eqb-false, ne_eqb}
-use Rattle.std.proofs.lemmas.List.{take_min, drop_min, length-take, take-append-drop, take_at, drop_at}
+use Rattle.std.specs.Option.{ok_or}
+use Rattle.std.specs.Result.{result_ok}
+use Rattle.std.proofs.lemmas.Bool.{le-ltb, ltb-false, le-leb, eqb-false, ne_eqb}
+use Rattle.std.proofs.lemmas.List.{length-take, take-append-drop, take_at, drop_at}
 use Rattle.lg_rules.proofs.NameLemmas.{is_named}
-use Rattle.lg_rules.specs.Meaning.Name.{is_name_byte, is_name, bad_byte, name_of_text}
+use Rattle.lg_rules.specs.Meaning.Name.{is_name_byte, is_name, bad_byte, name_of_text, unless_bad}
+use Rattle.lg_packet.specs.declared.fault.Fault.{Fault}
 use Rattle.lg_packet.specs.declared.fault.Fault.TheVariants as faults
 use Rattle.lg_packet.specs.Meaning.Reading.{name_bytes_at, name_at}
 use Rattle.lg_packet.specs.Meaning.Spelling.{spelled_name}
+use Rattle.lg_packet.specs.Support.Gives.{Gives}
 use Rattle.lg_packet.proofs.Outcomes.{passed, passed_by, same_ok}
 
 -- where each byte is good, none is bad
@@ -24,22 +28,35 @@ pub good_name : (text : List ℕ) → 1 ≤ length text → length text ≤ 32 �
 good_name text some few good =
     rw (ne_eqb (length text) 0 (omega arith), le-ltb 32 (length text) few, none_bad text good) refl
 
--- what the code judges: the bytes that are there of n
-pub there : (n k : ℕ) (bytes text : List ℕ) → k ≡ min n (length bytes) → text ≡ take k bytes → take n bytes ≡ text
-there n k bytes text fit front = sym (front ∙ ap (λ (i : ℕ). take i bytes) fit ∙ take_min n bytes)
+-- where some byte is bad, the text is no name
+no_name : (text whole : List ℕ) → list_all is_name_byte text ≡ false → result_ok (unless_bad (bad_byte text) whole) ≡ None
+no_name [] whole bad = absurd cc
+no_name (b ∷ bs) whole bad = step (is_name_byte b) refl (no_name bs whole)
+  where
+    step : (here : Bool) → is_name_byte b ≡ here → (list_all is_name_byte bs ≡ false → result_ok (unless_bad (bad_byte bs) whole) ≡ None) → result_ok (unless_bad (bad_byte (b ∷ bs)) whole) ≡ None
+    step true e later = let rest : list_all is_name_byte bs ≡ false = rw e at bad in rw e (later rest)
+    step false e later = rw e refl
 
-pub name_short : (n k : ℕ) (bytes text : List ℕ) → k ≡ min n (length bytes) → text ≡ take k bytes → list_all is_name_byte text ≡ true → length text < n → name_bytes_at n bytes ≡ Err faults.Short
-name_short n k bytes text fit front good short =
-    let same = there n k bytes text fit front in
-    let few : length bytes < n = omega (arith, ap length same, length-take n bytes) in
-    rw (same, good, lt-ltb (length bytes) n few) refl
+pub bad_name : (text : List ℕ) → 1 ≤ length text → length text ≤ 32 → list_all is_name_byte text ≡ false → result_ok (name_of_text text) ≡ None
+bad_name text some few bad =
+    rw (ne_eqb (length text) 0 (omega arith), le-ltb 32 (length text) few) (no_name text text bad)
 
-pub name_whole : (n k : ℕ) (bytes text rest : List ℕ) → k ≡ min n (length bytes) → text ≡ take k bytes → rest ≡ drop k bytes → list_all is_name_byte text ≡ true → n ≤ length text → name_bytes_at n bytes ≡ Ok (text, rest)
-name_whole n k bytes text rest fit front back good whole =
-    let same = there n k bytes text fit front in
-    let enough : n ≤ length bytes = omega (arith, ap length same, length-take n bytes) in
-    let after : drop n bytes ≡ rest = sym (back ∙ ap (λ (i : ℕ). drop i bytes) fit ∙ drop_min n bytes) in
-    rw (same, good, le-ltb (length bytes) n enough, after) refl
+-- a name whose bytes are there
+pub name_whole : (n : ℕ) (bytes text rest : List ℕ) (r : Result (List ℕ) Fault) → 1 ≤ n → n ≤ 32 → n ≤ length bytes → text ≡ take n bytes → rest ≡ drop n bytes
+    → r ≡ ok_or (result_ok (name_of_text text)) faults.Name → Gives (λ x. (x, rest)) r (name_bytes_at n bytes)
+name_whole n bytes text rest r some few enough front back e = step (list_all is_name_byte text) refl
+  where
+    step : (good : Bool) → list_all is_name_byte text ≡ good → Gives (λ x. (x, rest)) r (name_bytes_at n bytes)
+    step true good =
+        let len : length text ≡ n = omega (arith, ap length front, length-take n bytes) in
+        let made : r ≡ Ok text = e ∙ ap (λ m. ok_or (result_ok m) faults.Name) (good_name text (omega arith) (omega arith) good) in
+        let read : name_bytes_at n bytes ≡ Ok (text, rest) = rw (sym front, good, le-ltb (length bytes) n enough, sym back) refl in
+        subst (λ (s : Result (List ℕ) Fault). Gives (λ x. (x, rest)) s (name_bytes_at n bytes)) (sym made) read
+    step false bad =
+        let len : length text ≡ n = omega (arith, ap length front, length-take n bytes) in
+        let made : r ≡ Err faults.Name = e ∙ ap (λ (m : Option (List ℕ)). ok_or m faults.Name) (bad_name text (omega arith) (omega arith) bad) in
+        let read : name_bytes_at n bytes ≡ Err faults.Name = rw (sym front, bad) refl in
+        subst (λ (s : Result (List ℕ) Fault). Gives (λ x. (x, rest)) s (name_bytes_at n bytes)) (sym made) read
 
 -- ---- a name that is read, and one that is written
 

@@ -1,10 +1,8 @@
 -- The two laws of packets: what is read is spelled so, and what is spelled so is read.
-use Rattle.std.proofs.Common.{◌≡◌, ℕ, cond, eqb, List, [], ◌∷◌, ◌++◌, length, Result, Ok, Err, refl, sym, ap, subst, ◌∙◌, append_assoc, arith}
+use Rattle.std.proofs.Common.{◌≡◌, ℕ, cond, eqb, List, [], ◌∷◌, ◌++◌, length, Ok, Err, refl, sym, ap, subst, ◌∙◌, append_assoc, arith}
 use Rattle.std.specs.List.{flat_map}
-use Rattle.std.specs.Prelude.{IfOk}
 use Rattle.std.proofs.lemmas.Bool.{eqb-true}
 use Rattle.std.proofs.lemmas.List.{append-nil, nil_from_length}
-use Rattle.lg_packet.specs.declared.fault.Fault.{Fault}
 use Rattle.lg_packet.specs.declared.fault.Fault.TheVariants as faults
 use Rattle.lg_packet.specs.declared.kind.Kind.{Kind}
 use Rattle.lg_packet.specs.declared.packet.Packet.{Packet}
@@ -88,10 +86,6 @@ unfolding packet_of
 whole_again bytes p spells =
     let at_front : packet_at bytes ≡ Ok (p, []) = ap packet_at (spells.1 ∙ sym (append-nil (spelling p))) ∙ packet_again p [] spells.0 in
     rw at_front refl
-
-pub found : (bytes : List ℕ) (r : Result Packet Fault) → AreBytes bytes → r ≡ packet_of bytes → IfOk r (λ p. Spells bytes p)
-found bytes (Ok p) fit e = whole_read bytes p fit (sym e)
-found bytes (Err f) fit e = tt
 
 -- ---- spellings
 

@@ -1,5 +1,5 @@
 //! Reading packets, from the first byte on.
-ghost use Rattle.std.specs.Prelude.{◌≡◌, ◌≤◌, List, length, IfOk, IfErr, Ok, Err};
+ghost use Rattle.std.specs.Prelude.{◌≡◌, ◌≤◌, [], length, IfOk, IfErr, OnOk, OnErr, Ok, Err, if◌then◌else◌};
 ghost use Rattle.std.specs.Int.{w16, w32};
 ghost use Rattle.std.specs.List.{list_all};
 ghost use Rattle.lg_rules.specs.Meaning.Name.{is_name_byte};
@@ -15,7 +15,6 @@ ghost use Rattle.lg_packet.specs.Meaning.Spelling.{Spells};
 use crate::fault::Fault;
 use crate::kind::{ClaimKind, Kind, claim_kind_of_byte, kind_of_byte};
 use crate::packet::{Body, MAX_CLAIMS, Packet};
-use arrayvec::ArrayVec;
 use lg_rules::{Addr, Claim, Incarnation, MAX_NAME, Name, Status, is_name_byte};
 
 /// Whether each byte may stand in a name.
@@ -23,6 +22,17 @@ fn are_name_bytes(text: &[u8]) -> bool
     ensures { result ≡ list_all is_name_byte text.now }
 {
     text.iter().all(|byte| is_name_byte(*byte))
+}
+
+/// The fault of a name of which the end is missing: its bytes are judged before that.
+fn cut_name_fault(text: &[u8]) -> Fault
+    ensures { result ≡ (if list_all is_name_byte text.now then Fault.Short else Fault.Name) }
+{
+    if are_name_bytes(text) {
+        Fault::Short
+    } else {
+        Fault::Name
+    }
 }
 
 /// The bytes that are still to be read.
@@ -71,21 +81,18 @@ impl Reader<'_> {
         self.name_bytes(len)
     }
 
-    /// As many bytes of a name. Those that are there are judged before an end that comes too soon.
+    /// As many bytes of a name.
     fn name_bytes(&mut self, len: usize) -> Result<Name, Fault>
         requires some { 1 ≤ len }
         requires few { len ≤ MAX_NAME }
         ensures { Gives (λ x. (x, self.new.rest.now)) result (name_bytes_at len self.old.rest.now) }
     {
-        let (text, rest) = self.rest.split_at(len.min(self.rest.len()));
-        if !are_name_bytes(text) {
-            return Err(Fault::Name);
+        if self.rest.len() < len {
+            return Err(cut_name_fault(self.rest));
         }
-        if text.len() < len {
-            return Err(Fault::Short);
-        }
+        let (text, rest) = self.rest.split_at(len);
         self.rest = rest;
-        Name::new(text).map_err(|_| Fault::Name)
+        Name::new(text).ok().ok_or(Fault::Name)
     }
 
     fn number(&mut self) -> Result<u32, Fault>
@@ -216,46 +223,78 @@ impl Reader<'_> {
         Ok(count)
     }
 
-    /// As many claims.
-    fn claims(&mut self, count: usize) -> Result<ArrayVec<Claim, MAX_CLAIMS>, Fault>
-        requires { count ≤ MAX_CLAIMS }
-        ensures { Gives (λ x. (x.items, self.new.rest.now)) result (claims_at count self.old.rest.now) }
+    /// Puts as many claims into a packet that has none.
+    fn claims(&mut self, count: usize, packet: &mut Packet) -> Result<(), Fault>
+        requires few { count ≤ MAX_CLAIMS }
+        requires none { packet.old.claims.items ≡ [] }
+        ensures read { let left = self.new.rest.now in
+            Gives (λ _. (packet.new.claims.items, left)) result (claims_at count self.old.rest.now) }
+        ensures front { packet.new ≡ record packet.old { claims = packet.new.claims } }
     {
-        let mut claims = ArrayVec::new();
         for _ in 0..count {
-            let claim = self.claim()?;
-            claims.push(claim);
+            // The checker follows the claim into the row by its parts.
+            let Claim {
+                name,
+                addr,
+                status,
+                incarnation,
+            } = self.claim()?;
+            packet.claims.push(Claim {
+                name,
+                addr,
+                status,
+                incarnation,
+            });
         }
-        Ok(claims)
+        Ok(())
     }
 
-    #[tactic(auto, unfolding(crate::specs::Meaning::Reading::packet_at))]
-    fn packet(&mut self) -> Result<Packet, Fault>
-        ensures { Gives (λ x. (x, self.new.rest.now)) result (packet_at self.old.rest.now) }
+    /// Puts the packet that is all of the bytes into one that has no claims. An error leaves its sender and
+    /// its body.
+    #[tactic(auto, unfolding(crate::specs::Meaning::Reading::packet_of, crate::specs::Meaning::Reading::packet_at))]
+    fn packet(&mut self, packet: &mut Packet) -> Result<(), Fault>
+        requires { packet.old.claims.items ≡ [] }
+        ensures read { Gives (λ _. packet.new) result (packet_of self.old.rest.now) }
+        ensures left { OnErr result (packet.new ≡ record packet.old { claims = packet.new.claims }) }
     {
         let kind = self.head()?;
         let sender = self.name()?;
         let body = self.body(kind)?;
         let count = self.count()?;
-        let claims = self.claims(count)?;
-        Ok(Packet {
-            sender,
-            body,
-            claims,
-        })
+        self.claims(count, packet)?;
+        if !self.rest.is_empty() {
+            return Err(Fault::Trailing);
+        }
+        packet.sender = sender;
+        packet.body = body;
+        Ok(())
     }
 }
 
-#[tactic(auto, unfolding(crate::specs::Meaning::Reading::packet_of))]
-fn whole(bytes: &[u8]) -> Result<Packet, Fault>
-    ensures { result ≡ packet_of bytes.now }
+/// Replaces a packet by the one that the bytes spell, all of the bytes.
+///
+/// It refuses what [`decode`] refuses, with the same fault. The packet then has the sender and the body
+/// that it had, and no claims. Nothing is allocated, and of the packet no more is written than its
+/// sender, its body, and the claims that it had and that it gets.
+// Inlined, it would have the places of a caller's packet moved one by one.
+#[inline(never)]
+pub fn decode_into(bytes: &[u8], packet: &mut Packet) -> Result<(), Fault>
+    // What is read is spelled so, and where nothing is spelled so it is the fault of the bytes.
+    ensures found { OnOk result (Spells bytes.now packet.new) }
+    ensures refused { IfErr result (λ f. DecodesTo bytes.now (Err f)) }
+    // What a packet is as a function of its bytes.
+    ensures exact { OnOk result (packet_of bytes.now ≡ Ok packet.new) }
+    ensures fault { IfErr result (λ f. packet_of bytes.now ≡ Err f) }
+    // What a refusal leaves.
+    ensures left { OnErr result (packet.new ≡ record packet.old { claims = record { items = [] } }) }
 {
+    packet.claims.clear();
     let mut reader = Reader { rest: bytes };
-    let packet = reader.packet()?;
-    if !reader.rest.is_empty() {
-        return Err(Fault::Trailing);
+    let read = reader.packet(packet);
+    if read.is_err() {
+        packet.claims.clear();
     }
-    Ok(packet)
+    read
 }
 
 /// The packet that the bytes spell, all of the bytes.
@@ -275,5 +314,7 @@ pub fn decode(bytes: &[u8]) -> Result<Packet, Fault>
     // What a packet is as a function of its bytes.
     ensures exact { result ≡ packet_of bytes.now }
 {
-    whole(bytes)
+    let mut packet = Packet::default();
+    decode_into(bytes, &mut packet)?;
+    Ok(packet)
 }

@@ -1,4 +1,4 @@
-use Rattle.std.proofs.Common.{rules, arith, ◌≡◌, List, ℕ}
+use Rattle.std.proofs.Common.{rules, arith, ◌≡◌}
 use Rattle.std.proofs.lemmas.Grind.{common_steps}
 use Rattle.lg_packet.specs.Meaning.Spelling.{spelling, IsPacket, AreClaims}
 use Rattle.lg_packet.proofs.Packets.{whole_again}
