@@ -276,7 +276,7 @@ impl Reader<'_> {
 /// It refuses what [`decode`] refuses, with the same fault. The packet then has the sender and the body
 /// that it had, and no claims. Nothing is allocated, and of the packet no more is written than its
 /// sender, its body, and the claims that it had and that it gets.
-// Inlined, it would have the places of a caller's packet moved one by one.
+// Inlined, it lets the compiler take a caller's packet apart and copy it piece by piece, several times.
 #[inline(never)]
 pub fn decode_into(bytes: &[u8], packet: &mut Packet) -> Result<(), Fault>
     // What is read is spelled so, and where nothing is spelled so it is the fault of the bytes.

@@ -103,6 +103,32 @@ fn near_the_greatest_incarnation(rt: HostRuntime) -> Result<(), Fail> {
     agree_near(&rt, rt.alloc(), ABOVE)
 }
 
+#[test]
+fn fills_a_packet_in_place(rt: HostRuntime) -> Result<(), Fail> {
+    let mut packet = Packet::default();
+    let mut out = ArrayVec::new();
+    for bytes in [SUSPECTS, PING, ALIVE, ACK] {
+        assert_eq!(rt; decode_into(bytes, &mut packet), Ok(()));
+        encode(&packet, &mut out);
+        assert_eq!(rt; out.as_slice(), bytes);
+    }
+    assert_eq!(rt; decode_into(ALIVE, &mut packet), Ok(()));
+    assert_eq!(rt;
+        decode_into(&SUSPECTS[..40], &mut packet),
+        Err(Fault::Short)
+    );
+    assert_eq!(rt; packet.sender, name(b"a")?);
+    assert_eq!(rt;
+        packet.body,
+        Body::Ping {
+            number: 7,
+            target: name(b"c")?
+        }
+    );
+    assert!(rt; packet.claims.is_empty());
+    Ok(())
+}
+
 /// The claim that `b` at port 7000 is suspected by an accuser.
 fn suspected(b: Name, accuser: Name) -> Claim {
     Claim {
