@@ -14,18 +14,20 @@ use Rattle.lg_detector.specs.Support.State.{State}
 use Rattle.lg_detector.specs.declared.event.Event.{Event}
 use Rattle.lg_detector.proofs.Accepting.{accepts-after}
 use Rattle.lg_cli.specs.Meaning.Lines.{lines_of}
-use Rattle.lg_cli.specs.Meaning.Said.{packet_in}
-use Rattle.lg_cli.specs.Meaning.Answering.{local, defaults, opening, hearing, heard, events_of, told, line_text, text_from, answer_text, answer_end, is_faulty, with_heard, AcceptsHeard}
+use Rattle.lg_cli.specs.Meaning.Spelled.{packet_in}
+use Rattle.lg_cli.specs.Meaning.Answering.{local, opening, heard, event_of, events_of, line_text, text_from, answer_text, answer_end, is_faulty}
+use Rattle.lg_cli.specs.Meaning.Defaults.{defaults}
+use Rattle.lg_cli.specs.Support.Hearing.{line_end, with_heard, AcceptsHeard}
 use Rattle.lg_cli.specs.declared.answer.End.{End}
 use Rattle.lg_cli.specs.declared.answer.End.TheVariants.{Done, Faulty}
 use Rattle.lg_cli.specs.declared.line.LineFault.{LineFault}
 
 heard_in : List (List ℕ) → List Event
-heard_in lines = filter_map (λ line. heard (packet_in line)) lines
+heard_in lines = filter_map (λ line. event_of (packet_in line)) lines
 
 -- what a line lets the detector hear, or nothing
 abbrev one_heard : Result Packet LineFault → List Event → List Event
-one_heard said es = cons_option (heard said) es
+one_heard said es = cons_option (event_of said) es
 
 opened_with : (first : Event) (said : Result Packet LineFault) (es : List Event) → ◌≡◌ {A = List Event} (first ∷ (es ++ one_heard said [])) (with_heard (first ∷ es) said)
 opened_with first (Ok packet) es = refl
@@ -35,8 +37,8 @@ opened_with first (Err fault) es = ap (λ (x : List Event). first ∷ x) (append
 pub events_of-append : (name : List ℕ) (before : List (List ℕ)) (line : List ℕ) → events_of name (before ++ line ∷ []) ≡ with_heard (events_of name before) (packet_in line)
 unfolding events_of
 events_of-append name before line =
-    ap (λ (es : List Event). opening name ∷ es) (filter_map-append (λ (l : List ℕ). heard (packet_in l)) before (line ∷ []))
-    ∙ opened_with (opening name) (packet_in line) (filter_map (λ (l : List ℕ). heard (packet_in l)) before)
+    ap (λ (es : List Event). opening name ∷ es) (filter_map-append (λ (l : List ℕ). event_of (packet_in l)) before (line ∷ []))
+    ∙ opened_with (opening name) (packet_in line) (filter_map (λ (l : List ℕ). event_of (packet_in l)) before)
 
 -- ---- the events of lines are accepted
 
@@ -78,9 +80,9 @@ accepts_lines name lines s few is = record {
       let es = heard_in lines in
       let some = few_heard lines in
       let now : is_accepted (opening name ∷ es) ≡ true = accepted (opens_well (opening name)) (list_any is_open es) (length es) (opens_with_defaults name) (none_open lines) (omega arith) in
-      let none : list_any is_open (es ++ hearing packet ∷ []) ≡ false = list_any-append is_open es (hearing packet ∷ []) ∙ rw (none_open lines) refl in
-      let more : is_accepted (opening name ∷ (es ++ hearing packet ∷ [])) ≡ true = accepted (opens_well (opening name)) _ (length (es ++ hearing packet ∷ [])) (opens_with_defaults name) none (omega (arith, length-append es (hearing packet ∷ []))) in
-      ap (λ (t : State). accepts_of t (hearing packet)) is ∙ accepts-after (opening name ∷ es) (hearing packet) now ∙ more;
+      let none : list_any is_open (es ++ heard packet ∷ []) ≡ false = list_any-append is_open es (heard packet ∷ []) ∙ rw (none_open lines) refl in
+      let more : is_accepted (opening name ∷ (es ++ heard packet ∷ [])) ≡ true = accepted (opens_well (opening name)) _ (length (es ++ heard packet ∷ [])) (opens_with_defaults name) none (omega (arith, length-append es (heard packet ∷ []))) in
+      ap (λ (t : State). accepts_of t (heard packet)) is ∙ accepts-after (opening name ∷ es) (heard packet) now ∙ more;
 }
 
 -- ---- a run over the lines
@@ -91,7 +93,7 @@ pub record HasAnswered (name input rest text : List ℕ) (s : State) (end : End)
   pub lines : before ++ lines_of rest ≡ lines_of input
   pub few : length before + length rest ≤ length input
   pub after : s ≡ state_after (events_of name before)
-  pub said : text ++ text_from name before (lines_of rest) ≡ answer_text name input
+  pub writes : text ++ text_from name before (lines_of rest) ≡ answer_text name input
   pub ends : end ≡ cond (list_any is_faulty before) Faulty Done
 
 pub answered_none : (name input : List ℕ) (s : State) → s ≡ state_after (opening name ∷ []) → HasAnswered name input input [] s Done
@@ -101,7 +103,7 @@ answered_none name input s is = record {
   lines = refl;
   few = omega arith;
   after = is;
-  said = refl;
+  writes = refl;
   ends = refl;
 }
 
@@ -111,24 +113,33 @@ faulty_more true false = refl
 faulty_more false true = refl
 faulty_more false false = refl
 
-pub answered_more : (name input rest text : List ℕ) (s : State) (end : End) (line after text' : List ℕ) (s' : State) (end' : End) (said : Result Packet LineFault)
-    → HasAnswered name input rest text s end → lines_of rest ≡ line ∷ lines_of after → length after < length rest → said ≡ packet_in line
-    → ((f : List Event) → s ≡ state_after f → s' ≡ state_after (with_heard f said))
-    → ((f : List Event) → s ≡ state_after f → text' ≡ text ++ told f said)
-    → end' ≡ cond (is_err said) Faulty end
+-- the end so far, after a line that ended well, and after a faulty one
+pub ended_well : (b : Bool) (found end new : End) → found ≡ cond b Faulty Done → found ≡ Done → new ≡ end → new ≡ cond b Faulty end
+ended_well true found end new is done same = let no : Faulty ≡ Done = sym is ∙ done in absurd cc
+ended_well false found end new is done same = same
+
+pub ended_faulty : (b : Bool) (found end new : End) → found ≡ cond b Faulty Done → found ≡ Faulty → new ≡ Faulty → new ≡ cond b Faulty end
+ended_faulty true found end new is faulty now = now
+ended_faulty false found end new is faulty now = let no : Done ≡ Faulty = sym is ∙ faulty in absurd cc
+
+-- a line more was answered
+pub answered_more : (name input rest text : List ℕ) (s : State) (end : End) (line after text' : List ℕ) (s' : State) (end' : End)
+    → HasAnswered name input rest text s end → lines_of rest ≡ line ∷ lines_of after → length after < length rest
+    → ((earlier : List Event) → s ≡ state_after earlier → s' ≡ state_after (with_heard earlier (packet_in line)))
+    → ((earlier : List Event) → s ≡ state_after earlier → text' ≡ text ++ line_text earlier line)
+    → end' ≡ cond (is_faulty line) Faulty end
     → HasAnswered name input after text' s' end'
-answered_more name input rest text s end line after text' s' end' said has cut shorter is step gives ends =
-    let f = events_of name has.before in
-    let t : text' ≡ text ++ line_text f line = gives f has.after ∙ ap (λ (d : Result Packet LineFault). text ++ told f d) is in
+answered_more name input rest text s end line after text' s' end' has cut shorter step gives ends =
+    let events = events_of name has.before in
     record {
       before = has.before ++ line ∷ [];
       lines = append_assoc has.before (line ∷ []) (lines_of after) ∙ ap (λ (ls : List (List ℕ)). has.before ++ ls) (sym cut) ∙ has.lines;
       few = omega (arith, length-append has.before (line ∷ []), has.few);
-      after = step f has.after ∙ ap (λ (d : Result Packet LineFault). state_after (with_heard f d)) is ∙ ap (λ (es : List Event). state_after es) (sym (events_of-append name has.before line));
-      said = ap (λ (xs : List ℕ). xs ++ text_from name (has.before ++ line ∷ []) (lines_of after)) t
-          ∙ append_assoc text (line_text f line) _
-          ∙ ap (λ (ls : List (List ℕ)). text ++ text_from name has.before ls) (sym cut) ∙ has.said;
-      ends = ends ∙ ap (λ (d : Result Packet LineFault). cond (is_err d) Faulty end) is ∙ ap (λ (e : End). cond (is_faulty line) Faulty e) has.ends
+      after = step events has.after ∙ ap (λ (es : List Event). state_after es) (sym (events_of-append name has.before line));
+      writes = ap (λ (xs : List ℕ). xs ++ text_from name (has.before ++ line ∷ []) (lines_of after)) (gives events has.after)
+          ∙ append_assoc text (line_text events line) _
+          ∙ ap (λ (ls : List (List ℕ)). text ++ text_from name has.before ls) (sym cut) ∙ has.writes;
+      ends = ends ∙ ap (λ (e : End). cond (is_faulty line) Faulty e) has.ends
           ∙ faulty_more (list_any is_faulty has.before) (is_faulty line) ∙ ap (λ (b : Bool). cond b Faulty Done) (sym (list_any-append is_faulty has.before (line ∷ [])));
     }
 
@@ -138,7 +149,7 @@ no_more (b ∷ bs) e = absurd (omega arith)
 
 pub answered_text : (name input rest text : List ℕ) (s : State) (end : End) → HasAnswered name input rest text s end → length rest ≡ 0 → text ≡ answer_text name input
 answered_text name input rest text s end has none =
-    sym (append-nil text) ∙ ap (λ (r : List ℕ). text ++ text_from name has.before (lines_of r)) (sym (no_more rest none)) ∙ has.said
+    sym (append-nil text) ∙ ap (λ (r : List ℕ). text ++ text_from name has.before (lines_of r)) (sym (no_more rest none)) ∙ has.writes
 
 pub answered_end : (name input rest text : List ℕ) (s : State) (end : End) → HasAnswered name input rest text s end → length rest ≡ 0 → end ≡ answer_end input
 unfolding answer_end

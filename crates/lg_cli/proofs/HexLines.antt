@@ -9,7 +9,7 @@ use Rattle.hex.proofs.HexLemmas.{decode_of-odd, decode_sized-odd, decode_sized-t
 use Rattle.lg_packet.specs.Meaning.Reading.{packet_of}
 use Rattle.lg_packet.specs.declared.fault.Fault.{Fault}
 use Rattle.lg_packet.specs.declared.packet.Packet.{Packet}
-use Rattle.lg_cli.specs.Meaning.Said.{packet_in, of_bytes, of_packet}
+use Rattle.lg_cli.specs.Meaning.Spelled.{packet_in, of_bytes, of_packet}
 use Rattle.lg_cli.specs.declared.line.LineFault.TheVariants.{NotHex}
 
 -- what stands in the row, where decoding answered

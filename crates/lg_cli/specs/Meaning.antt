@@ -1,9 +1,11 @@
 -- What is right: whoever wants to believe the contracts reads these.
 pub mod Answering
 pub mod Commands
+pub mod Defaults
 pub mod Examples
 pub mod Faults
 pub mod Lines
+pub mod Ranges
 pub mod Running
-pub mod Said
+pub mod Spelled
 pub mod Timeouts

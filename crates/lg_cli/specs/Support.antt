@@ -1,2 +1,5 @@
 -- What only carries the proofs.
+pub mod Bounds
+pub mod Hearing
 pub mod Input
+pub mod Requests

@@ -3,8 +3,10 @@ ghost use Rattle.std.specs.Prelude.{◌≡◌, ◌+◌, ◌*◌, ◌≤◌, List
 ghost use Rattle.std.specs.List.{flat_map};
 ghost use Rattle.lg_detector.specs.Support.Answers.{state_after};
 ghost use Rattle.lg_detector.specs.declared.event.Event.{Event as Happened};
-ghost use Rattle.lg_cli.specs.Meaning.Answering.{answer_end, answer_text, hearing, opening, sent_line, sent_text, told, with_heard, AcceptsHeard, newline};
-ghost use Rattle.lg_cli.specs.Meaning.Said.{fault_text};
+ghost use Rattle.lg_cli.specs.Meaning.Answering.{answer_end, answer_text, heard, line_text, newline, opening};
+ghost use Rattle.lg_cli.specs.Meaning.Answering.{sent_line, sent_text};
+ghost use Rattle.lg_cli.specs.Meaning.Spelled.{fault_text, packet_in};
+ghost use Rattle.lg_cli.specs.Support.Hearing.{line_end, with_heard, AcceptsHeard};
 
 use crate::input::MAX_INPUT;
 use crate::line::{LineFault, read_line};
@@ -16,8 +18,8 @@ use lg_rules::{Addr, Name};
 use lg_timing::{Config, Moment};
 use std::alloc::Global;
 
-/// The most hex digits of a packet: two for each of its bytes.
-const MAX_DIGITS: usize = 2 * MAX_PACKET;
+/// Room for the bytes of a packet that is written.
+type Row = ArrayVec<u8, MAX_PACKET>;
 
 /// The address of the machine itself.
 const LOCALHOST: [u8; 4] = [127, 0, 0, 1];
@@ -53,7 +55,7 @@ fn open_event(name: &Name) -> Event
 
 /// That a packet is heard, at moment 0 from 127.0.0.1:1.
 fn heard_event(packet: Packet) -> Event
-    ensures { result ≡ hearing packet }
+    ensures { result ≡ heard packet }
 {
     Event::Heard {
         now: Moment::default(),
@@ -63,25 +65,23 @@ fn heard_event(packet: Packet) -> Event
 }
 
 /// Puts a packet behind a text as a line of lower-case hex.
-fn put_packet(packet: &Packet, text: &mut Vec<u8>) -> Result<(), NoMemory>
+fn put_packet(packet: &Packet, row: &mut Row, text: &mut Vec<u8>) -> Result<(), NoMemory>
     ensures { OnOk result (text.new.items ≡ text.old.items ++ sent_text packet.now) }
 {
-    let mut bytes = ArrayVec::new();
-    lg_packet::encode(packet, &mut bytes);
-    let mut digits = [0; MAX_DIGITS];
-    let line = &mut digits[..2 * bytes.len()];
-    hex::encode_to_slice(bytes.as_slice(), line).unwrap();
-    text.extend_from_slice(line)?;
+    lg_packet::encode(packet, row);
+    let start = text.len();
+    text.resize(start + 2 * row.len(), b'0')?;
+    hex::encode_to_slice(row.as_slice(), &mut text[start..]).unwrap();
     text.push(b'\n')?;
     Ok(())
 }
 
 /// Puts packets behind a text, a line each.
-fn put_sends(sends: &[Outgoing], text: &mut Vec<u8>) -> Result<(), NoMemory>
+fn put_sends(sends: &[Outgoing], row: &mut Row, text: &mut Vec<u8>) -> Result<(), NoMemory>
     ensures { OnOk result (text.new.items ≡ text.old.items ++ flat_map sent_line sends.now) }
 {
     for outgoing in sends {
-        put_packet(&outgoing.packet, text)?;
+        put_packet(&outgoing.packet, row, text)?;
     }
     Ok(())
 }
@@ -95,23 +95,36 @@ fn put_fault(fault: LineFault, text: &mut Vec<u8>) -> Result<(), NoMemory>
     Ok(())
 }
 
-/// Puts behind a text what a line gives, and leads the detector on by the packet that it spells.
+/// Puts behind a text what a line gives, leads the detector on by the packet that it spells, and
+/// tells whether it spells one.
+///
+/// `bytes`, `reply` and `row` are room alone: what they hold is of no use before or after.
 fn answer_line(
-    said: Result<Packet, LineFault>,
+    line: &[u8],
+    bytes: &mut [u8],
     detector: &mut Detector,
     reply: &mut Reply,
+    row: &mut Row,
     text: &mut Vec<u8>,
-) -> Result<(), NoMemory>
-    requires { AcceptsHeard detector.old }
-    ensures text { OnOk result ((f : List Happened) → detector.old ≡ state_after f → text.new.items ≡ text.old.items ++ told f said) }
-    ensures after { (f : List Happened) → detector.old ≡ state_after f → detector.new ≡ state_after (with_heard f said) }
+) -> Result<End, NoMemory>
+    requires space { length line.now ≤ 2 * length bytes.old + 1 }
+    requires accepts { AcceptsHeard detector.old }
+    ensures text { OnOk result ((earlier : List Happened) → detector.old ≡ state_after earlier
+        → text.new.items ≡ text.old.items ++ line_text earlier line.now) }
+    ensures after { (earlier : List Happened) → detector.old ≡ state_after earlier
+        → detector.new ≡ state_after (with_heard earlier (packet_in line.now)) }
+    ensures end { IfOk result (λ end. end ≡ line_end line.now) }
 {
-    match said {
+    match read_line(line, bytes) {
         Ok(packet) => {
             detector.step(&heard_event(packet), reply);
-            put_sends(reply.sends.as_slice(), text)
+            put_sends(reply.sends.as_slice(), row, text)?;
+            Ok(End::Done)
         }
-        Err(fault) => put_fault(fault, text),
+        Err(fault) => {
+            put_fault(fault, text)?;
+            Ok(End::Faulty)
+        }
     }
 }
 
@@ -136,18 +149,18 @@ pub fn answer(alloc: Global, name: &Name, input: &[u8]) -> Result<Answered, NoMe
 {
     let mut reply = Reply::default();
     let mut detector = opened(alloc, name, &mut reply)?;
-    let mut bytes = vec![in alloc; 0; input.len() / 2]?;
-    let row = bytes.as_mut_slice();
+    let mut memory = vec![in alloc; 0; input.len() / 2]?;
+    let bytes = memory.as_mut_slice();
+    let mut row = ArrayVec::new();
     let mut text = Vec::new(alloc);
     let mut end = End::Done;
     let mut rest = input;
     'lines: while !rest.is_empty() {
         let (line, after) = cut_line(rest);
-        let said = read_line(line, row);
-        if said.is_err() {
-            end = End::Faulty;
+        match answer_line(line, bytes, &mut detector, &mut reply, &mut row, &mut text)? {
+            End::Done => {}
+            End::Faulty => end = End::Faulty,
         }
-        answer_line(said, &mut detector, &mut reply, &mut text)?;
         rest = after;
     }
     Ok(Answered { text, end })

@@ -5,13 +5,17 @@ ghost use Rattle.clap.specs.Matches.{found_of};
 ghost use Rattle.clap.specs.Simple.{app_of, subcommand_rows_of};
 ghost use Rattle.clap.specs.Walk.{rows_of, rule_of};
 ghost use Rattle.clap.specs.declared.builder.command.Command.TheViews.{out-Command as fields_of};
-ghost use Rattle.lg_cli.specs.Meaning.Commands.{answer_app, asked, lg_app, line_faults, name_of_rows, number_in, number_rule, numbers_in, request_faults, request_of, request_of_rows, timeouts_app, IfTimeouts};
+ghost use Rattle.lg_cli.specs.Meaning.Commands.{answer_app, asked, lg_app, line_faults, name_of_rows, number_in};
+ghost use Rattle.lg_cli.specs.Meaning.Commands.{number_rule, numbers_in, request_faults, request_of_rows};
+ghost use Rattle.lg_cli.specs.Meaning.Commands.{timeouts_app, IfTimeouts};
 ghost use Rattle.lg_cli.specs.Meaning.Timeouts.{are_good};
+ghost use Rattle.lg_cli.specs.Support.Requests.{request_of};
 
-use crate::timeouts::{MAX_MEMBERS, Numbers};
+use crate::timeouts::Numbers;
 use clap::builder::ValueParser;
 use clap::error::ErrorKind;
 use clap::{Arg, ArgAction, ArgMatches, Command, Error};
+use lg_detector::MAX_MEMBERS;
 use lg_timing::{MAX_CONFIRMATIONS, MAX_FACTOR, MAX_INTERVAL_MS, MIN_INTERVAL_MS};
 use std::alloc::{AllocError, Global};
 use std::convert::AsStr;
@@ -64,7 +68,7 @@ fn timeouts_command<'a>(alloc: Global) -> Result<Command<'a>, AllocError>
     ensures app { IfOk result (λ command. app_of command ≡ timeouts_app) }
     ensures local { IfOk result (λ command. (fields_of command).has_globals ≡ false) }
 {
-    let members = number_option(alloc, "members", 1, MAX_MEMBERS).help(
+    let members = number_option(alloc, "members", 1, MAX_MEMBERS as u64).help(
         "How many members there are, oneself among them",
     );
     let confirmations = number_option(alloc, "confirmations", 0, MAX_CONFIRMATIONS).help(

@@ -1,6 +1,6 @@
-//! What a line of input says: a packet in hex, or a fault.
+//! What a line of input spells: a packet in hex, or nothing, by a fault.
 ghost use Rattle.std.specs.Prelude.{◌≡◌, ◌+◌, ◌*◌, ◌≤◌, length};
-ghost use Rattle.lg_cli.specs.Meaning.Said.{packet_in, fault_text};
+ghost use Rattle.lg_cli.specs.Meaning.Spelled.{fault_text, packet_in};
 
 use lg_packet::{Fault, Packet};
 

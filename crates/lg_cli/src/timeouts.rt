@@ -1,16 +1,13 @@
 //! The command `timeouts`: how long a suspicion lasts among some members.
 ghost use Rattle.std.specs.Prelude.{◌≡◌, ◌++◌, true, IfOk, OnOk, string_bytes};
-ghost use Rattle.lg_timing.specs.Meaning.Config.{is_within};
 ghost use Rattle.lg_cli.specs.Meaning.Timeouts.{after_lines, are_good, config_of, timeouts_text};
 
+use lg_detector::MAX_MEMBERS;
 use lg_rules::{Addr, Name};
 use lg_timing::{
     Config, MAX_CONFIRMATIONS, MAX_FACTOR, MAX_INTERVAL_MS, MIN_INTERVAL_MS, SuspicionTimeout,
 };
 use std::alloc::{AllocError, Global};
-
-/// The most members of a group, oneself among them: 256 (this project's choice).
-pub const MAX_MEMBERS: u64 = 256;
 
 /// The numbers that the timeouts of a suspicion follow from (Lifeguard, arXiv 1707.00788, local
 /// health aware suspicion). The ranges are this project's choice.
@@ -28,23 +25,16 @@ pub struct Numbers {
     pub interval_ms: u64,
 }
 
-/// Whether a number lies between two others, which count.
-fn is_within(least: u64, most: u64, number: u64) -> bool
-    ensures { result ≡ is_within least most number }
-{
-    least <= number && number <= most
-}
-
 impl Numbers {
     /// Whether each number is in its range.
     pub fn are_good(&self) -> bool
         ensures { result ≡ are_good self.now }
     {
-        is_within(1, MAX_MEMBERS, self.members)
+        (1..=MAX_MEMBERS as u64).contains(&self.members)
             && self.confirmations <= MAX_CONFIRMATIONS
-            && is_within(1, MAX_FACTOR, self.alpha)
-            && is_within(1, MAX_FACTOR, self.beta)
-            && is_within(MIN_INTERVAL_MS, MAX_INTERVAL_MS, self.interval_ms)
+            && (1..=MAX_FACTOR).contains(&self.alpha)
+            && (1..=MAX_FACTOR).contains(&self.beta)
+            && (MIN_INTERVAL_MS..=MAX_INTERVAL_MS).contains(&self.interval_ms)
     }
 }
 

@@ -1,19 +1,18 @@
 -- What the command `answer` writes for an input, by the lists of its lines and of the events before each.
-use Rattle.std.specs.Prelude.{ℕ, Bool, IsTrue, List, [], ◌∷◌, ◌++◌, Option, Some, None, Result, Ok, Err, if◌then◌else◌}
+use Rattle.std.specs.Prelude.{ℕ, Bool, List, [], ◌∷◌, ◌++◌, Option, Some, None, Result, Ok, Err, if◌then◌else◌}
 use Rattle.std.specs.List.{flat_map, filter_map, list_any}
 use Rattle.std.specs.Result.{is_err}
 use Rattle.hex.specs.Hex.{encode_lower}
 use Rattle.lg_rules.specs.declared.addr.Addr.{Addr}
 use Rattle.lg_packet.specs.Meaning.Spelling.{spelling}
 use Rattle.lg_packet.specs.declared.packet.Packet.{Packet}
-use Rattle.lg_timing.specs.declared.config.Config.{Config}
-use Rattle.lg_detector.specs.Support.State.{State}
-use Rattle.lg_detector.specs.Support.Answers.{accepts_of, answer_after}
+use Rattle.lg_detector.specs.Support.Answers.{answer_after}
 use Rattle.lg_detector.specs.declared.event.Event.{Event}
 use Rattle.lg_detector.specs.declared.event.Event.TheVariants.{Open, Heard}
 use Rattle.lg_detector.specs.declared.reply.Outgoing.{Outgoing}
+use Rattle.lg_cli.specs.Meaning.Defaults.{defaults}
 use Rattle.lg_cli.specs.Meaning.Lines.{lines_of}
-use Rattle.lg_cli.specs.Meaning.Said.{packet_in, fault_text}
+use Rattle.lg_cli.specs.Meaning.Spelled.{fault_text, packet_in}
 use Rattle.lg_cli.specs.declared.line.LineFault.{LineFault}
 use Rattle.lg_cli.specs.declared.answer.End.{End}
 use Rattle.lg_cli.specs.declared.answer.End.TheVariants.{Done, Faulty}
@@ -21,48 +20,22 @@ use Rattle.lg_cli.specs.declared.answer.End.TheVariants.{Done, Faulty}
 abbrev pub local : ℕ → Addr
 local port = record { octets = 127 ∷ 0 ∷ 0 ∷ 1 ∷ []; port = port }
 
--- the default configuration of a member with no seed (this project's choice)
-abbrev pub defaults : List ℕ → Addr → Config
-defaults name addr = record {
-  interval_ms = 1000;
-  timeout_ms = 500;
-  indirect = 3;
-  max_score = 8;
-  alpha = 5;
-  beta = 6;
-  confirmations = 3;
-  lambda = 4;
-  nack_thousandths = 800;
-  history_limit = 20000;
-  seeds = record { items = [] };
-  name = name;
-  addr = addr;
-}
-
 -- the detector is opened with the defaults, at 127.0.0.1:7000
 abbrev pub opening : List ℕ → Event
 opening name = Open 0 (defaults name (local 7000))
 
--- a packet comes from 127.0.0.1:1
-abbrev pub hearing : Packet → Event
-hearing packet = Heard 0 (local 1) packet
+-- a packet is heard from 127.0.0.1:1
+abbrev pub heard : Packet → Event
+heard packet = Heard 0 (local 1) packet
 
-abbrev pub heard : Result Packet LineFault → Option Event
-heard (Ok packet) = Some (hearing packet)
-heard (Err fault) = None
-
--- what a line lets the detector hear, after some events
-abbrev pub with_heard : List Event → Result Packet LineFault → List Event
-with_heard earlier (Ok packet) = earlier ++ hearing packet ∷ []
-with_heard earlier (Err fault) = earlier
-
--- Packets can be heard.
-pub record AcceptsHeard (s : State) : Type 0 where
-  pub accepts : (packet : Packet) → IsTrue (accepts_of s (hearing packet))
+-- what a line that spells a packet lets the detector hear
+abbrev pub event_of : Result Packet LineFault → Option Event
+event_of (Ok packet) = Some (heard packet)
+event_of (Err fault) = None
 
 -- the events of some lines: the opening, and what each line that spells a packet lets the detector hear
 unfoldable pub events_of : List ℕ → List (List ℕ) → List Event
-events_of name lines = opening name ∷ filter_map (λ line. heard (packet_in line)) lines
+events_of name lines = opening name ∷ filter_map (λ line. event_of (packet_in line)) lines
 
 abbrev pub newline : List ℕ
 newline = 10 ∷ []
@@ -74,13 +47,14 @@ sent_text packet = encode_lower (spelling packet) ++ newline
 abbrev pub sent_line : Outgoing → List ℕ
 sent_line outgoing = sent_text outgoing.packet
 
-abbrev pub told : List Event → Result Packet LineFault → List ℕ
-told earlier (Ok packet) = flat_map sent_line (answer_after earlier (hearing packet)).sends.items
-told earlier (Err fault) = fault_text fault ++ newline
+-- a line for each packet that the detector sends after the earlier events, or one for the fault
+abbrev pub line_reply : List Event → Result Packet LineFault → List ℕ
+line_reply earlier (Ok packet) = flat_map sent_line (answer_after earlier (heard packet)).sends.items
+line_reply earlier (Err fault) = fault_text fault ++ newline
 
--- what a line gives after the earlier events: a line for each packet of the answer to it, or one for its fault
+-- what a line gives after the earlier events
 abbrev pub line_text : List Event → List ℕ → List ℕ
-line_text earlier line = told earlier (packet_in line)
+line_text earlier line = line_reply earlier (packet_in line)
 
 -- what lines give, each after the events of those before it
 abbrev pub text_from : List ℕ → List (List ℕ) → List (List ℕ) → List ℕ

@@ -12,9 +12,8 @@ use Rattle.clap.specs.declared.builder.action.ArgAction.TheVariants.{Set}
 use Rattle.clap.specs.declared.builder.value_parser.ValueParser.TheVariants.{Unsigned}
 use Rattle.clap.specs.declared.error.kind.ErrorKind.{ErrorKind}
 use Rattle.clap.specs.declared.error.kind.ErrorKind.TheVariants.{DisplayHelp, DisplayVersion, ValueValidation}
+use Rattle.lg_cli.specs.Meaning.Ranges.{least_interval, most_confirmations, most_factor, most_interval, most_members}
 use Rattle.lg_cli.specs.Meaning.Timeouts.{are_good}
-use Rattle.lg_cli.specs.declared.command.Asked.{Asked}
-use Rattle.lg_cli.specs.declared.command.Asked.TheVariants.{Answer, Timeouts}
 use Rattle.lg_cli.specs.declared.timeouts.Numbers.{Numbers}
 
 -- the option `--name NAME`, which is required
@@ -36,23 +35,24 @@ abbrev pub default_rule : Rule → Text → Rule
 default_rule rule value = record rule { defaults = value ∷ [] }
 
 abbrev pub members_rule : Rule
-members_rule = required_rule (number_rule (codes "members") 1 256)
+members_rule = required_rule (number_rule (codes "members") 1 most_members)
 
 abbrev pub confirmations_rule : Rule
-confirmations_rule = default_rule (number_rule (codes "confirmations") 0 5) (codes "3")
+confirmations_rule = default_rule (number_rule (codes "confirmations") 0 most_confirmations) (codes "3")
 
 abbrev pub alpha_rule : Rule
-alpha_rule = default_rule (number_rule (codes "alpha") 1 20) (codes "5")
+alpha_rule = default_rule (number_rule (codes "alpha") 1 most_factor) (codes "5")
 
 abbrev pub beta_rule : Rule
-beta_rule = default_rule (number_rule (codes "beta") 1 20) (codes "6")
+beta_rule = default_rule (number_rule (codes "beta") 1 most_factor) (codes "6")
 
 abbrev pub interval_rule : Rule
-interval_rule = default_rule (number_rule (codes "interval-ms") 10 60000) (codes "1000")
+interval_rule = default_rule (number_rule (codes "interval-ms") least_interval most_interval) (codes "1000")
 
 abbrev pub timeouts_app : App
 timeouts_app =
-    with_rule (with_rule (with_rule (with_rule (with_rule (new_app (codes "timeouts")) members_rule) confirmations_rule) alpha_rule) beta_rule) interval_rule
+    let numbers = with_rule (with_rule (new_app (codes "timeouts")) members_rule) confirmations_rule in
+    with_rule (with_rule (with_rule numbers alpha_rule) beta_rule) interval_rule
 
 -- the program has the commands `answer` and `timeouts`, and one of its commands has to be named
 abbrev pub lg_app : App
@@ -66,7 +66,8 @@ name_of_rows met = unwrap_or (option_and_then (λ p. first_of (codes "name") p.1
 
 -- the number that a text spells, or 0 where it spells none of 64 bits
 abbrev pub number_of : Text → ℕ
-number_of text = if accepts false (Unsigned 0 18446744073709551615) text then digits_value 10 (without_leading_plus text) else 0
+number_of text =
+    if accepts false (Unsigned 0 18446744073709551615) text then digits_value 10 (without_leading_plus text) else 0
 
 -- the number of an option, or 0 where it has none
 abbrev pub number_in : List Row → Text → ℕ
@@ -106,11 +107,6 @@ request_faults (timeouts numbers) = if are_good numbers then [] else ValueValida
 -- why a command line is refused, or that it asks for help; empty where it is taken
 unfoldable pub line_faults : List Text → Kinds
 line_faults words = or_else (fault_of lg_app words) (request_faults (asked words))
-
--- the same request, as the program holds it
-abbrev pub request_of : Asked → Request
-request_of (Answer name) = answer name.now
-request_of (Timeouts numbers) = timeouts numbers
 
 -- a fact about the text of `--name` of `answer`
 abbrev pub IfAnswer : Request → (Text → Type 0) → Type 0

@@ -13,10 +13,10 @@ use Rattle.lg_packet.specs.Meaning.Reading.{addr_at, body_at, claim_at, claims_a
 use Rattle.lg_packet.specs.Meaning.Spelling.{spelling}
 use Rattle.lg_timing.specs.Meaning.Tables.{log10_of, ratio_of}
 use Rattle.lg_timing.specs.Meaning.Timeouts.{range_of, timeout_of}
-use Rattle.lg_cli.specs.Meaning.Answering.{answer_end, answer_text, events_of, hearing, local, newline, opening, sent_text}
+use Rattle.lg_cli.specs.Meaning.Answering.{answer_end, answer_text, events_of, heard, local, newline, opening, sent_text}
 use Rattle.lg_cli.specs.Meaning.Commands.{answer, timeouts, asked, line_faults}
 use Rattle.lg_cli.specs.Meaning.Lines.{lines_of}
-use Rattle.lg_cli.specs.Meaning.Said.{packet_in}
+use Rattle.lg_cli.specs.Meaning.Spelled.{packet_in}
 use Rattle.lg_cli.specs.Meaning.Timeouts.{timeouts_text}
 use Rattle.lg_cli.specs.declared.answer.End.TheVariants.{Done}
 
@@ -36,7 +36,7 @@ ping = codes "534c0101016100000007016200"
 pinged : Packet
 pinged = record { sender = 97 ∷ []; body = Ping 7 (98 ∷ []); claims = record { items = [] } }
 
-heard-ping : events_of (codes "b") (lines_of (ping ++ 10 ∷ [])) ≡ opening (98 ∷ []) ∷ hearing pinged ∷ []
+heard-ping : events_of (codes "b") (lines_of (ping ++ 10 ∷ [])) ≡ opening (98 ∷ []) ∷ heard pinged ∷ []
 unfolding events_of packet_in hex_on_literals packet_of packet_at head_at name_at body_at claims_at pinged
 heard-ping = refl
 

@@ -2,15 +2,16 @@
 use Rattle.std.specs.Prelude.{◌≡◌, ℕ, ◌≤◌, List, length, Option}
 use Rattle.std.specs.Io.KnownBytes.{Appends, Consumes, IsAtEnd}
 use Rattle.lg_cli.specs.Meaning.Answering.{answer_end, answer_text}
+use Rattle.lg_cli.specs.Meaning.Ranges.{most_input}
 use Rattle.lg_cli.specs.Meaning.Timeouts.{timeouts_text}
 use Rattle.lg_cli.specs.declared.answer.End.{End}
 use Rattle.lg_cli.specs.declared.answer.End.TheVariants.{Done, Faulty}
 use Rattle.lg_cli.specs.declared.timeouts.Numbers.{Numbers}
 
--- An input of at most 1,048,576 bytes is read to its end, and the answer to it is written.
+-- An input that isn't too long is read to its end, and the answer to it is written.
 pub record AnswersInput (left rest held holds : Option (List ℕ)) (name : List ℕ) (end : End) : Type 0 where
   pub input : List ℕ
-  pub few : length input ≤ 1048576
+  pub few : length input ≤ most_input
   pub read : Consumes left rest input
   pub whole : IsAtEnd rest
   pub written : Appends held holds (answer_text name input)

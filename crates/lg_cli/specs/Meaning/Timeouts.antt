@@ -6,13 +6,17 @@ use Rattle.lg_timing.specs.Meaning.Config.{is_within}
 use Rattle.lg_timing.specs.Meaning.TimeoutRange.{TimeoutRange}
 use Rattle.lg_timing.specs.Meaning.Timeouts.{range_of, timeout_of}
 use Rattle.lg_timing.specs.declared.config.Config.{Config}
-use Rattle.lg_cli.specs.Meaning.Answering.{defaults, newline}
+use Rattle.lg_cli.specs.Meaning.Answering.{newline}
+use Rattle.lg_cli.specs.Meaning.Defaults.{defaults}
+use Rattle.lg_cli.specs.Meaning.Ranges.{least_interval, most_confirmations, most_factor, most_interval, most_members}
 use Rattle.lg_cli.specs.declared.timeouts.Numbers.{Numbers}
 
 -- each number is in its range
 abbrev pub are_good : Numbers → Bool
-are_good n = is_within 1 256 n.members
-    && (nat_le n.confirmations 5 && (is_within 1 20 n.alpha && (is_within 1 20 n.beta && is_within 10 60000 n.interval_ms)))
+are_good n =
+    let times = is_within 1 most_factor n.beta && is_within least_interval most_interval n.interval_ms in
+    is_within 1 most_members n.members
+    && (nat_le n.confirmations most_confirmations && (is_within 1 most_factor n.alpha && times))
 
 abbrev pub no_addr : Addr
 no_addr = record { octets = 0 ∷ 0 ∷ 0 ∷ 0 ∷ []; port = 0 }
