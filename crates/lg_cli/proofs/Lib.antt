@@ -1,5 +1,6 @@
 pub mod AnswerLaws
 pub mod CommandLaws
+pub mod HeardLines
 pub mod HexLines
 pub mod LineLaws
 pub mod TimeoutLaws

@@ -9,7 +9,7 @@ ghost use Rattle.lg_cli.specs.Meaning.Spelled.{fault_text, packet_in};
 ghost use Rattle.lg_cli.specs.Support.Hearing.{line_end, with_heard, AcceptsHeard};
 
 use crate::input::MAX_INPUT;
-use crate::line::{LineFault, read_line};
+use crate::line::LineFault;
 use crate::lines::cut_line;
 use arrayvec::ArrayVec;
 use lg_detector::{Detector, Event, NoMemory, Outgoing, Reply};
@@ -50,17 +50,6 @@ fn open_event(name: &Name) -> Event
     Event::Open {
         now: Moment::default(),
         config: Config::new(*name, Addr::new(LOCALHOST, 7000)),
-    }
-}
-
-/// That a packet is heard, at moment 0 from 127.0.0.1:1.
-fn heard_event(packet: Packet) -> Event
-    ensures { result ≡ heard packet }
-{
-    Event::Heard {
-        now: Moment::default(),
-        source: Addr::new(LOCALHOST, 1),
-        packet,
     }
 }
 
@@ -115,14 +104,25 @@ fn answer_line(
         → detector.new ≡ state_after (with_heard earlier (packet_in line.now)) }
     ensures end { IfOk result (λ end. end ≡ line_end line.now) }
 {
-    match read_line(line, bytes) {
+    let bytes = &mut bytes[..line.len() / 2];
+    if hex::decode_to_slice(line, bytes).is_err() {
+        put_fault(LineFault::NotHex, text)?;
+        return Ok(End::Faulty);
+    }
+    match lg_packet::decode(bytes) {
         Ok(packet) => {
-            detector.step(&heard_event(packet), reply);
+            // A packet is large, so the event is made here, where it needn't be handed on.
+            let event = Event::Heard {
+                now: Moment::default(),
+                source: Addr::new(LOCALHOST, 1),
+                packet,
+            };
+            detector.step(&event, reply);
             put_sends(reply.sends.as_slice(), row, text)?;
             Ok(End::Done)
         }
         Err(fault) => {
-            put_fault(fault, text)?;
+            put_fault(LineFault::Refused(fault), text)?;
             Ok(End::Faulty)
         }
     }

@@ -1,8 +1,8 @@
-//! What a line of input spells: a packet in hex, or nothing, by a fault.
-ghost use Rattle.std.specs.Prelude.{◌≡◌, ◌+◌, ◌*◌, ◌≤◌, length};
-ghost use Rattle.lg_cli.specs.Meaning.Spelled.{fault_text, packet_in};
+//! What is wrong with a line of input.
+ghost use Rattle.std.specs.Prelude.{◌≡◌};
+ghost use Rattle.lg_cli.specs.Meaning.Spelled.{fault_text};
 
-use lg_packet::{Fault, Packet};
+use lg_packet::Fault;
 
 /// What is wrong with a line that should spell a packet in hex.
 #[derive(Clone, Copy, Debug, PartialEq, Eq)]
@@ -30,22 +30,5 @@ impl LineFault {
             LineFault::Refused(Fault::Incarnation) => "fault 8 Incarnation",
             LineFault::Refused(Fault::Trailing) => "fault 9 Trailing",
         }
-    }
-}
-
-/// The packet that a line spells in hex of either case, or what is wrong with the line.
-///
-/// `row` is room for the bytes of the line; what it holds is of no use before or after.
-pub fn read_line(line: &[u8], row: &mut [u8]) -> Result<Packet, LineFault>
-    requires { length line.now ≤ 2 * length row.old + 1 }
-    ensures { result ≡ packet_in line.now }
-{
-    let bytes = &mut row[..line.len() / 2];
-    if hex::decode_to_slice(line, bytes).is_err() {
-        return Err(LineFault::NotHex);
-    }
-    match lg_packet::decode(bytes) {
-        Ok(packet) => Ok(packet),
-        Err(fault) => Err(LineFault::Refused(fault)),
     }
 }
