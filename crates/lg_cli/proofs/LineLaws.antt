@@ -35,7 +35,7 @@ lines_of-last [] some none = absurd (omega arith)
 lines_of-last (b ∷ bs) some none = last_first b bs (eqb b 10) (lines_of-last bs) none
 
 -- what stands at and behind a place
-rest_of : (xs : List ℕ) (n : ℕ) → take (length xs - n) (drop n xs) ≡ drop n xs
+pub rest_of : (xs : List ℕ) (n : ℕ) → take (length xs - n) (drop n xs) ≡ drop n xs
 rest_of xs n = take_all (length xs - n) (drop n xs) (omega (arith, length-drop n xs))
 
 found_at : (n len at : ℕ) → Some at ≡ cond (ltb n len) (Some n) None → (n ≡ at) × (n < len)

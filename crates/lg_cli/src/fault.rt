@@ -17,14 +17,14 @@ pub enum RunFault {
 }
 
 impl RunFault {
-    /// The line that tells the fault.
+    /// The line of the fault, with its newline.
     pub fn text(self) -> &'static str
         ensures { result.now ≡ run_fault_text self }
     {
         match self {
-            RunFault::Memory => "lg: memory",
-            RunFault::Read => "lg: read",
-            RunFault::Write => "lg: write",
+            RunFault::Memory => "lg: memory\n",
+            RunFault::Read => "lg: read\n",
+            RunFault::Write => "lg: write\n",
         }
     }
 }

@@ -1,7 +1,8 @@
 //! Reads the whole input of a command, up to a limit.
-ghost use Rattle.std.specs.Prelude.{◌≡◌, ◌+◌, ◌-◌, ◌*◌, ◌≤◌, ◌<◌, ℕ, List, ◌++◌, ◌⊎◌, IfOk, IfErr, OnOk, Ok, OnErr, length, vec_len};
+ghost use Rattle.std.specs.Prelude.{◌≡◌, ◌+◌, ◌-◌, ◌≤◌, ◌<◌, ◌++◌, ◌⊎◌, IfErr, IfOk, OnOk, Ok, length, vec_len};
 ghost use Rattle.std.specs.Io.KnownBytes.{Consumes, IsAtEnd};
-ghost use Rattle.lg_cli.specs.Support.Input.{Grows, TakesAtMost};
+ghost use Rattle.lg_cli.specs.Meaning.Running.{TakesAtMost};
+ghost use Rattle.lg_cli.specs.Support.Input.{Grows};
 
 use crate::fault::RunFault;
 use std::alloc::Global;
@@ -37,6 +38,8 @@ pub fn read_input<R: Read>(alloc: Global, reader: &mut R) -> Result<Vec<u8>, Run
     ensures end { OnOk result (IsAtEnd (R.remaining reader.new)) }
     ensures within { IfOk result (λ input. vec_len input ≤ MAX_INPUT) }
     ensures taken { TakesAtMost (MAX_INPUT + 1) (R.remaining reader.old) (R.remaining reader.new) }
+    ensures memory { IfErr result (λ fault. fault ≡ RunFault.Memory
+        → TakesAtMost MAX_INPUT (R.remaining reader.old) (R.remaining reader.new)) }
     ensures refused { IfErr result (λ fault. (fault ≡ RunFault.Memory) ⊎ (fault ≡ RunFault.Read)) }
 {
     let mut input = Vec::new(alloc);
@@ -61,6 +64,8 @@ fn read_more<R: Read>(
     ensures grows { OnOk result (Grows (R.remaining reader.old) (R.remaining reader.new) input.old.items input.new.items) }
     ensures within { OnOk result (vec_len input.new ≤ MAX_INPUT) }
     ensures taken { TakesAtMost (MAX_INPUT + 1 - vec_len input.old) (R.remaining reader.old) (R.remaining reader.new) }
+    ensures memory { IfErr result (λ fault. fault ≡ RunFault.Memory
+        → TakesAtMost (MAX_INPUT - vec_len input.old) (R.remaining reader.old) (R.remaining reader.new)) }
     ensures end { result ≡ Ok Progress.End → IsAtEnd (R.remaining reader.new) }
     ensures refused { IfErr result (λ fault. (fault ≡ RunFault.Memory) ⊎ (fault ≡ RunFault.Read)) }
 {
@@ -86,7 +91,8 @@ fn keep_read(read: &[u8], input: &mut Vec<u8>) -> Result<(), RunFault>
     requires { vec_len input.old ≤ MAX_INPUT }
     ensures kept { OnOk result (input.new.items ≡ input.old.items ++ read.now) }
     ensures within { OnOk result (vec_len input.new ≤ MAX_INPUT) }
-    ensures refused { IfErr result (λ fault. (fault ≡ RunFault.Memory)
+    ensures refused { IfErr result (λ fault.
+        ((fault ≡ RunFault.Memory) × (vec_len input.old + length read.now ≤ MAX_INPUT))
         ⊎ ((fault ≡ RunFault.Read) × (MAX_INPUT < vec_len input.old + length read.now))) }
 {
     if read.len() > MAX_INPUT - input.len() {

@@ -4,7 +4,8 @@ ghost use Rattle.std.specs.Result.{is_err};
 ghost use Rattle.std.specs.IoError.{error_kind};
 ghost use Rattle.clap.specs.Values.{kind_of};
 ghost use Rattle.lg_rules.specs.Meaning.Name.{name_of_text};
-ghost use Rattle.lg_cli.specs.Meaning.Running.{RunsAnswer, RunsTimeouts};
+ghost use Rattle.lg_cli.specs.Meaning.Faults.{run_fault_text};
+ghost use Rattle.lg_cli.specs.Meaning.Running.{AppendsFront, FailsBy, ReadsWhole, RunsAnswer, RunsTimeouts};
 ghost use Rattle.lg_cli.specs.Meaning.Commands.{asked, line_faults, status_of_kind, IfAnswer, IfTimeouts, RefusesLine};
 ghost use Rattle.lg_cli.specs.Meaning.Timeouts.{are_good};
 
@@ -53,6 +54,8 @@ pub fn run_words<S: AsStr, R: Read, W: Write, F: Write>(
     ensures bad_name { let line = map S.text words.now in line_faults line ≡ [] → result ≢ FAILED
         → IfAnswer (asked line) (λ text. is_err (name_of_text text) ≡ true → result ≡ BAD_INPUT) }
     ensures unread { IfAnswer (asked (map S.text words.now)) (λ text. is_err (name_of_text text) ≡ true → reader.new ≡ reader.old) }
+    ensures unnamed { let line = map S.text words.now in line_faults line ≡ []
+        → IfAnswer (asked line) (λ text. is_err (name_of_text text) ≡ true → writer.new ≡ writer.old) }
     ensures timed { let line = map S.text words.now in line_faults line ≡ [] → result ≢ FAILED
         → IfTimeouts (asked line) (λ numbers. RunsTimeouts (W.contents writer.old) (W.contents writer.new) numbers result) }
     ensures timed_unread { IfTimeouts (asked (map S.text words.now)) (λ _. reader.new ≡ reader.old) }
@@ -62,6 +65,14 @@ pub fn run_words<S: AsStr, R: Read, W: Write, F: Write>(
         → RefusesLine (line_faults line) result }
     ensures unrun { line_faults (map S.text words.now) ≢ [] → reader.new ≡ reader.old }
     ensures unwritten { result ≡ USAGE → writer.new ≡ writer.old }
+
+    // A run that fails tells why, and writes nothing but where it is the writing that fails; the
+    // whole input of `answer` was read then.
+    ensures failed { result ≡ FAILED
+        → FailsBy (F.contents faults.old) (F.contents faults.new) writer.old writer.new }
+    ensures read { let line = map S.text words.now in line_faults line ≡ [] → result ≡ FAILED
+        → IfAnswer (asked line) (λ _. (writer.new ≡ writer.old)
+        ⊎ ReadsWhole (R.remaining reader.old) (R.remaining reader.new)) }
 {
     match read_words(alloc, words) {
         Ok(Asked::Answer { name }) => answer_named(alloc, name, reader, writer, faults),
@@ -82,12 +93,17 @@ fn answer_named<R: Read, W: Write, F: Write>(
         (R.remaining reader.new) (W.contents writer.old) (W.contents writer.new) name result) }
     ensures bad_name { is_err (name_of_text name.now) ≡ true → result ≡ BAD_INPUT }
     ensures unread { is_err (name_of_text name.now) ≡ true → reader.new ≡ reader.old }
+    ensures unnamed { is_err (name_of_text name.now) ≡ true → writer.new ≡ writer.old }
+    ensures failed { result ≡ FAILED
+        → FailsBy (F.contents faults.old) (F.contents faults.new) writer.old writer.new }
+    ensures read { result ≡ FAILED
+        → (writer.new ≡ writer.old) ⊎ ReadsWhole (R.remaining reader.old) (R.remaining reader.new) }
     ensures run { result ≢ USAGE }
 {
     let name = match Name::new(name.as_bytes()) {
         Ok(name) => name,
         Err(_) => {
-            tell(faults, "lg: bad names");
+            tell(faults, "lg: bad names\n");
             return BAD_INPUT;
         }
     };
@@ -109,6 +125,8 @@ fn timeouts_of<W: Write, F: Write>(
 ) -> u8
     requires { are_good numbers.now ≡ true }
     ensures timed { result ≢ FAILED → RunsTimeouts (W.contents writer.old) (W.contents writer.new) numbers.now result }
+    ensures failed { result ≡ FAILED
+        → FailsBy (F.contents faults.old) (F.contents faults.new) writer.old writer.new }
     ensures run { result ≢ USAGE }
 {
     match timeouts_run(alloc, writer, numbers) {
@@ -127,6 +145,9 @@ fn tell_refusal<W: Write, F: Write>(error: &Error, writer: &mut W, faults: &mut 
     // Else only help that isn't taken fails.
     ensures failed { result ≡ FAILED → (kind_of error.now ≡ ErrorKind.OutOfMemory) ⊎ (status_of_kind (kind_of error.now) ≡ 0) }
     ensures unwritten { result ≡ USAGE → writer.new ≡ writer.old }
+    ensures unfit { kind_of error.now ≡ ErrorKind.OutOfMemory → writer.new ≡ writer.old }
+    ensures fails { result ≡ FAILED
+        → FailsBy (F.contents faults.old) (F.contents faults.new) writer.old writer.new }
 {
     if error.kind() == ErrorKind::OutOfMemory {
         tell(faults, RunFault::Memory.text());
@@ -153,12 +174,29 @@ pub fn refuse_words<F: Write>(error: &io::Error, faults: &mut F) -> u8
         tell(faults, RunFault::Memory.text());
         FAILED
     } else {
-        tell(faults, "error: the command line isn't UTF-8");
+        tell(faults, "error: the command line isn't UTF-8\n");
         USAGE
     }
 }
 
-/// Writes a line, or drops it where that fails.
-fn tell<F: Write>(faults: &mut F, line: &str) {
-    let _ = writeln!(faults, "{line}");
+/// Writes a line, as far as it is taken.
+fn tell<F: Write>(faults: &mut F, line: &str)
+    ensures { AppendsFront (F.contents faults.old) (F.contents faults.new) line.now }
+{
+    // `write_all` doesn't say what stands written where it fails, so the pieces are written here.
+    let mut rest = line.as_bytes();
+    for _ in 0..u64::MAX {
+        if rest.is_empty() {
+            return;
+        }
+        match faults.write(rest) {
+            Ok(0) => return,
+            Ok(count) => rest = &rest[count..],
+            Err(error) => {
+                if error.kind() != IoErrorKind::Interrupted {
+                    return;
+                }
+            }
+        }
+    }
 }

@@ -1,9 +1,8 @@
 //! Runs the commands over a reader and a writer.
-ghost use Rattle.std.specs.Prelude.{◌≡◌, ◌≢◌, ◌⊎◌, ◌+◌, ◌≤◌, true, IfErr, IfOk, IfSome, OnOk, length};
-ghost use Rattle.std.specs.Io.KnownBytes.{Appends, Keeps};
+ghost use Rattle.std.specs.Prelude.{◌≡◌, ◌≢◌, ◌⊎◌, ◌+◌, ◌≤◌, ◌<◌, true, Err, IfErr, IfOk, IfSome, OnOk, length};
+ghost use Rattle.std.specs.Io.KnownBytes.{Appends};
 ghost use Rattle.lg_cli.specs.Meaning.Answering.{answer_end, answer_text};
-ghost use Rattle.lg_cli.specs.Support.Input.{TakesAtMost};
-ghost use Rattle.lg_cli.specs.Meaning.Running.{AnswersInput};
+ghost use Rattle.lg_cli.specs.Meaning.Running.{AnswersInput, ReadsWhole, TakesAtMost};
 ghost use Rattle.lg_cli.specs.Meaning.Timeouts.{are_good, timeouts_text};
 
 use crate::answer::{End, answer};
@@ -24,9 +23,14 @@ use std::io::{Read, Write};
 /// line is a packet of no bytes (this project's choice).
 ///
 /// The input has at most 1,048,576 bytes; a longer or endless one is [`RunFault::Read`], as is any
-/// error of the reader but an interruption. The whole text is made before its first byte is
-/// written: with [`RunFault::Read`] or [`RunFault::Memory`] nothing is. Time and memory are in
-/// proportion to the input.
+/// error of the reader but an interruption; [`RunFault::Memory`] comes before that where memory is
+/// refused for what was read so far. The whole text is made before its first byte is written: with
+/// [`RunFault::Read`] or [`RunFault::Memory`] nothing is. [`RunFault::Write`] comes only once the
+/// whole input was read, and doesn't say how much stands written. Time and memory are in proportion
+/// to the input.
+///
+/// What is said of bytes holds for a reader and a writer that tell their bytes, as those over
+/// memory do.
 pub fn answer_run<R: Read, W: Write>(
     alloc: Global,
     reader: &mut R,
@@ -37,13 +41,23 @@ pub fn answer_run<R: Read, W: Write>(
     ensures text { OnOk result (IfSome (R.remaining reader.old) (λ input.
         Appends (W.contents writer.old) (W.contents writer.new) (answer_text name.now input))) }
     ensures end { IfOk result (λ end. IfSome (R.remaining reader.old) (λ input. end ≡ answer_end input)) }
-    ensures within { OnOk result (IfSome (R.remaining reader.old) (λ input. length input ≤ MAX_INPUT)) }
+    ensures few { OnOk result (IfSome (R.remaining reader.old) (λ input. length input ≤ MAX_INPUT)) }
 
     // At any reader what is written answers what was read, and it was read to its end.
     ensures answers { IfOk result (λ end. AnswersInput (R.remaining reader.old) (R.remaining reader.new)
         (W.contents writer.old) (W.contents writer.new) name.now end) }
-    ensures kept { IfErr result (λ fault. fault ≢ RunFault.Write → Keeps (W.contents writer.old) (W.contents writer.new)) }
     ensures taken { TakesAtMost (MAX_INPUT + 1) (R.remaining reader.old) (R.remaining reader.new) }
+
+    // Nothing is written but where it is the writing that fails, and then the whole input was read.
+    ensures unwritten { IfErr result (λ fault. fault ≢ RunFault.Write → writer.new ≡ writer.old) }
+    ensures whole { IfErr result (λ fault. fault ≡ RunFault.Write
+        → ReadsWhole (R.remaining reader.old) (R.remaining reader.new)) }
+    // A byte past the longest input is taken only where the fault is one of reading.
+    ensures within { IfErr result (λ fault. fault ≢ RunFault.Read
+        → TakesAtMost MAX_INPUT (R.remaining reader.old) (R.remaining reader.new)) }
+    // So nothing is written for an input that is too long.
+    ensures long { IfSome (R.remaining reader.old) (λ input. MAX_INPUT < length input
+        → (writer.new ≡ writer.old) × ((result ≡ Err RunFault.Read) ⊎ (result ≡ Err RunFault.Memory))) }
 {
     let input = read_input(alloc, reader)?;
     let answered = answer(alloc, name, &input)?;

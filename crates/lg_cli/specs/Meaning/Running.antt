@@ -1,12 +1,41 @@
--- Runs of the commands that end without a read, write or memory fault.
-use Rattle.std.specs.Prelude.{◌≡◌, ℕ, ◌≤◌, List, length, Option}
+-- How the runs of the commands end.
+use Rattle.std.specs.Prelude.{◌≡◌, ◌≢◌, ℕ, ◌≤◌, List, ◌++◌, length, Option}
 use Rattle.std.specs.Io.KnownBytes.{Appends, Consumes, IsAtEnd}
 use Rattle.lg_cli.specs.Meaning.Answering.{answer_end, answer_text}
+use Rattle.lg_cli.specs.Meaning.Faults.{run_fault_text}
 use Rattle.lg_cli.specs.Meaning.Ranges.{most_input}
 use Rattle.lg_cli.specs.Meaning.Timeouts.{timeouts_text}
 use Rattle.lg_cli.specs.declared.answer.End.{End}
 use Rattle.lg_cli.specs.declared.answer.End.TheVariants.{Done, Faulty}
+use Rattle.lg_cli.specs.declared.fault.RunFault.{RunFault}
+use Rattle.lg_cli.specs.declared.fault.RunFault.TheVariants.{Write}
 use Rattle.lg_cli.specs.declared.timeouts.Numbers.{Numbers}
+
+-- Known bytes lose no more than this many of their first.
+pub record TakesAtMost (limit : ℕ) (old new : Option (List ℕ)) : Type 0 where
+  pub bytes : List ℕ
+  pub few : length bytes ≤ limit
+  pub taken : Consumes old new bytes
+
+-- An input that isn't too long is read to its end.
+pub record ReadsWhole (left rest : Option (List ℕ)) : Type 0 where
+  pub input : List ℕ
+  pub few : length input ≤ most_input
+  pub read : Consumes left rest input
+  pub whole : IsAtEnd rest
+
+-- Known bytes grow by a beginning of a text, which may be none of it or all.
+pub record AppendsFront (held holds : Option (List ℕ)) (text : List ℕ) : Type 0 where
+  pub front : List ℕ
+  pub rest : List ℕ
+  pub is : text ≡ front ++ rest
+  pub taken : Appends held holds front
+
+-- A run fails by a fault, which is told as far as it is taken. Only a fault of writing leaves anything written.
+pub record FailsBy {W : Type 0} (told tells : Option (List ℕ)) (before after : W) : Type 0 where
+  pub fault : RunFault
+  pub line : AppendsFront told tells (run_fault_text fault)
+  pub unwritten : fault ≢ Write → after ≡ before
 
 -- An input that isn't too long is read to its end, and the answer to it is written.
 pub record AnswersInput (left rest held holds : Option (List ℕ)) (name : List ℕ) (end : End) : Type 0 where

@@ -1,12 +1,6 @@
 -- What is taken of a reader.
-use Rattle.std.specs.Prelude.{◌≡◌, ℕ, ◌≤◌, List, ◌++◌, length, Option}
+use Rattle.std.specs.Prelude.{◌≡◌, ℕ, List, ◌++◌, Option}
 use Rattle.std.specs.Io.KnownBytes.{Consumes}
-
--- known bytes lose no more than this many of their first
-pub record TakesAtMost (limit : ℕ) (old new : Option (List ℕ)) : Type 0 where
-  pub bytes : List ℕ
-  pub few : length bytes ≤ limit
-  pub taken : Consumes old new bytes
 
 -- known bytes move from a reader's front behind those that were read before
 pub record Grows (old new : Option (List ℕ)) (before after : List ℕ) : Type 0 where
