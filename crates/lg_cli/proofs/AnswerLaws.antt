@@ -1,7 +1,6 @@
 -- How the text of an input grows by a line, and that its events are accepted.
 use Rattle.std.proofs.Common.{◌≡◌, ℕ, ◌+◌, ◌<◌, ◌≤◌, suc, Bool, true, false, ◌||◌, ◌&&◌, not, cond, leb, List, [], ◌∷◌, ◌++◌, length, Result, Ok, Err, refl, sym, ap, ◌∙◌, arith, append_assoc, append-nil, length-append}
 use Rattle.std.specs.Prelude.{is_ok}
-use Rattle.std.specs.Result.{is_err}
 use Rattle.std.specs.List.{cons_option, filter_map, list_any}
 use Rattle.std.proofs.lemmas.List.Elements.{filter_map-append}
 use Rattle.std.proofs.lemmas.List.Folds.{list_any-append}
@@ -17,7 +16,7 @@ use Rattle.lg_cli.specs.Meaning.Lines.{lines_of}
 use Rattle.lg_cli.specs.Meaning.Spelled.{packet_in}
 use Rattle.lg_cli.specs.Meaning.Answering.{local, opening, heard, event_of, events_of, line_text, text_from, answer_text, answer_end, is_faulty}
 use Rattle.lg_cli.specs.Meaning.Defaults.{defaults}
-use Rattle.lg_cli.specs.Support.Hearing.{line_end, with_heard, AcceptsHeard}
+use Rattle.lg_cli.specs.Support.Hearing.{with_heard, AcceptsHeard}
 use Rattle.lg_cli.specs.declared.answer.End.{End}
 use Rattle.lg_cli.specs.declared.answer.End.TheVariants.{Done, Faulty}
 use Rattle.lg_cli.specs.declared.line.LineFault.{LineFault}

@@ -1,5 +1,5 @@
 -- What answering one line does, by what the line spells.
-use Rattle.std.proofs.Common.{◌≡◌, ℕ, List, [], ◌∷◌, ◌++◌, Result, Ok, Err, cond, sym, ap, ◌∙◌}
+use Rattle.std.proofs.Common.{◌≡◌, ℕ, List, [], ◌∷◌, ◌++◌, Result, Ok, Err, cond, ap, ◌∙◌}
 use Rattle.std.specs.List.{flat_map}
 use Rattle.std.specs.Result.{is_err}
 use Rattle.lg_packet.specs.declared.packet.Packet.{Packet}
@@ -10,7 +10,6 @@ use Rattle.lg_detector.specs.declared.reply.Reply.{Reply}
 use Rattle.lg_cli.specs.Meaning.Answering.{heard, line_reply, line_text, newline, sent_line}
 use Rattle.lg_cli.specs.Meaning.Spelled.{fault_text, packet_in}
 use Rattle.lg_cli.specs.Support.Hearing.{line_end, with_heard}
-use Rattle.lg_cli.specs.declared.answer.End.{End}
 use Rattle.lg_cli.specs.declared.answer.End.TheVariants.{Done, Faulty}
 use Rattle.lg_cli.specs.declared.line.LineFault.{LineFault}
 

@@ -45,5 +45,5 @@ pub spelled : (text out : List ℕ) (r : Result (Unit {0}) FromHexError) (n : �
 spelled text out r n half h good d is = when r good (reads text out r n half h)
   where
     when : (r : Result (Unit {0}) FromHexError) → is_err r ≡ false → Reads text out r → of_packet d ≡ packet_in text
-    when (Ok x) good told = sym (told ∙ ap of_packet is)
-    when (Err e) good told = absurd cc
+    when (Ok x) good so = sym (so ∙ ap of_packet is)
+    when (Err e) good is = absurd cc

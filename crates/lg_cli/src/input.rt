@@ -61,7 +61,8 @@ fn read_more<R: Read>(
 ) -> Result<Progress, RunFault>
     requires space { 0 < length chunk.old }
     requires room { vec_len input.old ≤ MAX_INPUT }
-    ensures grows { OnOk result (Grows (R.remaining reader.old) (R.remaining reader.new) input.old.items input.new.items) }
+    ensures grows { OnOk result
+        (Grows (R.remaining reader.old) (R.remaining reader.new) input.old.items input.new.items) }
     ensures within { OnOk result (vec_len input.new ≤ MAX_INPUT) }
     ensures taken { TakesAtMost (MAX_INPUT + 1 - vec_len input.old) (R.remaining reader.old) (R.remaining reader.new) }
     ensures memory { IfErr result (λ fault. fault ≡ RunFault.Memory

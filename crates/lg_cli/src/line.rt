@@ -14,7 +14,7 @@ pub enum LineFault {
 }
 
 impl LineFault {
-    /// How the fault is told, by its number and its name.
+    /// The text of the fault: its number and its name.
     pub fn text(self) -> &'static str
         ensures { result.now ≡ fault_text self }
     {

@@ -35,10 +35,10 @@ const BAD_INPUT: u8 = 3;
 ///
 /// `reader`, `writer` and `faults` stand for the standard input, output and error. The statuses
 /// are 0 where all was done, also where help was asked for, which is written; 1 where memory, a
-/// read or a write failed, told as `lg: memory`, `lg: read` or `lg: write`; 2 where the command
-/// line is refused, told by a text of the command line's own; 3 for bad input: `lg: bad names`
+/// read or a write failed, reported as `lg: memory`, `lg: read` or `lg: write`; 2 where the command
+/// line is refused, reported by a text of the command line's own; 3 for bad input: `lg: bad names`
 /// where the text of `--name` is no name, and nothing is then read, or a faulty line of the input
-/// of `answer`, of which nothing is told. `timeouts` reads nothing. A line that `faults` doesn't
+/// of `answer`, of which nothing is reported. `timeouts` reads nothing. A line that `faults` doesn't
 /// take is dropped.
 pub fn run_words<S: AsStr, R: Read, W: Write, F: Write>(
     alloc: Global,
@@ -53,11 +53,13 @@ pub fn run_words<S: AsStr, R: Read, W: Write, F: Write>(
         (R.remaining reader.new) (W.contents writer.old) (W.contents writer.new) name result)) }
     ensures bad_name { let line = map S.text words.now in line_faults line ≡ [] → result ≢ FAILED
         → IfAnswer (asked line) (λ text. is_err (name_of_text text) ≡ true → result ≡ BAD_INPUT) }
-    ensures unread { IfAnswer (asked (map S.text words.now)) (λ text. is_err (name_of_text text) ≡ true → reader.new ≡ reader.old) }
+    ensures unread { IfAnswer (asked (map S.text words.now))
+        (λ text. is_err (name_of_text text) ≡ true → reader.new ≡ reader.old) }
     ensures unnamed { let line = map S.text words.now in line_faults line ≡ []
         → IfAnswer (asked line) (λ text. is_err (name_of_text text) ≡ true → writer.new ≡ writer.old) }
     ensures timed { let line = map S.text words.now in line_faults line ≡ [] → result ≢ FAILED
-        → IfTimeouts (asked line) (λ numbers. RunsTimeouts (W.contents writer.old) (W.contents writer.new) numbers result) }
+        → IfTimeouts (asked line)
+        (λ numbers. RunsTimeouts (W.contents writer.old) (W.contents writer.new) numbers result) }
     ensures timed_unread { IfTimeouts (asked (map S.text words.now)) (λ _. reader.new ≡ reader.old) }
 
     // Any other is refused, or asks for help.
@@ -66,7 +68,7 @@ pub fn run_words<S: AsStr, R: Read, W: Write, F: Write>(
     ensures unrun { line_faults (map S.text words.now) ≢ [] → reader.new ≡ reader.old }
     ensures unwritten { result ≡ USAGE → writer.new ≡ writer.old }
 
-    // A run that fails tells why, and writes nothing but where it is the writing that fails; the
+    // A run that fails reports why, and writes nothing but where it is the writing that fails; the
     // whole input of `answer` was read then.
     ensures failed { result ≡ FAILED
         → FailsBy (F.contents faults.old) (F.contents faults.new) writer.old writer.new }
@@ -77,7 +79,7 @@ pub fn run_words<S: AsStr, R: Read, W: Write, F: Write>(
     match read_words(alloc, words) {
         Ok(Asked::Answer { name }) => answer_named(alloc, name, reader, writer, faults),
         Ok(Asked::Timeouts { numbers }) => timeouts_of(alloc, &numbers, writer, faults),
-        Err(error) => tell_refusal(&error, writer, faults),
+        Err(error) => report_refusal(&error, writer, faults),
     }
 }
 
@@ -103,14 +105,14 @@ fn answer_named<R: Read, W: Write, F: Write>(
     let name = match Name::new(name.as_bytes()) {
         Ok(name) => name,
         Err(_) => {
-            tell(faults, "lg: bad names\n");
+            report(faults, "lg: bad names\n");
             return BAD_INPUT;
         }
     };
     match answer_run(alloc, reader, writer, &name) {
         Ok(end) => end as u8,
         Err(fault) => {
-            tell(faults, fault.text());
+            report(faults, fault.text());
             FAILED
         }
     }
@@ -132,25 +134,26 @@ fn timeouts_of<W: Write, F: Write>(
     match timeouts_run(alloc, writer, numbers) {
         Ok(()) => 0,
         Err(fault) => {
-            tell(faults, fault.text());
+            report(faults, fault.text());
             FAILED
         }
     }
 }
 
-/// Tells why a command line isn't run, or writes the help that it asks for, and gives the status.
-fn tell_refusal<W: Write, F: Write>(error: &Error, writer: &mut W, faults: &mut F) -> u8
+/// Reports why a command line isn't run, or writes the help that it asks for, and gives the status.
+fn report_refusal<W: Write, F: Write>(error: &Error, writer: &mut W, faults: &mut F) -> u8
     ensures status { result ≢ FAILED → result ≡ status_of_kind (kind_of error.now) }
     ensures memory { kind_of error.now ≡ ErrorKind.OutOfMemory → result ≡ FAILED }
     // Else only help that isn't taken fails.
-    ensures failed { result ≡ FAILED → (kind_of error.now ≡ ErrorKind.OutOfMemory) ⊎ (status_of_kind (kind_of error.now) ≡ 0) }
+    ensures failed { result ≡ FAILED
+        → (kind_of error.now ≡ ErrorKind.OutOfMemory) ⊎ (status_of_kind (kind_of error.now) ≡ 0) }
     ensures unwritten { result ≡ USAGE → writer.new ≡ writer.old }
     ensures unfit { kind_of error.now ≡ ErrorKind.OutOfMemory → writer.new ≡ writer.old }
     ensures fails { result ≡ FAILED
         → FailsBy (F.contents faults.old) (F.contents faults.new) writer.old writer.new }
 {
     if error.kind() == ErrorKind::OutOfMemory {
-        tell(faults, RunFault::Memory.text());
+        report(faults, RunFault::Memory.text());
         return FAILED;
     }
     if error.use_stderr() {
@@ -158,29 +161,29 @@ fn tell_refusal<W: Write, F: Write>(error: &Error, writer: &mut W, faults: &mut 
         return USAGE;
     }
     if write!(writer, "{error}").is_err() || writer.flush().is_err() {
-        tell(faults, RunFault::Write.text());
+        report(faults, RunFault::Write.text());
         return FAILED;
     }
     0
 }
 
-/// Tells why the words of the command line couldn't be had, and gives the status: memory was
+/// Reports why the words of the command line couldn't be had, and gives the status: memory was
 /// refused, or the words aren't UTF-8, which refuses the command line (this project's choice).
 pub fn refuse_words<F: Write>(error: &io::Error, faults: &mut F) -> u8
     ensures memory { error_kind error.now ≡ IoErrorKind.OutOfMemory → result ≡ FAILED }
     ensures usage { error_kind error.now ≢ IoErrorKind.OutOfMemory → result ≡ USAGE }
 {
     if error.kind() == IoErrorKind::OutOfMemory {
-        tell(faults, RunFault::Memory.text());
+        report(faults, RunFault::Memory.text());
         FAILED
     } else {
-        tell(faults, "error: the command line isn't UTF-8\n");
+        report(faults, "error: the command line isn't UTF-8\n");
         USAGE
     }
 }
 
 /// Writes a line, as far as it is taken.
-fn tell<F: Write>(faults: &mut F, line: &str)
+fn report<F: Write>(faults: &mut F, line: &str)
     ensures { AppendsFront (F.contents faults.old) (F.contents faults.new) line.now }
 {
     // `write_all` doesn't say what stands written where it fails, so the pieces are written here.

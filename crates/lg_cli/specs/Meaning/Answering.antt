@@ -59,7 +59,8 @@ line_text earlier line = line_reply earlier (packet_in line)
 -- what lines give, each after the events of those before it
 abbrev pub text_from : List ℕ → List (List ℕ) → List (List ℕ) → List ℕ
 text_from name before [] = []
-text_from name before (line ∷ lines) = line_text (events_of name before) line ++ text_from name (before ++ line ∷ []) lines
+text_from name before (line ∷ lines) =
+    line_text (events_of name before) line ++ text_from name (before ++ line ∷ []) lines
 
 -- what is written for an input
 unfoldable pub answer_text : List ℕ → List ℕ → List ℕ

@@ -1,5 +1,6 @@
 -- The command line of the program.
-use Rattle.std.specs.Prelude.{◌≡◌, ℕ, Bool, true, false, List, [], ◌∷◌, Option, Some, codes, if◌then◌else◌, option_and_then, unwrap_or}
+use Rattle.std.specs.Prelude.{◌≡◌, ℕ, Bool, true, false, List, [], ◌∷◌, Option, Some, codes, if◌then◌else◌}
+use Rattle.std.specs.Prelude.{option_and_then, unwrap_or}
 use Rattle.std.specs.Option.{option_map_or}
 use Rattle.std.specs.Str.{bytes_eq}
 use Rattle.std.specs.Str.Parse.{digits_value, without_leading_plus}
@@ -18,7 +19,9 @@ use Rattle.lg_cli.specs.declared.timeouts.Numbers.{Numbers}
 
 -- the option `--name NAME`, which is required
 abbrev pub name_rule : Rule
-name_rule = record (new_rule (codes "name")) { long = Some (codes "name"); value_names = 1; required = true; action = Some Set }
+name_rule =
+    let named = record (new_rule (codes "name")) { long = Some (codes "name"); value_names = 1 } in
+    record named { required = true; action = Some Set }
 
 abbrev pub answer_app : App
 answer_app = with_rule (new_app (codes "answer")) name_rule

@@ -9,11 +9,13 @@ use Rattle.lg_rules.specs.declared.claim.Claim.{Claim}
 use Rattle.lg_rules.specs.declared.claim.Status.TheVariants.{Alive}
 use Rattle.lg_packet.specs.declared.packet.Body.TheVariants.{Ack, Ping}
 use Rattle.lg_packet.specs.declared.packet.Packet.{Packet}
-use Rattle.lg_packet.specs.Meaning.Reading.{addr_at, body_at, claim_at, claims_at, head_at, incarnation_at, name_at, packet_at, packet_of, status_at}
+use Rattle.lg_packet.specs.Meaning.Reading.{addr_at, body_at, claim_at, claims_at, head_at, incarnation_at}
+use Rattle.lg_packet.specs.Meaning.Reading.{name_at, packet_at, packet_of, status_at}
 use Rattle.lg_packet.specs.Meaning.Spelling.{spelling}
 use Rattle.lg_timing.specs.Meaning.Tables.{log10_of, ratio_of}
 use Rattle.lg_timing.specs.Meaning.Timeouts.{range_of, timeout_of}
-use Rattle.lg_cli.specs.Meaning.Answering.{answer_end, answer_text, events_of, heard, local, newline, opening, sent_text}
+use Rattle.lg_cli.specs.Meaning.Answering.{answer_end, answer_text, events_of, heard, local, newline, opening}
+use Rattle.lg_cli.specs.Meaning.Answering.{sent_text}
 use Rattle.lg_cli.specs.Meaning.Commands.{answer, timeouts, asked, line_faults}
 use Rattle.lg_cli.specs.Meaning.Lines.{lines_of}
 use Rattle.lg_cli.specs.Meaning.Spelled.{packet_in}
@@ -40,7 +42,8 @@ heard-ping : events_of (codes "b") (lines_of (ping ++ 10 ∷ [])) ≡ opening (9
 unfolding events_of packet_in hex_on_literals packet_of packet_at head_at name_at body_at claims_at pinged
 heard-ping = refl
 
-acked : sent_text record { sender = 98 ∷ []; body = Ack 7; claims = record { items = [] } } ≡ codes "534c010301620000000700" ++ 10 ∷ []
+acked : sent_text record { sender = 98 ∷ []; body = Ack 7; claims = record { items = [] } }
+    ≡ codes "534c010301620000000700" ++ 10 ∷ []
 unfolding hex_on_literals spelling
 acked = refl
 
@@ -52,21 +55,27 @@ done = refl
 c-alive : Claim
 c-alive = record { name = 99 ∷ []; addr = local 7003; status = Alive; incarnation = 0 }
 
-heard-claim : packet_in (codes "534c01010161000000070163010101637f0000011b5b00000000") ≡ Ok record { sender = 97 ∷ []; body = Ping 7 (99 ∷ []); claims = record { items = c-alive ∷ [] } }
-unfolding packet_in hex_on_literals packet_of packet_at head_at name_at body_at claims_at claim_at addr_at incarnation_at status_at c-alive
+heard-claim : packet_in (codes "534c01010161000000070163010101637f0000011b5b00000000")
+    ≡ Ok record { sender = 97 ∷ []; body = Ping 7 (99 ∷ []); claims = record { items = c-alive ∷ [] } }
+unfolding packet_in hex_on_literals packet_of packet_at head_at name_at body_at claims_at claim_at addr_at
+    incarnation_at status_at c-alive
 heard-claim = refl
 
-acked-with-claim : sent_text record { sender = 98 ∷ []; body = Ack 8; claims = record { items = c-alive ∷ [] } } ≡ codes "534c0103016200000008010101637f0000011b5b00000000" ++ 10 ∷ []
+acked-with-claim : sent_text record { sender = 98 ∷ []; body = Ack 8; claims = record { items = c-alive ∷ [] } }
+    ≡ codes "534c0103016200000008010101637f0000011b5b00000000" ++ 10 ∷ []
 unfolding hex_on_literals spelling c-alive
 acked-with-claim = refl
 
 -- a Ping for another isn't answered
 for-another : answer_text (codes "b") (codes "534c01010161000000070163010101637f0000011b5b00000000" ++ 10 ∷ []) ≡ []
-unfolding answer_text events_of packet_in hex_on_literals packet_of packet_at head_at name_at body_at claims_at claim_at addr_at incarnation_at status_at
+unfolding answer_text events_of packet_in hex_on_literals packet_of packet_at head_at name_at body_at claims_at
+    claim_at addr_at incarnation_at status_at
 for-another = refl
 
-past-greatest : answer_text (codes "b") (codes "534c01010161000000010162010201627f0000011b583b9aca010161" ++ 10 ∷ []) ≡ codes "fault 8 Incarnation" ++ 10 ∷ []
-unfolding answer_text events_of packet_in hex_on_literals packet_of packet_at head_at name_at body_at claims_at claim_at addr_at incarnation_at status_at
+past-greatest : answer_text (codes "b") (codes "534c01010161000000010162010201627f0000011b583b9aca010161" ++ 10 ∷ [])
+    ≡ codes "fault 8 Incarnation" ++ 10 ∷ []
+unfolding answer_text events_of packet_in hex_on_literals packet_of packet_at head_at name_at body_at claims_at
+    claim_at addr_at incarnation_at status_at
 past-greatest = refl
 
 trailing : answer_text (codes "b") (ping ++ codes "00") ≡ codes "fault 9 Trailing" ++ 10 ∷ []
@@ -89,7 +98,8 @@ no-name : line_faults (codes "lg" ∷ codes "answer" ∷ []) ≡ kind.MissingReq
 unfolding line_faults asked clap_on_literals
 no-name = refl
 
-two-names : line_faults (codes "lg" ∷ codes "answer" ∷ codes "--name=b" ∷ codes "--name=b" ∷ []) ≡ kind.ArgumentConflict ∷ []
+two-names : line_faults (codes "lg" ∷ codes "answer" ∷ codes "--name=b" ∷ codes "--name=b" ∷ [])
+    ≡ kind.ArgumentConflict ∷ []
 unfolding line_faults asked clap_on_literals
 two-names = refl
 
@@ -107,7 +117,8 @@ lines texts = flat_map (λ line. line ++ newline) texts
 
 -- five confirmations among sixteen members, at an interval of 200 ms
 sixteen-members : timeouts_text record { members = 16; confirmations = 5; alpha = 5; beta = 6; interval_ms = 200 }
-    ≡ lines (codes "min 1204" ∷ codes "max 7224" ∷ codes "0 7224" ∷ codes "1 4901" ∷ codes "2 3534" ∷ codes "3 2571" ∷ codes "4 1819" ∷ codes "5 1204" ∷ [])
+    ≡ lines (codes "min 1204" ∷ codes "max 7224"
+    ∷ codes "0 7224" ∷ codes "1 4901" ∷ codes "2 3534" ∷ codes "3 2571" ∷ codes "4 1819" ∷ codes "5 1204" ∷ [])
 unfolding timeouts_text range_of timeout_of log10_of ratio_of digits
 sixteen-members = refl
 
@@ -117,7 +128,8 @@ four-members : timeouts_text record { members = 4; confirmations = 3; alpha = 5;
 unfolding timeouts_text range_of timeout_of log10_of ratio_of digits
 four-members = refl
 
-timed : asked (codes "lg" ∷ codes "timeouts" ∷ codes "--members" ∷ codes "16" ∷ codes "--confirmations=5" ∷ codes "--interval-ms" ∷ codes "200" ∷ [])
+timed : asked (codes "lg" ∷ codes "timeouts" ∷ codes "--members" ∷ codes "16"
+    ∷ codes "--confirmations=5" ∷ codes "--interval-ms" ∷ codes "200" ∷ [])
     ≡ timeouts record { members = 16; confirmations = 5; alpha = 5; beta = 6; interval_ms = 200 }
 unfolding asked clap_on_literals
 timed = refl
@@ -140,6 +152,8 @@ no-members : line_faults (codes "lg" ∷ codes "timeouts" ∷ codes "--alpha=5" 
 unfolding line_faults asked clap_on_literals
 no-members = refl
 
-two-alphas : line_faults (codes "lg" ∷ codes "timeouts" ∷ codes "--members=4" ∷ codes "--alpha=5" ∷ codes "--alpha=5" ∷ []) ≡ kind.ArgumentConflict ∷ []
+two-alphas : line_faults (codes "lg" ∷ codes "timeouts" ∷ codes "--members=4"
+    ∷ codes "--alpha=5" ∷ codes "--alpha=5" ∷ [])
+    ≡ kind.ArgumentConflict ∷ []
 unfolding line_faults asked clap_on_literals
 two-alphas = refl

@@ -31,10 +31,11 @@ pub record AppendsFront (held holds : Option (List ℕ)) (text : List ℕ) : Typ
   pub is : text ≡ front ++ rest
   pub taken : Appends held holds front
 
--- A run fails by a fault, which is told as far as it is taken. Only a fault of writing leaves anything written.
-pub record FailsBy {W : Type 0} (told tells : Option (List ℕ)) (before after : W) : Type 0 where
+-- A run fails by a fault, which is reported as far as the report is taken.
+-- Only a fault of writing leaves anything written.
+pub record FailsBy {W : Type 0} (reported reports : Option (List ℕ)) (before after : W) : Type 0 where
   pub fault : RunFault
-  pub line : AppendsFront told tells (run_fault_text fault)
+  pub line : AppendsFront reported reports (run_fault_text fault)
   pub unwritten : fault ≢ Write → after ≡ before
 
 -- An input that isn't too long is read to its end, and the answer to it is written.

@@ -4,7 +4,8 @@ use Rattle.hex.specs.Hex.{decode_of}
 use Rattle.hex.specs.declared.error.FromHexError.{FromHexError}
 use Rattle.lg_packet.specs.Meaning.Reading.{packet_of}
 use Rattle.lg_packet.specs.declared.fault.Fault.{Fault}
-use Rattle.lg_packet.specs.declared.fault.Fault.TheVariants.{Short, Magic, Version, Kind, Name, Count, ClaimKind, Incarnation, Trailing}
+use Rattle.lg_packet.specs.declared.fault.Fault.TheVariants.{Short, Magic, Version, Kind, Name, Count, ClaimKind}
+use Rattle.lg_packet.specs.declared.fault.Fault.TheVariants.{Incarnation, Trailing}
 use Rattle.lg_packet.specs.declared.packet.Packet.{Packet}
 use Rattle.lg_cli.specs.declared.line.LineFault.{LineFault}
 use Rattle.lg_cli.specs.declared.line.LineFault.TheVariants.{NotHex, Refused}
@@ -21,7 +22,7 @@ of_bytes (Err e) = Err NotHex
 unfoldable pub packet_in : List ℕ → Result Packet LineFault
 packet_in line = of_bytes (decode_of line)
 
--- how a fault is told, by its number and its name
+-- the text of a fault: its number and its name
 abbrev pub fault_text : LineFault → List ℕ
 fault_text NotHex = codes "bad hex"
 fault_text (Refused Short) = codes "fault 1 Short"

@@ -1,5 +1,5 @@
 //! Command lines, their statuses, and what is written where.
-use super::scripted::{Pieces, Room};
+use super::scripted::{Pieces, Room, words_of};
 use crate::program::run_words;
 use std::test::Fail;
 
@@ -31,10 +31,7 @@ fn runs_and_refuses_commands(rt: HostRuntime) -> Result<(), Fail> {
         ("lg answer --name a/b", 3, false, true),
     ];
     for (line, status, writes, tells) in rows {
-        let mut words = Vec::new(rt.alloc());
-        for word in line.split_whitespace() {
-            words.push(word)?;
-        }
+        let words = words_of(rt.alloc(), line)?;
         let mut reader = PING.as_slice();
         let mut written = Vec::new(rt.alloc());
         let mut told = Vec::new(rt.alloc());
@@ -78,16 +75,20 @@ fn reads_nothing_for_a_bad_name(rt: HostRuntime) {
 }
 
 #[test]
-fn tells_faults_of_the_run(rt: HostRuntime) {
+fn reports_faults_of_the_run(rt: HostRuntime) {
     let words = ["lg", "answer", "--name", "b"];
-    // The input, the read and write calls that fail, the status, and what is told.
+    // The input, the read and write calls that fail, the status, what is reported, and what is
+    // written.
     let rows = [
-        (PING.as_slice(), 1, 0, 1, b"lg: read\n".as_slice()),
-        (PING.as_slice(), 0, 1, 1, b"lg: write\n".as_slice()),
-        (b"\n".as_slice(), 0, 0, 3, b"".as_slice()),
-        (b"".as_slice(), 0, 0, 0, b"".as_slice()),
+        (PING.as_slice(), 1, 0, 1, "lg: read\n", ""),
+        (PING.as_slice(), 14, 0, 1, "lg: read\n", ""),
+        (PING.as_slice(), 28, 0, 1, "lg: read\n", ""),
+        (PING.as_slice(), 0, 1, 1, "lg: write\n", ""),
+        (PING.as_slice(), 0, 5, 1, "lg: write\n", "534c"),
+        (b"\n".as_slice(), 0, 0, 3, "", "fault 1 Short\n"),
+        (b"".as_slice(), 0, 0, 0, "", ""),
     ];
-    for (input, read_fails, write_fails, status, told) in rows {
+    for (input, read_fails, write_fails, status, reported, written) in rows {
         let mut reader = Pieces::bytewise(input);
         reader.fails_at = read_fails;
         let mut writer = Room::failing(write_fails);
@@ -99,31 +100,39 @@ fn tells_faults_of_the_run(rt: HostRuntime) {
             &mut writer,
             &mut faults,
         );
-        assert_eq!(rt; ended, status, "{told:?}");
-        assert_eq!(rt; faults.text(), told);
+        assert_eq!(rt; ended, status, "{reported}");
+        assert_eq!(rt; faults.text(), reported.as_bytes());
+        assert_eq!(rt; writer.text(), written.as_bytes());
+        if read_fails > 0 {
+            assert_eq!(rt; writer.calls, 0);
+        }
     }
 }
 
 #[test]
 fn drops_what_faults_does_not_take(rt: HostRuntime) {
     let words = ["lg", "answer", "--name", "b"];
-    let mut reader = Pieces::bytewise(PING);
-    reader.fails_at = 1;
-    let mut writer = Room::failing(0);
-    let mut faults = Room::failing(1);
-    let ended = run_words(
-        rt.alloc(),
-        words.as_slice(),
-        &mut reader,
-        &mut writer,
-        &mut faults,
-    );
-    assert_eq!(rt; ended, 1);
-    assert_eq!(rt; faults.len, 0);
+    for call in [1, 5] {
+        let mut reader = Pieces::bytewise(PING);
+        reader.fails_at = 1;
+        let mut writer = Room::failing(0);
+        let mut faults = Room::failing(call);
+        let ended = run_words(
+            rt.alloc(),
+            words.as_slice(),
+            &mut reader,
+            &mut writer,
+            &mut faults,
+        );
+        assert_eq!(rt; ended, 1, "{call}");
+        assert_eq!(rt; faults.len, call - 1, "{call}");
+        assert_eq!(rt; faults.calls, call, "{call}");
+        assert_eq!(rt; writer.calls, 0, "{call}");
+    }
 }
 
 #[test]
-fn tells_help_that_is_not_taken(rt: HostRuntime) {
+fn reports_help_that_is_not_taken(rt: HostRuntime) {
     let words = ["lg", "--help"];
     let mut reader = Pieces::bytewise(PING);
     let mut writer = Room::failing(1);

@@ -1,6 +1,7 @@
-//! A reader that gives its input as a test says, and a writer of fixed size.
+//! Readers that give their input as a test says, a writer of fixed size, and the words of a line.
 ghost use Rattle.std.specs.Prelude.{◌≤◌};
 
+use std::alloc::{AllocError, Global};
 use std::io;
 use std::io::{ErrorKind, Read, Write};
 
@@ -142,4 +143,13 @@ impl Write for Room {
     fn flush(&mut self) -> io::Result<()> {
         self.call()
     }
+}
+
+/// The words of a command line, which stand between blanks.
+pub fn words_of<'a>(alloc: Global, line: &'a str) -> Result<Vec<&'a str>, AllocError> {
+    let mut words = Vec::new(alloc);
+    for word in line.split_whitespace() {
+        words.push(word)?;
+    }
+    Ok(words)
 }

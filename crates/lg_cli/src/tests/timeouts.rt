@@ -1,5 +1,5 @@
 //! The command `timeouts`, its limits, and what it writes where.
-use super::scripted::{Pieces, Room};
+use super::scripted::{Pieces, Room, words_of};
 use crate::fault::RunFault;
 use crate::program::run_words;
 use crate::run::timeouts_run;
@@ -15,10 +15,7 @@ fn check_line(
     status: u8,
     text: Option<&str>,
 ) -> Result<(), Fail> {
-    let mut words = Vec::new(rt.alloc());
-    for word in line.split_whitespace() {
-        words.push(word)?;
-    }
+    let words = words_of(rt.alloc(), line)?;
     let mut reader = Pieces::bytewise(b"");
     let mut written = Vec::new(rt.alloc());
     let mut told = Vec::new(rt.alloc());

@@ -1,6 +1,6 @@
 use Rattle.std.proofs.Common.{◌≡◌, ◌++◌, List, ℕ}
 use Rattle.std.specs.Io.KnownBytes.{Appends}
-use Rattle.lg_cli.proofs.program.tell.Given as goal
+use Rattle.lg_cli.proofs.program.report.Given as goal
 
 -- what was taken so far, and the rest
 abbrev pub invariant-loop : goal.invariant-loop
