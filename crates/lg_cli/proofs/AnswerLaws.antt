@@ -7,8 +7,8 @@ use Rattle.std.proofs.lemmas.List.Folds.{list_any-append}
 use Rattle.lg_packet.specs.declared.packet.Packet.{Packet}
 use Rattle.lg_rules.specs.declared.addr.Addr.{Addr}
 use Rattle.lg_timing.specs.Meaning.Config.{check_of, IsChecked}
-use Rattle.lg_detector.specs.Meaning.Events.{is_accepted, is_open, opens_well}
-use Rattle.lg_detector.specs.Support.Answers.{state_after, accepts_of}
+use Rattle.lg_detector.specs.Meaning.Step.{is_accepted, is_open, opens_well}
+use Rattle.lg_detector.specs.Support.Step.{state_after, accepts_of}
 use Rattle.lg_detector.specs.Support.State.{State}
 use Rattle.lg_detector.specs.declared.event.Event.{Event}
 use Rattle.lg_detector.proofs.Accepting.{accepts-after}

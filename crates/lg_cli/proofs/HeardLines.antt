@@ -3,7 +3,8 @@ use Rattle.std.proofs.Common.{◌≡◌, ℕ, List, [], ◌∷◌, ◌++◌, Res
 use Rattle.std.specs.List.{flat_map}
 use Rattle.std.specs.Result.{is_err}
 use Rattle.lg_packet.specs.declared.packet.Packet.{Packet}
-use Rattle.lg_detector.specs.Support.Answers.{answer_after, state_after}
+use Rattle.lg_detector.specs.Meaning.Step.{reply_after}
+use Rattle.lg_detector.specs.Support.Step.{state_after}
 use Rattle.lg_detector.specs.Support.State.{State}
 use Rattle.lg_detector.specs.declared.event.Event.{Event}
 use Rattle.lg_detector.specs.declared.reply.Reply.{Reply}
@@ -38,11 +39,11 @@ after_packet line packet is event same s s' step earlier after =
     ∙ ap (λ (d : Result Packet LineFault). state_after (with_heard earlier d)) is
 
 pub text_of_packet : (line : List ℕ) (packet : Packet) → Ok packet ≡ packet_in line → (event : Event) → event ≡ heard packet → (s : State) (reply : Reply)
-    → ((earlier : List Event) → s ≡ state_after earlier → reply ≡ answer_after earlier event)
+    → ((earlier : List Event) → s ≡ state_after earlier → reply ≡ reply_after earlier event)
     → (text text' : List ℕ) → text' ≡ text ++ flat_map sent_line reply.sends.items
     → (earlier : List Event) → s ≡ state_after earlier → text' ≡ text ++ line_text earlier line
 text_of_packet line packet is event same s reply answers text text' put earlier after =
-    put ∙ ap (λ (r : Reply). text ++ flat_map sent_line r.sends.items) (answers earlier after ∙ ap (λ (e : Event). answer_after earlier e) same)
+    put ∙ ap (λ (r : Reply). text ++ flat_map sent_line r.sends.items) (answers earlier after ∙ ap (λ (e : Event). reply_after earlier e) same)
     ∙ ap (λ (d : Result Packet LineFault). text ++ line_reply earlier d) is
 
 pub end_of_packet : (line : List ℕ) (packet : Packet) → Ok packet ≡ packet_in line → Done ≡ line_end line

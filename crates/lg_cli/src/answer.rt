@@ -1,7 +1,7 @@
 //! The command `answer`: what a detector sends for the packets of an input.
 ghost use Rattle.std.specs.Prelude.{◌≡◌, ◌+◌, ◌*◌, ◌≤◌, List, [], ◌∷◌, ◌++◌, IfOk, OnOk, length, vec_len};
 ghost use Rattle.std.specs.List.{flat_map};
-ghost use Rattle.lg_detector.specs.Support.Answers.{state_after};
+ghost use Rattle.lg_detector.specs.Support.Step.{state_after};
 ghost use Rattle.lg_detector.specs.declared.event.Event.{Event as Happened};
 ghost use Rattle.lg_cli.specs.Meaning.Answering.{answer_end, answer_text, heard, line_text, newline, opening};
 ghost use Rattle.lg_cli.specs.Meaning.Answering.{sent_line, sent_text};

@@ -94,7 +94,7 @@ other-said origin c log other =
     let change = known.change_in (moment log) c s in
     let rows : suspicions_after change (suspicions g) ≡ suspicions (group_log (said origin c log)) =
     sym (ap (λ (t : known.State). t.suspicions) (apply-other (moment log) origin c s apart)) ∙ ap (λ (t : known.State). t.suspicions) member in
-    let marks = ap (λ (a : Applied). marked_if a.refuted (score log)) to_other 
+    let marks = ap (λ (a : Applied). marked_if a.refuted (score log)) to_other
     ∙ ap (λ (h : OwnHeard). with_marks max (mark_of h (earned log))) (sym (own_hearing-other (group.own g) c apart)) in
     let times = ap (λ (a : Applied). follow c.name a.deadline (pending log)) to_other
     ∙ pending-after (round_start log) c.name change (suspicions g) (change_about (moment log) c s) (rises-suspicions g)

@@ -52,7 +52,6 @@ struct Parts {
 impl Model for Detector {
     ghost use Rattle.lg_detector.specs.Support.State.{State};
     ghost use Rattle.lg_detector.specs.Support.Reached.{IsReached};
-
     ghost use Rattle.lg_detector.specs.Support.Kept.{state_in};
 
     ghost Value = { State };

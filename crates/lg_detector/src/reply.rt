@@ -3,8 +3,8 @@ ghost use Rattle.std.specs.Prelude.{◌≡◌, ◌<◌, ◌≤◌, length, [], N
 ghost use Rattle.arrayvec.specs.ArrayVec.{array_vec_len};
 
 use arrayvec::ArrayVec;
-use lg_packet::{MAX_CLAIMS, Packet};
-use lg_rules::{Addr, Incarnation, Record};
+use lg_packet::Packet;
+use lg_rules::{Addr, Incarnation, MAX_CLAIMS, Record};
 use lg_timers::Timer;
 
 /// The most packets that a reply has room for (this project's choice). So far an event sends one at the most.

@@ -6,6 +6,7 @@ use Rattle.std.specs.List.{AllByRecursion, IsDistinct}
 use Rattle.std.proofs.lemmas.Bool.{ltb-true}
 use Rattle.std.proofs.lemmas.List.{length-map, length-take}
 use Rattle.lg_rules.specs.declared.claim.Claim.{Claim}
+use Rattle.lg_rules.specs.Meaning.Bounds.{most_claims}
 use Rattle.lg_rules.specs.Meaning.Claim.{name_of}
 use Rattle.lg_rules.specs.Meaning.Rows.{name_cmp, is_same, is_among, put_key, row_at, Rises}
 use Rattle.lg_rules.proofs.Cases.{Missing, Holding, held, held_once}
@@ -109,10 +110,10 @@ pub length-taken_of : (queue : GossipQueue) (to : Option Claim) (n : ℕ) → le
 unfolding taken_of
 length-taken_of queue to n = few (room_beside (buddy_of to)) _
 
-pub length-fill_of : (queue : GossipQueue) (to : Option Claim) (n : ℕ) → length (fill_of queue to n) ≤ 6
+pub length-fill_of : (queue : GossipQueue) (to : Option Claim) (n : ℕ) → length (fill_of queue to n) ≤ most_claims
 length-fill_of queue to n = with_buddy (buddy_of to) (taken_of queue to n) (length-taken_of queue to n)
   where
-    with_buddy : (buddy : Option Claim) (taken : List Claim) → length taken ≤ room_beside buddy → length (option_to_list buddy ++ taken) ≤ 6
+    with_buddy : (buddy : Option Claim) (taken : List Claim) → length taken ≤ room_beside buddy → length (option_to_list buddy ++ taken) ≤ most_claims
     with_buddy None taken l = l
     with_buddy (Some b) taken l = omega (arith, l)
 

@@ -10,11 +10,12 @@ use Rattle.std.specs.Prelude.{nat_lt}
 use Rattle.lg_rules.proofs.Cases.{Below, Tied, Above, compared}
 use Rattle.lg_rules.proofs.KeyOrder.{names_order}
 use Rattle.lg_rules.proofs.Rises.{rises-put}
+use Rattle.lg_gossip.specs.declared.limit.TheConstants.{MAX_DIGITS}
 use Rattle.lg_gossip.specs.declared.queued.Queued.{Queued}
 use Rattle.lg_gossip.specs.Meaning.Queue.{queued_name, queued_claim, fresh, is_beside, may_go, rows_taken, sent_once}
 use Rattle.lg_gossip.proofs.Each.{all-both}
 use Rattle.lg_gossip.proofs.Taken.{may_when_taken}
-use Rattle.lg_gossip.specs.Support.Sound.{AreWithin, IsSound}
+use Rattle.lg_gossip.specs.Support.Sound.{IsSound}
 
 -- the names of rows with one put
 names-put : (r : Queued) (rows : List Queued) → map queued_name (put_row name_cmp queued_name r rows) ≡ put_key name_cmp (queued_name r) (map queued_name rows)
@@ -37,13 +38,8 @@ pub sound-put : (lambda : ℕ) (c : Claim) (rows : List Queued) → IsSound lamb
 sound-put lambda c rows s = record {
   often = s.often;
   in_order = subst (Rises name_cmp) (sym (names-put (fresh c) rows)) (rises-put names_order c.name (map queued_name rows) s.in_order);
-  within = within-put (lambda * 20) (fresh c) rows (omega arith) s.within;
+  within = within-put (lambda * MAX_DIGITS) (fresh c) rows (omega arith) s.within;
 }
-
--- so no row was sent more than two hundred times
-pub below_two_hundred : (lambda : ℕ) (rows : List Queued) → lambda ≤ 10 → AreWithin lambda rows → AllByRecursion (λ q. q.sends ≤ 200) rows
-below_two_hundred lambda [] often w = tt
-below_two_hundred lambda (q ∷ qs) often w = (omega (arith, w.0), below_two_hundred lambda qs often w.1)
 
 -- the names of rows after a packet
 names-sent : (taken : List Claim) (rows : List Queued) → map queued_name (map (sent_once taken) rows) ≡ map queued_name rows
@@ -66,12 +62,12 @@ within-sent taken limit most (q ∷ qs) l w t = (here, within-sent taken limit m
       | inr n ↦ rw n w.0
     ]
 
-pub sound-sent : (lambda limit : ℕ) (buddy : Option Claim) (rows : List Queued) → limit ≤ lambda * 20 → IsSound lambda rows
+pub sound-sent : (lambda limit : ℕ) (buddy : Option Claim) (rows : List Queued) → limit ≤ lambda * MAX_DIGITS → IsSound lambda rows
     → IsSound lambda (map (sent_once (map queued_claim (rows_taken buddy limit rows))) rows)
 sound-sent lambda limit buddy rows l s =
     let taken = map queued_claim (rows_taken buddy limit rows) in
     record {
       often = s.often;
       in_order = subst (Rises name_cmp) (sym (names-sent taken rows)) s.in_order;
-      within = within-sent taken limit (lambda * 20) rows l s.within (all-both _ _ _ rows (λ q w m a. below_limit buddy limit q (m a)) s.within (may_when_taken buddy limit rows s.in_order));
+      within = within-sent taken limit (lambda * MAX_DIGITS) rows l s.within (all-both _ _ _ rows (λ q w m a. below_limit buddy limit q (m a)) s.within (may_when_taken buddy limit rows s.in_order));
     }

@@ -10,10 +10,10 @@ ghost use Rattle.lg_gossip.specs.Support.Sound.{AreInOrder};
 ghost use Rattle.lg_gossip.specs.Support.Places.{IsRowOf, rows_at};
 
 use crate::limit::MAX_SENDS;
-use crate::queue::{MAX_CLAIMS, MAX_QUEUED};
+use crate::queue::MAX_QUEUED;
 use crate::queued::Queued;
 use arrayvec::ArrayVec;
-use lg_rules::{Claim, Record, Status, seat_of};
+use lg_rules::{Claim, MAX_CLAIMS, Record, Status, seat_of};
 
 /// A row that a packet takes.
 #[derive(Clone, Copy, Default)]

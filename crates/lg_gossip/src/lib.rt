@@ -7,7 +7,7 @@ mod queue;
 mod queued;
 
 pub use limit::{MAX_LAMBDA, MAX_SENDS};
-pub use queue::{MAX_CLAIMS, MAX_QUEUED, Queue};
+pub use queue::{MAX_QUEUED, Queue};
 pub use queued::Queued;
 
 #[cfg(test)]

@@ -1,24 +1,19 @@
 //! The queue of claims.
 ghost use Rattle.std.specs.Prelude.{◌≡◌, ◌≤◌, ◌<◌, [], length, map, None, option_copied};
 ghost use Rattle.std.specs.List.{IsDistinct};
-ghost use Rattle.arrayvec.specs.ArrayVec.{array_vec_len};
-ghost use Rattle.lg_rules.specs.Meaning.Rows.{name_cmp, is_same, row_at, put_row};
+ghost use Rattle.lg_rules.specs.Meaning.Rows.{name_cmp, is_same, row_at};
 ghost use Rattle.lg_rules.specs.Meaning.Claim.{name_of};
 ghost use Rattle.lg_gossip.specs.Meaning.Queue.{queued_name, put_of, fill_of, filled};
-ghost use Rattle.lg_gossip.specs.Support.Sound.{AreInOrder};
 
 use crate::choice::{buddy_of, count_sends, rows_taken, write_claims};
 use crate::limit::{MAX_LAMBDA, send_limit};
 use crate::queued::Queued;
 use arrayvec::ArrayVec;
-use lg_rules::{Claim, Record, seat_of};
+use lg_rules::{Claim, MAX_CLAIMS, MAX_MEMBERS, Record, put_row};
 use std::marker::Model;
 
-/// The most claims of a packet: 6 (this project's choice).
-pub const MAX_CLAIMS: usize = 6;
-
 /// The most claims of a queue, one a member: 256 (this project's choice).
-pub const MAX_QUEUED: usize = 256;
+pub const MAX_QUEUED: usize = MAX_MEMBERS;
 
 /// The claims that packets take with them (SWIM, section 4.1), one a member, in the order of the members'
 /// names.
@@ -43,19 +38,6 @@ impl Model for Queue {
     ghost view = { λ q. record { lambda = q.lambda; rows = q.rows.items } };
 
     ghost invariant = { λ q. IsSound q.lambda q.rows.items };
-}
-
-/// Puts a row in the place of its name.
-fn put_row(rows: &mut ArrayVec<Queued, MAX_QUEUED>, queued: Queued)
-    requires room { let standing = row_at name_cmp queued_name queued.claim.name rows.old.items in
-        (standing ≡ None) → array_vec_len rows.old < MAX_QUEUED }
-    requires rises { AreInOrder rows.old.items }
-    ensures { rows.new.items ≡ put_row name_cmp queued_name queued rows.old.items }
-{
-    match seat_of(rows.as_slice(), &queued.claim.name) {
-        Ok(at) => rows[at] = queued,
-        Err(at) => rows.insert(at, queued),
-    }
 }
 
 impl Queue {
@@ -98,6 +80,19 @@ impl Queue {
         requires { (row_at name_cmp queued_name claim.name self.old.rows ≡ None) → length self.old.rows < MAX_QUEUED }
         ensures { self.new ≡ put_of claim self.old }
     {
+        // Built anew of its parts, since the checker doesn't follow a whole claim into a generic call.
+        let Claim {
+            name,
+            addr,
+            status,
+            incarnation,
+        } = claim;
+        let claim = Claim {
+            name,
+            addr,
+            status,
+            incarnation,
+        };
         put_row(&mut self.rows, Queued::fresh(claim));
     }
 

@@ -1,5 +1,6 @@
 //! Worked rows.
 use crate::{MAX_QUEUED, Queue, Queued};
+use arrayvec::ArrayVec;
 use lg_rules::{Addr, Claim, Incarnation, Name, Status};
 use std::test::Fail;
 
@@ -30,13 +31,18 @@ fn sent(claim: Claim, sends: u32) -> Queued {
     Queued { claim, sends }
 }
 
+/// Puts a claim, where there is room.
+fn put(queue: &mut Queue, claim: Claim) {
+    if queue.queued().len() < MAX_QUEUED {
+        queue.put(claim);
+    }
+}
+
 /// A queue with these claims put, each sent at most 4 times for a digit.
 fn queue_of(claims: &[Claim]) -> Queue {
     let mut queue = Queue::new(4);
     for claim in claims {
-        if queue.queued().len() < MAX_QUEUED {
-            queue.put(*claim);
-        }
+        put(&mut queue, *claim);
     }
     queue
 }
@@ -53,14 +59,22 @@ fn passes_over_the_buddy(rt: HostRuntime) -> Result<(), Fail> {
     assert_eq!(rt; queue.queued(), [sent(suspect, 0), sent(d, 1)].as_slice());
     assert_eq!(rt; queue.fill(None, 9).as_slice(), [suspect, d].as_slice());
     assert_eq!(rt; queue.queued(), [sent(suspect, 1), sent(d, 2)].as_slice());
+    let mut claims = ArrayVec::new();
+    for _ in 0..2 {
+        queue.fill_into(Some(&suspect), 9, &mut claims);
+        assert_eq!(rt; claims.as_slice(), [suspect, d].as_slice());
+    }
+    assert_eq!(rt; queue.queued(), [sent(suspect, 1), sent(d, 4)].as_slice());
+    queue.fill_into(None, 9, &mut claims);
+    assert_eq!(rt; claims.as_slice(), [suspect].as_slice());
     // What is queued about c may differ from its record, and a record that isn't Suspect is no buddy.
     let other = claim(b'c', Status::Suspect(letter(b'b')?), 2)?;
     assert_eq!(rt;
-        queue.fill(Some(&other), 9).as_slice(),
+        queue.fill(Some(&other), 99).as_slice(),
         [other, d].as_slice()
     );
     assert_eq!(rt;
-        queue.fill(Some(&alive(b'c')?), 9).as_slice(),
+        queue.fill(Some(&alive(b'c')?), 99).as_slice(),
         [suspect, d].as_slice()
     );
     Ok(())
@@ -104,15 +118,15 @@ fn takes_six_claims(rt: HostRuntime) -> Result<(), Fail> {
 fn sends_up_to_the_limit(rt: HostRuntime) -> Result<(), Fail> {
     let only = [alive(b'c')?];
     let mut queue = queue_of(&only);
-    for (members, sends) in [(9, 4), (10, 4), (99, 0), (100, 4), (256, 0)] {
+    for (live, sends) in [(9, 4), (10, 4), (99, 0), (100, 4), (256, 0)] {
         for _ in 0..sends {
             assert_eq!(rt;
-                queue.fill(None, members).as_slice(),
+                queue.fill(None, live).as_slice(),
                 only.as_slice(),
-                "among {members}"
+                "among {live}"
             );
         }
-        assert_eq!(rt; queue.fill(None, members).len(), 0, "among {members}");
+        assert_eq!(rt; queue.fill(None, live).len(), 0, "among {live}");
     }
     Ok(())
 }
@@ -120,16 +134,16 @@ fn sends_up_to_the_limit(rt: HostRuntime) -> Result<(), Fail> {
 #[test]
 fn takes_any_number_of_members(rt: HostRuntime) -> Result<(), Fail> {
     let only = [alive(b'c')?];
-    for (members, sends) in [(999, 12), (1_000, 16), (usize::MAX, 80)] {
+    for (live, sends) in [(999, 12), (1_000, 16), (usize::MAX, 80)] {
         let mut queue = queue_of(&only);
         for _ in 0..sends {
             assert_eq!(rt;
-                queue.fill(None, members).as_slice(),
+                queue.fill(None, live).as_slice(),
                 only.as_slice(),
-                "among {members}"
+                "among {live}"
             );
         }
-        assert_eq!(rt; queue.fill(None, members).len(), 0, "among {members}");
+        assert_eq!(rt; queue.fill(None, live).len(), 0, "among {live}");
     }
     Ok(())
 }
@@ -141,9 +155,7 @@ fn puts_with_no_sends(rt: HostRuntime) -> Result<(), Fail> {
     let mut queue = queue_of(&[d, c]);
     assert_eq!(rt; queue.queued(), [sent(c, 0), sent(d, 0)].as_slice());
     assert_eq!(rt; queue.fill(None, 1).as_slice(), [c, d].as_slice());
-    if queue.queued().len() < MAX_QUEUED {
-        queue.put(newer);
-    }
+    put(&mut queue, newer);
     assert_eq!(rt; queue.queued(), [sent(newer, 0), sent(d, 1)].as_slice());
     assert_eq!(rt; queue.fill(None, 1).as_slice(), [newer, d].as_slice());
     Ok(())

@@ -6,7 +6,7 @@ use Rattle.hex.specs.Hex.{encode_lower}
 use Rattle.lg_rules.specs.declared.addr.Addr.{Addr}
 use Rattle.lg_packet.specs.Meaning.Spelling.{spelling}
 use Rattle.lg_packet.specs.declared.packet.Packet.{Packet}
-use Rattle.lg_detector.specs.Support.Answers.{answer_after}
+use Rattle.lg_detector.specs.Meaning.Step.{reply_after}
 use Rattle.lg_detector.specs.declared.event.Event.{Event}
 use Rattle.lg_detector.specs.declared.event.Event.TheVariants.{Open, Heard}
 use Rattle.lg_detector.specs.declared.reply.Outgoing.{Outgoing}
@@ -49,7 +49,7 @@ sent_line outgoing = sent_text outgoing.packet
 
 -- a line for each packet that the detector sends after the earlier events, or one for the fault
 abbrev pub line_reply : List Event → Result Packet LineFault → List ℕ
-line_reply earlier (Ok packet) = flat_map sent_line (answer_after earlier (heard packet)).sends.items
+line_reply earlier (Ok packet) = flat_map sent_line (reply_after earlier (heard packet)).sends.items
 line_reply earlier (Err fault) = fault_text fault ++ newline
 
 -- what a line gives after the earlier events

@@ -1,6 +1,6 @@
 -- The bounds of the code are those of the definitions.
 use Rattle.std.specs.Prelude.{◌≡◌, refl}
-use Rattle.lg_detector.specs.declared.showing.TheConstants.{MAX_MEMBERS}
+use Rattle.lg_rules.specs.declared.members.TheConstants.{MAX_MEMBERS}
 use Rattle.lg_timing.specs.declared.config.TheConstants.{MAX_CONFIRMATIONS, MAX_FACTOR, MAX_INTERVAL_MS}
 use Rattle.lg_timing.specs.declared.config.TheConstants.{MIN_INTERVAL_MS}
 use Rattle.lg_cli.specs.Meaning.Ranges.{least_interval, most_confirmations, most_factor, most_input, most_interval}

@@ -1,7 +1,7 @@
 -- What one line does in a run over lines.
 use Rattle.std.specs.Prelude.{ℕ, IsTrue, List, [], ◌∷◌, ◌++◌, Result, Ok, Err, if◌then◌else◌}
 use Rattle.lg_packet.specs.declared.packet.Packet.{Packet}
-use Rattle.lg_detector.specs.Support.Answers.{accepts_of}
+use Rattle.lg_detector.specs.Support.Step.{accepts_of}
 use Rattle.lg_detector.specs.Support.State.{State}
 use Rattle.lg_detector.specs.declared.event.Event.{Event}
 use Rattle.lg_cli.specs.Meaning.Answering.{heard, is_faulty}

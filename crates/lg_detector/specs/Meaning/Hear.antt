@@ -45,7 +45,7 @@ ack_sent source (Some number) log =
     let claims = fill_of (queue (group_log log)) None (group.live (group_log log)) in
     record {
       to = source;
-      packet = record { sender = group.me (group_log log); body = Ack number; claims = record { items = claims } }
+      packet = record { sender = group.me (group_log log); body = Ack number; claims = record { items = claims } };
     } ∷ []
 
 abbrev pub sends_to : Addr → Body → Log → List Outgoing

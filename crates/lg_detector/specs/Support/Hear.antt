@@ -30,7 +30,7 @@ ack_sent source (Some number) s =
     let claims = fill_of s.membership.queue None (live_in s.membership.members.table) in
     record {
       to = source;
-      packet = record { sender = s.membership.own.name; body = Ack number; claims = record { items = claims } }
+      packet = record { sender = s.membership.own.name; body = Ack number; claims = record { items = claims } };
     } ∷ []
 
 abbrev pub sends_to : Addr → Body → State → List Outgoing

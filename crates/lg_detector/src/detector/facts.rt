@@ -12,9 +12,8 @@ ghost use Rattle.lg_detector.specs.Support.State.{come, begin, marked_if, follow
 
 use super::{Detector, MAX_EVENTS};
 use arrayvec::ArrayVec;
-use lg_gossip::MAX_CLAIMS;
 use lg_membership::{Deadline, Origin};
-use lg_rules::{Claim, Name};
+use lg_rules::{Claim, MAX_CLAIMS, Name};
 use lg_timers::{MAX_TIMERS, Timer, TimerId, Timers};
 use lg_timing::{Config, Moment, Score};
 

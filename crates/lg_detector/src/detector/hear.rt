@@ -13,9 +13,8 @@ ghost use Rattle.lg_detector.specs.Support.Step.{view_in};
 use super::{Detector, MAX_EVENTS};
 use crate::reply::{MAX_CHANGED, MAX_SENDS, Outgoing, Reply};
 use arrayvec::ArrayVec;
-use lg_gossip::MAX_CLAIMS;
 use lg_packet::{Body, Packet};
-use lg_rules::{Addr, Claim, Name, Record};
+use lg_rules::{Addr, Claim, MAX_CLAIMS, Name, Record};
 use lg_timing::{Config, Moment};
 
 /// Whether two names are one.
@@ -46,13 +45,7 @@ fn asked_of(config: Option<&Config>, body: &Body) -> Option<u32>
 
 impl Detector {
     /// A packet is heard from a source: its claims are said, and its body is answered.
-    pub(super) fn hear(
-        &mut self,
-        now: Moment,
-        source: Addr,
-        packet: &Packet,
-        reply: &mut Reply,
-    )
+    pub(super) fn hear(&mut self, now: Moment, source: Addr, packet: &Packet, reply: &mut Reply)
         requires { self.old.events < MAX_EVENTS }
         ensures state { self.new ≡ hear now packet.now self.old }
         ensures fired { reply.new.fired ≡ None }
@@ -79,12 +72,7 @@ impl Detector {
     }
 
     /// Answers the body of a packet, in the place of what `sends` held.
-    fn respond(
-        &mut self,
-        source: Addr,
-        body: &Body,
-        sends: &mut ArrayVec<Outgoing, MAX_SENDS>,
-    )
+    fn respond(&mut self, source: Addr, body: &Body, sends: &mut ArrayVec<Outgoing, MAX_SENDS>)
         ensures state { self.new ≡ respond body.now self.old }
         ensures sends { sends.new.items ≡ sends_to source body.now self.old }
     {

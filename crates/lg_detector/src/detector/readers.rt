@@ -10,8 +10,7 @@ ghost use Rattle.lg_detector.specs.Support.Step.{state_after, deadline_of, view_
 use super::{Detector, NoMemory};
 use crate::reply::MAX_CHANGED;
 use arrayvec::ArrayVec;
-use lg_membership::MAX_MEMBERS;
-use lg_rules::{Name, Record};
+use lg_rules::{MAX_MEMBERS, Name, Record};
 use std::alloc::Global;
 
 impl Detector {

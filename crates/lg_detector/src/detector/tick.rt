@@ -9,8 +9,7 @@ ghost use Rattle.lg_detector.specs.Support.Tick.{due, fire_due, claims_by, tick}
 use super::{Detector, MAX_EVENTS};
 use crate::reply::Reply;
 use arrayvec::ArrayVec;
-use lg_gossip::MAX_CLAIMS;
-use lg_rules::{Claim, Record, Status};
+use lg_rules::{Claim, MAX_CLAIMS, Record, Status};
 use lg_timers::{Timer, TimerId};
 use lg_timing::Moment;
 
@@ -69,10 +68,12 @@ impl Detector {
         ensures { result.items ≡ claims_by fired.now (view_in self.now) }
     {
         match fired {
-            Some(Timer {
-                id: TimerId::Suspicion(member),
-                ..
-            }) => failed_claims(&self.record_of(member)),
+            Some(
+                Timer {
+                    id: TimerId::Suspicion(member),
+                    ..
+                },
+            ) => failed_claims(&self.record_of(member)),
             _ => ArrayVec::new(),
         }
     }

@@ -6,6 +6,7 @@ use Rattle.std.specs.Ordering.{is_lt}
 use Rattle.lg_rules.specs.declared.claim.Claim.{Claim}
 use Rattle.lg_rules.specs.declared.claim.Status.{Status}
 use Rattle.lg_rules.specs.declared.claim.Status.TheVariants.{Alive, Suspect, Failed}
+use Rattle.lg_rules.specs.Meaning.Bounds.{most_claims}
 use Rattle.lg_rules.specs.Meaning.Claim.{name_of}
 use Rattle.lg_rules.specs.Meaning.Rows.{name_cmp, is_same, is_among, put_row}
 use Rattle.lg_gossip.specs.declared.queued.Queued.{Queued}
@@ -63,11 +64,7 @@ abbrev pub buddy_of : Option Claim → Option Claim
 buddy_of None = None
 buddy_of (Some to) = if is_suspect to.status then Some to else None
 
--- so many claims a packet holds at most (this project's choice)
-abbrev pub most_claims : ℕ
-most_claims = 6
-
--- With a buddy one fewer of them is of the queue, and none of it about the buddy's member.
+-- With a buddy one claim fewer of a packet's is of the queue, and none of it about the buddy's member.
 abbrev pub room_beside : Option Claim → ℕ
 room_beside None = most_claims
 room_beside (Some buddy) = most_claims - 1

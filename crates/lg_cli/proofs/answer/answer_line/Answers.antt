@@ -1,7 +1,7 @@
 use Rattle.std.proofs.Common.{◌≡◌, ◌/◌, List, ◌++◌, IsTrue, Err, Ok, length, ap, ap₂, arith, length-take-le, subst, sym, ◌∙◌}
 use Rattle.std.specs.List.{flat_map}
 use Rattle.lg_rules.specs.declared.addr.Addr.{Addr}
-use Rattle.lg_detector.specs.Support.Answers.{accepts_of}
+use Rattle.lg_detector.specs.Support.Step.{accepts_of}
 use Rattle.lg_detector.specs.declared.event.Event.{Event as Happened}
 use Rattle.lg_detector.specs.declared.event.Event.TheVariants.{Heard}
 use Rattle.lg_detector.specs.declared.reply.Outgoing.{Outgoing}

@@ -1,6 +1,6 @@
 use Rattle.std.proofs.Common.{[], ◌∷◌, ap, ◌∙◌}
 use Rattle.lg_detector.specs.declared.event.Event.{Event}
-use Rattle.lg_detector.specs.Support.Answers.{state_after}
+use Rattle.lg_detector.specs.Support.Step.{state_after}
 use Rattle.lg_cli.proofs.AnswerLaws.{opens_with_defaults}
 use Rattle.lg_cli.proofs.answer.opened.Goals as goal
 
