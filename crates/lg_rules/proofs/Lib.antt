@@ -14,3 +14,4 @@ pub mod Tables
 pub mod Tests
 pub mod Views
 pub mod Words
+pub mod LiveLaws

@@ -3,3 +3,4 @@ pub mod Bounds
 pub mod Padding
 pub mod Places
 pub mod Words
+pub mod Members

@@ -4,6 +4,8 @@ ghost use Rattle.std.specs.Prelude.{option_copied, None, Some};
 ghost use Rattle.lg_rules.specs.declared.claim.Claim.{Claim as Said};
 ghost use Rattle.lg_rules.specs.Meaning.Claim.{name_of};
 ghost use Rattle.lg_rules.specs.Meaning.Rows.{name_cmp, put_row, row_at, Rises};
+ghost use Rattle.lg_rules.specs.Support.Members.{live_weight};
+ghost use Rattle.lg_rules.specs.Support.Places.{HasRow, LacksRow};
 ghost use Rattle.arrayvec.specs.ArrayVec.{array_vec_len};
 ghost use Rattle.lg_rules.specs.Meaning.Table.{heard, hearing_of, is_failed, known_of, live_in, standing_hearing};
 
@@ -44,19 +46,20 @@ pub enum Heard {
 pub struct Members {
     own: Name,
     records: ArrayVec<Record, MAX_OTHERS>,
+    // How many members haven't failed, oneself included. It is kept, since each suspicion that is raised asks for it.
+    live: usize,
 }
 
 impl Model for Members {
-    ghost use Rattle.std.specs.Prelude.{map};
-    ghost use Rattle.lg_rules.specs.Meaning.Claim.{name_of};
-    ghost use Rattle.lg_rules.specs.Meaning.Rows.{name_cmp, Rises};
     ghost use Rattle.lg_rules.specs.Meaning.Table.{Known};
 
     ghost Value = { Known };
 
     ghost view = { λ m. record { own = m.own; table = m.records.items } };
 
-    ghost invariant = { λ m. Rises name_cmp (map name_of m.records.items) };
+    ghost use Rattle.lg_rules.specs.Support.Members.{AreCounted};
+
+    ghost invariant = { λ m. AreCounted m.records.items m.live };
 }
 
 /// Whether a status is Failed.
@@ -91,36 +94,58 @@ fn standing_hearing(claim: &Claim, current: &Record) -> Heard
     }
 }
 
-/// Hears a claim about another member.
+/// What a record adds to the number of members that haven't failed.
+fn weight(status: Status) -> usize
+    ensures { result ≡ live_weight status }
+{
+    if is_failed(status) { 0 } else { 1 }
+}
+
+/// Puts a claim in the place of the record that it overrides, and counts who hasn't failed then.
+fn replace(records: &mut ArrayVec<Record, MAX_OTHERS>, live: &mut usize, at: usize, claim: &Claim)
+    requires has { HasRow name_cmp name_of claim.now.name records.old.items at }
+    requires counted { live.old ≡ live_in records.old.items }
+    ensures rows { records.new.items ≡ put_row name_cmp name_of claim.now records.old.items }
+    ensures counted { live.new ≡ live_in records.new.items }
+{
+    *live -= weight(records[at].status);
+    *live += weight(claim.status);
+    records[at] = *claim;
+}
+
+/// Puts a claim about an unknown member at its place, and counts who hasn't failed then.
+fn add(records: &mut ArrayVec<Record, MAX_OTHERS>, live: &mut usize, at: usize, claim: &Claim)
+    requires lacks { LacksRow name_cmp name_of claim.now.name records.old.items at }
+    requires room { array_vec_len records.old < MAX_OTHERS }
+    requires counted { live.old ≡ live_in records.old.items }
+    ensures rows { records.new.items ≡ put_row name_cmp name_of claim.now records.old.items }
+    ensures counted { live.new ≡ live_in records.new.items }
+{
+    *live += weight(claim.status);
+    records.insert(at, *claim);
+}
+
+/// Hears a claim about another member, and counts who hasn't failed then.
 #[tactic(auto, unfolding(crate::specs::Meaning::Table::takes))]
-fn hear_in(records: &mut ArrayVec<Record, MAX_OTHERS>, claim: &Claim) -> Heard
-    requires { Rises name_cmp (map name_of records.old.items) }
+fn hear_in(records: &mut ArrayVec<Record, MAX_OTHERS>, live: &mut usize, claim: &Claim) -> Heard
+    requires rises { Rises name_cmp (map name_of records.old.items) }
+    requires counted { live.old ≡ live_in records.old.items }
     ensures hearing { result ≡ hearing_of records.old.items claim.now }
     ensures table { records.new.items ≡ heard records.old.items claim.now }
+    ensures counted { live.new ≡ live_in records.new.items }
 {
     match seat_of(records.as_slice(), &claim.name) {
         Ok(at) if beats(claim, &records[at]) => {
-            records[at] = *claim;
+            replace(records, live, at, claim);
             Heard::Overrode
         }
         Ok(at) => standing_hearing(claim, &records[at]),
         Err(_) if records.is_full() => Heard::NoRoom,
         Err(at) => {
-            records.insert(at, *claim);
+            add(records, live, at, claim);
             Heard::Overrode
         }
     }
-}
-
-/// How many members haven't failed, oneself included.
-fn count_live(records: &[Record]) -> usize
-    requires { length records.now ≤ MAX_OTHERS }
-    ensures { result ≡ live_in records.now }
-{
-    1 + records
-        .iter()
-        .filter(|record| !is_failed(record.status))
-        .count()
 }
 
 impl Members {
@@ -131,6 +156,7 @@ impl Members {
         Members {
             own: *own,
             records: ArrayVec::new(),
+            live: 1,
         }
     }
 
@@ -139,9 +165,14 @@ impl Members {
     pub fn restart(&mut self, own: &Name)
         ensures { self.new ≡ known_of own.now [] }
     {
-        let Members { own: name, records } = self;
+        let Members {
+            own: name,
+            records,
+            live,
+        } = self;
         *name = *own;
         records.clear();
+        *live = 1;
     }
 
     /// The own name.
@@ -179,7 +210,9 @@ impl Members {
         ensures count { result ≡ live_in self.now.table }
         ensures few { result ≤ MAX_MEMBERS }
     {
-        count_live(self.records.as_slice())
+        // Of the row it is known that it holds 255 records at most.
+        let _ = self.records.as_slice();
+        self.live
     }
 
     /// Hears a claim about another member.
@@ -198,6 +231,6 @@ impl Members {
         ensures oneself { (past : List Said) (c : Said) → let after = known_of self.old.own in
             c.name ≡ self.old.own → after (c ∷ past) ≡ after past }
     {
-        hear_in(&mut self.records, claim)
+        hear_in(&mut self.records, &mut self.live, claim)
     }
 }

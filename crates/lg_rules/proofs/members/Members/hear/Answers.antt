@@ -7,8 +7,12 @@ use Rattle.lg_rules.proofs.Tables.{heard-table, table-own, rises-heard}
 use Rattle.lg_rules.proofs.members.Members.hear.Goals as goal
 
 pub invariant_of-self : goal.invariant_of-self
-invariant_of-self c =
-    subst (λ (rows : List Claim). Rises name_cmp (map name_of rows)) (sym c.hear_in.ensures.table) (rises-heard c.self.inside.records.items c.args.claim.now c.self.invariant)
+invariant_of-self c = record {
+  rises =
+      subst (λ (rows : List Claim). Rises name_cmp (map name_of rows)) (sym c.hear_in.ensures.table)
+      (rises-heard c.self.inside.records.items c.args.claim.now c.self.invariant.rises);
+  counted = c.hear_in.ensures.counted;
+}
 
 pub returns-clause-past : goal.returns-clause-past
 returns-clause-past c = λ past e.

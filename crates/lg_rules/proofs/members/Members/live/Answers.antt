@@ -1,0 +1,15 @@
+use Rattle.std.proofs.Common.{not, length, ap, arith}
+use Rattle.std.proofs.lemmas.List.Sums.{count_by-le-length}
+use Rattle.lg_rules.specs.declared.claim.Claim.{Claim}
+use Rattle.lg_rules.specs.Meaning.Table.{is_failed}
+use Rattle.lg_rules.proofs.members.Members.live.Goals as goal
+
+pub returns-clause-few : goal.returns-clause-few
+returns-clause-few c =
+    omega (
+      arith,
+      c.self.invariant.counted,
+      c.as_slice.ensures.fits,
+      ap length c.as_slice.ensures.value,
+      count_by-le-length (λ (r : Claim). not (is_failed r.status)) c.self.inside.records.items,
+    )
