@@ -1,4 +1,5 @@
-//! What a member knows of its group: its own number, the records of the others, their suspicions, and the queue of claims.
+//! What a member knows of its group: its own number, the records of the others, their suspicions, and the queue of
+//! claims to be sent.
 #![tactic(auto)]
 
 mod applied;
@@ -10,3 +11,6 @@ mod suspicions;
 pub use applied::{Applied, Deadline};
 pub use membership::{MAX_MEMBERS, Membership};
 pub use origin::Origin;
+
+#[cfg(test)]
+mod tests;

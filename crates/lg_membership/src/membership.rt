@@ -30,9 +30,9 @@ pub use lg_rules::MAX_MEMBERS;
 /// What a member knows of its group (SWIM, section 4; Lifeguard): its own number, the records of the others, their
 /// suspicions, and the queue of claims to be sent.
 ///
-/// It is made blank, opened, and then applies one claim after another. No call takes memory. A contract sees it as plain
-/// data, which is a function of its log: what it was opened with, which claims were said and when, and which packets were
-/// sent.
+/// It is made blank, opened, and then applies one claim after another. No call takes memory. A contract sees it as
+/// plain data, which is a function of its log: what it was opened with, which claims were said and when, and which
+/// packets were sent.
 #[derive(Debug, Drop)]
 pub struct Membership {
     config: Option<Config>,
@@ -126,8 +126,8 @@ fn is_to_be_passed_on(heard: Heard, deadline: Deadline) -> bool
     }
 }
 
-/// What a claim about another puts into the queue: the claim itself, where the group says it and it counts, which is that it
-/// makes or replaces a record, or confirms a suspicion.
+/// What a claim about another puts into the queue: the claim itself, where the group says it and it counts, which is
+/// that it makes or replaces a record, or confirms a suspicion.
 fn put_of_other(origin: Origin, counts: bool, claim: &Claim) -> Option<Claim>
     ensures { result ≡ put_if origin counts claim.now }
 {
@@ -152,8 +152,8 @@ impl Membership {
         }
     }
 
-    /// The member is opened with a configuration that passed its check. All that was known is forgotten; its seeds are to be
-    /// applied next.
+    /// The member is opened with a configuration that passed its check. All that was known is forgotten; its seeds are
+    /// to be applied next.
     pub fn open_with(&mut self, config: &Config)
         requires { IsChecked config.now }
         ensures state { self.new ≡ open_with config.now self.old }
@@ -167,8 +167,8 @@ impl Membership {
         self.config = Some(config.copy());
     }
 
-    /// Applies a claim that is said at a moment, and tells what that did (SWIM, section 4.2; Lifeguard, local health aware
-    /// suspicion).
+    /// Applies a claim that is said at a moment, and answers what that did (SWIM, section 4.2; Lifeguard, local health
+    /// aware suspicion). At most 256 names are known, oneself included; a claim about a further one does nothing.
     #[tactic(auto, unfolding(crate::specs::Support::State::apply, crate::specs::Support::State::applied))]
     pub fn apply(&mut self, now: Moment, origin: Origin, claim: &Claim) -> Applied
         ensures state { self.new ≡ apply now origin claim.now self.old }
@@ -218,8 +218,19 @@ impl Membership {
         }
     }
 
-    /// The claims of the next packet that is no Ping: those of the queue that have their turn, which count as sent once more
-    /// (SWIM, section 4.1).
+    /// Writes the claims of the next packet that is no Ping, in the place of what was there: those of the queue that
+    /// have their turn, which count as sent once more (SWIM, section 4.1).
+    pub fn fill_into(&mut self, claims: &mut ArrayVec<Claim, MAX_CLAIMS>)
+        ensures claims { claims.new.items ≡ fill_of self.old.queue None (live_in self.old.members.table) }
+        ensures state { let taken = taken_of self.old.queue None (live_in self.old.members.table) in
+            self.new ≡ send taken self.old }
+        ensures log { (log : Log) → self.old ≡ state_of log
+            → self.new ≡ state_of (Sent (taken_of self.old.queue None (live_in self.old.members.table)) ∷ log) }
+    {
+        self.queue.fill_into(None, self.members.live(), claims);
+    }
+
+    /// The claims of the next packet that is no Ping, as `fill_into` writes them.
     pub fn fill(&mut self) -> ArrayVec<Claim, MAX_CLAIMS>
         ensures claims { result.items ≡ fill_of self.old.queue None (live_in self.old.members.table) }
         ensures state { let taken = taken_of self.old.queue None (live_in self.old.members.table) in
@@ -227,6 +238,8 @@ impl Membership {
         ensures log { (log : Log) → self.old ≡ state_of log
             → self.new ≡ state_of (Sent (taken_of self.old.queue None (live_in self.old.members.table)) ∷ log) }
     {
-        self.queue.fill(None, self.members.live())
+        let mut claims = ArrayVec::new();
+        self.fill_into(&mut claims);
+        claims
     }
 }

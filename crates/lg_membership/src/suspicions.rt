@@ -4,7 +4,8 @@ ghost use Rattle.arrayvec.specs.ArrayVec.{array_vec_len};
 ghost use Rattle.lg_rules.specs.Meaning.Claim.{accuser_of};
 ghost use Rattle.lg_rules.specs.Meaning.Rows.{name_cmp, row_at, Rises};
 ghost use Rattle.lg_membership.specs.Meaning.Suspicions.{suspected_name};
-ghost use Rattle.lg_membership.specs.Support.Changes.{Change, raised, ended, overriding, accusing, change_by, suspicions_after, deadline_after, row_about};
+ghost use Rattle.lg_membership.specs.Support.Changes.{raised, ended, overriding, accusing, change_by};
+ghost use Rattle.lg_membership.specs.Support.Changes.{suspicions_after, deadline_after, row_about};
 ghost use Rattle.lg_membership.specs.Support.Reached.{IsGood};
 ghost use Rattle.lg_membership.specs.Support.Room.{HasSeat};
 

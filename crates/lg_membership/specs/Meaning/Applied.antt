@@ -42,8 +42,11 @@ IsDeadlineChange before after Stays = after ≡ before
 IsDeadlineChange before after Ends = (before ≢ None) × (after ≡ None)
 IsDeadlineChange before after (Stands deadline) = option_map (λ r. deadline_of r.suspicion) after ≡ Some deadline
 
--- A claim is said after a log: what it changes of the record and of the deadline of its member, and whether it is refuted.
+-- A claim is said after a log: what it changes of the record and of the deadline of its member, and whether it is
+-- refuted.
 pub record IsApplied (now : ℕ) (origin : Origin) (c : Claim) (log : Log) (applied : Applied) : Type 0 where
-  pub changed : IsRecordChange (record_in log c.name) (record_in (Said now origin c ∷ log) c.name) applied.changed
+  pub changed : (let after = Said now origin c ∷ log in
+      IsRecordChange (record_in log c.name) (record_in after c.name) applied.changed)
   pub refuted : applied.refuted ≡ is_refuted (own_hearing (own log) c)
-  pub deadline : IsDeadlineChange (suspicion_in log c.name) (suspicion_in (Said now origin c ∷ log) c.name) applied.deadline
+  pub deadline : (let after = Said now origin c ∷ log in
+      IsDeadlineChange (suspicion_in log c.name) (suspicion_in after c.name) applied.deadline)

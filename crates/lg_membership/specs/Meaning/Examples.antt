@@ -1,1 +1,194 @@
--- Worked rows.
+-- Worked logs of b, which is at 127.0.0.1:7000.
+use Rattle.std.specs.Prelude.{◌≡◌, ℕ, Bool, true, false, List, [], ◌∷◌, ◌++◌, map, Option, Some, None, refl}
+use Rattle.std.specs.Fmt.{digits}
+use Rattle.lg_rules.specs.declared.addr.Addr.{Addr}
+use Rattle.lg_rules.specs.declared.claim.Claim.{Claim}
+use Rattle.lg_rules.specs.declared.claim.Status.{Status}
+use Rattle.lg_rules.specs.declared.claim.Status.TheVariants.{Alive, Suspect, Failed}
+use Rattle.lg_rules.specs.Meaning.Own.{Oneself, own_of}
+use Rattle.lg_rules.specs.Meaning.Table.{record_of, roster, table_of, takes}
+use Rattle.lg_timing.specs.declared.config.Config.{Config}
+use Rattle.lg_timing.specs.Meaning.Config.{defaults}
+use Rattle.lg_timing.specs.Meaning.Tables.{log10_of, ratio_of}
+use Rattle.lg_timing.specs.Meaning.TimeoutRange.{TimeoutRange}
+use Rattle.lg_timing.specs.Meaning.Timeouts.{range_of, timeout_of}
+use Rattle.lg_suspicion.specs.Meaning.Accusers.{counted_accusers, deadline_of}
+use Rattle.lg_gossip.specs.declared.queued.Queued.{Queued}
+use Rattle.lg_gossip.specs.Meaning.Queue.{taken_of, fill_of}
+use Rattle.lg_membership.specs.declared.origin.Origin.TheVariants.{Seed, Group}
+use Rattle.lg_membership.specs.declared.suspected.Suspected.{Suspected}
+use Rattle.lg_membership.specs.Meaning.Log.{Fact, Log, Opened, Said, Sent, own, live, view}
+use Rattle.lg_membership.specs.Meaning.Suspicions.{suspicions, suspected}
+use Rattle.lg_membership.specs.Meaning.Gossip.{put_by, queued, queue_rows, queue}
+
+-- the letters that name the members
+abbrev a : ℕ
+a = 97
+
+abbrev b : ℕ
+b = 98
+
+abbrev c : ℕ
+c = 99
+
+abbrev d : ℕ
+d = 100
+
+abbrev e : ℕ
+e = 101
+
+abbrev here : Addr
+here = record { octets = 127 ∷ 0 ∷ 0 ∷ 1 ∷ []; port = 7000 }
+
+abbrev accused_by : ℕ → Status
+accused_by letter = Suspect (letter ∷ [])
+
+abbrev on : ℕ → Status → ℕ → Claim
+on letter status i = record { name = letter ∷ []; addr = here; status = status; incarnation = i }
+
+-- the default numbers, and facts at moments
+abbrev opened : Fact
+opened = Opened (defaults (b ∷ []) here)
+
+abbrev says : ℕ → Claim → Fact
+says now claim = Said now Group claim
+
+-- b knows that a, d and e are alive, and c
+abbrev others : Log
+others = says 0 (on e Alive 0) ∷ says 0 (on d Alive 0) ∷ says 0 (on c Alive 0) ∷ says 0 (on a Alive 0) ∷ opened ∷ []
+
+five_live : live others ≡ 5
+unfolding table_of record_of roster
+five_live = refl
+
+-- c is suspected at 2000 by d, again by d, and then by e
+abbrev by_d : Log
+by_d = says 2000 (on c (accused_by d) 0) ∷ others
+
+abbrev by_d_and_e : Log
+by_d_and_e = says 2600 (on c (accused_by e) 0) ∷ says 2500 (on c (accused_by d) 0) ∷ by_d
+
+abbrev of_c : List (List ℕ) → Suspected
+of_c accusers =
+    let range : TimeoutRange = record { min = 5000; max = 30000; confirmations = 3 } in
+    record { name = c ∷ []; suspicion = record { raised = 2000; timeout = range; accusers = accusers } }
+
+suspected_by_d : suspicions by_d ≡ of_c ((d ∷ []) ∷ []) ∷ []
+unfolding table_of record_of roster suspicions suspected range_of log10_of counted_accusers
+suspected_by_d = refl
+
+suspected_by_d_and_e : suspicions by_d_and_e ≡ of_c ((d ∷ []) ∷ (e ∷ []) ∷ []) ∷ []
+unfolding table_of record_of roster suspicions suspected range_of log10_of counted_accusers
+suspected_by_d_and_e = refl
+
+abbrev deadlines : Log → List ℕ
+deadlines log = map (λ r. deadline_of r.suspicion) (suspicions log)
+
+deadline_by_d : deadlines by_d ≡ 32000 ∷ []
+unfolding table_of record_of roster suspicions suspected range_of timeout_of log10_of ratio_of counted_accusers
+deadline_by_d = refl
+
+deadline_by_d_and_e : deadlines by_d_and_e ≡ 19500 ∷ []
+unfolding table_of record_of roster suspicions suspected range_of timeout_of log10_of ratio_of counted_accusers
+deadline_by_d_and_e = refl
+
+-- The suspicion ends where c is alive at a greater number, and where it failed.
+ended_by_c : deadlines (says 3000 (on c Alive 1) ∷ by_d_and_e) ≡ []
+unfolding table_of record_of roster suspicions suspected range_of timeout_of log10_of ratio_of counted_accusers
+ended_by_c = refl
+
+ended_by_failing : deadlines (says 19500 (on c Failed 0) ∷ by_d_and_e) ≡ []
+unfolding table_of record_of roster suspicions suspected range_of timeout_of log10_of ratio_of counted_accusers
+ended_by_failing = refl
+
+stands_at_the_number : deadlines (says 3000 (on c Alive 0) ∷ by_d) ≡ 32000 ∷ []
+unfolding table_of record_of roster suspicions suspected range_of timeout_of log10_of ratio_of counted_accusers
+stands_at_the_number = refl
+
+-- One at a greater incarnation raises a suspicion anew.
+raised_anew : deadlines (says 4000 (on c (accused_by a) 1) ∷ by_d_and_e) ≡ 34000 ∷ []
+unfolding table_of record_of roster suspicions suspected range_of timeout_of log10_of ratio_of counted_accusers
+raised_anew = refl
+
+-- Two live members are too few for three confirmations, so the least timeout counts.
+too_few : deadlines (says 2000 (on c (accused_by d) 0) ∷ opened ∷ []) ≡ 7000 ∷ []
+unfolding table_of record_of roster suspicions suspected range_of timeout_of log10_of ratio_of counted_accusers
+too_few = refl
+
+-- A failed member isn't live when the claim about it is applied.
+four_live : live (says 2000 (on c Failed 0) ∷ others) ≡ 4
+unfolding table_of record_of roster
+four_live = refl
+
+-- b is suspected by a and then by c, both at 0: it refutes once.
+abbrev refuted : Log
+refuted = says 0 (on b (accused_by c) 0) ∷ says 0 (on b (accused_by a) 0) ∷ opened ∷ []
+
+own_number : own refuted ≡ record { name = b ∷ []; addr = here; number = 1; ousted = false }
+unfolding own_of
+own_number = refl
+
+refutation_is_queued : queue refuted ≡ record { lambda = 4; rows = record { claim = on b Alive 1; sends = 0 } ∷ [] }
+unfolding own_of table_of record_of roster takes put_by queued queue_rows suspicions
+refutation_is_queued = refl
+
+-- A seed is known, and isn't queued; a claim that overrides it is.
+abbrev seeded : Log
+seeded = Said 0 Seed (on c Alive 0) ∷ opened ∷ []
+
+seed_is_known : view seeded ≡ on b Alive 0 ∷ on c Alive 0 ∷ []
+unfolding own_of table_of record_of roster
+seed_is_known = refl
+
+seed_is_not_queued : (queue seeded).rows ≡ []
+unfolding table_of record_of roster takes put_by queued queue_rows suspicions
+seed_is_not_queued = refl
+
+overridden_seed : (queue (says 0 (on c Alive 1) ∷ seeded)).rows ≡ record { claim = on c Alive 1; sends = 0 } ∷ []
+unfolding table_of record_of roster takes put_by queued queue_rows suspicions
+overridden_seed = refl
+
+-- Nobody is known before the opening.
+unopened : view [] ≡ []
+unopened = refl
+
+-- A claim is sent four times among fewer than ten members.
+abbrev alive-c : Claim
+alive-c = on c Alive 0
+
+abbrev sent : Log → Log
+sent log = Sent (alive-c ∷ []) ∷ log
+
+abbrev heard : Log
+heard = says 0 alive-c ∷ opened ∷ []
+
+fourth_packet : fill_of (queue (sent (sent (sent heard)))) None 2 ≡ alive-c ∷ []
+unfolding table_of record_of roster takes put_by queued queue_rows suspicions taken_of digits
+fourth_packet = refl
+
+fifth_packet : fill_of (queue (sent (sent (sent (sent heard))))) None 2 ≡ []
+unfolding table_of record_of roster takes put_by queued queue_rows suspicions taken_of digits
+fifth_packet = refl
+
+sendable_again : fill_of (queue (sent (sent (sent (sent heard))))) None 10 ≡ alive-c ∷ []
+unfolding table_of record_of roster takes put_by queued queue_rows suspicions taken_of digits
+sendable_again = refl
+
+-- What is queued afresh has no sends.
+queued_afresh : (queue (says 0 (on c Alive 1) ∷ sent heard)).rows ≡ record { claim = on c Alive 1; sends = 0 } ∷ []
+unfolding table_of record_of roster takes put_by queued queue_rows suspicions
+queued_afresh = refl
+
+-- An accuser that counts is queued, and one that counts already isn't.
+abbrev queued_about : ℕ → Log → Option Queued
+queued_about letter log = queued log (letter ∷ [])
+
+confirmation_is_queued : queued_about c by_d_and_e ≡ Some record { claim = on c (accused_by e) 0; sends = 0 }
+unfolding table_of record_of roster takes put_by queued suspicions suspected range_of log10_of counted_accusers
+confirmation_is_queued = refl
+
+repetition_is_not_queued :
+    queued_about c (says 2500 (on c (accused_by d) 0) ∷ Sent (on c (accused_by d) 0 ∷ []) ∷ by_d)
+    ≡ Some record { claim = on c (accused_by d) 0; sends = 1 }
+unfolding table_of record_of roster takes put_by queued suspicions suspected range_of log10_of counted_accusers
+repetition_is_not_queued = refl

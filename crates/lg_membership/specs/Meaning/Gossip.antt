@@ -1,5 +1,6 @@
 -- What waits to be sent (SWIM, section 4.1).
-use Rattle.std.specs.Prelude.{ℕ, ◌+◌, Bool, true, false, ◌&&◌, ◌||◌, List, [], ◌∷◌, map, Option, Some, None, option_map, if◌then◌else◌}
+use Rattle.std.specs.Prelude.{ℕ, ◌+◌, Bool, true, false, ◌&&◌, ◌||◌, if◌then◌else◌}
+use Rattle.std.specs.Prelude.{List, [], ◌∷◌, map, Option, Some, None, option_map}
 use Rattle.std.specs.List.{filter_map}
 use Rattle.lg_rules.specs.declared.claim.Claim.{Claim}
 use Rattle.lg_rules.specs.Meaning.Claim.{name_of}
@@ -17,8 +18,8 @@ use Rattle.lg_membership.specs.declared.suspected.Suspected.{Suspected}
 use Rattle.lg_membership.specs.Meaning.Log.{Fact, Log, Opened, Said, Sent, config, me, own, table, known}
 use Rattle.lg_membership.specs.Meaning.Suspicions.{suspicions, confirms}
 
--- What is put into the queue where a claim is said: the claim, where the opening doesn't say it and it makes or replaces a
--- record, or confirms a suspicion; or one's own record, where the claim raises the own number.
+-- What is put into the queue where a claim is said: the claim, where the opening doesn't say it and it makes or
+-- replaces a record, or confirms a suspicion; or one's own record, where the claim raises the own number.
 abbrev pub put_of_own : OwnHeard → Oneself → Option Claim
 put_of_own Refuted oneself = Some (own_record oneself)
 put_of_own Raised oneself = Some (own_record oneself)

@@ -9,8 +9,8 @@ use Rattle.lg_rules.specs.Meaning.Own.{Oneself, own_of, own_record}
 use Rattle.lg_timing.specs.declared.config.Config.{Config}
 use Rattle.lg_membership.specs.declared.origin.Origin.{Origin}
 
--- A log tells what happened in facts, the latest first: the member was opened; a claim was said at a moment, as a seed of the
--- opening or by the group; a packet was sent that took these claims of the queue.
+-- A log says what happened in facts, the latest first: the member was opened; a claim was said at a moment, as a seed
+-- of the opening or by the group; a packet was sent that took these claims of the queue.
 pub data Fact : Type 0 where
   Opened : Config → Fact
   Said : ℕ → Origin → Claim → Fact

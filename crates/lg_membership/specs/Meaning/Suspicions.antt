@@ -1,5 +1,6 @@
 -- Who is suspected, since when and by whom (SWIM, section 4.2; Lifeguard, local health aware suspicion).
-use Rattle.std.specs.Prelude.{ℕ, Bool, true, false, ◌&&◌, ◌==◌, List, [], ◌∷◌, filter, Option, Some, None, if◌then◌else◌}
+use Rattle.std.specs.Prelude.{ℕ, Bool, true, false, ◌&&◌, ◌==◌, if◌then◌else◌}
+use Rattle.std.specs.Prelude.{List, [], ◌∷◌, filter, Option, Some, None}
 use Rattle.std.specs.List.{filter_map}
 use Rattle.lg_rules.specs.declared.claim.Claim.{Claim}
 use Rattle.lg_rules.specs.declared.members.Heard.{Heard}
@@ -66,8 +67,8 @@ suspicions log = filter_map (suspected log) (roster (me log) (said log))
 abbrev pub suspected_name : Suspected → List ℕ
 suspected_name r = r.name
 
--- A claim confirms a suspicion where it accuses a suspected member at the incarnation of its record, and its accuser is new
--- and counts.
+-- A claim confirms a suspicion where it accuses a suspected member at the incarnation of its record, and its accuser is
+-- new and counts.
 abbrev pub is_accusation : Heard → Bool
 is_accusation Overrode = false
 is_accusation Accused = true

@@ -10,7 +10,7 @@ use Rattle.lg_rules.specs.Meaning.Rows.{name_cmp, put_row, row_at, without_row}
 use Rattle.lg_rules.specs.Meaning.Table.{hearing_of, heard, live_in}
 use Rattle.lg_timing.specs.declared.config.Config.{Config}
 use Rattle.lg_timing.specs.Meaning.Timeouts.{range_of}
-use Rattle.lg_suspicion.specs.Meaning.Accusers.{accuser_counts, accused, deadline_of}
+use Rattle.lg_suspicion.specs.Meaning.Accusers.{SuspicionValue, accuser_counts, accused, deadline_of}
 use Rattle.lg_membership.specs.declared.applied.Deadline.{Deadline}
 use Rattle.lg_membership.specs.declared.applied.Deadline.TheVariants.{Stays, Ends, Stands}
 use Rattle.lg_membership.specs.declared.suspected.Suspected.{Suspected}
@@ -26,7 +26,8 @@ pub data Change : Type 0 where
 abbrev pub raised : Option Config → ℕ → ℕ → List ℕ → List ℕ → Change
 raised None now n m accuser = Nothing
 raised (Some opening) now n m accuser =
-    Putting record { name = m; suspicion = record { raised = now; timeout = range_of n opening; accusers = accuser ∷ [] } }
+    let suspicion : SuspicionValue = record { raised = now; timeout = range_of n opening; accusers = accuser ∷ [] } in
+    Putting record { name = m; suspicion = suspicion }
 
 abbrev pub ended : List ℕ → Option Suspected → Change
 ended m None = Nothing

@@ -1,4 +1,4 @@
-//! What a member tells of its group.
+//! What a member is asked of its group.
 ghost use Rattle.std.specs.Prelude.{◌≡◌, ◌≤◌, ◌<◌, [], length, map, filter, option_copied};
 ghost use Rattle.arrayvec.specs.ArrayVec.{array_vec_len};
 ghost use Rattle.lg_rules.specs.Meaning.Claim.{name_of};
@@ -65,7 +65,8 @@ impl Membership {
         self.members.get(name).copied()
     }
 
-    /// Writes the records of these names, at most 6 of them, in the order of the names and in the place of what the row held.
+    /// Writes the records of these names, at most [`MAX_CLAIMS`] of them, in the order of the names and in the place of
+    /// what the row held.
     pub fn put_records(&self, names: &[Name], row: &mut ArrayVec<Record, MAX_CLAIMS>)
         requires { length names.now ≤ MAX_CLAIMS }
         ensures { row.new.items ≡ filter (λ r. is_among name_cmp r.name names.now) (shown self.now) }
@@ -105,8 +106,8 @@ impl Membership {
         }
     }
 
-    /// Writes the records of all members, oneself included, in the order of their names and in the place of what the row
-    /// held. Nobody is known before the opening.
+    /// Writes the records of all members, oneself included, in the order of their names and in the place of what the
+    /// row held. Nobody is known before the opening.
     pub fn put_table(&self, row: &mut ArrayVec<Record, MAX_MEMBERS>)
         ensures state { row.new.items ≡ shown self.now }
         ensures log { (log : Log) → self.now ≡ state_of log → row.new.items ≡ view log }
