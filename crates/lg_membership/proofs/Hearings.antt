@@ -20,24 +20,24 @@ use Rattle.lg_membership.specs.Support.State.{State, change_in}
 use Rattle.lg_membership.proofs.Chosen.{found_key}
 
 -- a claim that isn't taken overrides nothing
-status_kept : (s t : Status) → is_override (standing_status s t) ≡ false
-status_kept Alive Alive = refl
-status_kept Alive (Suspect b) = refl
-status_kept Alive Failed = refl
-status_kept (Suspect a) Alive = refl
-status_kept (Suspect a) (Suspect b) = refl
-status_kept (Suspect a) Failed = refl
-status_kept Failed Alive = refl
-status_kept Failed (Suspect b) = refl
-status_kept Failed Failed = refl
+standing_overrides_none : (s t : Status) → is_override (standing_status s t) ≡ false
+standing_overrides_none Alive Alive = refl
+standing_overrides_none Alive (Suspect b) = refl
+standing_overrides_none Alive Failed = refl
+standing_overrides_none (Suspect a) Alive = refl
+standing_overrides_none (Suspect a) (Suspect b) = refl
+standing_overrides_none (Suspect a) Failed = refl
+standing_overrides_none Failed Alive = refl
+standing_overrides_none Failed (Suspect b) = refl
+standing_overrides_none Failed Failed = refl
 
-either_kept : (b : Bool) (s t : Status) → is_override (cond b (standing_status s t) Ignored) ≡ false
-either_kept true s t = status_kept s t
-either_kept false s t = refl
+either_standing : (b : Bool) (s t : Status) → is_override (cond b (standing_status s t) Ignored) ≡ false
+either_standing true s t = standing_overrides_none s t
+either_standing false s t = refl
 
 standing_override : (c : Claim) (o : Option Claim) → is_override (standing_hearing c o) ≡ false
 standing_override c None = refl
-standing_override c (Some r) = either_kept _ c.status r.status
+standing_override c (Some r) = either_standing _ c.status r.status
 
 pub override-takes : (table : List Claim) (c : Claim) → is_override (hearing_of table c) ≡ takes table c
 override-takes table c = elim (cases_Bool (takes table c)) [
@@ -70,8 +70,8 @@ confirms-stands NoRoom opened now n row c = refl
 pub counts_for : (table : List Claim) (opened : Option Config) (now n : ℕ) (row : Option Suspected) (c : Claim) {h : Heard} {d : Deadline}
     → h ≡ hearing_of table c → d ≡ deadline_after (change_by (hearing_of table c) opened now n row c)
     → (is_override h || (is_accusation h && stands d)) ≡ (takes table c || (is_accusation (hearing_of table c) && counts_in (accuser_of c.status) row))
-counts_for table opened now n row c answer deadline =
-    (λ i. is_override (answer i) || (is_accusation (answer i) && stands (deadline i)))
+counts_for table opened now n row c hearing deadline =
+    (λ i. is_override (hearing i) || (is_accusation (hearing i) && stands (deadline i)))
     ∙ (λ i. override-takes table c i || confirms-stands (hearing_of table c) opened now n row c i)
 
 -- What a claim changes concerns its member.

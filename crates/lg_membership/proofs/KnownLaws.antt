@@ -54,7 +54,7 @@ or_right : (a : Bool) {b : Bool} → b ≡ true → (a || b) ≡ true
 or_right true e = refl
 or_right false e = e
 
--- the others whose records are kept are known
+-- the others that have records are known
 pub roster_known : (log : Log) (m : List ℕ) → is_among name_cmp m (roster (me log) (said log)) ≡ true → is_among name_cmp m (known log) ≡ true
 roster_known log m among = among-put names_order m (me log) (roster (me log) (said log)) ∙ or_right (is_same name_cmp (me log) m) among
 

@@ -21,7 +21,7 @@ use Rattle.lg_membership.specs.Meaning.Log.{Fact, Log, Said, config, said, live}
 use Rattle.lg_membership.specs.Meaning.Suspicions.{accuses, accusers_in, raise_of, said_at, suspicion_since, suspected_by, suspected_in, suspected, suspected_name}
 use Rattle.lg_membership.proofs.AccusedLaws.{accuses-other, none_accuse, none_raises, one_raises, record_accused, not_accused}
 
--- Where two logs were opened alike, and tell the same of a member, it is suspected alike.
+-- Where two logs were opened alike, and say the same of a member, it is suspected alike.
 pub suspected-alike : (log later : Log) (m : List ℕ) → config later ≡ config log → said later ≡ said log → ((i : ℕ) → raise_of m i later ≡ raise_of m i log)
     → suspected later m ≡ suspected log m
 unfolding suspected

@@ -29,7 +29,7 @@ use Rattle.lg_membership.proofs.Removing.{without-missing}
 use Rattle.lg_membership.proofs.QueuedLaws.{row_out}
 use Rattle.lg_membership.proofs.SuspectedLaws.{suspected-alike, suspected-quiet, suspected-other, suspected-unopened, suspected-ended, suspected-raised, raised_at, suspected-accused, suspected_keyed}
 
--- Marks that tell nothing of a member leave the suspicions.
+-- Facts that say nothing of a member leave the suspicions.
 pub suspicions-sent : (taken : List Claim) (log : Log) → suspicions log ≡ suspicions (Sent taken ∷ log)
 unfolding suspicions
 suspicions-sent taken log = sym (rows_equal (suspected log) (suspected (Sent taken ∷ log)) (roster (me log) (said log)) (λ m. suspected-alike log (Sent taken ∷ log) m refl refl (λ i. refl)))
@@ -46,7 +46,7 @@ pub suspicions-unopened : (log : Log) → config log ≡ None → suspicions log
 unfolding suspicions
 suspicions-unopened log e = none_rows (suspected log) (roster (me log) (said log)) (λ m. suspected-unopened log m e)
 
--- the suspicion of a member whose record is kept
+-- the suspicion of a member that is known
 pub row_at-suspicions : (log : Log) (m : List ℕ) → is_among name_cmp m (roster (me log) (said log)) ≡ true → row_at name_cmp suspected_name m (suspicions log) ≡ suspected log m
 unfolding suspicions
 row_at-suspicions log m among =
@@ -252,12 +252,12 @@ changed-unbeaten now origin log c opening opened k =
     let said_same = k.after ∙ sym k.before in
     let there = put-there names_order c.name ns (rises-roster (me log) (said log)) k.among in
     elim (unbeaten_as c k.r) [
-      | Accuses a is suspect same answer ↦ (
+      | Accuses a is suspect same hearing ↦ (
           let has = suspected-accused now origin log c k.r a opening opened is k.before k.after suspect same in
           let row = has.row in
           let grown : Suspected = record { name = row.name; suspicion = accused row.suspicion a } in
           let by_row : change now log c ≡ accusing (Some a) (Some row) =
-          ap (λ h. change_by h (config log) now n (row_about c rows) c) (hearing-unbeaten log c k ∙ answer)
+          ap (λ h. change_by h (config log) now n (row_about c rows) c) (hearing-unbeaten log c k ∙ hearing)
           ∙ ap (λ s. accusing (accuser_of s) (row_at name_cmp suspected_name c.name rows)) is
           ∙ ap (accusing (Some a)) (row_at-suspicions log c.name k.among ∙ has.before) in
           elim (cases_Bool (accuser_counts row.suspicion a)) [
@@ -294,8 +294,8 @@ changed-unbeaten now origin log c opening opened k =
 changed-out : (now : ℕ) (origin : Origin) (log : Log) (c : Claim) → takes (table log) c ≡ false → is_among name_cmp c.name (roster (me log) (said log)) ≡ false
     → roster (me log) (c ∷ said log) ≡ roster (me log) (said log) → suspicions_after (change now log c) (suspicions log) ≡ suspicions (Said now origin c ∷ log)
 changed-out now origin log c taken out names =
-    let answer : hearing_of (table log) c ≡ NoRoom = rw (taken, row_out log c.name out) refl in
-    ap (λ h. suspicions_after (change_by h (config log) now (live_in (heard (table log) c)) (row_about c (suspicions log)) c) (suspicions log)) answer
+    let hearing : hearing_of (table log) c ≡ NoRoom = rw (taken, row_out log c.name out) refl in
+    ap (λ h. suspicions_after (change_by h (config log) now (live_in (heard (table log) c)) (row_about c (suspicions log)) c) (suspicions log)) hearing
     ∙ rows_out now origin log c out names
 
 pub suspicions-other : (now : ℕ) (origin : Origin) (log : Log) (c : Claim) → c.name ≢ me log → suspicions_after (change now log c) (suspicions log) ≡ suspicions (Said now origin c ∷ log)

@@ -167,7 +167,7 @@ impl Membership {
         self.config = Some(config.copy());
     }
 
-    /// Applies a claim that is said at a moment, and answers what that did (SWIM, section 4.2; Lifeguard, local health
+    /// Applies a claim that is said at a moment, and returns what that did (SWIM, section 4.2; Lifeguard, local health
     /// aware suspicion). At most 256 names are known, oneself included; a claim about a further one does nothing.
     #[tactic(auto, unfolding(crate::specs::Support::State::apply, crate::specs::Support::State::applied))]
     pub fn apply(&mut self, now: Moment, origin: Origin, claim: &Claim) -> Applied
@@ -175,7 +175,7 @@ impl Membership {
         ensures applied { result ≡ applied now claim.now self.old }
         // Whatever was said before, the log goes on by this claim.
         ensures log { (log : Log) → self.old ≡ state_of log → self.new ≡ state_of (Said now origin claim.now ∷ log) }
-        // What is answered is what the claim changes of its member's record and suspicion.
+        // It is what the claim changes of its member's record and suspicion.
         ensures meaning { (log : Log) → self.old ≡ state_of log → IsApplied now origin claim.now log result }
     {
         if is_same_name(&claim.name, &self.own.name()) {
@@ -207,8 +207,14 @@ impl Membership {
         ensures applied { result ≡ applied_other now claim.now self.old }
     {
         let heard = self.members.hear(claim);
-        let live = self.members.live();
-        let deadline = suspect(&mut self.suspicions, &self.config, now, live, heard, claim);
+        let deadline = suspect(
+            &mut self.suspicions,
+            &self.config,
+            now,
+            &self.members,
+            heard,
+            claim,
+        );
         let counts = is_to_be_passed_on(heard, deadline);
         put(&mut self.queue, put_of_other(origin, counts, claim));
         Applied {

@@ -13,7 +13,7 @@ pub struct Suspected {
     pub suspicion: Suspicion,
 }
 
-/// Suspicions are kept in the order of the members' names.
+/// Suspicions stand in the order of the members' names.
 impl Keyed for Suspected {
     ghost use Rattle.lg_membership.specs.Meaning.Suspicions.{suspected_name};
 

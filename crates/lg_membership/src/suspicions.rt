@@ -3,6 +3,7 @@ ghost use Rattle.std.specs.Prelude.{◌≡◌, ◌≤◌, map, None, Some};
 ghost use Rattle.arrayvec.specs.ArrayVec.{array_vec_len};
 ghost use Rattle.lg_rules.specs.Meaning.Claim.{accuser_of};
 ghost use Rattle.lg_rules.specs.Meaning.Rows.{name_cmp, row_at, Rises};
+ghost use Rattle.lg_rules.specs.Meaning.Table.{live_in};
 ghost use Rattle.lg_membership.specs.Meaning.Suspicions.{suspected_name};
 ghost use Rattle.lg_membership.specs.Support.Changes.{raised, ended, overriding, accusing, change_by};
 ghost use Rattle.lg_membership.specs.Support.Changes.{suspicions_after, deadline_after, row_about};
@@ -12,7 +13,7 @@ ghost use Rattle.lg_membership.specs.Support.Room.{HasSeat};
 use crate::applied::Deadline;
 use crate::suspected::Suspected;
 use arrayvec::ArrayVec;
-use lg_rules::{Claim, Heard, MAX_MEMBERS, MAX_OTHERS, Name, Status, put_row, seat_of};
+use lg_rules::{Claim, Heard, MAX_OTHERS, Members, Name, Status, put_row, seat_of};
 use lg_suspicion::Suspicion;
 use lg_timing::{Config, Moment};
 
@@ -24,23 +25,22 @@ fn raise(
     suspicions: &mut Suspicions,
     config: &Option<Config>,
     now: Moment,
-    live: usize,
+    members: &Members,
     name: &Name,
     accuser: &Name,
 ) -> Deadline
     requires rises { Rises name_cmp (map suspected_name suspicions.old.items) }
     requires seat { HasSeat name.now suspicions.old.items }
     requires good { IsGood config.now }
-    requires some { 1 ≤ live }
-    requires most { live ≤ MAX_MEMBERS }
     ensures rows { suspicions.new.items
-        ≡ suspicions_after (raised config.now now live name.now accuser.now) suspicions.old.items }
-    ensures deadline { result ≡ deadline_after (raised config.now now live name.now accuser.now) }
+        ≡ suspicions_after (raised config.now now (live_in members.now.table) name.now accuser.now) suspicions.old.items }
+    ensures deadline { result ≡ deadline_after (raised config.now now (live_in members.now.table) name.now accuser.now) }
 {
     let Some(config) = config else {
         return Deadline::Stays;
     };
-    let suspicion = Suspicion::raise(now, accuser, live as u64, config);
+    let live = members.live() as u64;
+    let suspicion = Suspicion::raise(now, accuser, live, config);
     let deadline = suspicion.deadline();
     let suspected = Suspected {
         name: *name,
@@ -72,22 +72,21 @@ fn override_row(
     suspicions: &mut Suspicions,
     config: &Option<Config>,
     now: Moment,
-    live: usize,
+    members: &Members,
     claim: &Claim,
 ) -> Deadline
     requires rises { Rises name_cmp (map suspected_name suspicions.old.items) }
     requires seat { HasSeat claim.now.name suspicions.old.items }
     requires good { IsGood config.now }
-    requires some { 1 ≤ live }
-    requires most { live ≤ MAX_MEMBERS }
     ensures rows { let row = row_about claim.now suspicions.old.items in
-        suspicions.new.items
-        ≡ suspicions_after (overriding config.now now live claim.now.name row claim.now.status) suspicions.old.items }
+        let change = overriding config.now now (live_in members.now.table) claim.now.name row claim.now.status in
+        suspicions.new.items ≡ suspicions_after change suspicions.old.items }
     ensures deadline { let row = row_about claim.now suspicions.old.items in
-        result ≡ deadline_after (overriding config.now now live claim.now.name row claim.now.status) }
+        let change = overriding config.now now (live_in members.now.table) claim.now.name row claim.now.status in
+        result ≡ deadline_after change }
 {
     match claim.status {
-        Status::Suspect(accuser) => raise(suspicions, config, now, live, &claim.name, &accuser),
+        Status::Suspect(accuser) => raise(suspicions, config, now, members, &claim.name, &accuser),
         Status::Alive | Status::Failed => end(suspicions, &claim.name),
     }
 }
@@ -125,28 +124,27 @@ fn accuse(suspicions: &mut Suspicions, claim: &Claim) -> Deadline
     }
 }
 
-/// A claim about another was heard: what it changes of the suspicions.
+/// A claim about another was heard, after which these members are known: what it changes of the suspicions. They are
+/// counted only where a suspicion is raised.
 pub fn suspect(
     suspicions: &mut Suspicions,
     config: &Option<Config>,
     now: Moment,
-    live: usize,
+    members: &Members,
     heard: Heard,
     claim: &Claim,
 ) -> Deadline
     requires rises { Rises name_cmp (map suspected_name suspicions.old.items) }
     requires seat { heard ≡ Heard.Overrode → HasSeat claim.now.name suspicions.old.items }
     requires good { IsGood config.now }
-    requires some { 1 ≤ live }
-    requires most { live ≤ MAX_MEMBERS }
     ensures rows { let row = row_about claim.now suspicions.old.items in
         suspicions.new.items
-        ≡ suspicions_after (change_by heard config.now now live row claim.now) suspicions.old.items }
+        ≡ suspicions_after (change_by heard config.now now (live_in members.now.table) row claim.now) suspicions.old.items }
     ensures deadline { let row = row_about claim.now suspicions.old.items in
-        result ≡ deadline_after (change_by heard config.now now live row claim.now) }
+        result ≡ deadline_after (change_by heard config.now now (live_in members.now.table) row claim.now) }
 {
     match heard {
-        Heard::Overrode => override_row(suspicions, config, now, live, claim),
+        Heard::Overrode => override_row(suspicions, config, now, members, claim),
         Heard::Accused => accuse(suspicions, claim),
         Heard::Same | Heard::Ignored | Heard::NoRoom => Deadline::Stays,
     }

@@ -43,13 +43,13 @@ returns-then-is_same_name-clause-meaning c = λ log is.
     let same : c.args.claim.now.name ≡ c.args.self.now.own.name =
     key_is names_order c.args.claim.now.name c.name.result (sym c.is_same_name.ensures ∙ c.if-is_same_name.true)
     ∙ c.name.ensures ∙ ap (λ (s : State). s.own.name) c.self.view_is in
-    let answer = c.apply_own.ensures.applied ∙ sym (applied-own c.args.now c.args.claim.now c.args.self.now same) ∙ ap (applied c.args.now c.args.claim.now) is in
-    subst (IsApplied c.args.now c.args.origin c.args.claim.now log) (sym answer) (applied-log c.args.now c.args.origin c.args.claim.now log)
+    let result = c.apply_own.ensures.applied ∙ sym (applied-own c.args.now c.args.claim.now c.args.self.now same) ∙ ap (applied c.args.now c.args.claim.now) is in
+    subst (IsApplied c.args.now c.args.origin c.args.claim.now log) (sym result) (applied-log c.args.now c.args.origin c.args.claim.now log)
 
 pub returns-else-is_same_name-clause-meaning : goal.returns-else-is_same_name-clause-meaning
 returns-else-is_same_name-clause-meaning c = λ log is.
     let other : c.args.claim.now.name ≢ c.args.self.now.own.name = λ same.
     apart names_order c.args.claim.now.name c.name.result (sym c.is_same_name.ensures ∙ c.if-is_same_name.false)
     (same ∙ sym (c.name.ensures ∙ ap (λ (s : State). s.own.name) c.self.view_is)) in
-    let answer = c.apply_other.ensures.applied ∙ sym (applied-other c.args.now c.args.claim.now c.args.self.now other) ∙ ap (applied c.args.now c.args.claim.now) is in
-    subst (IsApplied c.args.now c.args.origin c.args.claim.now log) (sym answer) (applied-log c.args.now c.args.origin c.args.claim.now log)
+    let result = c.apply_other.ensures.applied ∙ sym (applied-other c.args.now c.args.claim.now c.args.self.now other) ∙ ap (applied c.args.now c.args.claim.now) is in
+    subst (IsApplied c.args.now c.args.origin c.args.claim.now log) (sym result) (applied-log c.args.now c.args.origin c.args.claim.now log)

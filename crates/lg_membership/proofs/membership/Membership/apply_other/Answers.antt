@@ -33,10 +33,10 @@ put-requires c =
     let table = inside.members.table in
     let row = row_about claim inside.suspicions.items in
     let n = live_in (heard table claim) in
-    let live = c.live-live.ensures.count ∙ ap live_in c.hear-heard.ensures.table in
-    let answer = c.hear-heard.ensures.hearing in
-    let deadline = c.suspect-deadline.ensures.deadline ∙ (λ i. deadline_after (change_by (answer i) inside.config c.args.now (live i) row claim)) in
-    let counts = c.is_to_be_passed_on-counts.ensures ∙ counts_for table inside.config c.args.now n row claim answer deadline in
+    let live = ap live_in c.hear-heard.ensures.table in
+    let hearing = c.hear-heard.ensures.hearing in
+    let deadline = c.suspect-deadline.ensures.deadline ∙ (λ i. deadline_after (change_by (hearing i) inside.config c.args.now (live i) row claim)) in
+    let counts = c.is_to_be_passed_on-counts.ensures ∙ counts_for table inside.config c.args.now n row claim hearing deadline in
     let puts = c.put_of_other.ensures ∙ ap (λ b. put_if c.args.origin b claim) counts in
     let other : claim.name ≢ inside.own.name = λ same. c.requires (same ∙ ap (λ (s : State). s.own.name) c.self.view_is) in
     subst (λ (o : Option Claim). HasPlace o inside.queue) (sym puts) (other_place c.args.origin claim _ c.self.invariant other)
@@ -48,13 +48,13 @@ invariant_of-self c =
     let table = inside.members.table in
     let row = row_about claim inside.suspicions.items in
     let n = live_in (heard table claim) in
-    let live = c.live-live.ensures.count ∙ ap live_in c.hear-heard.ensures.table in
-    let answer = c.hear-heard.ensures.hearing in
-    let change : change_by c.hear-heard.result inside.config c.args.now c.live-live.result row claim ≡ change_by (hearing_of table claim) inside.config c.args.now n row claim =
-    λ i. change_by (answer i) inside.config c.args.now (live i) row claim in
+    let live = ap live_in c.hear-heard.ensures.table in
+    let hearing = c.hear-heard.ensures.hearing in
+    let change : change_by c.hear-heard.result inside.config c.args.now (live_in c.hear-heard.new.self.table) row claim ≡ change_by (hearing_of table claim) inside.config c.args.now n row claim =
+    λ i. change_by (hearing i) inside.config c.args.now (live i) row claim in
     let deadline = c.suspect-deadline.ensures.deadline ∙ ap deadline_after change in
     let rows = c.suspect-deadline.ensures.rows ∙ ap (λ ch. suspicions_after ch inside.suspicions.items) change in
-    let counts = c.is_to_be_passed_on-counts.ensures ∙ counts_for table inside.config c.args.now n row claim answer deadline in
+    let counts = c.is_to_be_passed_on-counts.ensures ∙ counts_for table inside.config c.args.now n row claim hearing deadline in
     let puts = c.put_of_other.ensures ∙ ap (λ b. put_if c.args.origin b claim) counts in
     let queue = c.put.ensures ∙ ap (λ (o : Option Claim). queue_with o inside.queue) puts in
     let members : c.hear-heard.new.self ≡ record { own = inside.members.own; table = heard table claim } =
