@@ -14,7 +14,7 @@ use Rattle.lg_rules.proofs.KeyOrder.{names_order, other_key}
 use Rattle.lg_rules.proofs.PastLaws.{earliest_passes, unbeaten_some}
 use Rattle.lg_rules.proofs.Ranks.{ranked}
 use Rattle.lg_gossip.specs.Meaning.Queue.{is_suspect}
-use Rattle.lg_membership.specs.Meaning.Log.{Fact, Log, Opened, Said, Sent, said}
+use Rattle.lg_membership.specs.Meaning.Log.{Log, Opened, Said, Sent, said}
 use Rattle.lg_membership.specs.Meaning.Suspicions.{accuses, accusers_in, raise_of}
 
 -- whether some claim of a past accuses a member at an incarnation

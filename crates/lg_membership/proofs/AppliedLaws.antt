@@ -1,5 +1,5 @@
 -- What applying a claim says of the record and the suspicion of the claim's member.
-use Rattle.std.proofs.Common.{◌≡◌, ◌≢◌, ℕ, Bool, true, false, cond, List, [], ◌∷◌, map, Option, Some, None, inl, inr, refl, sym, ◌∙◌, ap, subst}
+use Rattle.std.proofs.Common.{◌≡◌, ◌≢◌, ℕ, Bool, true, false, cond, List, ◌∷◌, Option, Some, None, inl, inr, refl, sym, ◌∙◌, ap, subst}
 use Rattle.std.proofs.lemmas.Bool.{cases_Bool, false≢true}
 use Rattle.std.specs.Prelude.{⊤, option_map}
 use Rattle.lg_rules.specs.declared.claim.Claim.{Claim}
@@ -7,29 +7,26 @@ use Rattle.lg_rules.specs.declared.claim.Status.{Status}
 use Rattle.lg_rules.specs.declared.claim.Status.TheVariants.{Alive, Suspect, Failed}
 use Rattle.lg_rules.specs.declared.members.Heard.{Heard}
 use Rattle.lg_rules.specs.declared.members.Heard.TheVariants.{Overrode, Accused, Same, Ignored, NoRoom}
-use Rattle.lg_rules.specs.declared.own.OwnHeard.TheVariants.{Ignored as Unheeded}
 use Rattle.lg_rules.specs.Meaning.Claim.{accuser_of, name_of}
-use Rattle.lg_rules.specs.Meaning.Own.{Oneself, own_hearing}
-use Rattle.lg_rules.specs.Meaning.Rows.{name_cmp, is_same, put_row, row_at, without_row, Rises}
+use Rattle.lg_rules.specs.Meaning.Rows.{name_cmp, is_same, row_at, without_row}
 use Rattle.lg_rules.specs.Meaning.Table.{hearing_of, heard, live_in}
 use Rattle.lg_rules.specs.Meaning.View.{changes_record}
-use Rattle.lg_rules.proofs.Cases.{Missing, Holding, held}
 use Rattle.lg_rules.proofs.KeyOrder.{names_order, cases_key, same_key, other_key}
 use Rattle.lg_rules.proofs.OwnLaws.{own_hearing-other}
 use Rattle.lg_rules.proofs.Ranks.{ranked}
 use Rattle.lg_rules.proofs.RowLaws.{row_at-put}
-use Rattle.lg_rules.proofs.Views.{Follows, IsChange, Changes, Leaves, view_hearing}
+use Rattle.lg_rules.proofs.Views.{Follows, Changes, Leaves, view_hearing}
 use Rattle.lg_timing.specs.declared.config.Config.{Config}
-use Rattle.lg_suspicion.specs.Meaning.Accusers.{accuser_counts, accused, deadline_of}
+use Rattle.lg_suspicion.specs.Meaning.Accusers.{accuser_counts, deadline_of}
 use Rattle.lg_membership.specs.declared.applied.Applied.{Applied}
 use Rattle.lg_membership.specs.declared.applied.Deadline.{Deadline}
 use Rattle.lg_membership.specs.declared.origin.Origin.{Origin}
 use Rattle.lg_membership.specs.declared.suspected.Suspected.{Suspected}
-use Rattle.lg_membership.specs.Meaning.Log.{Fact, Log, Said, config, me, said, own, table, addr_in}
+use Rattle.lg_membership.specs.Meaning.Log.{Log, Said, config, me, said, own, table, addr_in}
 use Rattle.lg_membership.specs.Meaning.Suspicions.{suspicions, suspected_name}
 use Rattle.lg_membership.specs.Meaning.Applied.{record_in, suspicion_in, is_refuted, IsRecordChange, IsDeadlineChange, IsApplied}
 use Rattle.lg_membership.specs.Support.Changes.{Change, Nothing, Ending, Putting, raised, ended, overriding, accusing, change_by, change_of, row_about, suspicions_after, deadline_after}
-use Rattle.lg_membership.specs.Support.State.{State, state_of, standing, apply_own, apply_other, applied_own, applied_other, applied}
+use Rattle.lg_membership.specs.Support.State.{State, state_of, standing, applied_own, applied_other, applied}
 use Rattle.lg_membership.proofs.Applying.{applied-changed}
 use Rattle.lg_membership.proofs.Chosen.{found_key}
 use Rattle.lg_membership.proofs.FactLaws.{own_name}
@@ -100,7 +97,7 @@ deadline-change n rows (Ending m) is =
 deadline-change n rows (Putting r) is =
     ap (option_map (λ (q : Suspected). deadline_of q.suspicion))
     (row_at-put names_order suspected_name n r rows
-      ∙ ap (λ b. cond b (Some r) (row_at name_cmp suspected_name n rows)) (same_key names_order r.name n is))
+    ∙ ap (λ b. cond b (Some r) (row_at name_cmp suspected_name n rows)) (same_key names_order r.name n is))
 
 deadline-other : (now : ℕ) (origin : Origin) (c : Claim) (log : Log) → c.name ≢ me log
     → IsDeadlineChange (suspicion_in log c.name) (suspicion_in (Said now origin c ∷ log) c.name) (applied_other now c (state_of log)).deadline

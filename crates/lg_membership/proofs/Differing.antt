@@ -1,11 +1,11 @@
 -- The records that differ once claims are applied.
-use Rattle.std.proofs.Common.{◌≡◌, ℕ, ◌≤◌, Bool, true, false, List, [], ◌∷◌, length, Some, None, inl, inr, refl, sym, ap, ◌∙◌, subst, arith}
+use Rattle.std.proofs.Common.{◌≡◌, ℕ, Bool, true, false, List, [], inl, inr, sym, ap, ◌∙◌}
 use Rattle.std.specs.Prelude.{filter, is_some}
 use Rattle.std.proofs.lemmas.Bool.{cases_Bool}
 use Rattle.lg_rules.specs.declared.claim.Claim.{Claim}
 use Rattle.lg_rules.specs.Meaning.Rows.{name_cmp, is_among}
-use Rattle.lg_rules.specs.Meaning.View.{Standing, view, hear_claims, changed_names, changed}
-use Rattle.lg_rules.proofs.Changes.{changed-heard, length-changed}
+use Rattle.lg_rules.specs.Meaning.View.{view, changed_names, changed}
+use Rattle.lg_rules.proofs.Changes.{changed-heard}
 use Rattle.lg_membership.specs.declared.origin.Origin.{Origin}
 use Rattle.lg_membership.specs.Meaning.Log.{config, me, said, addr_in}
 use Rattle.lg_membership.specs.Support.Reached.{IsReached}

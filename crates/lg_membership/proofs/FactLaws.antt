@@ -9,9 +9,8 @@ use Rattle.lg_rules.proofs.OwnLaws.{own-same, own-other, own_of_name}
 use Rattle.lg_rules.proofs.Tables.{heard-table, table-own}
 use Rattle.lg_timing.specs.declared.config.Config.{Config}
 use Rattle.lg_membership.specs.declared.origin.Origin.{Origin}
-use Rattle.lg_membership.specs.Meaning.Log.{Fact, Log, Opened, Said, Sent, config, me, said, own, table, addr_in}
+use Rattle.lg_membership.specs.Meaning.Log.{Log, Opened, Said, Sent, config, me, said, own, addr_in}
 use Rattle.lg_membership.specs.Meaning.Gossip.{lambda_in}
-use Rattle.lg_membership.specs.Meaning.Suspicions.{suspicions}
 use Rattle.lg_membership.specs.Support.State.{state_of, open_with, apply_own, apply_other, apply, send}
 use Rattle.lg_membership.proofs.QueueLaws.{queue-own, queue-other, queue-sent, queue-opened}
 use Rattle.lg_membership.proofs.SuspicionLaws.{suspicions-sent, suspicions-opened, suspicions-own, suspicions-other}

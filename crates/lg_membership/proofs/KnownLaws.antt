@@ -8,7 +8,7 @@ use Rattle.lg_rules.proofs.Rises.{rises-put, among-put, among-put_same, same_mem
 use Rattle.lg_rules.proofs.Roster.{rises-roster, roster-own, length-roster, own_unknown}
 use Rattle.lg_rules.proofs.Tables.{IsTaken, Taken, Unbeaten, Out, heard_cases}
 use Rattle.lg_membership.specs.declared.origin.Origin.{Origin}
-use Rattle.lg_membership.specs.Meaning.Log.{Fact, Log, Said, me, said, known}
+use Rattle.lg_membership.specs.Meaning.Log.{Log, Said, me, said, known}
 
 pub rises-known : (log : Log) → Rises name_cmp (known log)
 rises-known log = rises-put names_order (me log) (roster (me log) (said log)) (rises-roster (me log) (said log))

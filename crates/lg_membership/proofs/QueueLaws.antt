@@ -1,5 +1,5 @@
 -- The queue, when a claim is said or a packet is sent.
-use Rattle.std.proofs.Common.{◌≡◌, ◌≢◌, ℕ, Bool, List, [], ◌∷◌, map, Option, Some, None, inl, inr, refl, sym, ◌∙◌, ap}
+use Rattle.std.proofs.Common.{◌≡◌, ◌≢◌, ℕ, List, [], ◌∷◌, map, Option, Some, None, inl, inr, refl, sym, ◌∙◌, ap}
 use Rattle.std.specs.Prelude.{filter_map, option_map}
 use Rattle.std.proofs.lemmas.Bool.{cases_Bool}
 use Rattle.lg_rules.specs.declared.claim.Claim.{Claim}
@@ -13,7 +13,7 @@ use Rattle.lg_rules.proofs.RowLaws.{rows_equal, rows-put, rows-skip}
 use Rattle.lg_rules.proofs.Tables.{Taken, Unbeaten, Out, heard_cases}
 use Rattle.lg_gossip.specs.Meaning.Queue.{fresh, queued_name, sent_once}
 use Rattle.lg_membership.specs.declared.origin.Origin.{Origin}
-use Rattle.lg_membership.specs.Meaning.Log.{Fact, Log, Opened, Said, Sent, config, me, said, own, table, known}
+use Rattle.lg_membership.specs.Meaning.Log.{Log, Opened, Said, Sent, config, me, said, own, table, known}
 use Rattle.lg_membership.specs.Meaning.Suspicions.{suspicions}
 use Rattle.lg_membership.specs.Meaning.Gossip.{lambda_in, put_of_own, put_of_other, put_by, queued, queue_rows, queue}
 use Rattle.lg_membership.specs.Support.State.{queue_with}

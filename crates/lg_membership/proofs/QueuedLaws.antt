@@ -21,7 +21,7 @@ use Rattle.lg_gossip.specs.Meaning.Queue.{fresh, queued_name, sent_once}
 use Rattle.lg_membership.specs.declared.origin.Origin.{Origin}
 use Rattle.lg_membership.specs.declared.origin.Origin.TheVariants.{Seed, Group}
 use Rattle.lg_membership.specs.declared.suspected.Suspected.{Suspected}
-use Rattle.lg_membership.specs.Meaning.Log.{Fact, Log, Opened, Said, Sent, me, said, own, table, known}
+use Rattle.lg_membership.specs.Meaning.Log.{Log, Opened, Said, Sent, me, said, own, table, known}
 use Rattle.lg_membership.specs.Meaning.Suspicions.{suspicions, confirms}
 use Rattle.lg_membership.specs.Meaning.Gossip.{put_of_own, put_if, put_of_other, put_by, put_or, put_last, sends, queued}
 use Rattle.lg_membership.proofs.KnownLaws.{rises-known, own_known, known-own, known-taken, known-passed, known-grows, roster_known}

@@ -7,8 +7,8 @@ use Rattle.lg_timing.specs.declared.config.Config.{Config}
 use Rattle.lg_timing.specs.Meaning.Config.{IsChecked}
 use Rattle.lg_membership.specs.declared.origin.Origin.{Origin}
 use Rattle.lg_membership.specs.declared.origin.Origin.TheVariants.{Group}
-use Rattle.lg_membership.specs.Meaning.Log.{Fact, Log, Opened, Said, Sent}
-use Rattle.lg_membership.specs.Support.State.{State, state_of, open_with, apply_own, apply_other, apply, apply_all, send}
+use Rattle.lg_membership.specs.Meaning.Log.{Opened, Said, Sent}
+use Rattle.lg_membership.specs.Support.State.{State, open_with, apply_own, apply_other, apply, apply_all, send}
 use Rattle.lg_membership.specs.Support.Reached.{IsGood, IsReached}
 use Rattle.lg_membership.proofs.FactLaws.{open-state, apply-state, send-state}
 

@@ -1,11 +1,10 @@
 -- The suspicions without that of one member.
-use Rattle.std.proofs.Common.{◌≡◌, ℕ, zero, suc, ◌<◌, Bool, false, true, not, ◌||◌, List, [], ◌∷◌, length, map, get_or, None, subst, Some, inl, inr, refl, sym, ◌∙◌, ap, arith}
-use Rattle.std.specs.Prelude.{filter}
-use Rattle.std.specs.List.{list_any, remove}
+use Rattle.std.proofs.Common.{◌≡◌, ℕ, zero, suc, ◌<◌, false, true, List, [], ◌∷◌, length, map, get_or, None, subst, Some, inl, inr, refl, sym, ◌∙◌, ap, arith}
+use Rattle.std.specs.List.{remove}
 use Rattle.std.proofs.lemmas.Bool.{cases_Bool}
 use Rattle.std.specs.declared.cmp.Ordering.{Ordering}
 use Rattle.std.specs.declared.cmp.Ordering.TheVariants.{Less, Equal, Greater}
-use Rattle.lg_rules.specs.Meaning.Rows.{is_same, is_among, row_at, without_row, AreAbove, Rises}
+use Rattle.lg_rules.specs.Meaning.Rows.{is_same, row_at, without_row, AreAbove, Rises}
 use Rattle.lg_rules.proofs.Cases.{Below, Tied, Above, compared}
 use Rattle.lg_rules.proofs.KeyOrder.{IsKeyOrder, same_key, other_key, less_apart, tied}
 use Rattle.lg_rules.proofs.Rises.{above_lower}

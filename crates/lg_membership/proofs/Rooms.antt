@@ -1,5 +1,5 @@
 -- In a state that some log has, each claim can be applied.
-use Rattle.std.proofs.Common.{◌≡◌, ◌≢◌, ℕ, ◌<◌, ◌≤◌, Bool, true, false, cond, List, ◌∷◌, length, Option, Some, None, refl, sym, ◌∙◌, ap, subst, arith}
+use Rattle.std.proofs.Common.{◌≡◌, ◌≢◌, ℕ, ◌<◌, ◌≤◌, true, false, cond, List, ◌∷◌, length, Option, Some, None, refl, sym, ◌∙◌, ap, subst}
 use Rattle.lg_rules.specs.declared.claim.Claim.{Claim}
 use Rattle.lg_rules.specs.Meaning.Rows.{name_cmp, is_same, row_at}
 use Rattle.lg_rules.proofs.KeyOrder.{names_order, same_key, other_key}
@@ -13,7 +13,7 @@ use Rattle.lg_rules.proofs.Roster.{own_unknown}
 use Rattle.lg_gossip.specs.Meaning.Queue.{queued_name}
 use Rattle.lg_membership.specs.declared.origin.Origin.{Origin}
 use Rattle.lg_membership.specs.declared.origin.Origin.TheVariants.{Group}
-use Rattle.lg_membership.specs.Meaning.Log.{Fact, Log, Said, me, said, own, table, known}
+use Rattle.lg_membership.specs.Meaning.Log.{Log, Said, me, said, own, table, known}
 use Rattle.lg_membership.specs.Meaning.Suspicions.{suspicions, suspected_name}
 use Rattle.lg_membership.specs.Meaning.Gossip.{put_of_own, put_of_other, put_by, queued, queue_rows, queue}
 use Rattle.lg_membership.specs.Support.Reached.{IsReached}

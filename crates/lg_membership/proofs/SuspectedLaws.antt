@@ -1,5 +1,5 @@
 -- The suspicion of one member, when a claim is said.
-use Rattle.std.proofs.Common.{◌≡◌, ◌≢◌, ℕ, Bool, true, false, cond, List, [], ◌∷◌, Option, Some, None, inl, inr, refl, sym, ◌∙◌, ap}
+use Rattle.std.proofs.Common.{◌≡◌, ◌≢◌, ℕ, true, false, cond, List, [], ◌∷◌, Option, Some, None, inl, inr, refl, sym, ◌∙◌, ap}
 use Rattle.lg_rules.specs.declared.claim.Claim.{Claim}
 use Rattle.lg_rules.specs.declared.claim.Status.TheVariants.{Suspect}
 use Rattle.lg_rules.specs.Meaning.Beats.{beats_of}
@@ -17,7 +17,7 @@ use Rattle.std.proofs.lemmas.Bool.{cases_Bool, eq-eqb}
 use Rattle.lg_gossip.specs.Meaning.Queue.{is_suspect}
 use Rattle.lg_membership.specs.declared.suspected.Suspected.{Suspected}
 use Rattle.lg_membership.specs.declared.origin.Origin.{Origin}
-use Rattle.lg_membership.specs.Meaning.Log.{Fact, Log, Said, config, said, live}
+use Rattle.lg_membership.specs.Meaning.Log.{Log, Said, config, said, live}
 use Rattle.lg_membership.specs.Meaning.Suspicions.{accuses, accusers_in, raise_of, said_at, suspicion_since, suspected_by, suspected_in, suspected, suspected_name}
 use Rattle.lg_membership.proofs.AccusedLaws.{accuses-other, none_accuse, none_raises, one_raises, record_accused, not_accused}
 

@@ -21,7 +21,7 @@ use Rattle.lg_suspicion.specs.Meaning.Accusers.{SuspicionValue, accuser_counts, 
 use Rattle.lg_gossip.specs.Meaning.Queue.{is_suspect}
 use Rattle.lg_membership.specs.declared.suspected.Suspected.{Suspected}
 use Rattle.lg_membership.specs.declared.origin.Origin.{Origin}
-use Rattle.lg_membership.specs.Meaning.Log.{Fact, Log, Opened, Said, Sent, config, me, said, table, live}
+use Rattle.lg_membership.specs.Meaning.Log.{Log, Opened, Said, Sent, config, me, said, table, live}
 use Rattle.lg_membership.specs.Meaning.Suspicions.{suspected, suspicions, suspected_name, accuses}
 use Rattle.lg_membership.specs.Support.Changes.{Change, Nothing, Putting, ended, accusing, overriding, change_by, change_of, row_about, suspicions_after}
 use Rattle.lg_membership.proofs.QueueLaws.{none_rows}

@@ -32,9 +32,10 @@ fn raise(
     requires rises { Rises name_cmp (map suspected_name suspicions.old.items) }
     requires seat { HasSeat name.now suspicions.old.items }
     requires good { IsGood config.now }
-    ensures rows { suspicions.new.items
-        ≡ suspicions_after (raised config.now now (live_in members.now.table) name.now accuser.now) suspicions.old.items }
-    ensures deadline { result ≡ deadline_after (raised config.now now (live_in members.now.table) name.now accuser.now) }
+    ensures rows { let change = raised config.now now (live_in members.now.table) name.now accuser.now in
+        suspicions.new.items ≡ suspicions_after change suspicions.old.items }
+    ensures deadline { let change = raised config.now now (live_in members.now.table) name.now accuser.now in
+        result ≡ deadline_after change }
 {
     let Some(config) = config else {
         return Deadline::Stays;
@@ -138,10 +139,11 @@ pub fn suspect(
     requires seat { heard ≡ Heard.Overrode → HasSeat claim.now.name suspicions.old.items }
     requires good { IsGood config.now }
     ensures rows { let row = row_about claim.now suspicions.old.items in
-        suspicions.new.items
-        ≡ suspicions_after (change_by heard config.now now (live_in members.now.table) row claim.now) suspicions.old.items }
+        let change = change_by heard config.now now (live_in members.now.table) row claim.now in
+        suspicions.new.items ≡ suspicions_after change suspicions.old.items }
     ensures deadline { let row = row_about claim.now suspicions.old.items in
-        result ≡ deadline_after (change_by heard config.now now (live_in members.now.table) row claim.now) }
+        let change = change_by heard config.now now (live_in members.now.table) row claim.now in
+        result ≡ deadline_after change }
 {
     match heard {
         Heard::Overrode => override_row(suspicions, config, now, members, claim),

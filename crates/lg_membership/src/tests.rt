@@ -141,10 +141,7 @@ fn records_are_in_the_order_of_names(rt: HostRuntime) {
         .as_slice()
     );
     b.put_records(&[name(b"d"), name(b"z"), name(b"b")], &mut row);
-    assert_eq!(rt;
-        row.as_slice(),
-        [alive(b"b", 0), alive(b"d", 2)].as_slice()
-    );
+    assert_eq!(rt; row.as_slice(), [alive(b"b", 0), alive(b"d", 2)].as_slice());
 }
 
 #[test]
@@ -177,22 +174,14 @@ fn the_second_accuser_moves_the_deadline(rt: HostRuntime) {
             suspect(b"c", b"d", 0),
             did(true, Deadline::Stands(32000)),
         ),
-        (
-            2500,
-            suspect(b"c", b"d", 0),
-            did(false, Deadline::Stays),
-        ),
+        (2500, suspect(b"c", b"d", 0), did(false, Deadline::Stays)),
         (
             2600,
             suspect(b"c", b"e", 0),
             did(false, Deadline::Stands(19500)),
         ),
         (2700, failed(b"c", 0), did(true, Deadline::Ends)),
-        (
-            2800,
-            suspect(b"c", b"a", 9),
-            did(false, Deadline::Stays),
-        ),
+        (2800, suspect(b"c", b"a", 9), did(false, Deadline::Stays)),
         (
             3000,
             suspect(b"d", b"a", 1),
@@ -214,7 +203,10 @@ fn the_second_accuser_moves_the_deadline(rt: HostRuntime) {
 fn none_confirms_among_two(rt: HostRuntime) {
     let mut b = opened();
     let accused = suspect(b"c", b"d", 0);
-    assert_eq!(rt; say(&mut b, 2000, &accused), did(true, Deadline::Stands(7000)));
+    assert_eq!(rt;
+        say(&mut b, 2000, &accused),
+        did(true, Deadline::Stands(7000))
+    );
     assert_eq!(rt;
         say(&mut b, 2100, &suspect(b"c", b"e", 0)),
         did(false, Deadline::Stays)
@@ -237,10 +229,7 @@ fn a_suspicion_of_oneself_is_refuted_once(rt: HostRuntime) {
     );
     assert_eq!(rt; b.number().number(), 1);
     assert_eq!(rt; b.fill().as_slice(), [alive(b"b", 1)].as_slice());
-    assert_eq!(rt;
-        say(&mut b, 0, &alive(b"b", 3)),
-        did(true, Deadline::Stays)
-    );
+    assert_eq!(rt; say(&mut b, 0, &alive(b"b", 3)), did(true, Deadline::Stays));
     assert_eq!(rt; b.number().number(), 4);
 }
 
@@ -311,11 +300,7 @@ fn knows_256_names(rt: HostRuntime) {
     let c = name(b"c");
     say(&mut b, 0, &alive(b"c", 2));
     for number in 0..300u16 {
-        let applied = say(
-            &mut b,
-            0,
-            &claim(numbered(number), Status::Alive, 0),
-        );
+        let applied = say(&mut b, 0, &claim(numbered(number), Status::Alive, 0));
         assert_eq!(rt; applied, did(number < 254, Deadline::Stays), "{number}");
     }
     assert_eq!(rt; b.live(), MAX_MEMBERS);
@@ -324,10 +309,7 @@ fn knows_256_names(rt: HostRuntime) {
         say(&mut b, 0, &suspect(b"zz", b"c", 0)),
         did(false, Deadline::Stays)
     );
-    assert_eq!(rt;
-        say(&mut b, 0, &alive(b"c", 3)),
-        did(true, Deadline::Stays)
-    );
+    assert_eq!(rt; say(&mut b, 0, &alive(b"c", 3)), did(true, Deadline::Stays));
     assert_eq!(rt; b.record_of(&c), Some(alive(b"c", 3)));
     let mut table: ArrayVec<Claim, MAX_MEMBERS> = ArrayVec::new();
     b.put_table(&mut table);

@@ -13,7 +13,7 @@ use Rattle.lg_membership.specs.declared.applied.Deadline.{Deadline}
 use Rattle.lg_membership.specs.declared.applied.Deadline.TheVariants.{Stays, Ends, Stands}
 use Rattle.lg_membership.specs.declared.origin.Origin.{Origin}
 use Rattle.lg_membership.specs.declared.suspected.Suspected.{Suspected}
-use Rattle.lg_membership.specs.Meaning.Log.{Fact, Log, Said, own, table}
+use Rattle.lg_membership.specs.Meaning.Log.{Log, Said, own, table}
 use Rattle.lg_membership.specs.Meaning.Suspicions.{suspicions, suspected_name}
 
 -- the record of a member, oneself included; from the opening on it is that of the view

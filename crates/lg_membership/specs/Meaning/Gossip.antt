@@ -1,5 +1,5 @@
 -- What waits to be sent (SWIM, section 4.1).
-use Rattle.std.specs.Prelude.{ℕ, ◌+◌, Bool, true, false, ◌&&◌, ◌||◌, if◌then◌else◌}
+use Rattle.std.specs.Prelude.{ℕ, ◌+◌, Bool, ◌||◌, if◌then◌else◌}
 use Rattle.std.specs.Prelude.{List, [], ◌∷◌, map, Option, Some, None, option_map}
 use Rattle.std.specs.List.{filter_map}
 use Rattle.lg_rules.specs.declared.claim.Claim.{Claim}
@@ -15,7 +15,7 @@ use Rattle.lg_gossip.specs.Meaning.Queue.{GossipQueue}
 use Rattle.lg_membership.specs.declared.origin.Origin.{Origin}
 use Rattle.lg_membership.specs.declared.origin.Origin.TheVariants.{Seed, Group}
 use Rattle.lg_membership.specs.declared.suspected.Suspected.{Suspected}
-use Rattle.lg_membership.specs.Meaning.Log.{Fact, Log, Opened, Said, Sent, config, me, own, table, known}
+use Rattle.lg_membership.specs.Meaning.Log.{Log, Opened, Said, Sent, config, me, own, table, known}
 use Rattle.lg_membership.specs.Meaning.Suspicions.{suspicions, confirms}
 
 -- What is put into the queue where a claim is said: the claim, where the opening doesn't say it and it makes or

@@ -4,7 +4,7 @@ use Rattle.lg_rules.specs.declared.claim.Claim.{Claim}
 use Rattle.lg_rules.specs.declared.claim.Status.{Status}
 use Rattle.lg_rules.specs.declared.claim.Status.TheVariants.{Alive, Suspect, Failed}
 use Rattle.lg_rules.specs.declared.members.Heard.{Heard}
-use Rattle.lg_rules.specs.declared.members.Heard.TheVariants.{Overrode, Accused, Same, Ignored, NoRoom}
+use Rattle.lg_rules.specs.declared.members.Heard.TheVariants.{Overrode, Accused}
 use Rattle.lg_rules.specs.Meaning.Claim.{accuser_of}
 use Rattle.lg_rules.specs.Meaning.Rows.{name_cmp, put_row, row_at, without_row}
 use Rattle.lg_rules.specs.Meaning.Table.{hearing_of, heard, live_in}

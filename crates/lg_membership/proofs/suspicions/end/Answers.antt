@@ -1,4 +1,4 @@
-use Rattle.std.proofs.Common.{◌≡◌, ℕ, List, Option, Some, ap, subst, sym, ◌∙◌}
+use Rattle.std.proofs.Common.{List, Option, ap, subst, sym, ◌∙◌}
 use Rattle.lg_rules.specs.Meaning.Rows.{name_cmp}
 use Rattle.lg_rules.specs.Support.Places.{HasRow}
 use Rattle.lg_rules.proofs.KeyOrder.{names_order}

@@ -1,12 +1,8 @@
-use Rattle.std.proofs.Common.{◌≡◌, ◌≢◌, ◌&&◌, ◌||◌, Bool, Option, ap, sym, subst, ◌∙◌}
+use Rattle.std.proofs.Common.{◌≡◌, ◌≢◌, Option, ap, sym, subst, ◌∙◌}
 use Rattle.lg_rules.specs.declared.claim.Claim.{Claim}
-use Rattle.lg_rules.specs.declared.members.Heard.{Heard}
-use Rattle.lg_rules.specs.Meaning.Claim.{accuser_of}
-use Rattle.lg_rules.specs.Meaning.Table.{takes, hearing_of, heard, live_in}
-use Rattle.lg_membership.specs.declared.applied.Deadline.{Deadline}
-use Rattle.lg_membership.specs.Meaning.Gossip.{put_if, put_of_other}
-use Rattle.lg_membership.specs.Meaning.Suspicions.{is_accusation, counts_in}
-use Rattle.lg_membership.specs.Support.Changes.{change_by, change_of, row_about, suspicions_after, deadline_after, is_override, stands}
+use Rattle.lg_rules.specs.Meaning.Table.{hearing_of, heard, live_in}
+use Rattle.lg_membership.specs.Meaning.Gossip.{put_if}
+use Rattle.lg_membership.specs.Support.Changes.{change_by, row_about, suspicions_after, deadline_after}
 use Rattle.lg_membership.specs.Support.Room.{HasPlace}
 use Rattle.lg_membership.specs.Support.State.{State, queue_with}
 use Rattle.lg_membership.proofs.Hearings.{overrode-takes, counts_for}

@@ -1,4 +1,4 @@
-use Rattle.std.proofs.Common.{◌≡◌, Option, ap, sym, subst, ◌∙◌}
+use Rattle.std.proofs.Common.{Option, ap, sym, subst, ◌∙◌}
 use Rattle.lg_rules.specs.declared.claim.Claim.{Claim}
 use Rattle.lg_membership.specs.Meaning.Gossip.{put_of_own}
 use Rattle.lg_membership.specs.Support.Room.{HasPlace}

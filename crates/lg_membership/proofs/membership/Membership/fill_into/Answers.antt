@@ -1,4 +1,4 @@
-use Rattle.std.proofs.Common.{◌≡◌, None, ap, sym, ◌∙◌}
+use Rattle.std.proofs.Common.{None, ap, ◌∙◌}
 use Rattle.lg_rules.specs.Meaning.Table.{live_in}
 use Rattle.lg_gossip.specs.Meaning.Queue.{taken_of, filled}
 use Rattle.lg_membership.specs.Support.State.{State, send}

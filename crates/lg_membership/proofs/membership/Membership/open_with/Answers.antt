@@ -1,6 +1,5 @@
-use Rattle.std.proofs.Common.{◌≡◌, Some, ap, ◌∙◌}
+use Rattle.std.proofs.Common.{Some, ◌∙◌}
 use Rattle.lg_timing.proofs.ConfigLemmas.{ranges}
-use Rattle.lg_membership.specs.Support.State.{open_with}
 use Rattle.lg_membership.proofs.FactLaws.{open-state}
 use Rattle.lg_membership.proofs.Reaching.{reached-open}
 use Rattle.lg_membership.proofs.membership.Membership.open_with.Goals as goal

@@ -1,6 +1,5 @@
 use Rattle.std.proofs.Common.{◌≡◌, take}
 use Rattle.lg_rules.specs.Meaning.Claim.{name_of}
-use Rattle.lg_rules.specs.Meaning.Rows.{name_cmp}
 use Rattle.lg_rules.proofs.KeyOrder.{names_order}
 use Rattle.lg_membership.specs.Support.State.{shown}
 use Rattle.lg_membership.proofs.Chosen.{with_keys}
