@@ -1,7 +1,6 @@
 -- What is right: whoever wants to believe the contracts reads these.
 pub mod Answering
 pub mod Commands
-pub mod Defaults
 pub mod Examples
 pub mod Faults
 pub mod Lines

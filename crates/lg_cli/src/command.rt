@@ -15,7 +15,7 @@ use crate::timeouts::Numbers;
 use clap::builder::ValueParser;
 use clap::error::ErrorKind;
 use clap::{Arg, ArgAction, ArgMatches, Command, Error};
-use lg_detector::MAX_MEMBERS;
+use lg_rules::MAX_MEMBERS;
 use lg_timing::{MAX_CONFIRMATIONS, MAX_FACTOR, MAX_INTERVAL_MS, MIN_INTERVAL_MS};
 use std::alloc::{AllocError, Global};
 use std::convert::AsStr;

@@ -2,8 +2,7 @@
 ghost use Rattle.std.specs.Prelude.{◌≡◌, ◌++◌, true, IfOk, OnOk, string_bytes};
 ghost use Rattle.lg_cli.specs.Meaning.Timeouts.{after_lines, are_good, config_of, timeouts_text};
 
-use lg_detector::MAX_MEMBERS;
-use lg_rules::{Addr, Name};
+use lg_rules::{Addr, MAX_MEMBERS, Name};
 use lg_timing::{
     Config, MAX_CONFIRMATIONS, MAX_FACTOR, MAX_INTERVAL_MS, MIN_INTERVAL_MS, SuspicionTimeout,
 };

@@ -10,7 +10,7 @@ use Rattle.lg_detector.specs.Meaning.Step.{reply_after}
 use Rattle.lg_detector.specs.declared.event.Event.{Event}
 use Rattle.lg_detector.specs.declared.event.Event.TheVariants.{Open, Heard}
 use Rattle.lg_detector.specs.declared.reply.Outgoing.{Outgoing}
-use Rattle.lg_cli.specs.Meaning.Defaults.{defaults}
+use Rattle.lg_timing.specs.Meaning.Config.{defaults}
 use Rattle.lg_cli.specs.Meaning.Lines.{lines_of}
 use Rattle.lg_cli.specs.Meaning.Spelled.{fault_text, packet_in}
 use Rattle.lg_cli.specs.declared.line.LineFault.{LineFault}

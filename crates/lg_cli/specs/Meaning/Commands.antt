@@ -13,7 +13,8 @@ use Rattle.clap.specs.declared.builder.action.ArgAction.TheVariants.{Set}
 use Rattle.clap.specs.declared.builder.value_parser.ValueParser.TheVariants.{Unsigned}
 use Rattle.clap.specs.declared.error.kind.ErrorKind.{ErrorKind}
 use Rattle.clap.specs.declared.error.kind.ErrorKind.TheVariants.{DisplayHelp, DisplayVersion, ValueValidation}
-use Rattle.lg_cli.specs.Meaning.Ranges.{least_interval, most_confirmations, most_factor, most_interval, most_members}
+use Rattle.lg_rules.specs.Meaning.Bounds.{most_members}
+use Rattle.lg_timing.specs.Meaning.Bounds.{least_interval_ms, most_confirmations, most_factor, most_interval_ms}
 use Rattle.lg_cli.specs.Meaning.Timeouts.{are_good}
 use Rattle.lg_cli.specs.declared.timeouts.Numbers.{Numbers}
 
@@ -50,7 +51,7 @@ abbrev pub beta_rule : Rule
 beta_rule = default_rule (number_rule (codes "beta") 1 most_factor) (codes "6")
 
 abbrev pub interval_rule : Rule
-interval_rule = default_rule (number_rule (codes "interval-ms") least_interval most_interval) (codes "1000")
+interval_rule = default_rule (number_rule (codes "interval-ms") least_interval_ms most_interval_ms) (codes "1000")
 
 abbrev pub timeouts_app : App
 timeouts_app =

@@ -7,14 +7,15 @@ use Rattle.lg_timing.specs.Meaning.TimeoutRange.{TimeoutRange}
 use Rattle.lg_timing.specs.Meaning.Timeouts.{range_of, timeout_of}
 use Rattle.lg_timing.specs.declared.config.Config.{Config}
 use Rattle.lg_cli.specs.Meaning.Answering.{newline}
-use Rattle.lg_cli.specs.Meaning.Defaults.{defaults}
-use Rattle.lg_cli.specs.Meaning.Ranges.{least_interval, most_confirmations, most_factor, most_interval, most_members}
+use Rattle.lg_timing.specs.Meaning.Config.{defaults}
+use Rattle.lg_rules.specs.Meaning.Bounds.{most_members}
+use Rattle.lg_timing.specs.Meaning.Bounds.{least_interval_ms, most_confirmations, most_factor, most_interval_ms}
 use Rattle.lg_cli.specs.declared.timeouts.Numbers.{Numbers}
 
 -- each number is in its range
 abbrev pub are_good : Numbers → Bool
 are_good n =
-    let times = is_within 1 most_factor n.beta && is_within least_interval most_interval n.interval_ms in
+    let times = is_within 1 most_factor n.beta && is_within least_interval_ms most_interval_ms n.interval_ms in
     is_within 1 most_members n.members
     && (nat_le n.confirmations most_confirmations && (is_within 1 most_factor n.alpha && times))
 

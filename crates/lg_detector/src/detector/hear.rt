@@ -1,6 +1,5 @@
 //! The event Heard.
 ghost use Rattle.std.specs.Prelude.{◌≡◌, ◌<◌, ◌≤◌, None, length, option_copied};
-ghost use Rattle.lg_rules.specs.Meaning.Rows.{name_cmp, is_same};
 ghost use Rattle.lg_rules.specs.Meaning.Table.{live_in};
 ghost use Rattle.lg_rules.specs.Meaning.View.{changed};
 ghost use Rattle.lg_gossip.specs.Meaning.Queue.{fill_of};
@@ -14,17 +13,11 @@ use super::{Detector, MAX_EVENTS};
 use crate::reply::{MAX_CHANGED, MAX_SENDS, Outgoing, Reply};
 use arrayvec::ArrayVec;
 use lg_packet::{Body, Packet};
-use lg_rules::{Addr, Claim, MAX_CLAIMS, Name, Record};
+use lg_rules::{Addr, Claim, MAX_CLAIMS, Record};
 use lg_timing::{Config, Moment};
 
-/// Whether two names are one.
-fn is_same_name(name: &Name, other: &Name) -> bool
-    ensures { result ≡ is_same name_cmp name.now other.now }
-{
-    name.cmp(other).is_eq()
-}
-
 /// The number of the Ack that a body asks of a member: a Ping for it does (SWIM, section 3.1).
+#[tactic(auto, using(lg_rules::proofs::KeyOrder::names_eq))]
 fn asked_of(config: Option<&Config>, body: &Body) -> Option<u32>
     ensures { result ≡ asked_in (option_copied config.entry) body.now }
 {
@@ -32,14 +25,8 @@ fn asked_of(config: Option<&Config>, body: &Body) -> Option<u32>
         return None;
     };
     match body {
-        Body::Ping { number, target } => {
-            if is_same_name(target, &opening.name) {
-                Some(*number)
-            } else {
-                None
-            }
-        }
-        Body::Ack { .. } => None,
+        Body::Ping { number, target } if *target == opening.name => Some(*number),
+        Body::Ping { .. } | Body::Ack { .. } => None,
     }
 }
 
