@@ -1,1 +1,359 @@
--- Worked events.
+-- Worked events of b, which is at 127.0.0.1:7000 and hears from port 1.
+use Rattle.std.specs.Prelude.{◌≡◌, ℕ, Bool, true, false, List, [], ◌∷◌, Some, None, reverse, refl}
+use Rattle.std.specs.Fmt.{digits}
+use Rattle.lg_rules.specs.declared.addr.Addr.{Addr}
+use Rattle.lg_rules.specs.declared.claim.Claim.{Claim}
+use Rattle.lg_rules.specs.declared.claim.Status.{Status}
+use Rattle.lg_rules.specs.declared.claim.Status.TheVariants.{Alive, Suspect, Failed}
+use Rattle.lg_rules.specs.Meaning.Own.{Oneself, own_of}
+use Rattle.lg_rules.specs.Meaning.Table.{record_of, roster, table_of, takes}
+use Rattle.lg_timing.specs.declared.config.Config.{Config}
+use Rattle.lg_timing.specs.declared.config.Seed.{Seed}
+use Rattle.lg_timing.specs.Meaning.Config.{check_of, defaults}
+use Rattle.lg_timing.specs.Meaning.Tables.{log10_of, ratio_of}
+use Rattle.lg_timing.specs.Meaning.Timeouts.{range_of, timeout_of}
+use Rattle.lg_suspicion.specs.Meaning.Accusers.{counted_accusers}
+use Rattle.lg_gossip.specs.Meaning.Queue.{taken_of}
+use Rattle.lg_packet.specs.declared.packet.Body.{Body}
+use Rattle.lg_packet.specs.declared.packet.Body.TheVariants.{Ping, Ack}
+use Rattle.lg_timers.specs.declared.timer.Timer.{Timer}
+use Rattle.lg_timers.specs.declared.timer.TimerId.TheVariants.{Suspicion, RoundStart}
+use Rattle.lg_timers.specs.Meaning.Timers.{in_turn}
+use Rattle.lg_membership.specs.Meaning.Log.{own}
+use Rattle.lg_membership.specs.Meaning.Suspicions.{suspicions, suspected}
+use Rattle.lg_membership.specs.Meaning.Gossip.{put_by, queued, queue_rows}
+use Rattle.lg_detector.specs.declared.event.Event.{Event}
+use Rattle.lg_detector.specs.declared.event.Event.TheVariants.{Open, Tick, Heard, Ask, Health}
+use Rattle.lg_detector.specs.declared.reply.Answer.TheVariants.{Status as OfStatus, Health as OfHealth}
+use Rattle.lg_detector.specs.declared.reply.Outgoing.{Outgoing}
+use Rattle.lg_detector.specs.declared.reply.Reply.{Reply}
+use Rattle.lg_detector.specs.Meaning.Log.{moment, group_log}
+use Rattle.lg_detector.specs.Meaning.Step.{log_of, reply_after, view_after, deadline_after, is_accepted}
+
+-- What a worked event unfolds to be computed.
+unfoldable by_computing : Unit {0}
+unfolding digits own_of record_of roster table_of takes check_of log10_of ratio_of range_of timeout_of counted_accusers taken_of
+  in_turn suspicions suspected put_by queued queue_rows
+by_computing = tt
+
+-- the letters that name the members
+abbrev a : ℕ
+a = 97
+
+abbrev b : ℕ
+b = 98
+
+abbrev c : ℕ
+c = 99
+
+abbrev d : ℕ
+d = 100
+
+abbrev e : ℕ
+e = 101
+
+abbrev z : ℕ
+z = 122
+
+abbrev at : ℕ → Addr
+at port = record { octets = 127 ∷ 0 ∷ 0 ∷ 1 ∷ []; port = port }
+
+-- claims about the member with a name of one letter
+abbrev on : ℕ → Status → ℕ → Claim
+on letter status i = record { name = letter ∷ []; addr = at 7000; status = status; incarnation = i }
+
+abbrev alive : ℕ → ℕ → Claim
+alive letter i = on letter Alive i
+
+abbrev failed : ℕ → ℕ → Claim
+failed letter i = on letter Failed i
+
+abbrev suspect : ℕ → ℕ → ℕ → Claim
+suspect letter i accuser = on letter (Suspect (accuser ∷ [])) i
+
+-- b is opened with the default numbers.
+abbrev opening : ℕ → Event
+opening now = Open now (defaults (b ∷ []) (at 7000))
+
+abbrev opening_with : ℕ → List Seed → Event
+opening_with interval seeds =
+    Open 0 (record (defaults (b ∷ []) (at 7000)) { interval_ms = interval; seeds = record { items = seeds } })
+
+abbrev seeded : Event
+seeded = opening_with 1000 (record { name = c ∷ []; addr = at 7000 } ∷ [])
+
+-- a packet of a, and among these a Ping for a member
+abbrev says : ℕ → Body → List Claim → Event
+says now body claims = Heard now (at 1) (record { sender = a ∷ []; body = body; claims = record { items = claims } })
+
+abbrev pings : ℕ → ℕ → ℕ → List Claim → Event
+pings now number target claims = says now (Ping number (target ∷ [])) claims
+
+-- c is accused in a Ping for b
+abbrev accusing : ℕ → ℕ → Event
+accusing now accuser = pings now 1 b (suspect c 0 accuser ∷ [])
+
+abbrev ticks : ℕ → Event
+ticks now = Tick now (0 ∷ 1 ∷ 2 ∷ 3 ∷ 4 ∷ 5 ∷ 6 ∷ 7 ∷ [])
+
+-- the timer of the next round, and that of the suspicion of c
+abbrev round : ℕ → Timer
+round deadline = record { deadline = deadline; id = RoundStart }
+
+abbrev end_of_c : ℕ → Timer
+end_of_c deadline = record { deadline = deadline; id = Suspicion (c ∷ []) }
+
+-- the reply that says nothing, where this is the least deadline; and an Ack to port 1
+abbrev nothing : ℕ → Reply
+nothing next =
+    record {
+      fired = None;
+      sends = record { items = [] };
+      changed = record { items = [] };
+      answer = None;
+      ousted = false;
+      next = next;
+    }
+
+abbrev acks : ℕ → List Claim → List Outgoing
+acks number claims =
+    let body = Ack number in
+    record { to = at 1; packet = record { sender = b ∷ []; body = body; claims = record { items = claims } } } ∷ []
+
+-- OPEN
+-- A seed is known, and the opening changes nothing. No packet says it, but one says the claim that overrides it.
+opening_says_nothing : reply_after [] seeded ≡ nothing 0
+unfolding by_computing
+opening_says_nothing = refl
+
+seeds_are_known : view_after (seeded ∷ []) ≡ alive b 0 ∷ alive c 0 ∷ []
+unfolding by_computing
+seeds_are_known = refl
+
+seeds_are_not_sent : (reply_after (seeded ∷ []) (pings 0 1 b (alive c 0 ∷ []))).sends.items ≡ acks 1 []
+unfolding by_computing
+seeds_are_not_sent = refl
+
+what_overrides_a_seed_is_sent :
+  (reply_after (seeded ∷ []) (pings 0 1 b (alive c 1 ∷ []))).sends.items ≡ acks 1 (alive c 1 ∷ [])
+unfolding by_computing
+what_overrides_a_seed_is_sent = refl
+
+-- An accepted list begins with its one opening, and with a configuration that passes its check.
+nothing_is_accepted : is_accepted [] ≡ true
+nothing_is_accepted = refl
+
+begins_with_an_opening : is_accepted (opening 0 ∷ Ask 0 (b ∷ []) ∷ pings 0 1 b [] ∷ []) ≡ true
+unfolding by_computing
+begins_with_an_opening = refl
+
+begins_with_a_question : is_accepted (Ask 0 (b ∷ []) ∷ opening 0 ∷ []) ≡ false
+begins_with_a_question = refl
+
+opened_twice : is_accepted (opening 0 ∷ Ask 0 (b ∷ []) ∷ opening 0 ∷ []) ≡ false
+unfolding by_computing
+opened_twice = refl
+
+interval_too_short : is_accepted (opening_with 5 [] ∷ []) ≡ false
+unfolding by_computing
+interval_too_short = refl
+
+-- HEAR
+-- A Ping of a for c says that c is alive: it isn't acked. Then a asks b.
+a_ping_for_another_is_not_acked :
+  reply_after (opening 0 ∷ []) (pings 0 7 c (alive c 0 ∷ []))
+    ≡ record (nothing 0) { changed = record { items = alive c 0 ∷ [] } }
+unfolding by_computing
+a_ping_for_another_is_not_acked = refl
+
+an_ack_takes_what_was_heard :
+  reply_after (opening 0 ∷ pings 0 7 c (alive c 0 ∷ []) ∷ []) (pings 0 8 b [])
+    ≡ record (nothing 0) { sends = record { items = acks 8 (alive c 0 ∷ []) } }
+unfolding by_computing
+an_ack_takes_what_was_heard = refl
+
+-- An Ack is heard: its claims are said, and it isn't acked.
+an_ack_is_not_acked :
+  reply_after (opening 0 ∷ []) (says 0 (Ack 7) (alive c 0 ∷ []))
+    ≡ record (nothing 0) { changed = record { items = alive c 0 ∷ [] } }
+unfolding by_computing
+an_ack_is_not_acked = refl
+
+the_claims_of_an_ack_are_said :
+  view_after (opening 0 ∷ says 0 (Ack 7) (alive c 0 ∷ []) ∷ []) ≡ alive b 0 ∷ alive c 0 ∷ []
+unfolding by_computing
+the_claims_of_an_ack_are_said = refl
+
+-- One packet says that a and then c suspect b, both at 0: b refutes the first alone, before it acks.
+abbrev accused_twice : Event
+accused_twice = pings 0 9 b (suspect b 0 a ∷ suspect b 0 c ∷ [])
+
+refutes_once :
+  reply_after (opening 0 ∷ []) accused_twice
+    ≡ record (nothing 0) {
+      sends = record { items = acks 9 (alive b 1 ∷ []) };
+      changed = record { items = alive b 1 ∷ [] };
+    }
+unfolding by_computing
+refutes_once = refl
+
+-- the own number, and whether one was ousted
+abbrev oneself_after : List Event → Oneself
+oneself_after f = own (group_log (log_of (reverse f)))
+
+abbrev b_is : ℕ → Bool → Oneself
+b_is number ousted = record { name = b ∷ []; addr = at 7000; number = number; ousted = ousted }
+
+a_refutation_raises_the_number : oneself_after (opening 0 ∷ accused_twice ∷ []) ≡ b_is 1 false
+unfolding by_computing
+a_refutation_raises_the_number = refl
+
+-- It is claimed to have failed, and suspected beyond refuting: the number stays, nothing changes, and no claim is sent.
+abbrev ousted : Reply
+ousted = record (nothing 0) { sends = record { items = acks 1 [] }; ousted = true }
+
+a_claim_that_b_failed_ousts_it : reply_after (opening 0 ∷ []) (pings 0 1 b (failed b 0 ∷ [])) ≡ ousted
+unfolding by_computing
+a_claim_that_b_failed_ousts_it = refl
+
+beyond_refuting : reply_after (opening 0 ∷ []) (pings 0 1 b (suspect b 1000000000 a ∷ [])) ≡ ousted
+unfolding by_computing
+beyond_refuting = refl
+
+one_that_is_ousted_keeps_its_number :
+  oneself_after (opening 0 ∷ pings 0 1 b (suspect b 1000000000 a ∷ []) ∷ []) ≡ b_is 0 true
+unfolding by_computing
+one_that_is_ousted_keeps_its_number = refl
+
+-- Moments may go back: what comes at an earlier one leaves the moment, and none moves a deadline.
+abbrev moment_after : List Event → ℕ
+moment_after f = moment (log_of (reverse f))
+
+the_greatest_moment_counts : moment_after (opening 5000 ∷ pings 4000 1 b [] ∷ []) ≡ 5000
+the_greatest_moment_counts = refl
+
+a_packet_moves_no_deadline : (reply_after (opening 5000 ∷ []) (pings 4000 1 b [])).next ≡ 5000
+unfolding by_computing
+a_packet_moves_no_deadline = refl
+
+a_later_packet_moves_none : deadline_after (opening 5000 ∷ pings 6000 1 b [] ∷ []) ≡ Some 5000
+unfolding by_computing
+a_later_packet_moves_none = refl
+
+no_deadline_before_the_opening : deadline_after [] ≡ None
+unfolding by_computing
+no_deadline_before_the_opening = refl
+
+-- TICK
+-- c is suspected by d in a Ping at 2000. There are two members then, so the suspicion runs out at 7000. Each tick fires one
+-- timer, the first of those that are due.
+abbrev suspecting : List Event
+suspecting = opening 0 ∷ accusing 2000 d ∷ []
+
+the_round_starts :
+  reply_after suspecting (ticks 2000) ≡ record (nothing 3000) { fired = Some (round 0) }
+unfolding by_computing
+the_round_starts = refl
+
+one_of_two_that_are_due_fires :
+  reply_after (opening 0 ∷ accusing 2000 d ∷ ticks 2000 ∷ []) (ticks 7000)
+    ≡ record (nothing 7000) { fired = Some (round 3000) }
+unfolding by_computing
+one_of_two_that_are_due_fires = refl
+
+a_suspicion_runs_out :
+  reply_after (opening 0 ∷ accusing 2000 d ∷ ticks 2000 ∷ ticks 7000 ∷ []) (ticks 7000)
+    ≡ record (nothing 8000) { fired = Some (end_of_c 7000); changed = record { items = failed c 0 ∷ [] } }
+unfolding by_computing
+a_suspicion_runs_out = refl
+
+-- It runs out before a round starts that is due at the same moment.
+a_suspicion_comes_before_a_round :
+  reply_after (opening 0 ∷ ticks 0 ∷ accusing 0 d ∷ ticks 4000 ∷ []) (ticks 5000)
+    ≡ record (nothing 5000) { fired = Some (end_of_c 5000); changed = record { items = failed c 0 ∷ [] } }
+unfolding by_computing
+a_suspicion_comes_before_a_round = refl
+
+nothing_is_due : reply_after (opening 0 ∷ ticks 0 ∷ []) (ticks 999) ≡ nothing 1000
+unfolding by_computing
+nothing_is_due = refl
+
+-- The next round starts an interval after the greatest moment, here that of a question.
+a_round_counts_from_the_greatest_moment :
+  reply_after (opening 0 ∷ Health 5000 ∷ []) (ticks 4000) ≡ record (nothing 6000) { fired = Some (round 0) }
+unfolding by_computing
+a_round_counts_from_the_greatest_moment = refl
+
+-- At a score of 1 the interval is twice as long.
+a_round_counts_by_the_score :
+  reply_after (opening 0 ∷ accused_twice ∷ []) (ticks 0) ≡ record (nothing 2000) { fired = Some (round 0) }
+unfolding by_computing
+a_round_counts_by_the_score = refl
+
+-- A claim that overrides ends the suspicion, and its deadline with it.
+an_ended_suspicion_has_no_deadline :
+  (reply_after (opening 0 ∷ accusing 2000 d ∷ pings 3000 2 b (alive c 1 ∷ []) ∷ []) (ticks 6500)).next ≡ 7500
+unfolding by_computing
+an_ended_suspicion_has_no_deadline = refl
+
+-- c is suspected at 2000 among five members, by d, by d again, and by e. The round starts at 31500.
+abbrev alive_others : List Claim
+alive_others = alive a 0 ∷ alive d 0 ∷ alive e 0 ∷ []
+
+-- what comes after b heard of the others
+abbrev among_five : List Event → List Event
+among_five f = opening 0 ∷ says 0 (Ack 7) alive_others ∷ f
+
+an_accuser_counts_once :
+  (reply_after (among_five (accusing 2000 d ∷ accusing 2000 d ∷ [])) (ticks 31500)).next ≡ 32000
+unfolding by_computing
+an_accuser_counts_once = refl
+
+another_accuser_shortens_the_deadline :
+  (reply_after (among_five (accusing 2000 d ∷ accusing 2000 d ∷ accusing 2000 e ∷ [])) (ticks 31500)).next ≡ 19500
+unfolding by_computing
+another_accuser_shortens_the_deadline = refl
+
+-- The accusation of e counts, so it is sent, before the claims that an earlier Ack held.
+an_accusation_that_counts_is_sent :
+  (reply_after (among_five (accusing 2000 d ∷ [])) (accusing 2000 e)).sends.items ≡ acks 1 (suspect c 0 e ∷ alive_others)
+unfolding by_computing
+an_accusation_that_counts_is_sent = refl
+
+-- ASK
+-- b is asked for c, for itself and for a stranger.
+abbrev knows_c : List Event
+knows_c = opening 0 ∷ says 0 (Ack 7) (alive c 0 ∷ []) ∷ []
+
+asked_for_c : reply_after knows_c (Ask 20 (c ∷ [])) ≡ record (nothing 0) { answer = Some (OfStatus (Some (alive c 0))) }
+unfolding by_computing
+asked_for_c = refl
+
+asked_for_itself :
+  reply_after knows_c (Ask 20 (b ∷ [])) ≡ record (nothing 0) { answer = Some (OfStatus (Some (alive b 0))) }
+unfolding by_computing
+asked_for_itself = refl
+
+asked_for_a_stranger : reply_after knows_c (Ask 20 (z ∷ [])) ≡ record (nothing 0) { answer = Some (OfStatus None) }
+unfolding by_computing
+asked_for_a_stranger = refl
+
+-- A new member has the score 0 and the number 0; of two accusations one was refuted, so both are 1.
+health_at_the_opening : (reply_after (opening 0 ∷ []) (Health 0)).answer ≡ Some (OfHealth 0 0 1)
+unfolding by_computing
+health_at_the_opening = refl
+
+health_after_a_refutation : (reply_after (opening 0 ∷ accused_twice ∷ []) (Health 0)).answer ≡ Some (OfHealth 1 1 1)
+unfolding by_computing
+health_after_a_refutation = refl
+
+-- A member that is suspected counts, and one that failed doesn't.
+a_suspect_counts : (reply_after suspecting (Health 2000)).answer ≡ Some (OfHealth 0 0 2)
+unfolding by_computing
+a_suspect_counts = refl
+
+one_that_failed_does_not_count :
+  (reply_after (opening 0 ∷ accusing 2000 d ∷ pings 3000 2 b (failed c 0 ∷ []) ∷ []) (Health 3000)).answer
+    ≡ Some (OfHealth 0 0 1)
+unfolding by_computing
+one_that_failed_does_not_count = refl
