@@ -1,4 +1,5 @@
 -- What only carries the proofs.
+pub mod Bounds
 pub mod State
 pub mod Open
 pub mod Hear

@@ -91,21 +91,21 @@ impl Detector {
         can_come(self.parts.events, event)
     }
 
-    /// Leads the state on by an event that is accepted, and writes the reply to it in the place of what `reply` held. It takes
-    /// no memory, and always succeeds.
+    /// Leads the state on by an event that is accepted, and writes the reply to it in the place of what `reply` held.
+    /// It takes no memory, and always succeeds.
     pub fn step(&mut self, event: &Event, reply: &mut Reply)
         requires { IsTrue (accepts_of self.old event.now) }
         ensures state { self.new ≡ state.step self.old event.now }
         ensures reply { reply.new ≡ state.reply self.old event.now }
-        // After any list of events, the list goes on by this one, and the reply is that of the definitions after the list.
+        // After any list of events, the list goes on by this one, and the reply is that of the definitions after it.
         ensures after { (f : List Happened) → self.old ≡ state_after f → self.new ≡ state_after (f ++ event.now ∷ []) }
         ensures answer { (f : List Happened) → self.old ≡ state_after f → reply.new ≡ reply_after f event.now }
     {
         self.advance(event, reply);
     }
 
-    /// Leads the state on by an event, without a reply. An event that isn't accepted changes nothing. It takes no memory, and
-    /// always succeeds.
+    /// Leads the state on by an event, without a reply. An event that isn't accepted changes nothing. It takes no
+    /// memory, and always succeeds.
     pub fn absorb(&mut self, event: &Event)
         ensures state { self.new ≡ state.step self.old event.now }
         ensures after { (f : List Happened) → self.old ≡ state_after f → IsTrue (accepts_of self.old event.now)
@@ -182,8 +182,8 @@ fn can_come(events: u64, event: &Event) -> bool
     }
 }
 
-/// The law by itself: the states that the contracts speak of are functions of the list of events. One that accepts an event
-/// leads on as the list does, and gives the reply of the definitions.
+/// The law by itself: the states that the contracts speak of are functions of the list of events. One that accepts an
+/// event leads on as the list does, and gives the reply of the definitions.
 pub fn states_lead_on()
     ensures next { (f : List Happened) (e : Happened) → IsTrue (accepts_of (state_after f) e)
         → state.step (state_after f) e ≡ state_after (f ++ e ∷ []) }

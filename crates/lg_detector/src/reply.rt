@@ -71,8 +71,14 @@ pub struct Reply {
 impl Default for Reply {
     ghost use Rattle.std.specs.Prelude.{◌≡◌, [], None, false};
 
-    ghost is_default = { λ r. r
-        ≡ record { fired = None; sends = record { items = [] }; changed = record { items = [] }; answer = None; ousted = false; next = 0 } };
+    ghost is_default = { λ r. r ≡ record {
+      fired = None;
+      sends = record { items = [] };
+      changed = record { items = [] };
+      answer = None;
+      ousted = false;
+      next = 0;
+    } };
 
     fn default() -> Self {
         Reply {
@@ -88,7 +94,7 @@ impl Default for Reply {
 
 /// Copies of packets to be sent.
 fn copy_sends(sends: &[Outgoing]) -> ArrayVec<Outgoing, MAX_SENDS>
-    requires { length sends.now ≤ 8 }
+    requires { length sends.now ≤ MAX_SENDS }
     ensures { result.items ≡ sends.now }
 {
     let mut copies = ArrayVec::new();
@@ -100,7 +106,7 @@ fn copy_sends(sends: &[Outgoing]) -> ArrayVec<Outgoing, MAX_SENDS>
 
 /// Copies of records.
 fn copy_records(records: &[Record]) -> ArrayVec<Record, MAX_CHANGED>
-    requires { length records.now ≤ 6 }
+    requires { length records.now ≤ MAX_CHANGED }
     ensures { result.items ≡ records.now }
 {
     let mut copies = ArrayVec::new();
@@ -113,7 +119,12 @@ fn copy_records(records: &[Record]) -> ArrayVec<Record, MAX_CHANGED>
 impl Reply {
     /// Drops the timer, what was to be sent, what changed and the answer.
     pub(crate) fn say_nothing(&mut self)
-        ensures { self.new ≡ record self.old { fired = None; sends = record { items = [] }; changed = record { items = [] }; answer = None } }
+        ensures { self.new ≡ record self.old {
+          fired = None;
+          sends = record { items = [] };
+          changed = record { items = [] };
+          answer = None;
+        } }
     {
         self.fired = None;
         self.sends.clear();

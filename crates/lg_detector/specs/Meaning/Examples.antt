@@ -32,8 +32,8 @@ use Rattle.lg_detector.specs.Meaning.Step.{log_of, reply_after, view_after, dead
 
 -- What a worked event unfolds to be computed.
 unfoldable by_computing : Unit {0}
-unfolding digits own_of record_of roster table_of takes check_of log10_of ratio_of range_of timeout_of counted_accusers taken_of
-  in_turn suspicions suspected put_by queued queue_rows
+unfolding digits own_of record_of roster table_of takes check_of log10_of ratio_of range_of timeout_of counted_accusers
+    taken_of in_turn suspicions suspected put_by queued queue_rows
 by_computing = tt
 
 -- the letters that name the members
@@ -135,7 +135,7 @@ unfolding by_computing
 seeds_are_not_sent = refl
 
 what_overrides_a_seed_is_sent :
-  (reply_after (seeded ∷ []) (pings 0 1 b (alive c 1 ∷ []))).sends.items ≡ acks 1 (alive c 1 ∷ [])
+    (reply_after (seeded ∷ []) (pings 0 1 b (alive c 1 ∷ []))).sends.items ≡ acks 1 (alive c 1 ∷ [])
 unfolding by_computing
 what_overrides_a_seed_is_sent = refl
 
@@ -161,26 +161,26 @@ interval_too_short = refl
 -- HEAR
 -- A Ping of a for c says that c is alive: it isn't acked. Then a asks b.
 a_ping_for_another_is_not_acked :
-  reply_after (opening 0 ∷ []) (pings 0 7 c (alive c 0 ∷ []))
+    reply_after (opening 0 ∷ []) (pings 0 7 c (alive c 0 ∷ []))
     ≡ record (nothing 0) { changed = record { items = alive c 0 ∷ [] } }
 unfolding by_computing
 a_ping_for_another_is_not_acked = refl
 
 an_ack_takes_what_was_heard :
-  reply_after (opening 0 ∷ pings 0 7 c (alive c 0 ∷ []) ∷ []) (pings 0 8 b [])
+    reply_after (opening 0 ∷ pings 0 7 c (alive c 0 ∷ []) ∷ []) (pings 0 8 b [])
     ≡ record (nothing 0) { sends = record { items = acks 8 (alive c 0 ∷ []) } }
 unfolding by_computing
 an_ack_takes_what_was_heard = refl
 
 -- An Ack is heard: its claims are said, and it isn't acked.
 an_ack_is_not_acked :
-  reply_after (opening 0 ∷ []) (says 0 (Ack 7) (alive c 0 ∷ []))
+    reply_after (opening 0 ∷ []) (says 0 (Ack 7) (alive c 0 ∷ []))
     ≡ record (nothing 0) { changed = record { items = alive c 0 ∷ [] } }
 unfolding by_computing
 an_ack_is_not_acked = refl
 
 the_claims_of_an_ack_are_said :
-  view_after (opening 0 ∷ says 0 (Ack 7) (alive c 0 ∷ []) ∷ []) ≡ alive b 0 ∷ alive c 0 ∷ []
+    view_after (opening 0 ∷ says 0 (Ack 7) (alive c 0 ∷ []) ∷ []) ≡ alive b 0 ∷ alive c 0 ∷ []
 unfolding by_computing
 the_claims_of_an_ack_are_said = refl
 
@@ -189,7 +189,7 @@ abbrev accused_twice : Event
 accused_twice = pings 0 9 b (suspect b 0 a ∷ suspect b 0 c ∷ [])
 
 refutes_once :
-  reply_after (opening 0 ∷ []) accused_twice
+    reply_after (opening 0 ∷ []) accused_twice
     ≡ record (nothing 0) {
       sends = record { items = acks 9 (alive b 1 ∷ []) };
       changed = record { items = alive b 1 ∷ [] };
@@ -221,7 +221,7 @@ unfolding by_computing
 beyond_refuting = refl
 
 one_that_is_ousted_keeps_its_number :
-  oneself_after (opening 0 ∷ pings 0 1 b (suspect b 1000000000 a ∷ []) ∷ []) ≡ b_is 0 true
+    oneself_after (opening 0 ∷ pings 0 1 b (suspect b 1000000000 a ∷ []) ∷ []) ≡ b_is 0 true
 unfolding by_computing
 one_that_is_ousted_keeps_its_number = refl
 
@@ -245,31 +245,31 @@ unfolding by_computing
 no_deadline_before_the_opening = refl
 
 -- TICK
--- c is suspected by d in a Ping at 2000. There are two members then, so the suspicion runs out at 7000. Each tick fires one
--- timer, the first of those that are due.
+-- c is suspected by d in a Ping at 2000. There are two members then, so the suspicion runs out at 7000. Each tick fires
+-- one timer, the first of those that are due.
 abbrev suspecting : List Event
 suspecting = opening 0 ∷ accusing 2000 d ∷ []
 
 the_round_starts :
-  reply_after suspecting (ticks 2000) ≡ record (nothing 3000) { fired = Some (round 0) }
+    reply_after suspecting (ticks 2000) ≡ record (nothing 3000) { fired = Some (round 0) }
 unfolding by_computing
 the_round_starts = refl
 
 one_of_two_that_are_due_fires :
-  reply_after (opening 0 ∷ accusing 2000 d ∷ ticks 2000 ∷ []) (ticks 7000)
+    reply_after (opening 0 ∷ accusing 2000 d ∷ ticks 2000 ∷ []) (ticks 7000)
     ≡ record (nothing 7000) { fired = Some (round 3000) }
 unfolding by_computing
 one_of_two_that_are_due_fires = refl
 
 a_suspicion_runs_out :
-  reply_after (opening 0 ∷ accusing 2000 d ∷ ticks 2000 ∷ ticks 7000 ∷ []) (ticks 7000)
+    reply_after (opening 0 ∷ accusing 2000 d ∷ ticks 2000 ∷ ticks 7000 ∷ []) (ticks 7000)
     ≡ record (nothing 8000) { fired = Some (end_of_c 7000); changed = record { items = failed c 0 ∷ [] } }
 unfolding by_computing
 a_suspicion_runs_out = refl
 
 -- It runs out before a round starts that is due at the same moment.
 a_suspicion_comes_before_a_round :
-  reply_after (opening 0 ∷ ticks 0 ∷ accusing 0 d ∷ ticks 4000 ∷ []) (ticks 5000)
+    reply_after (opening 0 ∷ ticks 0 ∷ accusing 0 d ∷ ticks 4000 ∷ []) (ticks 5000)
     ≡ record (nothing 5000) { fired = Some (end_of_c 5000); changed = record { items = failed c 0 ∷ [] } }
 unfolding by_computing
 a_suspicion_comes_before_a_round = refl
@@ -280,19 +280,19 @@ nothing_is_due = refl
 
 -- The next round starts an interval after the greatest moment, here that of a question.
 a_round_counts_from_the_greatest_moment :
-  reply_after (opening 0 ∷ Health 5000 ∷ []) (ticks 4000) ≡ record (nothing 6000) { fired = Some (round 0) }
+    reply_after (opening 0 ∷ Health 5000 ∷ []) (ticks 4000) ≡ record (nothing 6000) { fired = Some (round 0) }
 unfolding by_computing
 a_round_counts_from_the_greatest_moment = refl
 
 -- At a score of 1 the interval is twice as long.
 a_round_counts_by_the_score :
-  reply_after (opening 0 ∷ accused_twice ∷ []) (ticks 0) ≡ record (nothing 2000) { fired = Some (round 0) }
+    reply_after (opening 0 ∷ accused_twice ∷ []) (ticks 0) ≡ record (nothing 2000) { fired = Some (round 0) }
 unfolding by_computing
 a_round_counts_by_the_score = refl
 
 -- A claim that overrides ends the suspicion, and its deadline with it.
 an_ended_suspicion_has_no_deadline :
-  (reply_after (opening 0 ∷ accusing 2000 d ∷ pings 3000 2 b (alive c 1 ∷ []) ∷ []) (ticks 6500)).next ≡ 7500
+    (reply_after (opening 0 ∷ accusing 2000 d ∷ pings 3000 2 b (alive c 1 ∷ []) ∷ []) (ticks 6500)).next ≡ 7500
 unfolding by_computing
 an_ended_suspicion_has_no_deadline = refl
 
@@ -305,18 +305,19 @@ abbrev among_five : List Event → List Event
 among_five f = opening 0 ∷ says 0 (Ack 7) alive_others ∷ f
 
 an_accuser_counts_once :
-  (reply_after (among_five (accusing 2000 d ∷ accusing 2000 d ∷ [])) (ticks 31500)).next ≡ 32000
+    (reply_after (among_five (accusing 2000 d ∷ accusing 2000 d ∷ [])) (ticks 31500)).next ≡ 32000
 unfolding by_computing
 an_accuser_counts_once = refl
 
 another_accuser_shortens_the_deadline :
-  (reply_after (among_five (accusing 2000 d ∷ accusing 2000 d ∷ accusing 2000 e ∷ [])) (ticks 31500)).next ≡ 19500
+    (reply_after (among_five (accusing 2000 d ∷ accusing 2000 d ∷ accusing 2000 e ∷ [])) (ticks 31500)).next ≡ 19500
 unfolding by_computing
 another_accuser_shortens_the_deadline = refl
 
 -- The accusation of e counts, so it is sent, before the claims that an earlier Ack held.
 an_accusation_that_counts_is_sent :
-  (reply_after (among_five (accusing 2000 d ∷ [])) (accusing 2000 e)).sends.items ≡ acks 1 (suspect c 0 e ∷ alive_others)
+    (reply_after (among_five (accusing 2000 d ∷ [])) (accusing 2000 e)).sends.items
+    ≡ acks 1 (suspect c 0 e ∷ alive_others)
 unfolding by_computing
 an_accusation_that_counts_is_sent = refl
 
@@ -330,7 +331,7 @@ unfolding by_computing
 asked_for_c = refl
 
 asked_for_itself :
-  reply_after knows_c (Ask 20 (b ∷ [])) ≡ record (nothing 0) { answer = Some (OfStatus (Some (alive b 0))) }
+    reply_after knows_c (Ask 20 (b ∷ [])) ≡ record (nothing 0) { answer = Some (OfStatus (Some (alive b 0))) }
 unfolding by_computing
 asked_for_itself = refl
 
@@ -353,7 +354,7 @@ unfolding by_computing
 a_suspect_counts = refl
 
 one_that_failed_does_not_count :
-  (reply_after (opening 0 ∷ accusing 2000 d ∷ pings 3000 2 b (failed c 0 ∷ []) ∷ []) (Health 3000)).answer
+    (reply_after (opening 0 ∷ accusing 2000 d ∷ pings 3000 2 b (failed c 0 ∷ []) ∷ []) (Health 3000)).answer
     ≡ Some (OfHealth 0 0 1)
 unfolding by_computing
 one_that_failed_does_not_count = refl

@@ -1,5 +1,23 @@
 -- What an event adds to a log, the reply to it, and which lists of events are accepted.
-use Rattle.std.specs.Prelude.{ℕ, ◌+◌, Bool, true, false, ◌&&◌, not, List, [], ◌∷◌, length, reverse, Option, Some, None, nat_le, is_ok}
+use Rattle.std.specs.Prelude.{
+  ℕ,
+  ◌+◌,
+  Bool,
+  true,
+  false,
+  ◌&&◌,
+  not,
+  List,
+  [],
+  ◌∷◌,
+  length,
+  reverse,
+  Option,
+  Some,
+  None,
+  nat_le,
+  is_ok,
+}
 use Rattle.std.specs.List.{list_any}
 use Rattle.lg_rules.specs.declared.claim.Claim.{Claim}
 use Rattle.lg_rules.specs.Meaning.View.{changed}
@@ -70,7 +88,8 @@ reply e log =
       next = or_zero (deadline_in (pending behind));
     }
 
--- The same after a list of events, the earliest first: the reply to one more event, the member table, and the least deadline.
+-- The same after a list of events, the earliest first: the reply to one more event, the member table, and the least
+-- deadline.
 abbrev pub reply_after : List Event → Event → Reply
 reply_after f e = reply e (log_of (reverse f))
 
@@ -80,8 +99,8 @@ view_after f = view (log_of (reverse f))
 abbrev pub deadline_after : List Event → Option ℕ
 deadline_after f = deadline_in (pending (log_of (reverse f)))
 
--- A list of events is accepted where it is empty, or its first event is an opening with a configuration that passes its check,
--- no later one is an opening, and it has at most 4,000,000,000 events (this project's choice).
+-- A list of events is accepted where it is empty, or its first event is an opening with a configuration that passes its
+-- check, no later one is an opening, and it has at most 4,000,000,000 events (this project's choice).
 abbrev pub most_events : ℕ
 most_events = 4000000000
 

@@ -13,8 +13,8 @@ use Rattle.lg_detector.specs.Meaning.Log.{Log, group_log}
 use Rattle.lg_detector.specs.Meaning.Timing.{due}
 use Rattle.lg_detector.specs.Meaning.Apply.{come, apply_all, fire}
 
--- The claims that a timer says when it fires: a member whose suspicion runs out has failed, at the incarnation and the address
--- of its record (SWIM, section 4.2).
+-- The claims that a timer says when it fires: a member whose suspicion runs out has failed, at the incarnation and the
+-- address of its record (SWIM, section 4.2).
 abbrev pub failed_of : Option Claim → List Claim
 failed_of None = []
 failed_of (Some r) = record { name = r.name; addr = r.addr; status = Failed; incarnation = r.incarnation } ∷ []

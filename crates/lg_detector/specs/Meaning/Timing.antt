@@ -1,5 +1,24 @@
 -- The health score and the timers that are set (Lifeguard, local health aware probe; SWIM, section 3.1).
-use Rattle.std.specs.Prelude.{ℕ, ◌+◌, ◌*◌, ℤ, pos, Bool, true, false, List, [], ◌∷◌, ◌++◌, map, Option, Some, None, option_map, if◌then◌else◌}
+use Rattle.std.specs.Prelude.{
+  ℕ,
+  ◌+◌,
+  ◌*◌,
+  ℤ,
+  pos,
+  Bool,
+  true,
+  false,
+  List,
+  [],
+  ◌∷◌,
+  ◌++◌,
+  map,
+  Option,
+  Some,
+  None,
+  option_map,
+  if◌then◌else◌,
+}
 use Rattle.lg_rules.specs.declared.own.OwnHeard.{OwnHeard}
 use Rattle.lg_rules.specs.declared.own.OwnHeard.TheVariants.{Refuted}
 use Rattle.lg_rules.specs.Meaning.Own.{own_hearing}
@@ -56,7 +75,8 @@ round_start (Fired timer ∷ log) =
     else round_start log
 round_start (_ ∷ log) = round_start log
 
--- The timers that are set, in the order in which they fire: the start of the next round, and the deadline of each suspicion.
+-- The timers that are set, in the order in which they fire: the start of the next round, and the deadline of each
+-- suspicion.
 abbrev pub start_timer : ℕ → Timer
 start_timer deadline = record { deadline = deadline; id = RoundStart }
 

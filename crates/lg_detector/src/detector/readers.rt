@@ -45,7 +45,8 @@ impl Detector {
     /// alone, at most 256 records; the only error is that memory was refused.
     pub fn table(&self, alloc: Global) -> Result<Vec<Record>, NoMemory>
         ensures state { IfOk result (λ table. table.items ≡ view_in self.now) }
-        ensures list { (f : List Happened) → self.now ≡ state_after f → IfOk result (λ table. table.items ≡ view_after f) }
+        ensures list { (f : List Happened) → self.now ≡ state_after f
+            → IfOk result (λ table. table.items ≡ view_after f) }
     {
         let mut row = ArrayVec::new();
         self.put_table(&mut row);

@@ -1,0 +1,7 @@
+-- The bounds of the code are those of the definitions.
+use Rattle.std.specs.Prelude.{◌≡◌, refl}
+use Rattle.lg_detector.specs.declared.detector.TheConstants.{MAX_EVENTS}
+use Rattle.lg_detector.specs.Meaning.Step.{most_events}
+
+pub most_events-is : MAX_EVENTS ≡ most_events
+most_events-is = refl
