@@ -37,7 +37,8 @@ impl Detector {
         ensures state { self.new ≡ hear now packet.now self.old }
         ensures fired { reply.new.fired ≡ None }
         ensures sends { reply.new.sends.items ≡ sends_to source packet.now.body (hear_claims now packet.now self.old) }
-        ensures differing { reply.new.changed.items ≡ changed (view_in self.old) (view_in (hear_claims now packet.now self.old)) }
+        ensures differing { reply.new.changed.items
+            ≡ changed (view_in self.old) (view_in (hear_claims now packet.now self.old)) }
         ensures answer { reply.new.answer ≡ None }
     {
         reply.say_nothing();
@@ -50,7 +51,8 @@ impl Detector {
     pub(super) fn say(&mut self, claims: &[Claim], differing: &mut ArrayVec<Record, MAX_CHANGED>)
         requires { length claims.now ≤ MAX_CLAIMS }
         ensures state { self.new ≡ apply_all Group claims.now self.old }
-        ensures differing { differing.new.items ≡ changed (view_in self.old) (view_in (apply_all Group claims.now self.old)) }
+        ensures differing { differing.new.items
+            ≡ changed (view_in self.old) (view_in (apply_all Group claims.now self.old)) }
     {
         // What the invariant says of the state at the start is needed at the end.
         let _ = &self.parts;
@@ -87,7 +89,8 @@ impl Detector {
 
     /// The claims of the next packet that is no Ping; those of the queue are counted as sent.
     fn fill(&mut self) -> ArrayVec<Claim, MAX_CLAIMS>
-        ensures claims { result.items ≡ fill_of self.old.membership.queue None (live_in self.old.membership.members.table) }
+        ensures claims { result.items
+            ≡ fill_of self.old.membership.queue None (live_in self.old.membership.members.table) }
         ensures state { self.new ≡ send self.old }
     {
         self.parts.membership.fill()
