@@ -15,7 +15,7 @@ use arrayvec::ArrayVec;
 use lg_membership::{Deadline, Origin};
 use lg_rules::{Claim, MAX_CLAIMS, Name};
 use lg_timers::{MAX_TIMERS, Timer, TimerId, Timers};
-use lg_timing::{Config, Moment, Score};
+use lg_timing::{Config, MAX_SCALED_MS, Moment, Score};
 
 /// Follows what became of the deadline of a member's suspicion.
 fn follow(timers: &mut Timers, member: &Name, deadline: Deadline)
@@ -45,7 +45,7 @@ fn mark_if(score: &mut Score, refuted: bool)
 fn scaled_interval(score: &Score, config: Option<&Config>) -> u64
     requires { IsGood (option_copied config) }
     ensures interval { result ≡ scaled_interval (option_copied config.entry) score.now }
-    ensures within { result ≤ 1260000 }
+    ensures within { result ≤ MAX_SCALED_MS }
 {
     match config {
         Some(config) => score.interval(config),
