@@ -1,17 +1,13 @@
 //! Worked events of the detector b at 127.0.0.1:7000, which hears from port 1.
-mod accusers;
+mod ask;
 mod claims;
 mod comparing;
 mod copies;
-mod health;
-mod hearing;
+mod hear;
 mod many;
-mod oneself;
-mod openings;
-mod questions;
+mod open;
 mod refused_memory;
-mod suspicions;
-mod ticks;
+mod tick;
 
 use crate::{Detector, Event, MAX_MEMBERS, Reply};
 use arrayvec::ArrayVec;
@@ -21,6 +17,7 @@ use lg_packet::{Body, Packet};
 use lg_rules::{Claim, Name, Record};
 use lg_timers::{Timer, TimerId};
 use lg_timing::{Config, Moment};
+use std::alloc::Global;
 use std::test::Fail;
 
 /// A moment in milliseconds.
@@ -67,7 +64,7 @@ fn ping(now: u64, number: u32, target: u8, said: &[Claim]) -> Event {
 }
 
 /// The question for the member of a letter.
-fn ask(now: u64, member: u8) -> Event {
+fn ask_for(now: u64, member: u8) -> Event {
     Event::Ask {
         now: at(now),
         name: letter(member),
@@ -75,7 +72,7 @@ fn ask(now: u64, member: u8) -> Event {
 }
 
 /// A tick. Its words choose nobody.
-fn tick(now: u64) -> Event {
+fn tick_at(now: u64) -> Event {
     Event::Tick {
         now: at(now),
         words: [0, 1, 2, 3, 4, 5, 6, 7],
@@ -113,6 +110,16 @@ fn reply_to(detector: &mut Detector, event: &Event) -> Result<Reply, Fail> {
         None
     };
     Ok(accepted.ok_or("the event is accepted")?)
+}
+
+/// b is opened at 0, and knows that these others are alive.
+fn knowing(alloc: Global, others: &[u8]) -> Result<Detector, Fail> {
+    let mut detector = Detector::blank(alloc)?;
+    reply_to(&mut detector, &opening(0))?;
+    for other in others {
+        reply_to(&mut detector, &ping(0, 1, b'z', &[alive(*other, 0)]))?;
+    }
+    Ok(detector)
 }
 
 /// The records of all members.

@@ -1,6 +1,7 @@
 //! Copies, and events that are absorbed.
 use super::{
-    alive, ask, ask_health, heard, is_same_reply, opening, ping, reply_to, suspect, table_of, tick,
+    alive, ask_for, ask_health, heard, is_same_reply, opening, ping, reply_to, suspect, table_of,
+    tick_at,
 };
 use crate::{Detector, Event};
 use lg_packet::Body;
@@ -13,12 +14,12 @@ fn events() -> [Event; 10] {
         ping(60, 1, b'c', &[alive(b'c', 0), suspect(b'd', 2, b'a')]),
         ping(40, 2, b'b', &[suspect(b'b', 0, b'c'), alive(b'c', 1)]),
         heard(70, Body::Ack { number: 3 }, &[alive(b'a', 9)]),
-        tick(75),
-        ask(80, b'd'),
+        tick_at(75),
+        ask_for(80, b'd'),
         ask_health(85),
         ping(90, 4, b'b', &[suspect(b'b', 1_000_000_000, b'c')]),
-        tick(6000),
-        tick(6000),
+        tick_at(6000),
+        tick_at(6000),
     ]
 }
 

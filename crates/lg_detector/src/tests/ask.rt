@@ -1,12 +1,53 @@
-//! The health score, and what it scales.
+//! Questions: for the record of a name, and for the health.
 use super::{
-    alive, ask_health, assert_ack, at, config, failed, opening, ping, reply_to, round_start,
-    suspect, table_of, tick,
+    alive, ask_for, ask_health, assert_ack, at, config, failed, letter, opening, ping, reply_to,
+    suspect, table_of, tick_at,
 };
 use crate::{Answer, Detector, Event};
 use lg_rules::{Claim, Incarnation};
 use std::alloc::Global;
 use std::test::Fail;
+
+#[test]
+fn answers_questions(rt: HostRuntime) -> Result<(), Fail> {
+    let mut detector = Detector::blank(rt.alloc())?;
+    reply_to(&mut detector, &opening(0))?;
+    let said = [alive(b'c', 0), suspect(b'd', 2, b'a')];
+    reply_to(&mut detector, &ping(10, 7, b'b', &said))?;
+    let rows = [
+        (b'b', Some(alive(b'b', 0))),
+        (b'c', Some(alive(b'c', 0))),
+        (b'd', Some(suspect(b'd', 2, b'a'))),
+        (b'a', None),
+        (b'z', None),
+    ];
+    for (member, record) in rows {
+        let reply = reply_to(&mut detector, &ask_for(20, member))?;
+        assert_eq!(rt; reply.answer, Some(Answer::Status(record)), "{member}");
+        assert_eq!(rt; reply.sends.len(), 0);
+        assert_eq!(rt; reply.changed.len(), 0);
+        assert_eq!(rt; reply.next, 0);
+        assert_eq!(rt; detector.record_of(&letter(member)), record, "{member}");
+    }
+    assert_eq!(rt; detector.events(), 7);
+    Ok(())
+}
+
+#[test]
+fn shows_the_table(rt: HostRuntime) -> Result<(), Fail> {
+    let mut detector = Detector::blank(rt.alloc())?;
+    assert_eq!(rt; detector.table(rt.alloc())?.len(), 0);
+    reply_to(&mut detector, &opening(0))?;
+    let mut row = table_of(&detector);
+    assert_eq!(rt; row.as_slice(), [alive(b'b', 0)].as_slice());
+    let said = [alive(b'c', 0), alive(b'a', 0)];
+    reply_to(&mut detector, &ping(0, 7, b'b', &said))?;
+    let table = [alive(b'a', 0), alive(b'b', 0), alive(b'c', 0)];
+    detector.put_table(&mut row);
+    assert_eq!(rt; row.as_slice(), table.as_slice());
+    assert_eq!(rt; detector.table(rt.alloc())?.as_slice(), table.as_slice());
+    Ok(())
+}
 
 /// The answer to the question for the health.
 fn answer(score: u64, number: u32, members: u64) -> Option<Answer> {
@@ -106,25 +147,9 @@ fn holds_the_greatest_score(rt: HostRuntime) -> Result<(), Fail> {
         }
         let reply = reply_to(&mut detector, &ask_health(0))?;
         assert_eq!(rt; reply.answer, answer(score, refutations, 1), "{max_score}");
-        let reply = reply_to(&mut detector, &tick(0))?;
+        let reply = reply_to(&mut detector, &tick_at(0))?;
         assert_eq!(rt; reply.next, next, "{max_score}");
     }
-    Ok(())
-}
-
-/// The score is taken when a round starts.
-#[test]
-fn scales_the_interval(rt: HostRuntime) -> Result<(), Fail> {
-    let mut detector = Detector::blank(rt.alloc())?;
-    reply_to(&mut detector, &opening(0))?;
-    let reply = reply_to(&mut detector, &tick(0))?;
-    assert_eq!(rt; reply.next, 1000);
-    let said = [suspect(b'b', 0, b'a'), suspect(b'b', 1, b'a')];
-    let reply = reply_to(&mut detector, &ping(500, 1, b'b', &said))?;
-    assert_eq!(rt; reply.next, 1000, "the round that runs stays as it is");
-    let reply = reply_to(&mut detector, &tick(1000))?;
-    assert_eq!(rt; reply.fired, Some(round_start(1000)));
-    assert_eq!(rt; reply.next, 4000);
     Ok(())
 }
 

@@ -1,5 +1,7 @@
 //! The opening, and what isn't accepted.
-use super::{alive, ask, assert_ack, at, config, letter, local, opening, ping, reply_to, table_of};
+use super::{
+    alive, ask_for, assert_ack, at, config, letter, local, opening, ping, reply_to, table_of,
+};
 use crate::{Detector, Event};
 use lg_rules::Claim;
 use lg_timing::Seed;
@@ -40,7 +42,7 @@ fn opens_once(rt: HostRuntime) -> Result<(), Fail> {
     assert_eq!(rt; table_of(&detector).len(), 0);
     assert_eq!(rt; detector.record_of(&letter(b'b')), None);
     assert!(rt;
-        !detector.accepts(&ask(0, b'b')),
+        !detector.accepts(&ask_for(0, b'b')),
         "nothing comes before the opening"
     );
     assert!(rt; !detector.accepts(&ping(0, 7, b'b', &[])));
@@ -57,19 +59,6 @@ fn opens_once(rt: HostRuntime) -> Result<(), Fail> {
     detector.absorb(&opening(6000));
     assert_eq!(rt; detector.events(), 1);
     assert_eq!(rt; detector.next_deadline(), Some(5000));
-    Ok(())
-}
-
-#[test]
-fn counts_from_the_greatest_moment(rt: HostRuntime) -> Result<(), Fail> {
-    let mut detector = Detector::blank(rt.alloc())?;
-    reply_to(&mut detector, &opening(5000))?;
-    for now in [4000, 9000, 0, 7000] {
-        let reply = reply_to(&mut detector, &ping(now, 7, b'b', &[]))?;
-        assert_ack(&rt, &reply, 7, &[]);
-        assert_eq!(rt; reply.next, 5000, "{now}");
-    }
-    assert_eq!(rt; detector.events(), 5);
     Ok(())
 }
 
