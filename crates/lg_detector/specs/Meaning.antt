@@ -1,10 +1,17 @@
--- What is right: whoever wants to believe the contracts reads these.
+-- What is right: whoever wants to believe the contracts reads these. Step says which lists of events are accepted, and
+-- gives the reply to an event after a list; what each kind of event does is in the file of its name.
+
+-- the log of what happened
 pub mod Log
+-- the score and the timers that are set, read off the log
 pub mod Timing
+-- what is added to a log
 pub mod Apply
+-- the kinds of event; Hear is Heard, and Ask is Ask and Health
 pub mod Open
 pub mod Hear
 pub mod Tick
 pub mod Ask
+-- all of them
 pub mod Step
 pub mod Examples

@@ -1,4 +1,5 @@
-//! The detector.
+//! The detector: what it keeps, which events it accepts, and the two calls that lead it on by one, `step` and `absorb`.
+//! Each kind of event is a file of its own.
 ghost use Rattle.std.specs.Prelude.{◌≡◌, ◌++◌, [], ◌∷◌, List, IfOk, IsTrue, true, false};
 ghost use Rattle.lg_detector.specs.declared.event.Event.{Event as Happened};
 ghost use Rattle.lg_detector.specs.Meaning.Step.{is_accepted, is_open, opens_well, reply_after};

@@ -24,7 +24,7 @@ apply_all origin (c ∷ cs) log = apply_all origin cs (apply origin c log)
 abbrev pub fire : Timer → Log → Log
 fire timer log = Fired timer ∷ log
 
--- the claims that the next packet takes of the queue, where it is no Ping, and that it is sent with them
+-- The claims that the next packet takes of the queue, where it is no Ping: lg_gossip says which. It is sent with them.
 abbrev pub taken : Log → List Claim
 taken log = taken_of (queue (group_log log)) None (group.live (group_log log))
 

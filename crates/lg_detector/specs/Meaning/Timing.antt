@@ -76,7 +76,7 @@ round_start (Fired timer ∷ log) =
 round_start (_ ∷ log) = round_start log
 
 -- The timers that are set, in the order in which they fire: the start of the next round, and the deadline of each
--- suspicion.
+-- suspicion. Each accuser that counts brings that nearer, as lg_suspicion says.
 abbrev pub start_timer : ℕ → Timer
 start_timer deadline = record { deadline = deadline; id = RoundStart }
 

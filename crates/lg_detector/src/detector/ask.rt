@@ -1,4 +1,4 @@
-//! The events Ask and Health.
+//! The events Ask and Health: questions, which change nothing but how many events came and the moment.
 ghost use Rattle.std.specs.Prelude.{◌≡◌, ◌<◌, [], None, Some};
 ghost use Rattle.lg_detector.specs.Support.Ask.{ask, status, health};
 

@@ -1,4 +1,5 @@
-//! The event Open.
+//! The event Open: the detector is opened, and its seeds are said. They come from the configuration and not from the
+//! group, so no packet takes them.
 ghost use Rattle.std.specs.Prelude.{◌≡◌, ◌<◌, [], None, map};
 ghost use Rattle.lg_timing.specs.Meaning.Config.{IsChecked};
 ghost use Rattle.lg_membership.specs.declared.origin.Origin.TheVariants.{Seed as OfSeed};

@@ -1,4 +1,5 @@
-//! The event Tick.
+//! The event Tick: of the timers that are due the first one fires, and no other. A round starts, or a member whose
+//! suspicion runs out has failed. It is one alone so that the reply always has room; the next tick fires the next one.
 ghost use Rattle.std.specs.Prelude.{◌≡◌, ◌<◌, [], None};
 ghost use Rattle.lg_rules.specs.Meaning.View.{changed};
 ghost use Rattle.lg_detector.specs.Meaning.Tick.{failed_of};

@@ -173,7 +173,8 @@ fn accused(accuser: u32) -> Claim {
     claim(letter(b'c'), Status::Suspect(numbered_name(accuser)), 0)
 }
 
-/// c is the fifth member. Of 300 accusers the first four count, and their accusations are sent. The last of these is sent four times.
+/// c is the fifth member. Of 300 accusers the first four count, and their accusations are sent. The last of these is
+/// sent four times.
 #[test]
 fn a_flood_of_accusers(rt: HostRuntime) -> Result<(), Fail> {
     let mut detector = knowing(rt.alloc(), b"ade")?;
