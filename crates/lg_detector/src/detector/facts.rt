@@ -1,4 +1,5 @@
-//! What happens inside an event.
+//! The facts that events are made of: an event comes, the member is opened, a claim is said, a timer fires. Each says
+//! what becomes of the score and of the timers; what becomes of the group lg_membership says.
 ghost use Rattle.std.specs.Prelude.{◌≡◌, ◌<◌, ◌≤◌, length, option_copied};
 ghost use Rattle.lg_rules.specs.Meaning.View.{changed_names};
 ghost use Rattle.lg_timing.specs.Meaning.Config.{IsChecked};
@@ -17,7 +18,8 @@ use lg_rules::{Claim, MAX_CLAIMS, Name};
 use lg_timers::{MAX_TIMERS, Timer, TimerId, Timers};
 use lg_timing::{Config, MAX_SCALED_MS, Moment, Score};
 
-/// Follows what became of the deadline of a member's suspicion.
+/// Follows what became of the deadline of a member's suspicion: its timer is set, or moved where an accuser brings the
+/// deadline nearer, or cancelled where the suspicion ended.
 fn follow(timers: &mut Timers, member: &Name, deadline: Deadline)
     requires { length timers.old < MAX_TIMERS }
     ensures { timers.new ≡ follow member.now deadline timers.old }
