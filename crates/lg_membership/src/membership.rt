@@ -235,17 +235,4 @@ impl Membership {
     {
         self.queue.fill_into(None, self.members.live(), claims);
     }
-
-    /// The claims of the next packet that is no Ping, as `fill_into` writes them.
-    pub fn fill(&mut self) -> ArrayVec<Claim, MAX_CLAIMS>
-        ensures claims { result.items ≡ fill_of self.old.queue None (live_in self.old.members.table) }
-        ensures state { let taken = taken_of self.old.queue None (live_in self.old.members.table) in
-            self.new ≡ send taken self.old }
-        ensures log { (log : Log) → self.old ≡ state_of log
-            → self.new ≡ state_of (Sent (taken_of self.old.queue None (live_in self.old.members.table)) ∷ log) }
-    {
-        let mut claims = ArrayVec::new();
-        self.fill_into(&mut claims);
-        claims
-    }
 }

@@ -82,6 +82,13 @@ fn did(changed: bool, deadline: Deadline) -> Applied {
     }
 }
 
+/// The claims of the next packet.
+fn filled(b: &mut Membership) -> ArrayVec<Claim, MAX_CLAIMS> {
+    let mut claims = ArrayVec::new();
+    b.fill_into(&mut claims);
+    claims
+}
+
 #[test]
 fn nobody_is_known_before_the_opening(rt: HostRuntime) {
     let mut b = Membership::blank();
@@ -115,7 +122,7 @@ fn the_opening_forgets_what_was_known(rt: HostRuntime) {
     assert_eq!(rt; b.live(), 1);
     assert_eq!(rt; b.record_of(&name(b"b")), Some(alive(b"b", 0)));
     assert_eq!(rt; b.record_of(&name(b"c")), None);
-    assert!(rt; b.fill().is_empty());
+    assert!(rt; filled(&mut b).is_empty());
 }
 
 #[test]
@@ -211,7 +218,7 @@ fn none_confirms_among_two(rt: HostRuntime) {
         say(&mut b, 2100, &suspect(b"c", b"e", 0)),
         did(false, Deadline::Stays)
     );
-    assert_eq!(rt; b.fill().as_slice(), [accused].as_slice());
+    assert_eq!(rt; filled(&mut b).as_slice(), [accused].as_slice());
 }
 
 #[test]
@@ -228,7 +235,7 @@ fn a_suspicion_of_oneself_is_refuted_once(rt: HostRuntime) {
         did(false, Deadline::Stays)
     );
     assert_eq!(rt; b.number().number(), 1);
-    assert_eq!(rt; b.fill().as_slice(), [alive(b"b", 1)].as_slice());
+    assert_eq!(rt; filled(&mut b).as_slice(), [alive(b"b", 1)].as_slice());
     assert_eq!(rt; say(&mut b, 0, &alive(b"b", 3)), did(true, Deadline::Stays));
     assert_eq!(rt; b.number().number(), 4);
 }
@@ -240,7 +247,7 @@ fn what_nothing_refutes_ousts(rt: HostRuntime) {
         assert_eq!(rt; say(&mut b, 0, &said), did(false, Deadline::Stays));
         assert!(rt; b.is_ousted());
         assert_eq!(rt; b.number().number(), 0);
-        assert!(rt; b.fill().is_empty());
+        assert!(rt; filled(&mut b).is_empty());
         assert_eq!(rt; b.live(), 1);
     }
 }
@@ -249,14 +256,14 @@ fn what_nothing_refutes_ousts(rt: HostRuntime) {
 fn a_seed_is_known_and_not_queued(rt: HostRuntime) {
     let mut b = among_five();
     assert_eq!(rt; b.record_of(&name(b"c")), Some(alive(b"c", 0)));
-    assert!(rt; b.fill().is_empty());
+    assert!(rt; filled(&mut b).is_empty());
     assert_eq!(rt;
         say(&mut b, 0, &alive(b"c", 0)),
         did(false, Deadline::Stays)
     );
-    assert!(rt; b.fill().is_empty());
+    assert!(rt; filled(&mut b).is_empty());
     say(&mut b, 0, &alive(b"c", 1));
-    assert_eq!(rt; b.fill().as_slice(), [alive(b"c", 1)].as_slice());
+    assert_eq!(rt; filled(&mut b).as_slice(), [alive(b"c", 1)].as_slice());
 }
 
 #[test]
@@ -276,7 +283,7 @@ fn a_claim_is_sent_four_times_for_each_digit(rt: HostRuntime) {
         b.apply(Moment::default(), Origin::Seed, &seed);
     }
     assert_eq!(rt; b.live(), 10);
-    assert_eq!(rt; b.fill().as_slice(), [said].as_slice());
+    assert_eq!(rt; filled(&mut b).as_slice(), [said].as_slice());
 }
 
 #[test]
@@ -286,12 +293,12 @@ fn an_accuser_is_queued_where_it_counts(rt: HostRuntime) {
     let by_e = suspect(b"c", b"e", 0);
     say(&mut b, 2000, &by_d);
     for _ in 0..4 {
-        assert_eq!(rt; b.fill().as_slice(), [by_d].as_slice());
+        assert_eq!(rt; filled(&mut b).as_slice(), [by_d].as_slice());
     }
     say(&mut b, 2100, &by_d);
-    assert!(rt; b.fill().is_empty());
+    assert!(rt; filled(&mut b).is_empty());
     say(&mut b, 2200, &by_e);
-    assert_eq!(rt; b.fill().as_slice(), [by_e].as_slice());
+    assert_eq!(rt; filled(&mut b).as_slice(), [by_e].as_slice());
 }
 
 #[test]

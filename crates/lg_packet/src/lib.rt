@@ -11,7 +11,7 @@ mod writing;
 pub use fault::Fault;
 pub use laws::{first_bad_byte, one_reading, one_spelling};
 pub use packet::{Body, MAX_CLAIMS, Packet};
-pub use reading::{decode, decode_into};
+pub use reading::decode;
 pub use writing::{MAX_PACKET, encode};
 
 #[cfg(test)]

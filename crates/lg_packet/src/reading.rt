@@ -278,7 +278,7 @@ impl Reader<'_> {
 /// sender, its body, and the claims that it had and that it gets.
 // Inlined, it lets the compiler take a caller's packet apart and copy it piece by piece, several times.
 #[inline(never)]
-pub fn decode_into(bytes: &[u8], packet: &mut Packet) -> Result<(), Fault>
+pub(crate) fn decode_into(bytes: &[u8], packet: &mut Packet) -> Result<(), Fault>
     // What is read is spelled so, and where nothing is spelled so it is the fault of the bytes.
     ensures found { OnOk result (Spells bytes.now packet.new) }
     ensures refused { IfErr result (λ f. DecodesTo bytes.now (Err f)) }

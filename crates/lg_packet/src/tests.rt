@@ -2,6 +2,7 @@
 mod judge;
 
 use super::*;
+use crate::reading::decode_into;
 use arrayvec::ArrayVec;
 use judge::judge;
 use lg_rules::{Addr, Claim, Incarnation, Name, Status};

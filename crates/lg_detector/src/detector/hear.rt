@@ -1,12 +1,10 @@
 //! The event Heard: the claims of a packet are said in their order, and then a Ping for oneself is acked. The Ack goes to
 //! where the Ping came from, with those of the queued claims that lg_gossip chooses.
-ghost use Rattle.std.specs.Prelude.{◌≡◌, ◌<◌, ◌≤◌, None, length, option_copied};
-ghost use Rattle.lg_rules.specs.Meaning.Table.{live_in};
+ghost use Rattle.std.specs.Prelude.{◌≡◌, ◌<◌, ◌≤◌, [], ◌∷◌, None, Some, length, option_copied};
 ghost use Rattle.lg_rules.specs.Meaning.View.{changed};
-ghost use Rattle.lg_gossip.specs.Meaning.Queue.{fill_of};
 ghost use Rattle.lg_membership.specs.declared.origin.Origin.TheVariants.{Group};
 ghost use Rattle.lg_detector.specs.Meaning.Hear.{asked_in};
-ghost use Rattle.lg_detector.specs.Support.Hear.{hear, hear_claims, respond, sends_to};
+ghost use Rattle.lg_detector.specs.Support.Hear.{ack_sent, hear, hear_claims, respond, sends_to};
 ghost use Rattle.lg_detector.specs.Support.State.{apply_all, send};
 ghost use Rattle.lg_detector.specs.Support.Step.{view_in};
 
@@ -42,7 +40,9 @@ impl Detector {
             ≡ changed (view_in self.old) (view_in (hear_claims now packet.now self.old)) }
         ensures answer { reply.new.answer ≡ None }
     {
-        reply.say_nothing();
+        // The other parts are written over, not cleared first.
+        reply.fired = None;
+        reply.answer = None;
         self.come(now);
         self.say(packet.claims.as_slice(), &mut reply.changed);
         self.respond(source, &packet.body, &mut reply.sends);
@@ -61,23 +61,21 @@ impl Detector {
         self.put_records(names.as_slice(), differing);
     }
 
-    /// Answers the body of a packet, in the place of what `sends` held.
+    /// Responds to the body of a packet, in the place of what `sends` held.
     fn respond(&mut self, source: Addr, body: &Body, sends: &mut ArrayVec<Outgoing, MAX_SENDS>)
         ensures state { self.new ≡ respond body.now self.old }
         ensures sends { sends.new.items ≡ sends_to source body.now self.old }
     {
-        sends.clear();
-        if let Some(number) = self.asked(body) {
-            let sender = self.name();
-            let claims = self.fill();
-            sends.push(Outgoing {
-                to: source,
-                packet: Packet {
-                    sender,
-                    body: Body::Ack { number },
-                    claims,
-                },
-            });
+        match self.asked(body) {
+            Some(number) => {
+                // A packet is large: the one of the reply before is written over.
+                sends.truncate(1);
+                if sends.is_empty() {
+                    sends.push(Outgoing::default());
+                }
+                self.put_ack(source, number, &mut sends[0]);
+            }
+            None => sends.clear(),
         }
     }
 
@@ -88,12 +86,14 @@ impl Detector {
         asked_of(self.parts.membership.config(), body)
     }
 
-    /// The claims of the next packet that is no Ping; those of the queue are counted as sent.
-    fn fill(&mut self) -> ArrayVec<Claim, MAX_CLAIMS>
-        ensures claims { result.items
-            ≡ fill_of self.old.membership.queue None (live_in self.old.membership.members.table) }
+    /// Writes an Ack with claims of the queue, which are counted as sent, over another packet.
+    fn put_ack(&mut self, source: Addr, number: u32, ack: &mut Outgoing)
         ensures state { self.new ≡ send self.old }
+        ensures sent { ack.new ∷ [] ≡ ack_sent source (Some number) self.old }
     {
-        self.parts.membership.fill()
+        ack.to = source;
+        ack.packet.sender = self.name();
+        ack.packet.body = Body::Ack { number };
+        self.parts.membership.fill_into(&mut ack.packet.claims);
     }
 }

@@ -18,7 +18,8 @@ pub record HoldsName (row : List ℕ) (len : ℕ) : Type 0 where
 
 -- so the name gives the row back
 pub unpadded : (fields : Inside) → HoldsName fields.bytes fields.len
-    → (let text = take fields.len fields.bytes in ◌≡◌ {A = Inside} record { bytes = padded text; len = length text } fields)
+    → (let text = take fields.len fields.bytes in
+    ◌≡◌ {A = Inside} record { bytes = padded text; len = length text } fields)
 unpadded fields holds =
     let whole = length-take-le fields.len fields.bytes (subst (λ n. fields.len ≤ n) (sym holds.whole) holds.within) in
     λ i. record { bytes = holds.zeros i; len = whole i }
