@@ -85,7 +85,7 @@ fn put_fault(fault: LineFault, text: &mut Vec<u8>) -> Result<(), NoMemory>
 }
 
 /// Puts behind a text what a line gives, leads the detector on by the packet that it spells, and
-/// tells whether it spells one.
+/// says whether it spells one.
 ///
 /// `bytes`, `reply` and `row` are room alone: what they hold is of no use before or after.
 fn answer_line(

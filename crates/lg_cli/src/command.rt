@@ -127,7 +127,7 @@ pub fn read_words<'a, S: AsStr>(alloc: Global, words: &'a [S]) -> Result<Asked<'
 /// The options take no number out of its range, so that none comes this far: this is the proof's
 /// hold on them.
 fn checked<'a>(asked: Asked<'a>, lg: &mut Command) -> Result<Asked<'a>, Error>
-    ensures kept { IfOk result (λ found. request_of found ≡ request_of asked.entry) }
+    ensures same { IfOk result (λ found. request_of found ≡ request_of asked.entry) }
     ensures refused { FailsBy (request_faults (request_of asked.entry)) result }
 {
     match asked {

@@ -32,7 +32,7 @@ enum Progress {
 /// A longer or endless input is [`RunFault::Read`], found after at most `MAX_INPUT + 1` bytes and
 /// `2 * (MAX_INPUT + 1)` read calls. An interrupted call is made again within these calls, and any
 /// other error of the reader is [`RunFault::Read`]. The memory taken is in proportion to the
-/// bytes; where it is refused the answer is [`RunFault::Memory`].
+/// bytes; where it is refused the fault is [`RunFault::Memory`].
 pub fn read_input<R: Read>(alloc: Global, reader: &mut R) -> Result<Vec<u8>, RunFault>
     ensures all { IfOk result (λ input. Consumes (R.remaining reader.old) (R.remaining reader.new) input.items) }
     ensures end { OnOk result (IsAtEnd (R.remaining reader.new)) }
@@ -53,7 +53,7 @@ pub fn read_input<R: Read>(alloc: Global, reader: &mut R) -> Result<Vec<u8>, Run
     Err(RunFault::Read)
 }
 
-/// Makes one read call and keeps its bytes behind the input, where they are not too many.
+/// Makes one read call and puts its bytes behind the input, where they are not too many.
 fn read_more<R: Read>(
     reader: &mut R,
     chunk: &mut [u8],
@@ -90,7 +90,7 @@ fn read_more<R: Read>(
 /// Puts what was read behind the input, where it then isn't too long.
 fn keep_read(read: &[u8], input: &mut Vec<u8>) -> Result<(), RunFault>
     requires { vec_len input.old ≤ MAX_INPUT }
-    ensures kept { OnOk result (input.new.items ≡ input.old.items ++ read.now) }
+    ensures grown { OnOk result (input.new.items ≡ input.old.items ++ read.now) }
     ensures within { OnOk result (vec_len input.new ≤ MAX_INPUT) }
     ensures refused { IfErr result (λ fault.
         ((fault ≡ RunFault.Memory) × (vec_len input.old + length read.now ≤ MAX_INPUT))

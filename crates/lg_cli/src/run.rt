@@ -79,7 +79,7 @@ pub fn timeouts_run<W: Write>(
     requires { are_good numbers.now ≡ true }
     ensures text { OnOk result (Appends (W.contents writer.old) (W.contents writer.new) (timeouts_text numbers.now)) }
     ensures refused { IfErr result (λ fault. (fault ≡ RunFault.Memory) ⊎ (fault ≡ RunFault.Write)) }
-    ensures kept { IfErr result (λ fault. fault ≢ RunFault.Write → writer.new ≡ writer.old) }
+    ensures unwritten { IfErr result (λ fault. fault ≢ RunFault.Write → writer.new ≡ writer.old) }
 {
     let text = timeouts(alloc, numbers)?;
     write_whole(writer, text.as_bytes())

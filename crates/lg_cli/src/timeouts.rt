@@ -20,7 +20,7 @@ pub struct Numbers {
     pub alpha: u64,
     /// The greatest timeout over the least: 1 to [`MAX_FACTOR`].
     pub beta: u64,
-    /// The protocol period, in milliseconds: [`MIN_INTERVAL_MS`] to [`MAX_INTERVAL_MS`].
+    /// The interval of a round, in milliseconds: [`MIN_INTERVAL_MS`] to [`MAX_INTERVAL_MS`].
     pub interval_ms: u64,
 }
 

@@ -21,7 +21,7 @@ mod open;
 mod readers;
 mod tick;
 
-/// No memory could be had. The call that answers it has changed nothing.
+/// No memory could be had. The call that fails with it has changed nothing.
 pub type NoMemory = AllocError;
 
 /// The most events that a detector accepts: 4,000,000,000 (this project's choice).

@@ -1,4 +1,4 @@
-//! What a detector answers.
+//! The reply of a detector to an event.
 ghost use Rattle.std.specs.Prelude.{◌≡◌, ◌<◌, ◌≤◌, length, [], None};
 ghost use Rattle.arrayvec.specs.ArrayVec.{array_vec_len};
 
@@ -50,7 +50,7 @@ pub enum Answer {
     },
 }
 
-/// What a detector answers to an event. It is of fixed size, so it always has room.
+/// The reply of a detector to an event. It is of fixed size, so it always has room.
 #[derive(Debug, Drop)]
 pub struct Reply {
     /// The timer that fired; only a tick fires one.

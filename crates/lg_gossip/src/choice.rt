@@ -9,7 +9,7 @@ ghost use Rattle.lg_gossip.specs.Meaning.Queue.{buddy_of, is_beside, queued_clai
 ghost use Rattle.lg_gossip.specs.Support.Sound.{AreInOrder};
 ghost use Rattle.lg_gossip.specs.Support.Places.{IsRowOf, rows_at};
 
-use crate::limit::MAX_SENDS;
+use crate::limit::MAX_TIMES_SENT;
 use crate::queue::MAX_QUEUED;
 use crate::queued::Queued;
 use arrayvec::ArrayVec;
@@ -70,7 +70,7 @@ fn place_after(rows: &[TakenRow], sends: u32) -> usize
 }
 
 /// Takes a row behind those that were sent as often, where it is then among the first so many. A later row that was
-/// sent as often as the answer, or more often, isn't among them; `bound` says so of the rows before this one.
+/// sent as often as the result, or more often, isn't among them; `bound` says so of the rows before this one.
 // Most rows aren't taken, and the loop over them is shorter where this isn't inlined.
 #[inline(never)]
 fn take_row(
@@ -156,7 +156,7 @@ pub(crate) fn write_claims(
 pub(crate) fn count_sends(rows: &mut [Queued], taken: &[TakenRow])
     requires order { AreInOrder rows.old }
     requires most { length rows.old ≤ MAX_QUEUED }
-    requires few { AllByRecursion (λ r. r.sends ≤ MAX_SENDS) rows.old }
+    requires few { AllByRecursion (λ r. r.sends ≤ MAX_TIMES_SENT) rows.old }
     requires places { AllByRecursion (IsRowOf rows.old) taken.now }
     ensures { rows.new ≡ map (sent_once (map queued_claim (rows_at rows.old taken.now))) rows.old }
 {

@@ -6,7 +6,8 @@ mod limit;
 mod queue;
 mod queued;
 
-pub use limit::{MAX_LAMBDA, MAX_SENDS};
+pub use lg_rules::MAX_LAMBDA;
+pub use limit::MAX_TIMES_SENT;
 pub use queue::{MAX_QUEUED, Queue};
 pub use queued::Queued;
 

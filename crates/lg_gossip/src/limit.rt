@@ -2,15 +2,13 @@
 ghost use Rattle.std.specs.Prelude.{◌≡◌, ◌≤◌, ◌*◌};
 ghost use Rattle.lg_gossip.specs.Meaning.Queue.{decimal_digits, limit_of};
 
-/// The greatest `lambda`, the number of times that a claim is sent for each decimal digit of the number of members:
-/// 10 (this project's choice).
-pub const MAX_LAMBDA: u64 = 10;
+use lg_rules::MAX_LAMBDA;
 
 /// The most decimal digits of a number of members: those of the greatest `usize`.
 pub(crate) const MAX_DIGITS: u64 = 20;
 
 /// The most packets that take a claim from a queue: 200.
-pub const MAX_SENDS: u64 = MAX_LAMBDA * MAX_DIGITS;
+pub const MAX_TIMES_SENT: u64 = MAX_LAMBDA * MAX_DIGITS;
 
 /// How many decimal digits a number of members has.
 #[tactic(auto, using(crate::proofs::Digits::digit_steps))]

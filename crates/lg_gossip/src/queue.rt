@@ -6,10 +6,10 @@ ghost use Rattle.lg_rules.specs.Meaning.Claim.{name_of};
 ghost use Rattle.lg_gossip.specs.Meaning.Queue.{queued_name, put_of, fill_of, filled};
 
 use crate::choice::{buddy_of, count_sends, rows_taken, write_claims};
-use crate::limit::{MAX_LAMBDA, send_limit};
+use crate::limit::send_limit;
 use crate::queued::Queued;
 use arrayvec::ArrayVec;
-use lg_rules::{Claim, MAX_CLAIMS, MAX_MEMBERS, Record, put_row};
+use lg_rules::{Claim, MAX_CLAIMS, MAX_LAMBDA, MAX_MEMBERS, Record, put_row};
 use std::marker::Model;
 
 /// The most claims of a queue, one a member: 256 (this project's choice).

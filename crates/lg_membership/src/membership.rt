@@ -5,8 +5,8 @@ ghost use Rattle.lg_rules.specs.Meaning.Table.{live_in};
 ghost use Rattle.lg_rules.specs.Meaning.View.{is_rise};
 ghost use Rattle.lg_timing.specs.Meaning.Config.{IsChecked};
 ghost use Rattle.lg_gossip.specs.Meaning.Queue.{taken_of, fill_of};
-ghost use Rattle.lg_membership.specs.Meaning.Log.{Fact, Log, Opened, Said, Sent};
-ghost use Rattle.lg_membership.specs.Meaning.Gossip.{put_of_own, put_if};
+ghost use Rattle.lg_membership.specs.Meaning.Log.{Fact, Log, Opened, Said, Sent, live};
+ghost use Rattle.lg_membership.specs.Meaning.Gossip.{put_of_own, put_if, queue};
 ghost use Rattle.lg_membership.specs.Meaning.Suspicions.{is_accusation};
 ghost use Rattle.lg_membership.specs.Meaning.Applied.{is_refuted, IsApplied};
 ghost use Rattle.lg_membership.specs.Support.State.{state_of, open_with, apply, apply_own, apply_other};
@@ -230,8 +230,10 @@ impl Membership {
         ensures claims { claims.new.items ≡ fill_of self.old.queue None (live_in self.old.members.table) }
         ensures state { let taken = taken_of self.old.queue None (live_in self.old.members.table) in
             self.new ≡ send taken self.old }
+        // After any log, the claims are those of its queue, and it goes on by the packet that took them.
+        ensures filled { (log : Log) → self.old ≡ state_of log → claims.new.items ≡ fill_of (queue log) None (live log) }
         ensures log { (log : Log) → self.old ≡ state_of log
-            → self.new ≡ state_of (Sent (taken_of self.old.queue None (live_in self.old.members.table)) ∷ log) }
+            → self.new ≡ state_of (Sent (taken_of (queue log) None (live log)) ∷ log) }
     {
         self.queue.fill_into(None, self.members.live(), claims);
     }

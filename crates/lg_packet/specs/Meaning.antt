@@ -1,5 +1,4 @@
 -- What is right: whoever wants to believe the contracts reads these.
-pub mod Bounds
 pub mod Spelling
 pub mod Fault
 pub mod Decoding

@@ -10,7 +10,8 @@ mod writing;
 
 pub use fault::Fault;
 pub use laws::{first_bad_byte, one_reading, one_spelling};
-pub use packet::{Body, MAX_CLAIMS, Packet};
+pub use lg_rules::MAX_CLAIMS;
+pub use packet::{Body, Packet};
 pub use reading::decode;
 pub use writing::{MAX_PACKET, encode};
 

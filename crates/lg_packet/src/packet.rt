@@ -2,10 +2,7 @@
 ghost use Rattle.std.specs.Prelude.{◌≡◌};
 
 use arrayvec::ArrayVec;
-use lg_rules::{Claim, Name};
-
-/// The most claims of a packet: 6 (this project's choice).
-pub const MAX_CLAIMS: usize = 6;
+use lg_rules::{Claim, MAX_CLAIMS, Name};
 
 /// What a packet asks for or acknowledges (SWIM, section 3.1).
 #[derive(Clone, Copy, Debug, PartialEq, Eq)]

@@ -14,8 +14,8 @@ ghost use Rattle.lg_packet.specs.Meaning.Spelling.{Spells};
 
 use crate::fault::Fault;
 use crate::kind::{ClaimKind, Kind, claim_kind_of_byte, kind_of_byte};
-use crate::packet::{Body, MAX_CLAIMS, Packet};
-use lg_rules::{Addr, Claim, Incarnation, MAX_NAME, Name, Status, is_name_byte};
+use crate::packet::{Body, Packet};
+use lg_rules::{Addr, Claim, Incarnation, MAX_CLAIMS, MAX_NAME, Name, Status, is_name_byte};
 
 /// Whether each byte may stand in a name.
 fn are_name_bytes(text: &[u8]) -> bool

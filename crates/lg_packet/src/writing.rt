@@ -9,9 +9,9 @@ ghost use Rattle.lg_packet.specs.Meaning.Spelling.{spelled_claims, spelled_head,
 ghost use Rattle.lg_packet.specs.Meaning.Reading.{packet_of};
 
 use crate::kind::{Kind, claim_kind_of, kind_of};
-use crate::packet::{Body, MAX_CLAIMS, Packet};
+use crate::packet::{Body, Packet};
 use arrayvec::ArrayVec;
-use lg_rules::{Addr, Claim, MAX_NAME, Name, Status};
+use lg_rules::{Addr, Claim, MAX_CLAIMS, MAX_NAME, Name, Status};
 
 /// The room for the length and the bytes of a name: 33.
 const NAME_ROOM: usize = 1 + MAX_NAME;

@@ -10,13 +10,16 @@ use crate::rows::Keyed;
 /// The most claims of a packet: 6 (this project's choice).
 pub const MAX_CLAIMS: usize = 6;
 
+/// How often a claim may be sent for each decimal digit of the number of members, at the most: 10 (this project's choice).
+pub const MAX_LAMBDA: u64 = 10;
+
 /// What is claimed of a member (SWIM, section 4.2, whose Confirm is called Failed here).
 #[derive(Clone, Copy, Debug, Default, PartialEq, Eq)]
 pub enum Status {
     /// It is there.
     #[default]
     Alive,
-    /// It didn't answer a probe of this member, its accuser.
+    /// It didn't ack a probe of this member, its accuser.
     Suspect(Name),
     /// It was suspected until the suspicion ran out.
     Failed,

@@ -13,7 +13,7 @@ mod rows;
 mod worked_rows;
 
 pub use addr::Addr;
-pub use claim::{Claim, MAX_CLAIMS, Record, Status};
+pub use claim::{Claim, MAX_CLAIMS, MAX_LAMBDA, Record, Status};
 pub use incarnation::{Incarnation, MAX_INCARNATION};
 pub use members::{Heard, MAX_MEMBERS, MAX_OTHERS, Members};
 pub use name::{MAX_NAME, Name, NameFault, is_name_byte};

@@ -11,9 +11,9 @@ pub enum TimerId {
     RoundEnd,
     /// A suspected member is taken as failed (SWIM, section 4.2).
     Suspicion(Name),
-    /// The target of a probe didn't answer in time, and helpers are asked (SWIM, section 3.1).
+    /// The target of a probe didn't ack in time, and helpers are asked (SWIM, section 3.1).
     Direct,
-    /// A relay, by its number, tells its asker that the target hasn't answered (Lifeguard, local health
+    /// A relay, by its number, sends its asker a nack, since the target hasn't acked (Lifeguard, local health
     /// aware probe).
     RelayNack(u32),
     /// A relay, by its number, is closed (this project's choice).

@@ -16,7 +16,7 @@ pub const MAX_TIMERS: usize = 400;
 
 /// The timers that are set, one of an id at most and at most [`MAX_TIMERS`].
 ///
-/// A contract sees them in the order in which they fire, however they are kept. No call takes memory.
+/// A contract sees them in the order in which they fire, whatever their order in the row. No call takes memory.
 #[derive(Debug, Drop)]
 pub struct Timers {
     timers: ArrayVec<Timer, MAX_TIMERS>,

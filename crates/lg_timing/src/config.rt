@@ -4,7 +4,7 @@ ghost use Rattle.lg_timing.specs.Meaning.Config.{is_within, is_seed, have_distin
 ghost use Rattle.lg_timing.specs.Meaning.Config.{first_broken};
 
 use arrayvec::ArrayVec;
-use lg_rules::{Addr, Name};
+use lg_rules::{Addr, MAX_LAMBDA, Name};
 
 /// The shortest interval between probes, in milliseconds: 10 (this project's choice).
 pub const MIN_INTERVAL_MS: u64 = 10;
@@ -23,9 +23,6 @@ pub const MAX_FACTOR: u64 = 20;
 
 /// The most confirmations that a suspicion may wait for: 5 (this project's choice).
 pub const MAX_CONFIRMATIONS: u64 = 5;
-
-/// The greatest factor of the number of times that a claim is sent: 10 (this project's choice).
-pub const MAX_LAMBDA: u64 = 10;
 
 /// The earliest nack of a helper, in thousandths of `timeout_ms`: 1 (this project's choice).
 pub const MIN_NACK_THOUSANDTHS: u64 = 1;
@@ -88,7 +85,7 @@ pub struct Config {
     /// How long a probe waits for its ack before helpers are asked, at a health score of 0, in
     /// milliseconds: 1 to `interval_ms - 1` (SWIM, section 3.1).
     pub timeout_ms: u64,
-    /// How many helpers are asked to ping a member that didn't answer: 0 to 8 (SWIM, section 3.1,
+    /// How many helpers are asked to ping a member that didn't ack: 0 to 8 (SWIM, section 3.1,
     /// whose k it is).
     pub indirect: u64,
     /// The greatest health score: 0 to 20 (Lifeguard, local health aware probe, whose S it is).

@@ -9,9 +9,10 @@ mod timeout;
 
 pub use config::{
     Config, ConfigFault, MAX_CONFIRMATIONS, MAX_FACTOR, MAX_HISTORY_LIMIT, MAX_INDIRECT,
-    MAX_INTERVAL_MS, MAX_LAMBDA, MAX_NACK_THOUSANDTHS, MAX_SCORE, MAX_SEEDS, MIN_HISTORY_LIMIT,
+    MAX_INTERVAL_MS, MAX_NACK_THOUSANDTHS, MAX_SCORE, MAX_SEEDS, MIN_HISTORY_LIMIT,
     MIN_INTERVAL_MS, MIN_NACK_THOUSANDTHS, Seed, is_within,
 };
+pub use lg_rules::MAX_LAMBDA;
 pub use moment::{MAX_MOMENT, Moment};
 pub use score::{MAX_SCALED_MS, Score};
 pub use tables::{MAX_LIVE, log10_thousandths, ratio, tables_are_logarithms};

@@ -6,4 +6,4 @@ use Rattle.std.specs.Io.KnownBytes.{Consumes}
 pub record Grows (old new : Option (List ℕ)) (before after : List ℕ) : Type 0 where
   pub bytes : List ℕ
   pub taken : Consumes old new bytes
-  pub kept : after ≡ before ++ bytes
+  pub grown : after ≡ before ++ bytes

@@ -3,7 +3,7 @@ use Rattle.std.specs.Prelude.{ℕ, ◌+◌, max, List, [], ◌∷◌}
 use Rattle.lg_membership.specs.Meaning.Log as group
 use Rattle.lg_timers.specs.declared.timer.Timer.{Timer}
 
--- A log tells what happened in facts, the latest first: an event came at a moment; a timer fired; or something that
+-- A log lists what happened as facts, the latest first: an event came at a moment; a timer fired; or something that
 -- concerns the group: the member was opened, a claim was said, a packet was sent that took claims of the queue.
 pub data Fact : Type 0 where
   Came : ℕ → Fact

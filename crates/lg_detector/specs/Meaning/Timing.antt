@@ -55,7 +55,7 @@ score log =
     let max = max_in (group.config (group_log log)) in
     record { value = score_of max (earned log); max = max }
 
--- the protocol period, scaled by the score
+-- the interval, scaled by the score
 abbrev pub scaled_interval : Option Config → ScoreValue → ℕ
 scaled_interval None s = 0
 scaled_interval (Some opening) s = opening.interval_ms * (s.value + 1)

@@ -43,7 +43,7 @@ fn mark_if(score: &mut Score, refuted: bool)
     }
 }
 
-/// The protocol period, scaled by the score, in milliseconds.
+/// The interval, scaled by the score, in milliseconds.
 fn scaled_interval(score: &Score, config: Option<&Config>) -> u64
     requires { IsGood (option_copied config) }
     ensures interval { result ≡ scaled_interval (option_copied config.entry) score.now }

@@ -30,7 +30,7 @@ fn asked_of(config: Option<&Config>, body: &Body) -> Option<u32>
 }
 
 impl Detector {
-    /// A packet is heard from a source: its claims are said, and its body is answered.
+    /// A packet is heard from a source: its claims are said, and a Ping for oneself is acked.
     pub(super) fn hear(&mut self, now: Moment, source: Addr, packet: &Packet, reply: &mut Reply)
         requires { self.old.events < MAX_EVENTS }
         ensures state { self.new ≡ hear now packet.now self.old }

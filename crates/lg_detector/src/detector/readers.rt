@@ -1,4 +1,4 @@
-//! What a detector tells without an event.
+//! What can be read of a detector without an event.
 ghost use Rattle.std.specs.Prelude.{◌≡◌, ◌≤◌, List, IfOk, length, filter};
 ghost use Rattle.lg_rules.specs.Meaning.Claim.{name_of};
 ghost use Rattle.lg_rules.specs.Meaning.Rows.{name_cmp, is_among, row_at};

@@ -2,7 +2,8 @@
 use Rattle.std.specs.Prelude.{ℕ, ◌*◌, ◌≤◌, List, map}
 use Rattle.std.specs.List.{AllByRecursion}
 use Rattle.lg_rules.specs.Meaning.Rows.{name_cmp, Rises}
-use Rattle.lg_gossip.specs.declared.limit.TheConstants.{MAX_LAMBDA, MAX_DIGITS}
+use Rattle.lg_gossip.specs.declared.limit.TheConstants.{MAX_DIGITS}
+use Rattle.lg_rules.specs.declared.claim.TheConstants.{MAX_LAMBDA}
 use Rattle.lg_gossip.specs.declared.queued.Queued.{Queued}
 use Rattle.lg_gossip.specs.Meaning.Queue.{queued_name}
 

@@ -2,10 +2,10 @@
 use Rattle.std.specs.Prelude.{ℕ, List, [], ◌∷◌, Option, Some, None}
 use Rattle.lg_rules.specs.declared.addr.Addr.{Addr}
 use Rattle.lg_rules.specs.declared.claim.Claim.{Claim}
-use Rattle.lg_rules.specs.Meaning.Claim.{name_of}
-use Rattle.lg_rules.specs.Meaning.Rows.{name_cmp, put_key, put_row}
+use Rattle.lg_rules.specs.Meaning.Rows.{name_cmp, put_key}
 use Rattle.lg_rules.specs.Meaning.Table.{roster, table_of, live_in}
 use Rattle.lg_rules.specs.Meaning.Own.{Oneself, own_of, own_record}
+use Rattle.lg_rules.specs.Meaning.View.{view_of}
 use Rattle.lg_timing.specs.declared.config.Config.{Config}
 use Rattle.lg_membership.specs.declared.origin.Origin.{Origin}
 
@@ -63,7 +63,7 @@ known log = put_key name_cmp (me log) (roster (me log) (said log))
 -- the member table, oneself included, in the order of names; nothing before the opening
 abbrev pub view_in : Option Config → Oneself → List Claim → List Claim
 view_in None oneself rows = []
-view_in (Some opening) oneself rows = put_row name_cmp name_of (own_record oneself) rows
+view_in (Some opening) oneself rows = view_of (own_record oneself) rows
 
 abbrev pub view : Log → List Claim
 view log = view_in (config log) (own log) (table log)

@@ -4,7 +4,7 @@ ghost use Rattle.arrayvec.specs.ArrayVec.{array_vec_len};
 ghost use Rattle.lg_rules.specs.Meaning.Claim.{name_of};
 ghost use Rattle.lg_rules.specs.Meaning.Rows.{name_cmp, is_among, row_at, Rises};
 ghost use Rattle.lg_rules.specs.Meaning.Table.{live_in};
-ghost use Rattle.lg_membership.specs.Meaning.Log.{Log, view, live};
+ghost use Rattle.lg_membership.specs.Meaning.Log.{Log, config, own, view, live};
 ghost use Rattle.lg_membership.specs.Support.State.{state_of, shown, with_found};
 
 use super::{Membership, is_same_name};
@@ -15,28 +15,32 @@ use lg_timing::Config;
 impl Membership {
     /// What the member was opened with; none before the opening.
     pub fn config(&self) -> Option<&Config>
-        ensures { option_copied result ≡ self.now.config }
+        ensures state { option_copied result ≡ self.now.config }
+        ensures log { (log : Log) → self.now ≡ state_of log → option_copied result ≡ config log }
     {
         self.config.as_ref()
     }
 
     /// The own name; before the opening a name that stands for none.
     pub fn name(&self) -> Name
-        ensures { result ≡ self.now.own.name }
+        ensures state { result ≡ self.now.own.name }
+        ensures log { (log : Log) → self.now ≡ state_of log → result ≡ (own log).name }
     {
         self.own.name()
     }
 
     /// The own number.
     pub fn number(&self) -> Incarnation
-        ensures { result ≡ self.now.own.number }
+        ensures state { result ≡ self.now.own.number }
+        ensures log { (log : Log) → self.now ≡ state_of log → result ≡ (own log).number }
     {
         self.own.number()
     }
 
     /// Whether a claim about oneself came that nothing can refute.
     pub fn is_ousted(&self) -> bool
-        ensures { result ≡ self.now.own.ousted }
+        ensures state { result ≡ self.now.own.ousted }
+        ensures log { (log : Log) → self.now ≡ state_of log → result ≡ (own log).ousted }
     {
         self.own.ousted()
     }
@@ -69,7 +73,9 @@ impl Membership {
     /// what the row held.
     pub fn put_records(&self, names: &[Name], row: &mut ArrayVec<Record, MAX_CLAIMS>)
         requires { length names.now ≤ MAX_CLAIMS }
-        ensures { row.new.items ≡ filter (λ r. is_among name_cmp r.name names.now) (shown self.now) }
+        ensures state { row.new.items ≡ filter (λ r. is_among name_cmp r.name names.now) (shown self.now) }
+        ensures log { (log : Log) → self.now ≡ state_of log
+            → row.new.items ≡ filter (λ r. is_among name_cmp r.name names.now) (view log) }
     {
         // What the invariant says of the order of names is needed below.
         let _ = &self.config;

@@ -10,7 +10,7 @@ use Rattle.lg_rules.specs.declared.addr.Addr.{Addr}
 use Rattle.lg_rules.specs.declared.claim.Claim.{Claim}
 use Rattle.lg_rules.specs.declared.claim.Status.{Status}
 use Rattle.lg_rules.specs.declared.claim.Status.TheVariants.{Alive, Suspect, Failed}
-use Rattle.lg_packet.specs.Meaning.Bounds.{greatest_incarnation, most_claims, most_name_bytes}
+use Rattle.lg_rules.specs.Meaning.Bounds.{greatest_incarnation, most_claims, most_name_bytes}
 use Rattle.lg_packet.specs.declared.fault.Fault.{Fault}
 use Rattle.lg_packet.specs.declared.fault.Fault.TheVariants as faults
 use Rattle.lg_packet.specs.declared.kind.ClaimKind.{ClaimKind}

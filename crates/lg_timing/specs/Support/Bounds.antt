@@ -1,5 +1,6 @@
 -- The bounds of the definitions are the constants of the code.
 use Rattle.std.specs.Prelude.{◌≡◌, refl}
+use Rattle.lg_rules.specs.declared.claim.TheConstants.{MAX_LAMBDA}
 use Rattle.lg_timing.specs.declared.config.TheConstants.{
   MIN_INTERVAL_MS,
   MAX_INTERVAL_MS,
@@ -7,7 +8,6 @@ use Rattle.lg_timing.specs.declared.config.TheConstants.{
   MAX_SCORE,
   MAX_FACTOR,
   MAX_CONFIRMATIONS,
-  MAX_LAMBDA,
   MIN_NACK_THOUSANDTHS,
   MAX_NACK_THOUSANDTHS,
   MIN_HISTORY_LIMIT,

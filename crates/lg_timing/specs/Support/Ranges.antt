@@ -1,6 +1,7 @@
 -- The ranges that the fields of a checked configuration have.
 use Rattle.std.specs.Prelude.{◌≡◌, ◌≤◌, ◌<◌, true, false, length}
 use Rattle.lg_timing.specs.declared.config.Config.{Config}
+use Rattle.lg_rules.specs.declared.claim.TheConstants.{MAX_LAMBDA}
 use Rattle.lg_timing.specs.declared.config.TheConstants.{
   MIN_INTERVAL_MS,
   MAX_INTERVAL_MS,
@@ -8,7 +9,6 @@ use Rattle.lg_timing.specs.declared.config.TheConstants.{
   MAX_SCORE,
   MAX_FACTOR,
   MAX_CONFIRMATIONS,
-  MAX_LAMBDA,
   MIN_NACK_THOUSANDTHS,
   MAX_NACK_THOUSANDTHS,
   MIN_HISTORY_LIMIT,

@@ -15,7 +15,7 @@ returns-in-Ok-clause-asked g c =
     let is_lg = c.in_ok-lg.ensures in
     let asks : request_of c.asked_in.result ≡ asked words =
     c.asked_in.ensures ∙ ap request_of_rows ((c.in-Ok.ensures.ok.2 (ap is_simple is_lg)).1 ∙ ap (λ (a : App). subcommand_of a words) is_lg) in
-    IfOk-weaker c.checked.result _ _ (λ found kept. kept ∙ asks) c.checked.ensures.kept
+    IfOk-weaker c.checked.result _ _ (λ found same. same ∙ asks) c.checked.ensures.same
 
 pub returns-in-Ok-clause-refused : goal.returns-in-Ok-clause-refused
 unfolding line_faults asked

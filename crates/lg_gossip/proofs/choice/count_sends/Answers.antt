@@ -1,5 +1,5 @@
 use Rattle.std.proofs.Common.{arith}
-use Rattle.lg_gossip.specs.declared.limit.TheConstants.{MAX_SENDS}
+use Rattle.lg_gossip.specs.declared.limit.TheConstants.{MAX_TIMES_SENT}
 use Rattle.lg_gossip.specs.Support.Places.{IsRowOf}
 use Rattle.lg_gossip.proofs.Counting.{count-none, count-next, sent-most}
 use Rattle.lg_gossip.proofs.Each.{holds_at}
@@ -10,7 +10,7 @@ pub loop-row-init : goal.loop-row-init
 loop-row-init c = count-none c.args.rows.now
 
 pub overflow_add-rows : goal.overflow_add-rows
-overflow_add-rows c = omega (arith, sent-most MAX_SENDS c.args.rows.now _ c.requires.few (holds_at (IsRowOf c.args.rows.now) c.loop-row.row-index record { place = 0; sends = 0 } c.args.taken.now c.loop-row-test.true c.requires.places))
+overflow_add-rows c = omega (arith, sent-most MAX_TIMES_SENT c.args.rows.now _ c.requires.few (holds_at (IsRowOf c.args.rows.now) c.loop-row.row-index record { place = 0; sends = 0 } c.args.taken.now c.loop-row-test.true c.requires.places))
 
 pub offset_bounds-rows-row : goal.offset_bounds-rows-row
 offset_bounds-rows-row c = omega (arith, c.requires.most, within-at c.args.rows.now c.loop-row.row-index record { place = 0; sends = 0 } c.args.taken.now c.loop-row-test.true c.requires.places)

@@ -17,7 +17,7 @@ pub invariant_of-self : goal.invariant_of-self
 invariant_of-self c =
     let parts = c.deref_mut-parts.result.now in
     let before : IsReached (state_in parts) = subst IsReached (sym (ap state_in c.deref_mut-parts.ensures.value)) c.self.invariant in
-    let interval = c.scaled_interval-interval.ensures.interval ∙ ap (λ (o : Option Config). scaled_interval o parts.score) c.config.ensures in
+    let interval = c.scaled_interval-interval.ensures.interval ∙ ap (λ (o : Option Config). scaled_interval o parts.score) c.config.ensures.state in
     let deadline : c.milliseconds.result + c.scaled_interval-interval.result ≡ parts.moment + scaled_interval parts.membership.config parts.score =
     λ i. c.milliseconds.ensures.milliseconds i + interval i in
     let timers = c.reset.ensures ∙ ap (λ d. with_timer (start_timer d) (without_timer RoundStart parts.timers)) deadline in

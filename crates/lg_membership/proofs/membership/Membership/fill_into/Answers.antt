@@ -20,6 +20,5 @@ returns-clause-log c = λ log is.
     let queue = c.fill_into.ensures.queue ∙ ap (λ n. filled inside.queue None n) c.live.ensures.count in
     let sent : State → State = λ s. send (taken_of s.queue None (live_in s.members.table)) s in
     (λ i. record { config = inside.config; own = inside.own; members = inside.members; suspicions = inside.suspicions.items; queue = queue i })
-    ∙ ap sent c.self.view_is
-    ∙ ap (send (taken_of c.args.self.now.queue None (live_in c.args.self.now.members.table))) is
+    ∙ ap sent (c.self.view_is ∙ is)
     ∙ send-state _ log
