@@ -1,12 +1,11 @@
 -- Each fact changes the state as its definitions do.
-use Rattle.std.proofs.Common.{◌≡◌, ◌≢◌, ℕ, ◌+◌, Bool, true, false, cond, List, [], ◌∷◌, Option, Some, None, inl, inr, refl, sym, ◌∙◌, ap, subst}
+use Rattle.std.proofs.Common.{◌≡◌, ◌≢◌, ℕ, ◌+◌, true, false, cond, List, ◌∷◌, Some, inl, inr, refl, sym, ◌∙◌, ap}
 use Rattle.std.specs.Prelude.{ℤ}
 use Rattle.std.proofs.lemmas.Bool.{cases_Bool}
 use Rattle.lg_rules.specs.declared.claim.Claim.{Claim}
 use Rattle.lg_rules.specs.declared.own.OwnHeard.{OwnHeard}
 use Rattle.lg_rules.specs.declared.own.OwnHeard.TheVariants.{Refuted, Raised, Ousted, Ignored}
 use Rattle.lg_rules.specs.Meaning.Own.{own_hearing}
-use Rattle.lg_rules.specs.Meaning.Rows.{name_cmp, is_same}
 use Rattle.lg_rules.proofs.OwnLaws.{own_hearing-other}
 use Rattle.lg_rules.proofs.KeyOrder.{names_order, cases_key, same_key, other_key}
 use Rattle.lg_timing.specs.declared.config.Config.{Config}
@@ -17,7 +16,7 @@ use Rattle.lg_membership.specs.declared.origin.Origin.{Origin}
 use Rattle.lg_membership.specs.Meaning.Log as group
 use Rattle.lg_membership.specs.Meaning.Applied.{is_refuted}
 use Rattle.lg_membership.specs.Meaning.Suspicions.{suspicions}
-use Rattle.lg_membership.specs.Support.Changes.{Change, IsAbout, suspicions_after, deadline_after}
+use Rattle.lg_membership.specs.Support.Changes.{suspicions_after}
 use Rattle.lg_membership.specs.Support.State as known
 use Rattle.lg_membership.proofs.FactLaws.{open-state as member-open, apply-state as member-apply, send-state as member-send, own_name}
 use Rattle.lg_membership.proofs.Reaching.{apply-own, apply-other}
@@ -26,7 +25,7 @@ use Rattle.lg_membership.proofs.Hearings.{change_about}
 use Rattle.lg_detector.specs.Meaning.Log.{Log, Came, Fired, OfGroup, events, moment, group_log}
 use Rattle.lg_detector.specs.Meaning.Timing.{mark_of, earned, max_in, score, round_start, pending_of, pending, scaled_interval, is_round_start}
 use Rattle.lg_detector.specs.Meaning.Apply as log_of_it
-use Rattle.lg_detector.specs.Support.State.{State, state_of, come, begin, marked_if, follow, apply, send, start_round, fire}
+use Rattle.lg_detector.specs.Support.State.{state_of, come, begin, marked_if, follow, apply, send, start_round, fire}
 use Rattle.lg_detector.proofs.TimerLaws.{pending-after, pending-restart, pending-alone}
 
 pub come-state : (now : ℕ) (log : Log) → come now (state_of log) ≡ state_of (Came now ∷ log)

@@ -1,5 +1,5 @@
 -- What each fact makes of a state that some log has is such a state again; and few timers are set in it.
-use Rattle.std.proofs.Common.{◌≡◌, ℕ, ◌<◌, Bool, true, false, cond, List, ◌∷◌, length, refl, sym, ◌∙◌, ap, subst, arith}
+use Rattle.std.proofs.Common.{◌≡◌, ℕ, ◌<◌, Bool, true, false, cond, ◌∷◌, length, refl, sym, ◌∙◌, ap, subst, arith}
 use Rattle.lg_rules.specs.declared.claim.Claim.{Claim}
 use Rattle.lg_timing.specs.declared.config.Config.{Config}
 use Rattle.lg_timing.specs.Meaning.Config.{IsChecked}
@@ -11,12 +11,12 @@ use Rattle.lg_membership.specs.Meaning.Log as group
 use Rattle.lg_membership.specs.Meaning.Suspicions.{suspicions}
 use Rattle.lg_membership.specs.Support.Reached as member
 use Rattle.lg_membership.specs.Support.State as known
-use Rattle.lg_membership.proofs.Reaching.{config-apply, config-apply_all}
+use Rattle.lg_membership.proofs.Reaching.{config-apply}
 use Rattle.lg_membership.proofs.SuspicionLaws.{length-suspicions}
-use Rattle.lg_detector.specs.Meaning.Log.{Log, Came, Fired, OfGroup, moment, group_log}
+use Rattle.lg_detector.specs.Meaning.Log.{Log, Came, Fired, OfGroup, group_log}
 use Rattle.lg_detector.specs.Meaning.Timing.{round_start, pending, is_round_start}
 use Rattle.lg_detector.specs.Meaning.Apply as to_log
-use Rattle.lg_detector.specs.Support.State.{State, state_of, come, begin, apply, apply_all, send, start_round, fire}
+use Rattle.lg_detector.specs.Support.State.{State, come, begin, apply, send, start_round, fire}
 use Rattle.lg_detector.specs.Support.Reached.{IsReached}
 use Rattle.lg_detector.proofs.FactLaws.{come-state, begin-state, apply-state, send-state, fire-state}
 use Rattle.lg_detector.proofs.TimerLaws.{length-pending}

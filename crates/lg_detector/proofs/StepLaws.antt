@@ -1,5 +1,5 @@
 -- The states lead on as the events do, and give the replies to them.
-use Rattle.std.proofs.Common.{◌≡◌, ℕ, Bool, true, false, List, [], ◌∷◌, ◌++◌, map, reverse, Option, Some, None, IsTrue, refl, sym, ◌∙◌, ap}
+use Rattle.std.proofs.Common.{◌≡◌, ℕ, List, [], ◌∷◌, ◌++◌, reverse, Option, Some, None, IsTrue, refl, sym, ◌∙◌, ap}
 use Rattle.std.proofs.lemmas.List.{reverse-append}
 use Rattle.lg_rules.specs.declared.addr.Addr.{Addr}
 use Rattle.lg_rules.specs.declared.claim.Claim.{Claim}
@@ -24,7 +24,7 @@ use Rattle.lg_detector.specs.Meaning.Open as open_log
 use Rattle.lg_detector.specs.Meaning.Hear as hear_log
 use Rattle.lg_detector.specs.Meaning.Tick as tick_log
 use Rattle.lg_detector.specs.Meaning.Step as step_log
-use Rattle.lg_detector.specs.Support.State.{State, state_of, come, begin, apply_all}
+use Rattle.lg_detector.specs.Support.State.{State, state_of, begin, apply_all}
 use Rattle.lg_detector.specs.Support.Open as open_state
 use Rattle.lg_detector.specs.Support.Hear as hear_state
 use Rattle.lg_detector.specs.Support.Tick as tick_state

@@ -5,7 +5,7 @@ use Rattle.lg_rules.specs.Meaning.View.{changed}
 use Rattle.lg_timers.specs.declared.timer.Timer.{Timer}
 use Rattle.lg_membership.specs.declared.origin.Origin.TheVariants.{Group}
 use Rattle.lg_membership.specs.Support.State.{shown}
-use Rattle.lg_detector.specs.Support.State.{State, come, apply_all, fire}
+use Rattle.lg_detector.specs.Support.State.{State, come, apply_all}
 use Rattle.lg_detector.specs.Support.Step.{view_in}
 use Rattle.lg_detector.specs.Support.Tick.{due, fire_due, claims_by, expire, tick}
 use Rattle.lg_detector.proofs.Reaching.{membership-fire}

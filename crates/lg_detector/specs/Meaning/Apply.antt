@@ -1,12 +1,12 @@
 -- What is added to a log: an event came, claims were said, a timer fired, a packet was sent.
-use Rattle.std.specs.Prelude.{ℕ, List, [], ◌∷◌, Option, None}
+use Rattle.std.specs.Prelude.{ℕ, List, [], ◌∷◌, None}
 use Rattle.lg_rules.specs.declared.claim.Claim.{Claim}
 use Rattle.lg_gossip.specs.Meaning.Queue.{taken_of}
 use Rattle.lg_timers.specs.declared.timer.Timer.{Timer}
 use Rattle.lg_membership.specs.declared.origin.Origin.{Origin}
 use Rattle.lg_membership.specs.Meaning.Gossip.{queue}
 use Rattle.lg_membership.specs.Meaning.Log as group
-use Rattle.lg_detector.specs.Meaning.Log.{Fact, Log, Came, Fired, OfGroup, moment, group_log}
+use Rattle.lg_detector.specs.Meaning.Log.{Log, Came, Fired, OfGroup, moment, group_log}
 
 -- an event comes
 abbrev pub come : ℕ → Log → Log

@@ -7,7 +7,6 @@ use Rattle.lg_rules.specs.declared.claim.Status.{Status}
 use Rattle.lg_rules.specs.declared.claim.Status.TheVariants.{Alive, Suspect, Failed}
 use Rattle.lg_rules.specs.Meaning.Own.{Oneself, own_of}
 use Rattle.lg_rules.specs.Meaning.Table.{record_of, roster, table_of, takes}
-use Rattle.lg_timing.specs.declared.config.Config.{Config}
 use Rattle.lg_timing.specs.declared.config.Seed.{Seed}
 use Rattle.lg_timing.specs.Meaning.Config.{check_of, defaults}
 use Rattle.lg_timing.specs.Meaning.Tables.{log10_of, ratio_of}

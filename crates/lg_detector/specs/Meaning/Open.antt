@@ -6,7 +6,7 @@ use Rattle.lg_timing.specs.declared.config.Config.{Config}
 use Rattle.lg_timing.specs.declared.config.Seed.{Seed}
 use Rattle.lg_membership.specs.declared.origin.Origin.TheVariants.{Seed as OfSeed}
 use Rattle.lg_membership.specs.Meaning.Log as group
-use Rattle.lg_detector.specs.Meaning.Log.{Fact, Log, OfGroup}
+use Rattle.lg_detector.specs.Meaning.Log.{Log, OfGroup}
 use Rattle.lg_detector.specs.Meaning.Apply.{come, apply_all}
 
 -- a seed, as a claim: alive at number 0

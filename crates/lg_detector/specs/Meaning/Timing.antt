@@ -32,7 +32,7 @@ use Rattle.lg_timers.specs.Meaning.Timers.{in_turn, least_of, due_of}
 use Rattle.lg_membership.specs.declared.suspected.Suspected.{Suspected}
 use Rattle.lg_membership.specs.Meaning.Log as group
 use Rattle.lg_membership.specs.Meaning.Suspicions.{suspicions}
-use Rattle.lg_detector.specs.Meaning.Log.{Fact, Log, Came, Fired, OfGroup, moment, group_log}
+use Rattle.lg_detector.specs.Meaning.Log.{Log, Fired, OfGroup, moment, group_log}
 
 -- The marks that were earned since the opening, the latest first: 1 for each suspicion of oneself that was refuted.
 abbrev pub mark_of : OwnHeard → List ℤ → List ℤ

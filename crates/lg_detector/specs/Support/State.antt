@@ -1,5 +1,5 @@
 -- The state of a detector as plain data, and what each fact does to it.
-use Rattle.std.specs.Prelude.{ℕ, ◌+◌, max, pos, Bool, true, false, List, [], ◌∷◌, Option, None, if◌then◌else◌}
+use Rattle.std.specs.Prelude.{ℕ, ◌+◌, max, pos, Bool, true, false, List, [], ◌∷◌, None, if◌then◌else◌}
 use Rattle.lg_rules.specs.declared.claim.Claim.{Claim}
 use Rattle.lg_rules.specs.Meaning.Table.{live_in}
 use Rattle.lg_timing.specs.declared.config.Config.{Config}

@@ -1,4 +1,4 @@
-use Rattle.std.proofs.Common.{◌≡◌, ◌<◌, length, ap, sym, subst, ◌∙◌}
+use Rattle.std.proofs.Common.{ap, sym, subst, ◌∙◌}
 use Rattle.lg_membership.specs.declared.applied.Applied.{Applied}
 use Rattle.lg_detector.specs.Support.Kept.{state_in}
 use Rattle.lg_detector.specs.Support.Reached.{IsReached}

@@ -1,4 +1,4 @@
-use Rattle.std.proofs.Common.{◌≡◌, ap, sym, subst, ◌∙◌}
+use Rattle.std.proofs.Common.{ap, sym, subst, ◌∙◌}
 use Rattle.lg_timers.specs.Meaning.Timers.{with_timer}
 use Rattle.lg_detector.specs.Meaning.Timing.{start_timer}
 use Rattle.lg_detector.specs.Support.Kept.{state_in}

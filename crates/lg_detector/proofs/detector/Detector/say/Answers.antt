@@ -1,4 +1,4 @@
-use Rattle.std.proofs.Common.{◌≡◌, ℕ, List, ap, sym, subst, ◌∙◌}
+use Rattle.std.proofs.Common.{subst, ◌∙◌}
 use Rattle.std.specs.Prelude.{filter}
 use Rattle.lg_rules.specs.Meaning.Rows.{name_cmp, is_among}
 use Rattle.lg_detector.specs.Support.Reached.{IsReached}
