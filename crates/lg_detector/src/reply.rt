@@ -1,4 +1,4 @@
-//! The reply of a detector to an event.
+//! The reply to an event: what fired, what is to be sent, and what changed.
 ghost use Rattle.std.specs.Prelude.{◌≡◌, ◌<◌, ◌≤◌, length, [], None};
 ghost use Rattle.arrayvec.specs.ArrayVec.{array_vec_len};
 
@@ -50,7 +50,7 @@ pub enum Answer {
     },
 }
 
-/// The reply of a detector to an event. It is of fixed size, so it always has room.
+/// What a detector gives back for an event. It is of fixed size, so it always has room.
 #[derive(Debug, Drop)]
 pub struct Reply {
     /// The timer that fired; only a tick fires one.

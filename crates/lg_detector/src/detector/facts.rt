@@ -82,7 +82,7 @@ impl Detector {
         parts.membership.open_with(config);
     }
 
-    /// A claim is said. Answers whether the record of its member changed.
+    /// A claim is said. Returns whether the record of its member changed.
     #[tactic(auto, unfolding(crate::specs::Support::State::apply))]
     pub(super) fn apply(&mut self, origin: Origin, claim: &Claim) -> bool
         ensures state { self.new ≡ apply origin claim.now self.old }
@@ -96,7 +96,7 @@ impl Detector {
         applied.changed
     }
 
-    /// The claims of a packet or a timer are said one after another. Answers the names of those whose records changed.
+    /// The claims of a packet or a timer are said one after another. Returns the names of those whose records changed.
     pub(super) fn apply_all(&mut self, claims: &[Claim]) -> ArrayVec<Name, MAX_CLAIMS>
         requires { length claims.now ≤ MAX_CLAIMS }
         ensures state { self.new ≡ apply_all Group claims.now self.old }

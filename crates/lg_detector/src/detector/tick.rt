@@ -52,7 +52,7 @@ impl Detector {
         self.parts.timers.due(self.parts.moment)
     }
 
-    /// A timer fires, if one is due. Answers the claims that it says.
+    /// A timer fires, if one is due. Returns the claims that it says.
     fn fire_due(&mut self, fired: &Option<Timer>) -> ArrayVec<Claim, MAX_CLAIMS>
         ensures state { self.new ≡ fire_due fired.now self.old }
         ensures claims { result.items ≡ claims_by fired.now (view_in self.old) }
