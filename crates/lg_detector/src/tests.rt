@@ -112,10 +112,16 @@ fn reply_to(detector: &mut Detector, event: &Event) -> Result<Reply, Fail> {
     Ok(accepted.ok_or("the event is accepted")?)
 }
 
-/// b is opened at 0, and knows that these others are alive.
-fn knowing(alloc: Global, others: &[u8]) -> Result<Detector, Fail> {
+/// b, opened at 0.
+fn opened(alloc: Global) -> Result<Detector, Fail> {
     let mut detector = Detector::blank(alloc)?;
     reply_to(&mut detector, &opening(0))?;
+    Ok(detector)
+}
+
+/// b, opened at 0, which knows that these others are alive.
+fn knowing(alloc: Global, others: &[u8]) -> Result<Detector, Fail> {
+    let mut detector = opened(alloc)?;
     for other in others {
         reply_to(&mut detector, &ping(0, 1, b'z', &[alive(*other, 0)]))?;
     }

@@ -1,7 +1,7 @@
 //! Questions: for the record of a name, and for the health.
 use super::{
-    alive, ask_for, ask_health, assert_ack, at, config, failed, letter, opening, ping, reply_to,
-    suspect, table_of, tick_at,
+    alive, ask_for, ask_health, assert_ack, at, config, failed, letter, opened, opening, ping,
+    reply_to, suspect, table_of, tick_at,
 };
 use crate::{Answer, Detector, Event};
 use lg_rules::{Claim, Incarnation};
@@ -10,8 +10,7 @@ use std::test::Fail;
 
 #[test]
 fn answers_questions(rt: HostRuntime) -> Result<(), Fail> {
-    let mut detector = Detector::blank(rt.alloc())?;
-    reply_to(&mut detector, &opening(0))?;
+    let mut detector = opened(rt.alloc())?;
     let said = [alive(b'c', 0), suspect(b'd', 2, b'a')];
     reply_to(&mut detector, &ping(10, 7, b'b', &said))?;
     let rows = [
@@ -86,8 +85,7 @@ fn marks_a_refutation_once(rt: HostRuntime) -> Result<(), Fail> {
 
 /// The answer to the question for the health after claims in one packet.
 fn answer_after(alloc: Global, said: &[Claim]) -> Result<Option<Answer>, Fail> {
-    let mut detector = Detector::blank(alloc)?;
-    reply_to(&mut detector, &opening(0))?;
+    let mut detector = opened(alloc)?;
     reply_to(&mut detector, &ping(0, 1, b'c', said))?;
     Ok(reply_to(&mut detector, &ask_health(0))?.answer)
 }
@@ -155,8 +153,7 @@ fn holds_the_greatest_score(rt: HostRuntime) -> Result<(), Fail> {
 
 #[test]
 fn asking_changes_nothing(rt: HostRuntime) -> Result<(), Fail> {
-    let mut detector = Detector::blank(rt.alloc())?;
-    reply_to(&mut detector, &opening(0))?;
+    let mut detector = opened(rt.alloc())?;
     reply_to(&mut detector, &ping(0, 1, b'c', &[suspect(b'c', 0, b'a')]))?;
     let before = table_of(&detector);
     let reply = reply_to(&mut detector, &ask_health(40_000))?;

@@ -7,7 +7,7 @@ use crate::{Detector, Event};
 use lg_packet::Body;
 use std::test::Fail;
 
-/// An opening, claims, answers, questions, and ticks that fire a round-start and a suspicion.
+/// An opening, claims, Acks, questions, and ticks that fire a round-start and a suspicion.
 fn events() -> [Event; 10] {
     [
         opening(50),

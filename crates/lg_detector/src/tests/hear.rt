@@ -1,7 +1,7 @@
 //! Packets that are heard: what their claims change, and the Acks to them.
 use super::{
-    alive, assert_ack, claim, failed, heard, knowing, letter, local, numbered_name, opening, ping,
-    reply_to, suspect, suspicion, table_of, tick_at,
+    alive, assert_ack, claim, failed, heard, knowing, letter, local, numbered_name, opened,
+    opening, ping, reply_to, suspect, suspicion, table_of, tick_at,
 };
 use crate::{Detector, Reply};
 use lg_packet::Body;
@@ -11,10 +11,9 @@ use std::test::Fail;
 
 #[test]
 fn gossips_what_it_heard(rt: HostRuntime) -> Result<(), Fail> {
-    let mut detector = Detector::blank(rt.alloc())?;
-    reply_to(&mut detector, &opening(0))?;
+    let mut detector = opened(rt.alloc())?;
     let other = reply_to(&mut detector, &ping(0, 7, b'c', &[alive(b'c', 0)]))?;
-    assert_eq!(rt; other.sends.len(), 0, "a Ping for another isn't answered");
+    assert_eq!(rt; other.sends.len(), 0, "a Ping for another isn't acked");
     assert_eq!(rt; other.changed.as_slice(), [alive(b'c', 0)].as_slice());
     let own = reply_to(&mut detector, &ping(0, 8, b'b', &[]))?;
     assert_ack(&rt, &own, 8, &[alive(b'c', 0)]);
@@ -23,9 +22,8 @@ fn gossips_what_it_heard(rt: HostRuntime) -> Result<(), Fail> {
 }
 
 #[test]
-fn answers_no_ack(rt: HostRuntime) -> Result<(), Fail> {
-    let mut detector = Detector::blank(rt.alloc())?;
-    reply_to(&mut detector, &opening(0))?;
+fn acks_no_ack(rt: HostRuntime) -> Result<(), Fail> {
+    let mut detector = opened(rt.alloc())?;
     let ack = heard(0, Body::Ack { number: 9 }, &[suspect(b'c', 2, b'a')]);
     let reply = reply_to(&mut detector, &ack)?;
     assert_eq!(rt; reply.sends.len(), 0);
@@ -53,8 +51,7 @@ fn counts_from_the_greatest_moment(rt: HostRuntime) -> Result<(), Fail> {
 
 #[test]
 fn lists_changes_by_name(rt: HostRuntime) -> Result<(), Fail> {
-    let mut detector = Detector::blank(rt.alloc())?;
-    reply_to(&mut detector, &opening(0))?;
+    let mut detector = opened(rt.alloc())?;
     reply_to(
         &mut detector,
         &ping(0, 1, b'c', &[alive(b'd', 1), alive(b'f', 0)]),
@@ -88,8 +85,7 @@ fn lists_changes_by_name(rt: HostRuntime) -> Result<(), Fail> {
 
 #[test]
 fn refutes_once(rt: HostRuntime) -> Result<(), Fail> {
-    let mut detector = Detector::blank(rt.alloc())?;
-    reply_to(&mut detector, &opening(0))?;
+    let mut detector = opened(rt.alloc())?;
     let said = [suspect(b'b', 0, b'a'), suspect(b'b', 0, b'c')];
     let reply = reply_to(&mut detector, &ping(0, 9, b'b', &said))?;
     assert_ack(&rt, &reply, 9, &[alive(b'b', 1)]);
@@ -99,10 +95,9 @@ fn refutes_once(rt: HostRuntime) -> Result<(), Fail> {
     Ok(())
 }
 
-/// Says a claim about b, whose number is 0, in a Ping. Answers the reply and the own record after it.
+/// Says a claim about b, whose number is 0, in a Ping. Returns the reply and the own record after it.
 fn said_of_itself(alloc: Global, said: Claim) -> Result<(Reply, Option<Record>), Fail> {
-    let mut detector = Detector::blank(alloc)?;
-    reply_to(&mut detector, &opening(0))?;
+    let mut detector = opened(alloc)?;
     let reply = reply_to(&mut detector, &ping(0, 1, b'b', &[said]))?;
     Ok((reply, detector.record_of(&letter(b'b'))))
 }
@@ -146,8 +141,7 @@ fn keeps_its_number(rt: HostRuntime) -> Result<(), Fail> {
 
 #[test]
 fn stays_ousted(rt: HostRuntime) -> Result<(), Fail> {
-    let mut detector = Detector::blank(rt.alloc())?;
-    reply_to(&mut detector, &opening(0))?;
+    let mut detector = opened(rt.alloc())?;
     let failed = failed(b'b', 0);
     let reply = reply_to(&mut detector, &ping(0, 1, b'b', &[failed]))?;
     assert_eq!(rt; reply.ousted, true);

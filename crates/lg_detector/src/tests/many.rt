@@ -1,6 +1,6 @@
 //! More names than a table holds.
-use super::{alive, assert_ack, claim, letter, numbered_name, opening, ping, reply_to, table_of};
-use crate::{Detector, MAX_MEMBERS};
+use super::{alive, assert_ack, claim, letter, numbered_name, opened, ping, reply_to, table_of};
+use crate::MAX_MEMBERS;
 use lg_rules::{Claim, Status};
 use std::test::Fail;
 
@@ -16,8 +16,7 @@ fn six_below(end: u32) -> [Claim; 6] {
 
 #[test]
 fn changes_where_there_is_room(rt: HostRuntime) -> Result<(), Fail> {
-    let mut detector = Detector::blank(rt.alloc())?;
-    reply_to(&mut detector, &opening(0))?;
+    let mut detector = opened(rt.alloc())?;
     reply_to(&mut detector, &ping(0, 1, b'c', &[alive(b'c', 2)]))?;
     for packet in 0..43 {
         reply_to(
@@ -50,8 +49,7 @@ fn changes_where_there_is_room(rt: HostRuntime) -> Result<(), Fail> {
 
 #[test]
 fn knows_the_first_names(rt: HostRuntime) -> Result<(), Fail> {
-    let mut detector = Detector::blank(rt.alloc())?;
-    reply_to(&mut detector, &opening(0))?;
+    let mut detector = opened(rt.alloc())?;
     for packet in 0..50 {
         let reply = reply_to(
             &mut detector,

@@ -5,7 +5,7 @@ use std::alloc::Global;
 use std::process::Abort;
 use std::test::Fail;
 
-/// Asks for the table twice. Answers whether it was had, and changes nothing where it wasn't.
+/// Asks for the table twice. Returns whether it was had; where it wasn't, nothing has changed.
 fn shows_table(rt: &impl Abort, alloc: Global, detector: &Detector) -> bool {
     let mut shown = false;
     let members = [alive(b'b', 0), alive(b'c', 0)];
@@ -22,7 +22,7 @@ fn shows_table(rt: &impl Abort, alloc: Global, detector: &Detector) -> bool {
 }
 
 #[test]
-fn answers_after_refused_memory(rt: HostRuntime) -> Result<(), Fail> {
+fn goes_on_after_refused_memory(rt: HostRuntime) -> Result<(), Fail> {
     let mut shown = false;
     for _ in 0..2 {
         if let Ok(mut detector) = Detector::blank(rt.alloc()) {

@@ -1,6 +1,6 @@
 //! Ticks, and the timers that they fire.
 use super::{
-    alive, ask_for, ask_health, assert_ack, claim, failed, knowing, letter, opening, ping,
+    alive, ask_for, ask_health, assert_ack, claim, failed, knowing, letter, opened, opening, ping,
     reply_to, round_start, suspect, suspicion, table_of, tick_at,
 };
 use crate::Detector;
@@ -13,7 +13,7 @@ use std::test::Fail;
 /// A tick, and its reply: the timer that fires, the record that changes and the next deadline.
 type Row = (u64, Option<Timer>, Option<Record>, u64);
 
-/// Asks that ticks are answered as these rows say.
+/// Asks that the replies to ticks are as these rows say.
 fn assert_ticks(rt: &impl Abort, detector: &mut Detector, rows: &[Row]) -> Result<(), Fail> {
     for row in rows {
         let (now, fired, changed, next) = *row;
@@ -47,8 +47,7 @@ fn failed_member(member: Name) -> Option<Claim> {
 
 #[test]
 fn takes_a_suspect_as_failed(rt: HostRuntime) -> Result<(), Fail> {
-    let mut detector = Detector::blank(rt.alloc())?;
-    reply_to(&mut detector, &opening(0))?;
+    let mut detector = opened(rt.alloc())?;
     let said = [suspect(b'c', 0, b'd')];
     let reply = reply_to(&mut detector, &ping(2000, 1, b'b', &said))?;
     assert_ack(&rt, &reply, 1, &said);
@@ -71,8 +70,7 @@ fn takes_a_suspect_as_failed(rt: HostRuntime) -> Result<(), Fail> {
 
 #[test]
 fn is_idle_before_the_deadline(rt: HostRuntime) -> Result<(), Fail> {
-    let mut detector = Detector::blank(rt.alloc())?;
-    reply_to(&mut detector, &opening(0))?;
+    let mut detector = opened(rt.alloc())?;
     reply_to(&mut detector, &ping(0, 1, b'b', &[suspect(b'c', 0, b'd')]))?;
     let before = table_of(&detector);
     let rows = [
@@ -90,8 +88,7 @@ fn is_idle_before_the_deadline(rt: HostRuntime) -> Result<(), Fail> {
 
 #[test]
 fn fires_one_timer_a_tick(rt: HostRuntime) -> Result<(), Fail> {
-    let mut detector = Detector::blank(rt.alloc())?;
-    reply_to(&mut detector, &opening(0))?;
+    let mut detector = opened(rt.alloc())?;
     let said = [suspect(b'd', 2, b'a'), suspect(b'c', 1, b'a')];
     reply_to(&mut detector, &ping(0, 1, b'b', &said))?;
     let (c, d) = (suspicion(5000, letter(b'c')), suspicion(5000, letter(b'd')));
@@ -107,8 +104,7 @@ fn fires_one_timer_a_tick(rt: HostRuntime) -> Result<(), Fail> {
 /// Suspicions fire before the start of a round, and among them a name before those that it begins.
 #[test]
 fn fires_ties_in_order(rt: HostRuntime) -> Result<(), Fail> {
-    let mut detector = Detector::blank(rt.alloc())?;
-    reply_to(&mut detector, &opening(0))?;
+    let mut detector = opened(rt.alloc())?;
     let (long, short, capital) = (named(b"ca"), named(b"c"), named(b"Z"));
     let said = [suspected(long), suspected(short), suspected(capital)];
     reply_to(&mut detector, &ping(0, 1, b'b', &said))?;
@@ -161,8 +157,7 @@ fn counts_from_the_greatest_moment(rt: HostRuntime) -> Result<(), Fail> {
 /// The score is taken when a round starts.
 #[test]
 fn scales_the_interval(rt: HostRuntime) -> Result<(), Fail> {
-    let mut detector = Detector::blank(rt.alloc())?;
-    reply_to(&mut detector, &opening(0))?;
+    let mut detector = opened(rt.alloc())?;
     let reply = reply_to(&mut detector, &tick_at(0))?;
     assert_eq!(rt; reply.next, 1000);
     let said = [suspect(b'b', 0, b'a'), suspect(b'b', 1, b'a')];
