@@ -15,7 +15,7 @@ use Rattle.lg_suspicion.specs.Meaning.Accusers.{accuser_counts, accused}
 use Rattle.lg_membership.specs.declared.applied.Deadline.{Deadline}
 use Rattle.lg_membership.specs.declared.suspected.Suspected.{Suspected}
 use Rattle.lg_membership.specs.Meaning.Suspicions.{suspected_name, is_accusation, counts_in}
-use Rattle.lg_membership.specs.Support.Changes.{Change, Nothing, Ending, Putting, IsAbout, raised, ended, overriding, accusing, change_by, row_about, deadline_after, stands, is_override}
+use Rattle.lg_membership.specs.Support.Changes.{Nothing, Putting, IsAbout, raised, ended, overriding, accusing, change_by, row_about, deadline_after, stands, is_override}
 use Rattle.lg_membership.specs.Support.State.{State, change_in}
 use Rattle.lg_membership.proofs.Chosen.{found_key}
 

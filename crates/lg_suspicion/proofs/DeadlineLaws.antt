@@ -1,5 +1,5 @@
 -- An accuser never moves a deadline to a later moment.
-use Rattle.std.proofs.Common.{◌≡◌, ℕ, zero, suc, ◌+◌, ◌-◌, ◌*◌, ◌≤◌, ◌<◌, List, [], ◌∷◌, ◌++◌, length, subst, sym, length-append, arith, lit≤}
+use Rattle.std.proofs.Common.{◌≡◌, ℕ, zero, suc, ◌+◌, ◌-◌, ◌*◌, ◌≤◌, ◌<◌, List, [], ◌∷◌, ◌++◌, length, length-append, arith, lit≤}
 use Rattle.std.proofs.Math.Nat.{mul-le-mul_left}
 use Rattle.lg_timing.specs.Meaning.Tables.{ratio_of}
 use Rattle.lg_timing.specs.Meaning.TimeoutRange.{TimeoutRange}
