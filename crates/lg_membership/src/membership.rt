@@ -231,7 +231,8 @@ impl Membership {
         ensures state { let taken = taken_of self.old.queue None (live_in self.old.members.table) in
             self.new ≡ send taken self.old }
         // After any log, the claims are those of its queue, and it goes on by the packet that took them.
-        ensures filled { (log : Log) → self.old ≡ state_of log → claims.new.items ≡ fill_of (queue log) None (live log) }
+        ensures filled { (log : Log) → self.old ≡ state_of log
+            → claims.new.items ≡ fill_of (queue log) None (live log) }
         ensures log { (log : Log) → self.old ≡ state_of log
             → self.new ≡ state_of (Sent (taken_of (queue log) None (live log)) ∷ log) }
     {

@@ -10,7 +10,8 @@ use crate::rows::Keyed;
 /// The most claims of a packet: 6 (this project's choice).
 pub const MAX_CLAIMS: usize = 6;
 
-/// How often a claim may be sent for each decimal digit of the number of members, at the most: 10 (this project's choice).
+/// How often a claim may be sent for each decimal digit of the number of live members, at the most: 10 (this project's
+/// choice).
 pub const MAX_LAMBDA: u64 = 10;
 
 /// What is claimed of a member (SWIM, section 4.2, whose Confirm is called Failed here).

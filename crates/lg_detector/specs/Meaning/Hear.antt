@@ -1,4 +1,5 @@
--- The event Heard: the claims of a packet are said in their order, and then a Ping for oneself is acked (SWIM, section 3.1).
+-- The event Heard: the claims of a packet are said in their order, and then a Ping for oneself is acked (SWIM, section
+-- 3.1).
 use Rattle.std.specs.Prelude.{ℕ, List, [], ◌∷◌, Option, Some, None, if◌then◌else◌}
 use Rattle.lg_rules.specs.declared.addr.Addr.{Addr}
 use Rattle.lg_rules.specs.Meaning.Rows.{name_cmp, is_same}

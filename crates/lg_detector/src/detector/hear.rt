@@ -1,5 +1,5 @@
-//! The event Heard: the claims of a packet are said in their order, and then a Ping for oneself is acked. The Ack goes to
-//! where the Ping came from, with those of the queued claims that lg_gossip chooses.
+//! The event Heard: the claims of a packet are said in their order, and then a Ping for oneself is acked. The Ack goes
+//! to where the Ping came from, with those of the queued claims that lg_gossip chooses.
 ghost use Rattle.std.specs.Prelude.{◌≡◌, ◌<◌, ◌≤◌, [], ◌∷◌, None, Some, length, option_copied};
 ghost use Rattle.lg_rules.specs.Meaning.View.{changed};
 ghost use Rattle.lg_membership.specs.declared.origin.Origin.TheVariants.{Group};

@@ -37,7 +37,7 @@ put_of c queue = record { lambda = queue.lambda; rows = put_row name_cmp queued_
 abbrev pub decimal_digits : ℕ → ℕ
 decimal_digits n = length (decimal n)
 
--- so often may a claim be sent among n members
+-- so often may a claim be sent among n live members
 abbrev pub limit_of : ℕ → ℕ → ℕ
 limit_of lambda n = lambda * decimal_digits n
 
@@ -81,7 +81,8 @@ may_go buddy limit q = nat_lt q.sends limit && is_beside buddy q
 abbrev pub rows_taken : Option Claim → ℕ → List Queued → List Queued
 rows_taken buddy limit rows = take (room_beside buddy) (by_sends (filter (may_go buddy limit) rows))
 
--- the claims that a packet takes of the queue, to a member with this record or with none, among n members
+-- the claims that a packet takes of the queue, to a member with this record or with none, among n live
+-- members
 unfoldable pub taken_of : GossipQueue → Option Claim → ℕ → List Claim
 taken_of queue to n = map queued_claim (rows_taken (buddy_of to) (limit_of queue.lambda n) queue.rows)
 
