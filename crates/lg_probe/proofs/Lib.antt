@@ -1,0 +1,3 @@
+pub mod NameRows
+pub mod OrderLaws
+pub mod Joining

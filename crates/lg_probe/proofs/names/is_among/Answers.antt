@@ -1,0 +1,9 @@
+use Rattle.std.proofs.Common.{sym}
+use Rattle.lg_probe.proofs.NameRows.{among_found, among_missing}
+use Rattle.lg_probe.proofs.names.is_among.Goals as goal
+
+pub returns-in-Ok : goal.returns-in-Ok
+returns-in-Ok c = sym (among_found c.args.name.now _ c.args.names.now (c.in-Ok.ensures.found c.args.name.now))
+
+pub returns-in-Err : goal.returns-in-Err
+returns-in-Err c = sym (among_missing c.args.name.now c.args.names.now c.requires c.in-Err.ensures.missing)

@@ -1,0 +1,104 @@
+-- The order in which members are probed: each round chooses each of them once (SWIM, section 4.3).
+use Rattle.std.specs.Prelude.{ℕ, ◌%◌, Bool, not, List, [], ◌∷◌, ◌++◌, length, filter, if◌then◌else◌}
+use Rattle.std.specs.Prelude.{Option, Some, None, slice_get}
+use Rattle.std.specs.List.{list_all}
+use Rattle.std.specs.Option.{option_to_list}
+use Rattle.lg_rules.specs.Meaning.Rows.{name_cmp, is_among, put_key, in_order, without_row}
+
+-- these names without one
+abbrev pub without : List ℕ → List (List ℕ) → List (List ℕ)
+without n names = without_row name_cmp (λ m. m) n names
+
+-- of these names the one that a word chooses: the one at the word modulo their number, from 0
+abbrev pub candidate : ℕ → List (List ℕ) → Option (List ℕ)
+candidate word names = slice_get names (word % length names)
+
+-- the names that may be chosen, where some are chosen in the round already
+abbrev pub candidates : List (List ℕ) → List (List ℕ) → List (List ℕ)
+candidates names round = filter (λ n. not (is_among name_cmp n round)) names
+
+-- whether none may be chosen: each name is chosen in the round
+abbrev pub is_over : List (List ℕ) → List (List ℕ) → Bool
+is_over names round = list_all (λ n. is_among name_cmp n round) names
+
+-- The round of the next choice, by the names that are chosen in it before that choice. Where none may be chosen, a
+-- new round begins, and only then.
+abbrev pub current_round : List (List ℕ) → List (List ℕ) → List (List ℕ)
+current_round names round = if is_over names round then [] else round
+
+-- whom a word chooses, and the round after that choice
+abbrev pub choice : List (List ℕ) → List (List ℕ) → ℕ → Option (List ℕ)
+choice names round word = candidate word (candidates names (current_round names round))
+
+abbrev pub next_round : List (List ℕ) → List (List ℕ) → ℕ → List (List ℕ)
+next_round names round word = option_to_list (choice names round word) ++ current_round names round
+
+-- what happens to an order: a member joins, or leaves, or one is chosen by a word
+pub data Step : Type 0 where
+  Joined : List ℕ → Step
+  Left : List ℕ → Step
+  Chose : ℕ → Step
+
+-- A past has the latest step first. The names that have joined and not left since, in their order:
+abbrev pub names_after : List Step → List (List ℕ)
+names_after [] = []
+names_after (Joined n ∷ past) = put_key name_cmp n (names_after past)
+names_after (Left n ∷ past) = without n (names_after past)
+names_after (Chose word ∷ past) = names_after past
+
+-- The names chosen since the last choice that found no candidate, that one's own choice included, the latest first:
+abbrev pub round_after : List Step → List (List ℕ)
+round_after [] = []
+round_after (Joined n ∷ past) = round_after past
+round_after (Left n ∷ past) = round_after past
+round_after (Chose word ∷ past) = next_round (names_after past) (round_after past) word
+
+-- whom a word chooses after a past
+abbrev pub choice_after : List Step → ℕ → Option (List ℕ)
+choice_after past word = choice (names_after past) (round_after past) word
+
+-- whom words choose one after another
+abbrev pub choices_after : List Step → List ℕ → List (List ℕ)
+choices_after past [] = []
+choices_after past (word ∷ words) = option_to_list (choice_after past word) ++ choices_after (Chose word ∷ past) words
+
+-- a past, and then these names join
+abbrev pub then_joined : List (List ℕ) → List Step → List Step
+then_joined [] past = past
+then_joined (n ∷ names) past = then_joined names (Joined n ∷ past)
+
+-- whom words choose one after another of these names
+abbrev pub picks : List (List ℕ) → List ℕ → List (List ℕ)
+picks names words = choices_after (then_joined names []) words
+
+-- the names that ever joined, in their order
+abbrev pub ever_joined : List Step → List (List ℕ)
+ever_joined [] = []
+ever_joined (Joined n ∷ past) = put_key name_cmp n (ever_joined past)
+ever_joined (Left n ∷ past) = ever_joined past
+ever_joined (Chose word ∷ past) = ever_joined past
+
+-- An order as it is kept: the names that have joined and not left, and those chosen in the current round, each in the
+-- order of names.
+pub record OrderValue : Type 0 where
+  pub names : List (List ℕ)
+  pub chosen : List (List ℕ)
+
+abbrev pub order_after : List Step → OrderValue
+order_after past = record { names = names_after past; chosen = in_order name_cmp (round_after past) }
+
+abbrev pub put_choice : Option (List ℕ) → List (List ℕ) → List (List ℕ)
+put_choice None round = round
+put_choice (Some n) round = put_key name_cmp n round
+
+-- an order after one more step
+abbrev pub stepped : OrderValue → Step → OrderValue
+stepped o (Joined n) = record { names = put_key name_cmp n o.names; chosen = o.chosen }
+stepped o (Left n) = record { names = without n o.names; chosen = o.chosen }
+stepped o (Chose word) =
+    let chosen = put_choice (choice o.names o.chosen word) (current_round o.names o.chosen) in
+    record { names = o.names; chosen = chosen }
+
+-- the names that an order knows: those that have joined and not left, and those chosen in the current round
+abbrev pub known_names : OrderValue → List (List ℕ)
+known_names o = in_order name_cmp (o.chosen ++ o.names)

@@ -1,0 +1,64 @@
+//! Names in their order.
+ghost use Rattle.std.specs.Prelude.{◌≡◌, ◌<◌, false, MatchResult};
+ghost use Rattle.std.specs.List.{prefix_len};
+ghost use Rattle.std.specs.Ordering.{is_lt};
+ghost use Rattle.arrayvec.specs.ArrayVec.{array_vec_len};
+ghost use Rattle.lg_rules.specs.Meaning.Rows.{name_cmp, is_among, put_key, Rises};
+ghost use Rattle.lg_rules.specs.Support.Places.{HasRow, LacksRow};
+ghost use Rattle.lg_probe.specs.Meaning.Order.{without};
+
+use arrayvec::ArrayVec;
+use lg_rules::{MAX_OTHERS, Name};
+
+/// How many names are lesser, found by halving the names.
+fn place_of(names: &[Name], name: &Name) -> usize
+    requires { Rises name_cmp names.now }
+    ensures { result ≡ prefix_len (λ m. is_lt (name_cmp m name.now)) names.now }
+{
+    names.partition_point(|other| other.cmp(name).is_lt())
+}
+
+/// Where a name stands among names in rising order, or else where it would be inserted.
+fn seat_of(names: &[Name], name: &Name) -> Result<usize, usize>
+    requires { Rises name_cmp names.now }
+    ensures { let has = HasRow name_cmp (λ m. m) name.now names.now in
+        let lacks = LacksRow name_cmp (λ m. m) name.now names.now in
+        MatchResult result has lacks }
+{
+    let at = place_of(names, name);
+    if at < names.len() {
+        if names[at] == *name { Ok(at) } else { Err(at) }
+    } else {
+        Err(at)
+    }
+}
+
+/// Whether a name is among names in rising order.
+pub(crate) fn is_among(names: &[Name], name: &Name) -> bool
+    requires { Rises name_cmp names.now }
+    ensures { result ≡ is_among name_cmp name.now names.now }
+{
+    match seat_of(names, name) {
+        Ok(_) => true,
+        Err(_) => false,
+    }
+}
+
+/// Puts a name among names in rising order, where it isn't among them yet.
+pub(crate) fn put(names: &mut ArrayVec<Name, MAX_OTHERS>, name: &Name)
+    requires rises { Rises name_cmp names.old.items }
+    requires room { is_among name_cmp name.now names.old.items ≡ false → array_vec_len names.old < MAX_OTHERS }
+    ensures { names.new.items ≡ put_key name_cmp name.now names.old.items }
+{
+    match seat_of(names.as_slice(), name) {
+        Ok(_) => {}
+        Err(at) => names.insert(at, *name),
+    }
+}
+
+/// Takes a name out of names, where it is among them.
+pub(crate) fn remove(names: &mut ArrayVec<Name, MAX_OTHERS>, name: &Name)
+    ensures { names.new.items ≡ without name.now names.old.items }
+{
+    names.retain(|other| *other != *name);
+}

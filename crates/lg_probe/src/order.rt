@@ -1,0 +1,195 @@
+//! The order of probing.
+ghost use Rattle.std.specs.Prelude.{◌≡◌, ◌≤◌, ℕ, List, [], ◌∷◌, ◌++◌, not, length, count_by, slice_get, IfOk, OnOk};
+ghost use Rattle.std.specs.Option.{option_to_list};
+ghost use Rattle.lg_rules.specs.Meaning.Rows.{name_cmp, is_among, put_key, Rises};
+ghost use Rattle.lg_probe.specs.Meaning.Order.{candidate, candidates, is_over, current_round, choice, put_choice};
+ghost use Rattle.lg_probe.specs.Meaning.Order.{choice_after, ever_joined, known_names, picks, then_joined};
+ghost use Rattle.lg_probe.specs.Meaning.Order.{Step, Joined, Left, Chose, order_after, stepped};
+ghost use Rattle.lg_probe.specs.Support.Order.{IsSound};
+
+use crate::names::{is_among, put, remove};
+use arrayvec::ArrayVec;
+use lg_rules::{MAX_OTHERS, Name};
+use std::alloc::{AllocError, Global};
+use std::marker::Model;
+
+/// Whether each of these names is chosen.
+fn is_over(names: &[Name], chosen: &[Name]) -> bool
+    requires { Rises name_cmp chosen.now }
+    ensures { result ≡ is_over names.now chosen.now }
+{
+    names.iter().all(|name| is_among(chosen, name))
+}
+
+/// How many of these names aren't chosen.
+fn count_candidates(names: &[Name], chosen: &[Name]) -> usize
+    requires { Rises name_cmp chosen.now }
+    ensures { result ≡ count_by (λ n. not (is_among name_cmp n chosen.now)) names.now }
+{
+    names.iter().filter(|name| !is_among(chosen, name)).count()
+}
+
+/// The one at an index, from 0, of the names that aren't chosen.
+fn candidate_at(names: &[Name], chosen: &[Name], index: usize) -> Option<Name>
+    requires { Rises name_cmp chosen.now }
+    ensures { result ≡ slice_get (candidates names.now chosen.now) index }
+{
+    names
+        .iter()
+        .filter(|name| !is_among(chosen, name))
+        .nth(index)
+        .copied()
+}
+
+/// The one that a word chooses of the names that aren't chosen, where there is one.
+fn candidate(names: &[Name], chosen: &[Name], word: u32) -> Option<Name>
+    requires { Rises name_cmp chosen.now }
+    ensures { result ≡ candidate word (candidates names.now chosen.now) }
+{
+    let count = count_candidates(names, chosen);
+    if count == 0 {
+        return None;
+    }
+    candidate_at(names, chosen, word as usize % count)
+}
+
+/// Begins a new round where no name is a candidate.
+fn begin_round(names: &[Name], chosen: &mut ArrayVec<Name, MAX_OTHERS>)
+    requires { Rises name_cmp chosen.old.items }
+    ensures { chosen.new.items ≡ current_round names.now chosen.old.items }
+{
+    if is_over(names, chosen.as_slice()) {
+        chosen.clear();
+    }
+}
+
+/// Chooses one of these names by a word, which then counts as chosen.
+fn choose_among(names: &[Name], chosen: &mut ArrayVec<Name, MAX_OTHERS>, word: u32) -> Option<Name>
+    requires { IsSound record { names = names.now; chosen = chosen.old.items } }
+    ensures chosen { result ≡ choice names.now chosen.old.items word }
+    ensures round { let named = choice names.now chosen.old.items word in
+        chosen.new.items ≡ put_choice named (current_round names.now chosen.old.items) }
+{
+    begin_round(names, chosen);
+    let name = candidate(names, chosen.as_slice(), word)?;
+    put(chosen, &name);
+    Some(name)
+}
+
+/// The members that are probed, and those of them that were chosen in the current round (SWIM, section 4.3).
+///
+/// At most 255 names are known: those that have joined and not left, and those chosen in the current round. No call
+/// takes memory. A contract sees the two sets, each in the order of names.
+#[derive(Debug, Drop)]
+pub struct Order {
+    names: ArrayVec<Name, MAX_OTHERS>,
+    chosen: ArrayVec<Name, MAX_OTHERS>,
+}
+
+impl Model for Order {
+    ghost use Rattle.lg_probe.specs.Meaning.Order.{OrderValue};
+
+    ghost Value = { OrderValue };
+
+    ghost view = { λ o. record { names = o.names.items; chosen = o.chosen.items } };
+
+    ghost use Rattle.lg_probe.specs.Support.Order.{IsSound};
+
+    ghost invariant = { λ o. IsSound record { names = o.names.items; chosen = o.chosen.items } };
+}
+
+impl Order {
+    /// Nobody has joined.
+    pub fn new() -> Order
+        ensures { result ≡ order_after [] }
+    {
+        Order {
+            names: ArrayVec::new(),
+            chosen: ArrayVec::new(),
+        }
+    }
+
+    /// The names that have joined and not left, in their order.
+    pub fn names(&self) -> &[Name]
+        ensures names { result.now ≡ self.now.names }
+        ensures few { length result.now ≤ MAX_OTHERS }
+        ensures rises { Rises name_cmp result.now }
+    {
+        self.names.as_slice()
+    }
+
+    /// Chooses by a word whom to probe, or nobody where there is no name. The candidates are the names that aren't
+    /// chosen in the current round, in the order of names. Where there are none, a new round begins, in which all are
+    /// candidates. The one at the word modulo their number, from 0, is chosen, and counts as chosen in the round.
+    pub fn choose(&mut self, word: u32) -> Option<Name>
+        ensures chosen { result ≡ choice self.old.names self.old.chosen word }
+        ensures order { self.new ≡ stepped self.old (Chose word) }
+        // Whatever happened so far, the latest first, it is the choice after all of it.
+        ensures past { (past : List Step) → self.old ≡ order_after past
+            → (result ≡ choice_after past word) × (self.new ≡ order_after (Chose word ∷ past)) }
+    {
+        choose_among(self.names.as_slice(), &mut self.chosen, word)
+    }
+
+    /// A member joins: it is a candidate at once, where it isn't chosen in the current round. With it at most 255 names
+    /// are known; so it is while no more have ever joined.
+    pub fn join(&mut self, name: &Name)
+        requires { length (put_key name_cmp name.now (known_names self.old)) ≤ MAX_OTHERS }
+        ensures order { self.new ≡ stepped self.old (Joined name.now) }
+        ensures past { (past : List Step) → self.old ≡ order_after past
+            → self.new ≡ order_after (Joined name.now ∷ past) }
+    {
+        put(&mut self.names, name);
+    }
+
+    /// A member leaves, and isn't a candidate until it joins again. Where it was chosen in the current round, it stays
+    /// so.
+    pub fn leave(&mut self, name: &Name)
+        ensures order { self.new ≡ stepped self.old (Left name.now) }
+        ensures past { (past : List Step) → self.old ≡ order_after past → self.new ≡ order_after (Left name.now ∷ past) }
+    {
+        remove(&mut self.names, name);
+    }
+}
+
+/// The order of these names, of which none is chosen.
+fn order_of(names: &[Name]) -> Order
+    requires { length names.now ≤ MAX_OTHERS }
+    ensures { result ≡ order_after (then_joined names.now []) }
+{
+    let mut order = Order::new();
+    for name in names {
+        order.join(name);
+    }
+    order
+}
+
+/// Puts who was chosen, if anybody was, behind those chosen before.
+fn push_chosen(chosen: &mut Vec<Name>, name: Option<Name>) -> Result<(), AllocError>
+    ensures { OnOk result (chosen.new.items ≡ chosen.old.items ++ option_to_list name) }
+{
+    if let Some(name) = name {
+        chosen.push(name)?;
+    }
+    Ok(())
+}
+
+/// Whom words choose one after another of some names, at most 255; a name that stands there twice counts once. Memory is
+/// taken for the choices, one a word, and an error says that it was refused.
+pub fn choose_all(alloc: Global, names: &[Name], words: &[u32]) -> Result<Vec<Name>, AllocError>
+    requires { length names.now ≤ MAX_OTHERS }
+    ensures chosen { IfOk result (λ chosen. chosen.items ≡ picks names.now words.now) }
+{
+    let mut order = order_of(names);
+    let mut chosen = Vec::new(alloc);
+    for word in words {
+        push_chosen(&mut chosen, order.choose(*word))?;
+    }
+    Ok(chosen)
+}
+
+/// An order has room for a name with which at most 255 names have ever joined.
+pub fn orders_have_room()
+    ensures { (past : List Step) (name : List ℕ) → length (ever_joined (Joined name ∷ past)) ≤ MAX_OTHERS
+        → length (put_key name_cmp name (known_names (order_after past))) ≤ MAX_OTHERS }
+{}
