@@ -1,7 +1,7 @@
 -- Names that join an order, and words that choose by it.
-use Rattle.std.proofs.Common.{◌≡◌, ℕ, zero, suc, ◌≤◌, ◌<◌, true, ◌||◌, List, [], ◌∷◌, ◌++◌, length, drop, get_or, Option, Some, None, refl, sym, ◌∙◌, ap, subst, append_assoc, append-nil, arith}
+use Rattle.std.proofs.Common.{◌≡◌, ℕ, zero, suc, ◌≤◌, ◌<◌, true, ◌||◌, List, [], ◌∷◌, ◌++◌, length, drop, get_or, Option, Some, None, refl, sym, ◌∙◌, ap, subst, append_assoc, append-nil, length-append, ◌+◌, arith}
 use Rattle.std.specs.Option.{option_to_list}
-use Rattle.lg_rules.specs.Meaning.Rows.{name_cmp, is_same, is_among, put_key, Rises}
+use Rattle.lg_rules.specs.Meaning.Rows.{in_order, name_cmp, is_same, is_among, put_key, Rises}
 use Rattle.lg_rules.proofs.KeyOrder.{names_order, key_is}
 use Rattle.lg_rules.proofs.Rises.{rises-put, rises-in_order, among-put, among-in_order, among-filter}
 use Rattle.lg_rules.proofs.RowLaws.{length_put_row-le}
@@ -72,12 +72,12 @@ few_joined (Joined n ∷ past) = omega (arith, few_joined past, length_put_row-l
 few_joined (Left n ∷ past) = omega (arith, few_joined past)
 few_joined (Chose word ∷ past) = omega (arith, few_joined past)
 
-drop-next : {A : Type 0} (xs : List A) (k : ℕ) (d : A) → k < length xs → drop k xs ≡ get_or xs k d ∷ drop (suc k) xs
+pub drop-next : {A : Type 0} (xs : List A) (k : ℕ) (d : A) → k < length xs → drop k xs ≡ get_or xs k d ∷ drop (suc k) xs
 drop-next [] k d l = absurd (omega arith)
 drop-next (x ∷ xs) zero d l = refl
 drop-next (x ∷ xs) (suc k) d l = drop-next xs k d (omega arith)
 
-dropped : {A : Type 0} (xs : List A) (k : ℕ) → length xs ≤ k → drop k xs ≡ []
+pub dropped : {A : Type 0} (xs : List A) (k : ℕ) → length xs ≤ k → drop k xs ≡ []
 dropped [] zero l = refl
 dropped [] (suc k) l = refl
 dropped (x ∷ xs) zero l = absurd (omega arith)
@@ -137,3 +137,11 @@ next_chosen names words k m order after chosen more word named next l e have cho
 
 pub all_chosen : (names : List (List ℕ)) (words : List ℕ) (k : ℕ) (order : OrderValue) (chosen : List (List ℕ)) → length words ≤ k → HaveChosen names words k order chosen → chosen ≡ picks names words
 all_chosen names words k order chosen l have = sym (append-nil chosen) ∙ ap (λ ws. chosen ++ choices_after have.past ws) (sym (dropped words k l)) ∙ have.rest
+
+length-in_order : (ns : List (List ℕ)) → length (in_order name_cmp ns) ≤ length ns
+length-in_order [] = omega arith
+length-in_order (n ∷ ns) = omega (arith, length-in_order ns, length_put_row-le names_order (λ k. k) n (in_order name_cmp ns))
+
+-- an order has room for one more where it has few names and few chosen
+pub room_by_counts : (o : OrderValue) (n : List ℕ) → length (put_key name_cmp n (known_names o)) ≤ length o.names + length o.chosen + 1
+room_by_counts o n = omega (arith, length_put_row-le names_order (λ k. k) n (known_names o), length-in_order (o.chosen ++ o.names), length-append o.chosen o.names)

@@ -1,3 +1,6 @@
 pub mod NameRows
 pub mod OrderLaws
 pub mod Joining
+pub mod RoundLaws
+pub mod Picking
+pub mod RelayLaws

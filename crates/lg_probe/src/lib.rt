@@ -1,10 +1,16 @@
 //! Whom to probe, through whom, and what came of it.
 #![tactic(auto)]
 
+mod helpers;
 mod names;
 mod order;
+mod relays;
+mod round;
 
+pub use helpers::{Helpers, MAX_HELPERS};
 pub use order::{Order, choose_all, orders_have_room};
+pub use relays::{MAX_RELAYS, Relay, Relays};
+pub use round::Round;
 
 #[cfg(test)]
 mod tests;

@@ -1,5 +1,5 @@
 //! Names in their order.
-ghost use Rattle.std.specs.Prelude.{◌≡◌, ◌<◌, false, MatchResult};
+ghost use Rattle.std.specs.Prelude.{◌≡◌, ◌≤◌, ◌<◌, false, length, MatchResult};
 ghost use Rattle.std.specs.List.{prefix_len};
 ghost use Rattle.std.specs.Ordering.{is_lt};
 ghost use Rattle.arrayvec.specs.ArrayVec.{array_vec_len};
@@ -57,8 +57,27 @@ pub(crate) fn put(names: &mut ArrayVec<Name, MAX_OTHERS>, name: &Name)
 }
 
 /// Takes a name out of names, where it is among them.
-pub(crate) fn remove(names: &mut ArrayVec<Name, MAX_OTHERS>, name: &Name)
+pub(crate) fn remove<const N: usize>(names: &mut ArrayVec<Name, N>, name: &Name)
     ensures { names.new.items ≡ without name.now names.old.items }
 {
     names.retain(|other| *other != *name);
+}
+
+/// Whether a name is among some names in any order.
+pub(crate) fn is_listed(names: &[Name], name: &Name) -> bool
+    ensures { result ≡ is_among name_cmp name.now names.now }
+{
+    names.contains(name)
+}
+
+/// A row of some names.
+pub(crate) fn row_of<const N: usize>(names: &[Name]) -> ArrayVec<Name, N>
+    requires { length names.now ≤ N }
+    ensures { result.items ≡ names.now }
+{
+    let mut row = ArrayVec::new();
+    for name in names {
+        row.push(*name);
+    }
+    row
 }

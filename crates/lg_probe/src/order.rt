@@ -118,6 +118,14 @@ impl Order {
         self.names.as_slice()
     }
 
+    /// The names chosen in the current round, in their order.
+    pub fn chosen(&self) -> &[Name]
+        ensures chosen { result.now ≡ self.now.chosen }
+        ensures few { length result.now ≤ MAX_OTHERS }
+    {
+        self.chosen.as_slice()
+    }
+
     /// Chooses by a word whom to probe, or nobody where there is no name. The candidates are the names that aren't
     /// chosen in the current round, in the order of names. Where there are none, a new round begins, in which all are
     /// candidates. The one at the word modulo their number, from 0, is chosen, and counts as chosen in the round.

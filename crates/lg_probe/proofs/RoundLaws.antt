@@ -1,0 +1,49 @@
+-- What a nack does to a round.
+use Rattle.std.proofs.Common.{◌≡◌, ℕ, Bool, true, false, not, cond, ◌||◌, ◌&&◌, List, [], ◌∷◌, inl, inr, refl, sym, ◌∙◌, ap}
+use Rattle.std.specs.Prelude.{filter, ◌==◌, nat_eq}
+use Rattle.std.specs.List.{list_any}
+use Rattle.std.proofs.lemmas.Bool.{cases_Bool}
+use Rattle.lg_rules.specs.Meaning.Rows.{name_cmp, is_same, is_among}
+use Rattle.lg_rules.proofs.RowsFound.{filter-none}
+use Rattle.lg_probe.specs.Meaning.Order.{without}
+use Rattle.lg_probe.specs.Meaning.Round.{RoundFact, Asked, Acked, Nacked, RoundValue, asked_in, has_nacked, silent_in, nack_counts, round_of, round_with}
+
+-- those that pass neither of two tests
+neither : {A : Type 0} (p q : A → Bool) (xs : List A) → filter (λ x. not (p x || q x)) xs ≡ filter (λ x. not (p x)) (filter (λ x. not (q x)) xs)
+neither p q [] = refl
+neither p q (x ∷ xs) = elim (cases_Bool (q x)) [
+  | inl t ↦ elim (cases_Bool (p x)) [
+    | inl u ↦ rw (t, u) (neither p q xs)
+    | inr v ↦ rw (t, v) (neither p q xs)
+  ]
+  | inr f ↦ elim (cases_Bool (p x)) [
+    | inl u ↦ rw (f, u) (neither p q xs)
+    | inr v ↦ rw (f, v) (ap (λ ys. x ∷ ys) (neither p q xs))
+  ]
+]
+
+-- a nack leaves the other silent helpers
+silent-nacked : (number k : ℕ) (sender : List ℕ) (past : List RoundFact)
+    → cond ((k == number) && is_among name_cmp sender (silent_in number past)) (without sender (silent_in number past)) (silent_in number past) ≡ silent_in number (Nacked k sender ∷ past)
+silent-nacked number k sender past = elim (cases_Bool (k == number)) [
+  | inl same ↦ rw same (once (is_among name_cmp sender silent) refl ∙ sym (neither (λ h. is_same name_cmp h sender) (λ h. has_nacked number h past) (asked_in past)))
+  | inr other ↦ rw other
+]
+  where
+    silent : List (List ℕ)
+    silent = silent_in number past
+
+    once : (b : Bool) → is_among name_cmp sender (silent_in number past) ≡ b → cond b (without sender (silent_in number past)) (silent_in number past) ≡ without sender (silent_in number past)
+    once true e = refl
+    once false e = sym (filter-none (λ h. is_same name_cmp h sender) (silent_in number past) e)
+
+pub nacked_after : (number : ℕ) (target : List ℕ) (past : List RoundFact) (k : ℕ) (sender : List ℕ) → round_with (round_of number target past) (Nacked k sender) ≡ round_of number target (Nacked k sender ∷ past)
+nacked_after number target past k sender = λ i. record { number = number; target = target; asked = asked_in past; silent = silent-nacked number k sender past i; acked = (round_of number target past).acked }
+
+-- helpers that are asked sent no nack yet
+silent-asked : (helpers : List (List ℕ)) → helpers ≡ filter (λ h. true) helpers
+silent-asked [] = refl
+silent-asked (h ∷ hs) = ap (λ ks. h ∷ ks) (silent-asked hs)
+
+pub asked_after : (number : ℕ) (target : List ℕ) (past : List RoundFact) (helpers : List (List ℕ)) → round_with (round_of number target past) (Asked helpers) ≡ round_of number target (Asked helpers ∷ past)
+asked_after number target past helpers = λ i. record { number = number; target = target; asked = helpers; silent = silent-asked helpers i; acked = (round_of number target past).acked }

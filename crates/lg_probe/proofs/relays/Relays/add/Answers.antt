@@ -1,0 +1,11 @@
+use Rattle.std.proofs.Common.{◌≡◌, None, List, subst, sym}
+use Rattle.lg_probe.specs.declared.relays.Relay.{Relay}
+use Rattle.lg_probe.specs.Meaning.Relays.{AreApart, asker_at}
+use Rattle.lg_probe.proofs.RelayLaws.{none_open, apart-opened}
+use Rattle.lg_probe.proofs.relays.Relays.add.Goals as goal
+
+pub invariant_of-self : goal.invariant_of-self
+invariant_of-self c =
+    let relay : Relay = record { number = c.args.number; target = c.args.target.now; asker = c.args.asker; asked = c.args.asked } in
+    let free = subst (λ (rs : List Relay). asker_at c.args.number rs ≡ None) (sym c.self.view_is) c.requires.apart in
+    subst AreApart (sym c.push.ensures.items) (apart-opened c.self.inside.open.items relay (none_open c.args.number c.self.inside.open.items free) c.self.invariant)

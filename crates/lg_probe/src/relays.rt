@@ -1,0 +1,142 @@
+//! Relays.
+ghost use Rattle.std.specs.Prelude.{◌≡◌, ◌<◌, ◌≤◌, List, [], ◌∷◌, length, None};
+ghost use Rattle.lg_probe.specs.Meaning.Relays.{RelayFact, Opened, TargetAcked, Closed, relays_with, relays_after};
+ghost use Rattle.lg_probe.specs.Meaning.Relays.{AreApart, asker_at, ended_asker, is_open};
+
+use arrayvec::ArrayVec;
+use lg_rules::{Addr, Name};
+use std::marker::Model;
+
+/// The most relays that are open at once: 64 (this project's choice).
+pub const MAX_RELAYS: usize = 64;
+
+/// A probe of a target for another member, its asker.
+#[derive(Clone, Copy, Debug, Default, PartialEq, Eq)]
+pub struct Relay {
+    /// The number of the probe.
+    number: u32,
+    /// The member that is probed.
+    target: Name,
+    /// Where the asker is reached.
+    asker: Addr,
+    /// The number by which the asker probes.
+    asked: u32,
+}
+
+/// The relays that are open, at most 64, in the order in which they were opened (SWIM, section 3.1). No call takes
+/// memory. A contract sees the row of relays.
+#[derive(Debug, Drop)]
+pub struct Relays {
+    open: ArrayVec<Relay, MAX_RELAYS>,
+}
+
+impl Model for Relays {
+    ghost use Rattle.std.specs.Prelude.{List};
+    ghost use Rattle.lg_probe.specs.declared.relays.Relay.{Relay as OneRelay};
+
+    ghost Value = { List OneRelay };
+
+    ghost view = { λ r. r.open.items };
+
+    ghost use Rattle.lg_probe.specs.Meaning.Relays.{AreApart};
+
+    ghost invariant = { λ r. AreApart r.open.items };
+}
+
+impl Relay {
+    ghost use Rattle.lg_probe.specs.Meaning.Relays.{has_number, is_ended};
+
+    /// Whether it has a number.
+    fn has_number(&self, number: u32) -> bool
+        ensures { result ≡ has_number number self.now }
+    {
+        self.number == number
+    }
+
+    /// Whether an ack ends it.
+    #[tactic(auto, using(lg_rules::proofs::KeyOrder::names_eq))]
+    fn is_ended(&self, number: u32, sender: &Name) -> bool
+        ensures { result ≡ is_ended number sender.now self.now }
+    {
+        self.number == number && self.target == *sender
+    }
+}
+
+impl Relays {
+    /// No relay is open.
+    pub fn new() -> Relays
+        ensures { result ≡ relays_after [] }
+    {
+        Relays {
+            open: ArrayVec::new(),
+        }
+    }
+
+    /// How many relays are open, at most 64.
+    pub fn len(&self) -> usize
+        ensures count { result ≡ length self.now }
+        ensures few { result ≤ MAX_RELAYS }
+        // No two of them have one number.
+        ensures apart { AreApart self.now }
+    {
+        self.open.len()
+    }
+
+    /// Opens a relay of a number to a target, for an asker that probes it by the number `asked`. Fewer than 64 are open,
+    /// and none of that number.
+    pub fn add(&mut self, number: u32, target: &Name, asker: Addr, asked: u32)
+        requires room { length self.old < MAX_RELAYS }
+        requires apart { asker_at number self.old ≡ None }
+        ensures relays { self.new ≡ relays_with self.old (Opened record {
+            number = number; target = target.now; asker = asker; asked = asked }) }
+        // Whatever happened so far, the latest first, the relays are those open after all of it.
+        ensures past { (past : List RelayFact) → self.old ≡ relays_after past
+            → self.new ≡ relays_after (Opened record {
+            number = number; target = target.now; asker = asker; asked = asked } ∷ past) }
+    {
+        self.open.push(Relay {
+            number,
+            target: *target,
+            asker,
+            asked,
+        });
+    }
+
+    /// The asker of the open relay of a number, and the number by which it asked.
+    pub fn get(&self, number: u32) -> Option<(Addr, u32)>
+        ensures { result ≡ asker_at number self.now }
+    {
+        self.open
+            .iter()
+            .find(|relay| relay.has_number(number))
+            .map(|relay| (relay.asker, relay.asked))
+    }
+
+    /// Takes an ack. Where there is an open relay of its number to its sender, it closes, and its asker and the number by
+    /// which that asked are answered.
+    pub fn ack(&mut self, number: u32, sender: &Name) -> Option<(Addr, u32)>
+        ensures asker { result ≡ ended_asker number sender.now self.old }
+        ensures relays { self.new ≡ relays_with self.old (TargetAcked number sender.now) }
+        ensures past { (past : List RelayFact) → self.old ≡ relays_after past
+            → self.new ≡ relays_after (TargetAcked number sender.now ∷ past) }
+    {
+        let asker = self.open
+            .iter()
+            .find(|relay| relay.is_ended(number, sender))
+            .map(|relay| (relay.asker, relay.asked));
+        self.open.retain(|relay| !relay.is_ended(number, sender));
+        asker
+    }
+
+    /// Closes the relay of a number, and answers whether one was open.
+    pub fn close(&mut self, number: u32) -> bool
+        ensures was_open { result ≡ is_open number self.old }
+        ensures relays { self.new ≡ relays_with self.old (Closed number) }
+        ensures past { (past : List RelayFact) → self.old ≡ relays_after past
+            → self.new ≡ relays_after (Closed number ∷ past) }
+    {
+        let was_open = self.open.iter().any(|relay| relay.has_number(number));
+        self.open.retain(|relay| !relay.has_number(number));
+        was_open
+    }
+}

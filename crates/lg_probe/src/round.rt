@@ -1,0 +1,130 @@
+//! A round of probing.
+ghost use Rattle.std.specs.Prelude.{◌≡◌, List, [], ◌∷◌};
+ghost use Rattle.lg_probe.specs.Meaning.Round.{RoundFact, Asked, Acked, Nacked, ack_counts, is_first_ack, nack_counts};
+ghost use Rattle.lg_probe.specs.Meaning.Round.{is_acked, mark_of, round_of, round_with, silent_in};
+
+use crate::helpers::{Helpers, MAX_HELPERS};
+use crate::names::{is_listed, remove, row_of};
+use arrayvec::ArrayVec;
+use lg_rules::Name;
+use std::marker::Model;
+
+/// A probe of a target, and what came of it so far: which helpers were asked, which of them sent a nack, and whether an
+/// ack counted (SWIM, section 3.1; Lifeguard, local health aware probe). No call takes memory.
+#[derive(Debug, Drop)]
+pub struct Round {
+    number: u32,
+    target: Name,
+    asked: ArrayVec<Name, MAX_HELPERS>,
+    // The asked helpers that sent no nack yet.
+    silent: ArrayVec<Name, MAX_HELPERS>,
+    acked: bool,
+}
+
+impl Model for Round {
+    ghost use Rattle.lg_probe.specs.Meaning.Round.{RoundValue};
+
+    ghost Value = { RoundValue };
+
+    ghost view = { λ r. record {
+        number = r.number; target = r.target; asked = r.asked.items; silent = r.silent.items; acked = r.acked } };
+}
+
+impl Round {
+    /// The probe of a number goes to its target; no helper is asked.
+    pub fn new(number: u32, target: &Name) -> Round
+        ensures { result ≡ round_of number target.now [] }
+    {
+        Round {
+            number,
+            target: *target,
+            asked: ArrayVec::new(),
+            silent: ArrayVec::new(),
+            acked: false,
+        }
+    }
+
+    /// The number of the probe.
+    pub fn number(&self) -> u32
+        ensures { result ≡ self.now.number }
+    {
+        self.number
+    }
+
+    /// The member that is probed.
+    pub fn target(&self) -> Name
+        ensures { result ≡ self.now.target }
+    {
+        self.target
+    }
+
+    /// The helpers that were asked.
+    pub fn asked(&self) -> &[Name]
+        ensures { result.now ≡ self.now.asked }
+    {
+        self.asked.as_slice()
+    }
+
+    /// The helpers are asked, in the place of those asked before: from now on their acks and nacks count.
+    pub fn ask(&mut self, helpers: &Helpers)
+        ensures round { self.new ≡ round_with self.old (Asked helpers.now) }
+        // Whatever happened so far, the latest first, the round is that of all of it.
+        ensures past { (past : List RoundFact) → let after = round_of self.old.number self.old.target in
+            self.old ≡ after past → self.new ≡ after (Asked helpers.now ∷ past) }
+    {
+        self.asked = row_of(helpers.names());
+        self.silent = row_of(helpers.names());
+    }
+
+    /// Whether an ack counts: it has the number of the round, and comes from the target or from an asked helper.
+    #[tactic(auto, using(lg_rules::proofs::KeyOrder::names_eq))]
+    fn ack_counts(&self, number: u32, sender: &Name) -> bool
+        ensures { result ≡ ack_counts self.now.number self.now.target self.now.asked number sender.now }
+    {
+        number == self.number && (*sender == self.target || is_listed(&self.asked, sender))
+    }
+
+    /// Takes an ack, and answers whether it is the first that counts: it has the number of the round, and comes from the
+    /// target or from a helper that was asked before.
+    pub fn ack(&mut self, number: u32, sender: &Name) -> bool
+        ensures first { result ≡ is_first_ack self.old number sender.now }
+        ensures round { self.new ≡ round_with self.old (Acked number sender.now) }
+        ensures past { (past : List RoundFact) → let after = round_of self.old.number self.old.target in
+            self.old ≡ after past → self.new ≡ after (Acked number sender.now ∷ past) }
+    {
+        let is_first = !self.acked && self.ack_counts(number, sender);
+        self.acked = self.acked || is_first;
+        is_first
+    }
+
+    /// Takes a nack, and answers whether it counts: it has the number of the round, and is the first of a helper that was
+    /// asked before.
+    pub fn nack(&mut self, number: u32, sender: &Name) -> bool
+        ensures counts { result ≡ nack_counts self.old number sender.now }
+        ensures round { self.new ≡ round_with self.old (Nacked number sender.now) }
+        ensures past { (past : List RoundFact) → let after = round_of self.old.number self.old.target in
+            self.old ≡ after past → self.new ≡ after (Nacked number sender.now ∷ past) }
+    {
+        let counts = number == self.number && is_listed(&self.silent, sender);
+        if counts {
+            remove(&mut self.silent, sender);
+        }
+        counts
+    }
+
+    /// Ends the round, and answers the mark that it earns: 0 where an ack counted, else 1, or 2 where an asked helper sent
+    /// no nack. A round that failed and asked nobody earns 1.
+    pub fn end(self) -> i8
+        ensures mark { result ≡ mark_of self.acked self.silent }
+        ensures past { (past : List RoundFact) → self ≡ round_of self.number self.target past
+            → result ≡ mark_of (is_acked self.number self.target past) (silent_in self.number past) }
+    {
+        if self.acked {
+            0
+        } else if self.silent.is_empty() {
+            1
+        } else {
+            2
+        }
+    }
+}
