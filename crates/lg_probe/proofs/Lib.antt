@@ -4,3 +4,4 @@ pub mod Joining
 pub mod RoundLaws
 pub mod Picking
 pub mod RelayLaws
+pub mod WindowLaws

@@ -83,9 +83,9 @@ impl Helpers {
         }
     }
 
-    /// Picks at most `k` helpers, 8 at most, in the place of those picked before, of the names that have joined `others`
-    /// and not left, the target excepted. They are picked one after another: a word picks the name at the word modulo the
-    /// number of those left, from 0, in the order of names, until `k` are picked or none is left.
+    /// Picks at most `k` helpers, 8 at most, in the place of those picked before, of the names that have joined
+    /// `others` and not left, the target excepted. They are picked one after another: a word picks the name at the
+    /// word modulo the number of those left, from 0, in the order of names, until `k` are picked or none is left.
     pub fn pick(&mut self, others: &Order, target: &Name, k: usize, words: &[u32; 8])
         requires { k ≤ MAX_HELPERS }
         ensures picked { self.new ≡ picked k words.now (without target.now others.now.names) }

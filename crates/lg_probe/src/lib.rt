@@ -8,7 +8,7 @@ mod relays;
 mod round;
 
 pub use helpers::{Helpers, MAX_HELPERS};
-pub use order::{Order, choose_all, orders_have_room};
+pub use order::{Order, choose_all, orders_have_room, windows_have_each};
 pub use relays::{MAX_RELAYS, Relay, Relays};
 pub use round::Round;
 

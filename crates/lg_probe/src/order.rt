@@ -1,10 +1,12 @@
 //! The order of probing.
-ghost use Rattle.std.specs.Prelude.{◌≡◌, ◌≤◌, ℕ, List, [], ◌∷◌, ◌++◌, not, length, count_by, slice_get, IfOk, OnOk};
+ghost use Rattle.std.specs.Prelude.{◌≡◌, ◌≤◌, true, not, ℕ, List, [], ◌∷◌, ◌++◌, length, count_by, slice_get};
+ghost use Rattle.std.specs.Prelude.{IfOk, OnOk};
 ghost use Rattle.std.specs.Option.{option_to_list};
 ghost use Rattle.lg_rules.specs.Meaning.Rows.{name_cmp, is_among, put_key, Rises};
 ghost use Rattle.lg_probe.specs.Meaning.Order.{candidate, candidates, is_over, current_round, choice, put_choice};
 ghost use Rattle.lg_probe.specs.Meaning.Order.{choice_after, ever_joined, known_names, picks, then_joined};
 ghost use Rattle.lg_probe.specs.Meaning.Order.{Step, Joined, Left, Chose, order_after, stepped};
+ghost use Rattle.lg_probe.specs.Meaning.Order.{EachInWindows, choices_after, names_after, window};
 ghost use Rattle.lg_probe.specs.Support.Order.{IsSound};
 
 use crate::names::{is_among, put, remove};
@@ -139,8 +141,9 @@ impl Order {
         choose_among(self.names.as_slice(), &mut self.chosen, word)
     }
 
-    /// A member joins: it is a candidate at once, where it isn't chosen in the current round. With it at most 255 names
-    /// are known; so it is while no more have ever joined.
+    /// A member joins: it is a candidate at once, where it isn't chosen in the current round. With it at most 255
+    /// names are known: those that have joined and not left, and those chosen in the current round. So it is while
+    /// with it at most 255 names have ever joined.
     pub fn join(&mut self, name: &Name)
         requires { length (put_key name_cmp name.now (known_names self.old)) ≤ MAX_OTHERS }
         ensures order { self.new ≡ stepped self.old (Joined name.now) }
@@ -154,7 +157,8 @@ impl Order {
     /// so.
     pub fn leave(&mut self, name: &Name)
         ensures order { self.new ≡ stepped self.old (Left name.now) }
-        ensures past { (past : List Step) → self.old ≡ order_after past → self.new ≡ order_after (Left name.now ∷ past) }
+        ensures past { (past : List Step) → self.old ≡ order_after past
+            → self.new ≡ order_after (Left name.now ∷ past) }
     {
         remove(&mut self.names, name);
     }
@@ -182,11 +186,13 @@ fn push_chosen(chosen: &mut Vec<Name>, name: Option<Name>) -> Result<(), AllocEr
     Ok(())
 }
 
-/// Whom words choose one after another of some names, at most 255; a name that stands there twice counts once. Memory is
-/// taken for the choices, one a word, and an error says that it was refused.
+/// Whom words choose one after another of some names, at most 255; a name that stands there twice counts once. Memory
+/// is taken for the choices, one a word, and an error says that it was refused.
 pub fn choose_all(alloc: Global, names: &[Name], words: &[u32]) -> Result<Vec<Name>, AllocError>
     requires { length names.now ≤ MAX_OTHERS }
     ensures chosen { IfOk result (λ chosen. chosen.items ≡ picks names.now words.now) }
+    // Any 2p - 1 choices in a row have each of p names.
+    ensures windows { IfOk result (λ chosen. EachInWindows names.now words.now chosen.items) }
 {
     let mut order = order_of(names);
     let mut chosen = Vec::new(alloc);
@@ -200,4 +206,13 @@ pub fn choose_all(alloc: Global, names: &[Name], words: &[u32]) -> Result<Vec<Na
 pub fn orders_have_room()
     ensures { (past : List Step) (name : List ℕ) → length (ever_joined (Joined name ∷ past)) ≤ MAX_OTHERS
         → length (put_key name_cmp name (known_names (order_after past))) ≤ MAX_OTHERS }
+{}
+
+/// While the names stay the same, any 2p - 1 choices in a row choose each of p names, from any state of a round on.
+/// With no names nobody is chosen.
+pub fn windows_have_each()
+    ensures each { (past : List Step) (words : List ℕ) (name : List ℕ)
+        → is_among name_cmp name (names_after past) ≡ true → window (names_after past) ≤ length words
+        → is_among name_cmp name (choices_after past words) ≡ true }
+    ensures none { (past : List Step) (words : List ℕ) → names_after past ≡ [] → choices_after past words ≡ [] }
 {}

@@ -14,13 +14,13 @@ pub const MAX_RELAYS: usize = 64;
 #[derive(Clone, Copy, Debug, Default, PartialEq, Eq)]
 pub struct Relay {
     /// The number of the probe.
-    number: u32,
+    pub number: u32,
     /// The member that is probed.
-    target: Name,
+    pub target: Name,
     /// Where the asker is reached.
-    asker: Addr,
+    pub asker: Addr,
     /// The number by which the asker probes.
-    asked: u32,
+    pub asked: u32,
 }
 
 /// The relays that are open, at most 64, in the order in which they were opened (SWIM, section 3.1). No call takes
@@ -82,8 +82,8 @@ impl Relays {
         self.open.len()
     }
 
-    /// Opens a relay of a number to a target, for an asker that probes it by the number `asked`. Fewer than 64 are open,
-    /// and none of that number.
+    /// Opens a relay of a number to a target, for an asker that probes it by the number `asked`. Fewer than 64 are
+    /// open, and none of that number.
     pub fn add(&mut self, number: u32, target: &Name, asker: Addr, asked: u32)
         requires room { length self.old < MAX_RELAYS }
         requires apart { asker_at number self.old ≡ None }
@@ -112,8 +112,8 @@ impl Relays {
             .map(|relay| (relay.asker, relay.asked))
     }
 
-    /// Takes an ack. Where there is an open relay of its number to its sender, it closes, and its asker and the number by
-    /// which that asked are answered.
+    /// Takes an ack. Where there is an open relay of its number to its sender, it closes, and its asker and the number
+    /// by which that asked are answered.
     pub fn ack(&mut self, number: u32, sender: &Name) -> Option<(Addr, u32)>
         ensures asker { result ≡ ended_asker number sender.now self.old }
         ensures relays { self.new ≡ relays_with self.old (TargetAcked number sender.now) }

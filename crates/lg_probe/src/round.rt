@@ -84,8 +84,8 @@ impl Round {
         number == self.number && (*sender == self.target || is_listed(&self.asked, sender))
     }
 
-    /// Takes an ack, and answers whether it is the first that counts: it has the number of the round, and comes from the
-    /// target or from a helper that was asked before.
+    /// Takes an ack, and answers whether it is the first that counts: it has the number of the round, and comes from
+    /// the target or from a helper that was asked before.
     pub fn ack(&mut self, number: u32, sender: &Name) -> bool
         ensures first { result ≡ is_first_ack self.old number sender.now }
         ensures round { self.new ≡ round_with self.old (Acked number sender.now) }
@@ -97,8 +97,8 @@ impl Round {
         is_first
     }
 
-    /// Takes a nack, and answers whether it counts: it has the number of the round, and is the first of a helper that was
-    /// asked before.
+    /// Takes a nack, and answers whether it counts: it has the number of the round, and is the first of a helper that
+    /// was asked before.
     pub fn nack(&mut self, number: u32, sender: &Name) -> bool
         ensures counts { result ≡ nack_counts self.old number sender.now }
         ensures round { self.new ≡ round_with self.old (Nacked number sender.now) }
@@ -112,8 +112,8 @@ impl Round {
         counts
     }
 
-    /// Ends the round, and answers the mark that it earns: 0 where an ack counted, else 1, or 2 where an asked helper sent
-    /// no nack. A round that failed and asked nobody earns 1.
+    /// Ends the round, and answers the mark that it earns: 0 where an ack counted, else 1, or 2 where an asked helper
+    /// sent no nack. A round that failed and asked nobody earns 1.
     pub fn end(self) -> i8
         ensures mark { result ≡ mark_of self.acked self.silent }
         ensures past { (past : List RoundFact) → self ≡ round_of self.number self.target past

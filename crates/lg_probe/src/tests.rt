@@ -1,5 +1,5 @@
 //! Worked rows.
-use crate::{Helpers, MAX_RELAYS, Order, Relays, Round, choose_all, orders_have_room};
+use crate::{Helpers, MAX_RELAYS, Order, Relays, Round, choose_all, orders_have_room, windows_have_each};
 use lg_rules::{Addr, MAX_OTHERS, Name};
 use std::test::Fail;
 
@@ -36,6 +36,7 @@ fn chooses_by_words(rt: HostRuntime) -> Result<(), Fail> {
         (&[], &[0, 7], &[]),
     ];
     orders_have_room();
+    windows_have_each();
     for (names, words, chosen) in cases {
         assert_eq!(rt; choose_all(rt.alloc(), names, words)?.as_slice(), chosen);
     }

@@ -1,4 +1,5 @@
 -- The order in which members are probed: each round chooses each of them once (SWIM, section 4.3).
+use Rattle.std.specs.Prelude.{◌≡◌, ◌≤◌, ◌+◌, ◌-◌, ◌*◌, true, take, drop}
 use Rattle.std.specs.Prelude.{ℕ, ◌%◌, Bool, not, List, [], ◌∷◌, ◌++◌, length, filter, if◌then◌else◌}
 use Rattle.std.specs.Prelude.{Option, Some, None, slice_get}
 use Rattle.std.specs.List.{list_all}
@@ -70,6 +71,16 @@ then_joined (n ∷ names) past = then_joined names (Joined n ∷ past)
 -- whom words choose one after another of these names
 abbrev pub picks : List (List ℕ) → List ℕ → List (List ℕ)
 picks names words = choices_after (then_joined names []) words
+
+-- So many choices in a row choose each of p names: any 2p - 1 of them, while the names stay the same.
+abbrev pub window : List (List ℕ) → ℕ
+window names = 2 * length names - 1
+
+-- from each place on where there are so many words, the choices have each name
+abbrev pub EachInWindows : List (List ℕ) → List ℕ → List (List ℕ) → Type 0
+EachInWindows names words chosen =
+    (name : List ℕ) (i : ℕ) → is_among name_cmp name names ≡ true → i + window names ≤ length words
+    → is_among name_cmp name (take (window names) (drop i chosen)) ≡ true
 
 -- the names that ever joined, in their order
 abbrev pub ever_joined : List Step → List (List ℕ)

@@ -80,4 +80,5 @@ is_first_ack r k sender = not r.acked && ack_counts r.number r.target r.asked k 
 abbrev pub round_with : RoundValue → RoundFact → RoundValue
 round_with r (Asked helpers) = record r { asked = helpers; silent = helpers }
 round_with r (Acked k sender) = record r { acked = r.acked || is_first_ack r k sender }
-round_with r (Nacked k sender) = record r { silent = if nack_counts r k sender then without sender r.silent else r.silent }
+round_with r (Nacked k sender) =
+    record r { silent = if nack_counts r k sender then without sender r.silent else r.silent }
