@@ -1,8 +1,7 @@
 -- Open relays have numbers of their own.
-use Rattle.std.proofs.Common.{◌≡◌, ℕ, Bool, true, false, not, ◌||◌, List, [], ◌∷◌, ◌++◌, Option, Some, None, inl, inr, refl, sym, ◌∙◌, ap}
-use Rattle.std.specs.Prelude.{filter, find, ◌==◌, nat_eq}
-use Rattle.std.specs.List.{AllByRecursion, list_any}
-use Rattle.std.specs.Option.{option_map}
+use Rattle.std.proofs.Common.{◌≡◌, ℕ, Bool, false, List, [], ◌∷◌, ◌++◌, Some, None, inl, inr, refl}
+use Rattle.std.specs.Prelude.{filter, ◌==◌}
+use Rattle.std.specs.List.{AllByRecursion}
 use Rattle.std.proofs.lemmas.Bool.{cases_Bool}
 use Rattle.lg_rules.proofs.PastLaws.{neither}
 use Rattle.lg_probe.specs.declared.relays.Relay.{Relay}

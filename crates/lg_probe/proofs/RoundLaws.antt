@@ -1,12 +1,11 @@
 -- What a nack does to a round.
 use Rattle.std.proofs.Common.{◌≡◌, ℕ, Bool, true, false, not, cond, ◌||◌, ◌&&◌, List, [], ◌∷◌, inl, inr, refl, sym, ◌∙◌, ap}
-use Rattle.std.specs.Prelude.{filter, ◌==◌, nat_eq}
-use Rattle.std.specs.List.{list_any}
+use Rattle.std.specs.Prelude.{filter, ◌==◌}
 use Rattle.std.proofs.lemmas.Bool.{cases_Bool}
 use Rattle.lg_rules.specs.Meaning.Rows.{name_cmp, is_same, is_among}
 use Rattle.lg_rules.proofs.RowsFound.{filter-none}
 use Rattle.lg_probe.specs.Meaning.Order.{without}
-use Rattle.lg_probe.specs.Meaning.Round.{RoundFact, Asked, Acked, Nacked, RoundValue, asked_in, has_nacked, silent_in, nack_counts, round_of, round_with}
+use Rattle.lg_probe.specs.Meaning.Round.{RoundFact, Asked, Nacked, asked_in, has_nacked, silent_in, round_of, round_with}
 
 -- those that pass neither of two tests
 neither : {A : Type 0} (p q : A → Bool) (xs : List A) → filter (λ x. not (p x || q x)) xs ≡ filter (λ x. not (p x)) (filter (λ x. not (q x)) xs)

@@ -1,19 +1,16 @@
 -- While the names stay the same, so many choices in a row choose each of them.
-use Rattle.std.proofs.Common.{◌≡◌, ◌≢◌, ℕ, zero, suc, ◌+◌, ◌-◌, ◌*◌, ◌%◌, ◌≤◌, ◌<◌, Bool, true, false, not, cond, ◌||◌, ◌&&◌, List, [], ◌∷◌, ◌++◌, length, take, drop, get_or, length-take-le, length-drop, Option, Some, None, inl, inr, refl, sym, ◌∙◌, ap, subst, arith}
-use Rattle.std.specs.Prelude.{filter, slice_get}
-use Rattle.std.specs.List.{list_all}
+use Rattle.std.proofs.Common.{◌≡◌, ◌≢◌, ℕ, zero, suc, ◌+◌, ◌-◌, ◌*◌, ◌%◌, ◌≤◌, ◌<◌, Bool, true, false, not, cond, ◌||◌, ◌&&◌, List, [], ◌∷◌, ◌++◌, length, take, drop, get_or, length-take-le, length-drop, Some, inl, inr, refl, sym, ◌∙◌, ap, subst, arith}
+use Rattle.std.specs.Prelude.{filter}
 use Rattle.std.proofs.Math.Nat.{mod-lt}
 use Rattle.std.specs.Option.{option_to_list}
-use Rattle.std.proofs.lemmas.Bool.{cases_Bool, cases_lt, false≢true, not-true}
+use Rattle.std.proofs.lemmas.Bool.{cases_Bool, cases_lt, false≢true}
 use Rattle.std.proofs.lemmas.Option.{slice_get-get_or}
 use Rattle.lg_rules.specs.Meaning.Rows.{name_cmp, is_same, is_among}
-use Rattle.lg_rules.proofs.Cases.{Missing, Holding, held}
-use Rattle.lg_rules.proofs.KeyOrder.{names_order, key_is, cases_key, same_key, other_key}
-use Rattle.lg_rules.proofs.Rises.{among-put, among-filter, among-cons_same, among-cons_other, among-later}
+use Rattle.lg_rules.proofs.KeyOrder.{names_order, cases_key}
+use Rattle.lg_rules.proofs.Rises.{among-put, among-filter, among-cons_same, among-cons_other}
 use Rattle.lg_rules.proofs.RowLaws.{length_put_row-le}
-use Rattle.lg_probe.specs.Meaning.Order.{Step, Joined, Left, Chose, candidate, candidates, is_over, current_round, choice, next_round, names_after, round_after, choice_after, choices_after, then_joined, picks}
-use Rattle.lg_probe.proofs.NameRows.{among-append}
-use Rattle.lg_probe.proofs.OrderLaws.{IsCandidate, candidate_is, first_of, second_of}
+use Rattle.lg_probe.specs.Meaning.Order.{Step, Joined, Chose, candidate, candidates, is_over, current_round, choice, next_round, names_after, round_after, choice_after, choices_after, then_joined, picks}
+use Rattle.lg_probe.proofs.OrderLaws.{IsCandidate, candidate_is, first_of}
 
 -- a filter keeps no more, and fewer where it keeps out one that is there
 filter-le : {A : Type 0} (p q : A → Bool) (xs : List A) → ((x : A) → p x ≡ true → q x ≡ true) → length (filter p xs) ≤ length (filter q xs)
@@ -172,7 +169,7 @@ rest_of_round names round (word ∷ words) m named fresh few =
     ∙ elim (cases_key names_order next.n m) [
       | inl e ↦ among-cons_same names_order m next.n (choices names (next.n ∷ round) words) e
       | inr d ↦ among-cons_other names_order m next.n (choices names (next.n ∷ round) words) d
-        ∙ rest_of_round names (next.n ∷ round) words m named (among-cons_other names_order m next.n round d ∙ fresh) (omega (arith, few, left-chosen names round next.n is))
+          ∙ rest_of_round names (next.n ∷ round) words m named (among-cons_other names_order m next.n round d ∙ fresh) (omega (arith, few, left-chosen names round next.n is))
     ]
 
 -- a whole round chooses each name
@@ -187,7 +184,7 @@ whole_round names round (word ∷ words) m named over few =
     ∙ elim (cases_key names_order next.n m) [
       | inl e ↦ among-cons_same names_order m next.n (choices names (next.n ∷ []) words) e
       | inr d ↦ among-cons_other names_order m next.n (choices names (next.n ∷ []) words) d
-        ∙ rest_of_round names (next.n ∷ []) words m named (among-cons_other names_order m next.n [] d) (omega (arith, few, left-chosen names [] next.n is, left-le names []))
+          ∙ rest_of_round names (next.n ∷ []) words m named (among-cons_other names_order m next.n [] d) (omega (arith, few, left-chosen names [] next.n is, left-le names []))
     ]
 
 -- the rest of a round and a whole one choose each name
@@ -204,7 +201,7 @@ two_rounds names round (word ∷ words) m named few = elim (cases_Bool (is_over 
       ∙ elim (cases_key names_order next.n m) [
         | inl e ↦ among-cons_same names_order m next.n (choices names (next.n ∷ round) words) e
         | inr d ↦ among-cons_other names_order m next.n (choices names (next.n ∷ round) words) d
-          ∙ two_rounds names (next.n ∷ round) words m named (omega (arith, few, left-chosen names round next.n is))
+            ∙ two_rounds names (next.n ∷ round) words m named (omega (arith, few, left-chosen names round next.n is))
       ])
 ]
 

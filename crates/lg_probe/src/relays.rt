@@ -88,11 +88,19 @@ impl Relays {
         requires room { length self.old < MAX_RELAYS }
         requires apart { asker_at number self.old ≡ None }
         ensures relays { self.new ≡ relays_with self.old (Opened record {
-            number = number; target = target.now; asker = asker; asked = asked }) }
+          number = number;
+          target = target.now;
+          asker = asker;
+          asked = asked;
+        }) }
         // Whatever happened so far, the latest first, the relays are those open after all of it.
         ensures past { (past : List RelayFact) → self.old ≡ relays_after past
             → self.new ≡ relays_after (Opened record {
-            number = number; target = target.now; asker = asker; asked = asked } ∷ past) }
+              number = number;
+              target = target.now;
+              asker = asker;
+              asked = asked;
+            } ∷ past) }
     {
         self.open.push(Relay {
             number,
@@ -120,7 +128,8 @@ impl Relays {
         ensures past { (past : List RelayFact) → self.old ≡ relays_after past
             → self.new ≡ relays_after (TargetAcked number sender.now ∷ past) }
     {
-        let asker = self.open
+        let asker = self
+            .open
             .iter()
             .find(|relay| relay.is_ended(number, sender))
             .map(|relay| (relay.asker, relay.asked));

@@ -27,7 +27,12 @@ impl Model for Round {
     ghost Value = { RoundValue };
 
     ghost view = { λ r. record {
-        number = r.number; target = r.target; asked = r.asked.items; silent = r.silent.items; acked = r.acked } };
+      number = r.number;
+      target = r.target;
+      asked = r.asked.items;
+      silent = r.silent.items;
+      acked = r.acked;
+    } };
 }
 
 impl Round {

@@ -1,5 +1,7 @@
 //! Worked rows.
-use crate::{Helpers, MAX_RELAYS, Order, Relays, Round, choose_all, orders_have_room, windows_have_each};
+use crate::{
+    Helpers, MAX_RELAYS, Order, Relays, Round, choose_all, orders_have_room, windows_have_each,
+};
 use lg_rules::{Addr, MAX_OTHERS, Name};
 use std::test::Fail;
 

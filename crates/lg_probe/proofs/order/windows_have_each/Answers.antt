@@ -1,5 +1,4 @@
-use Rattle.std.proofs.Common.{length, arith}
-use Rattle.lg_probe.specs.Meaning.Order.{names_after}
+use Rattle.std.proofs.Common.{arith}
 use Rattle.lg_probe.proofs.WindowLaws.{window_after, nobody_after}
 use Rattle.lg_probe.proofs.order.windows_have_each.Goals as goal
 

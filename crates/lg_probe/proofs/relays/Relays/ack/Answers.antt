@@ -1,4 +1,4 @@
-use Rattle.std.proofs.Common.{Bool, List, not, ap, ◌∙◌, subst, sym, rules}
+use Rattle.std.proofs.Common.{Bool, not, ap, ◌∙◌, subst, sym, rules}
 use Rattle.std.specs.Prelude.{filter}
 use Rattle.arrayvec.proofs.ArrayVecLemmas.{filter-from_retain}
 use Rattle.lg_probe.specs.declared.relays.Relay.{Relay}
