@@ -89,7 +89,7 @@ ever_joined (Joined n ∷ past) = put_key name_cmp n (ever_joined past)
 ever_joined (Left n ∷ past) = ever_joined past
 ever_joined (Chose word ∷ past) = ever_joined past
 
--- An order as it is kept: the names that have joined and not left, and those chosen in the current round, each in the
+-- What an order holds: the names that have joined and not left, and those chosen in the current round, each in the
 -- order of names.
 pub record OrderValue : Type 0 where
   pub names : List (List ℕ)

@@ -49,7 +49,7 @@ mark_of true silent = pos 0
 mark_of false [] = pos 1
 mark_of false (helper ∷ silent) = pos 2
 
--- A round as it is kept: its number and its target, the asked helpers, those of them that sent no nack, and whether an
+-- What a round holds: its number and its target, the asked helpers, those of them that sent no nack, and whether an
 -- ack counted.
 pub record RoundValue : Type 0 where
   pub number : ℕ
