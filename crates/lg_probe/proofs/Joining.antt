@@ -6,12 +6,12 @@ use Rattle.lg_rules.proofs.KeyOrder.{names_order, key_is}
 use Rattle.lg_rules.proofs.Rises.{rises-put, rises-in_order, among-put, among-in_order, among-filter}
 use Rattle.lg_rules.proofs.RowLaws.{length_put_row-le}
 use Rattle.lg_rules.proofs.Tests.{both}
-use Rattle.lg_probe.specs.Meaning.Order.{OrderValue, Step, Joined, Left, Chose, current_round, names_after, round_after, order_after, known_names, ever_joined, then_joined, choice_after, choices_after, picks}
+use Rattle.lg_probe.specs.Meaning.Order.{OrderValue, OrderFact, Joined, Left, Chose, current_round, names_after, round_after, order_after, known_names, ever_joined, then_joined, choice_after, choices_after, picks}
 use Rattle.lg_probe.proofs.NameRows.{names_few, among-append}
 use Rattle.lg_probe.proofs.OrderLaws.{InEither, First, Second, in_either, first_of, second_of, candidate_is, in_current}
 
 -- who is a name, or was chosen in the round, has joined
-pub name_joined : (past : List Step) (k : List ℕ) → is_among name_cmp k (names_after past) ≡ true → is_among name_cmp k (ever_joined past) ≡ true
+pub name_joined : (past : List OrderFact) (k : List ℕ) → is_among name_cmp k (names_after past) ≡ true → is_among name_cmp k (ever_joined past) ≡ true
 name_joined [] k a = a
 name_joined (Joined n ∷ past) k a =
     among-put names_order k n (ever_joined past)
@@ -22,7 +22,7 @@ name_joined (Joined n ∷ past) k a =
 name_joined (Left n ∷ past) k a = name_joined past k (both _ _ (sym (among-filter names_order _ k (names_after past)) ∙ a)).1
 name_joined (Chose word ∷ past) k a = name_joined past k a
 
-pub round_joined : (past : List Step) (k : List ℕ) → is_among name_cmp k (round_after past) ≡ true → is_among name_cmp k (ever_joined past) ≡ true
+pub round_joined : (past : List OrderFact) (k : List ℕ) → is_among name_cmp k (round_after past) ≡ true → is_among name_cmp k (ever_joined past) ≡ true
 round_joined [] k a = a
 round_joined (Joined n ∷ past) k a = among-put names_order k n (ever_joined past) ∙ second_of (is_same name_cmp n k) _ (round_joined past k a)
 round_joined (Left n ∷ past) k a = round_joined past k a
@@ -41,14 +41,14 @@ round_joined (Chose word ∷ past) k a = step (round_joined past k) (choice_afte
       | Second r ↦ before (in_current (names_after past) (round_after past) k r)
     ]
 
-rises-joined : (past : List Step) → Rises name_cmp (ever_joined past)
+rises-joined : (past : List OrderFact) → Rises name_cmp (ever_joined past)
 rises-joined [] = tt
 rises-joined (Joined n ∷ past) = rises-put names_order n (ever_joined past) (rises-joined past)
 rises-joined (Left n ∷ past) = rises-joined past
 rises-joined (Chose word ∷ past) = rises-joined past
 
 -- so with one more there are no more known than ever joined
-pub known_joined : (past : List Step) (n : List ℕ) → length (put_key name_cmp n (known_names (order_after past))) ≤ length (put_key name_cmp n (ever_joined past))
+pub known_joined : (past : List OrderFact) (n : List ℕ) → length (put_key name_cmp n (known_names (order_after past))) ≤ length (put_key name_cmp n (ever_joined past))
 known_joined past n =
     let order = order_after past in
     names_few (put_key name_cmp n (known_names order)) (put_key name_cmp n (ever_joined past)) (rises-put names_order n (known_names order) (rises-in_order names_order (order.chosen ++ order.names)))
@@ -62,11 +62,11 @@ known_joined past n =
     known k (First s) = first_of _ (is_among name_cmp k (ever_joined past)) s
     known k (Second a) = second_of (is_same name_cmp n k) _ (joined k (in_either _ _ (sym (among-append k (order_after past).chosen (names_after past)) ∙ sym (among-in_order names_order k ((order_after past).chosen ++ names_after past)) ∙ a)))
 
-pub room_joined : (past : List Step) (n : List ℕ) (m : ℕ) → length (ever_joined (Joined n ∷ past)) ≤ m → length (put_key name_cmp n (known_names (order_after past))) ≤ m
+pub room_joined : (past : List OrderFact) (n : List ℕ) (m : ℕ) → length (ever_joined (Joined n ∷ past)) ≤ m → length (put_key name_cmp n (known_names (order_after past))) ≤ m
 room_joined past n m few = omega (arith, few, known_joined past n)
 
 -- no more have joined than steps were
-few_joined : (past : List Step) → length (ever_joined past) ≤ length past
+few_joined : (past : List OrderFact) → length (ever_joined past) ≤ length past
 few_joined [] = omega arith
 few_joined (Joined n ∷ past) = omega (arith, few_joined past, length_put_row-le names_order (λ k. k) n (ever_joined past))
 few_joined (Left n ∷ past) = omega (arith, few_joined past)
@@ -85,7 +85,7 @@ dropped (x ∷ xs) (suc k) l = dropped xs k (omega arith)
 
 -- the first of these names have joined
 pub record HaveJoined (names : List (List ℕ)) (k : ℕ) (order : OrderValue) : Type 0 where
-  pub past : List Step
+  pub past : List OrderFact
   pub is : order ≡ order_after past
   pub rest : then_joined (drop k names) past ≡ then_joined names []
   pub few : length past ≤ k
@@ -99,7 +99,7 @@ next_room names k order n m have l =
     (room_joined have.past n m (omega (arith, have.few, l, few_joined have.past, length_put_row-le names_order (λ j. j) n (ever_joined have.past))))
 
 pub next_joined : (names : List (List ℕ)) (k m : ℕ) (order after : OrderValue) (n d : List ℕ) → m ≡ suc k → k < length names → n ≡ get_or names k d → HaveJoined names k order
-    → ((past : List Step) → order ≡ order_after past → after ≡ order_after (Joined n ∷ past)) → HaveJoined names m after
+    → ((past : List OrderFact) → order ≡ order_after past → after ≡ order_after (Joined n ∷ past)) → HaveJoined names m after
 next_joined names k m order after n d more l e have joins = record {
   past = Joined n ∷ have.past;
   is = joins have.past have.is;
@@ -112,7 +112,7 @@ all_joined names k order l have = have.is ∙ ap order_after (sym (ap (λ ns. th
 
 -- the first of these words have chosen
 pub record HaveChosen (names : List (List ℕ)) (words : List ℕ) (k : ℕ) (order : OrderValue) (chosen : List (List ℕ)) : Type 0 where
-  pub past : List Step
+  pub past : List OrderFact
   pub is : order ≡ order_after past
   pub rest : chosen ++ choices_after past (drop k words) ≡ picks names words
 
@@ -124,7 +124,7 @@ none_chosen names words order chosen e none = record {
 }
 
 pub next_chosen : (names : List (List ℕ)) (words : List ℕ) (k m : ℕ) (order after : OrderValue) (chosen more : List (List ℕ)) (word : ℕ) (named : Option (List ℕ)) → m ≡ suc k → k < length words → word ≡ get_or words k 0 → HaveChosen names words k order chosen
-    → ((past : List Step) → order ≡ order_after past → (named ≡ choice_after past word) × (after ≡ order_after (Chose word ∷ past))) → more ≡ chosen ++ option_to_list named → HaveChosen names words m after more
+    → ((past : List OrderFact) → order ≡ order_after past → (named ≡ choice_after past word) × (after ≡ order_after (Chose word ∷ past))) → more ≡ chosen ++ option_to_list named → HaveChosen names words m after more
 next_chosen names words k m order after chosen more word named next l e have chooses is =
     let step = chooses have.past have.is in
     let now : drop k words ≡ word ∷ drop (suc k) words = drop-next words k 0 l ∙ ap (λ w. w ∷ drop (suc k) words) (sym e) in

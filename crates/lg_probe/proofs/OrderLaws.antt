@@ -8,7 +8,7 @@ use Rattle.lg_rules.specs.Meaning.Rows.{name_cmp, is_same, is_among, put_key, in
 use Rattle.lg_rules.proofs.KeyOrder.{names_order, key_is}
 use Rattle.lg_rules.proofs.Rises.{rises-put, rises-in_order, rises-filter, among-put, among-in_order, among-filter, among-cons_same, among-later, length-put}
 use Rattle.lg_rules.proofs.Tests.{both}
-use Rattle.lg_probe.specs.Meaning.Order.{OrderValue, Step, Joined, Left, Chose, without, candidate, candidates, is_over, current_round, choice, next_round, put_choice, names_after, round_after, order_after, stepped, known_names}
+use Rattle.lg_probe.specs.Meaning.Order.{OrderValue, OrderFact, Joined, Left, Chose, without, candidate, candidates, is_over, current_round, choice, next_round, put_choice, names_after, round_after, order_after, order_with, known_names}
 use Rattle.lg_probe.specs.Support.Order.{IsSound}
 use Rattle.lg_probe.proofs.NameRows.{names_few, among-append}
 
@@ -53,7 +53,7 @@ put_choice-in_order None round = refl
 put_choice-in_order (Some n) round = refl
 
 -- a choice after a past
-pub chosen_after : (past : List Step) (word : ℕ) → stepped (order_after past) (Chose word) ≡ order_after (Chose word ∷ past)
+pub chosen_after : (past : List OrderFact) (word : ℕ) → order_with (order_after past) (Chose word) ≡ order_after (Chose word ∷ past)
 chosen_after past word =
     let names = names_after past in
     let round = round_after past in
@@ -61,7 +61,7 @@ chosen_after past word =
     (λ i. put_choice (choice-in_order names round word i) (current-in_order names round i)) ∙ put_choice-in_order (choice names round word) (current_round names round) in
     λ i. record { names = names; chosen = chosen i }
 
-pub choice_after-is : (past : List Step) (word : ℕ) → choice (order_after past).names (order_after past).chosen word ≡ choice (names_after past) (round_after past) word
+pub choice_after-is : (past : List OrderFact) (word : ℕ) → choice (order_after past).names (order_after past).chosen word ≡ choice (names_after past) (round_after past) word
 choice_after-is past word = choice-in_order (names_after past) (round_after past) word
 
 -- No more names are known where each was known before.
@@ -121,7 +121,7 @@ choice_room o m n sound few is =
     known k (Second a) = known_chosen o k (in_current o.names o.chosen k a)
 
 -- the round after a choice
-pub sound-choice : (o : OrderValue) (word : ℕ) → IsSound o → IsSound (stepped o (Chose word))
+pub sound-choice : (o : OrderValue) (word : ℕ) → IsSound o → IsSound (order_with o (Chose word))
 sound-choice o word sound = step (choice o.names o.chosen word) (λ n e. candidate_is o.names (current_round o.names o.chosen) word n e)
   where
     rises : Rises name_cmp (current_round o.names o.chosen)
@@ -164,9 +164,9 @@ join_room o m n sound few fresh =
     known k (First s) = first_of _ (is_among name_cmp k (known_names o)) s
     known k (Second a) = second_of (is_same name_cmp n k) _ (among-in_order names_order k (o.chosen ++ o.names) ∙ known_name o k a)
 
-pub sound-join : (o : OrderValue) (n : List ℕ) (m : ℕ) → IsSound o → length (put_key name_cmp n (known_names o)) ≤ m → length (known_names (stepped o (Joined n))) ≤ m
+pub sound-join : (o : OrderValue) (n : List ℕ) (m : ℕ) → IsSound o → length (put_key name_cmp n (known_names o)) ≤ m → length (known_names (order_with o (Joined n))) ≤ m
 sound-join o n m sound few =
-    let after = known_names (stepped o (Joined n)) in
+    let after = known_names (order_with o (Joined n)) in
     let within : length after ≤ length (put_key name_cmp n (known_names o)) = names_few after (put_key name_cmp n (known_names o)) (rises-in_order names_order (o.chosen ++ put_key name_cmp n o.names)) (λ k a. among-put names_order k n (known_names o) ∙ known k (in_either _ _ (sym (among-append k o.chosen (put_key name_cmp n o.names)) ∙ sym (among-in_order names_order k (o.chosen ++ put_key name_cmp n o.names)) ∙ a))) in
     omega (arith, within, few)
   where
@@ -181,7 +181,7 @@ sound-join o n m sound few =
     ]
 
 -- a member that leaves
-pub sound-leave : (o : OrderValue) (n : List ℕ) → IsSound o → IsSound (stepped o (Left n))
+pub sound-leave : (o : OrderValue) (n : List ℕ) → IsSound o → IsSound (order_with o (Left n))
 sound-leave o n sound = record {
   names_rise = rises-filter names_order (λ m. not (is_same name_cmp m n)) o.names sound.names_rise;
   chosen_rise = sound.chosen_rise;

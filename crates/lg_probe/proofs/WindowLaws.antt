@@ -9,7 +9,7 @@ use Rattle.lg_rules.specs.Meaning.Rows.{name_cmp, is_same, is_among}
 use Rattle.lg_rules.proofs.KeyOrder.{names_order, cases_key}
 use Rattle.lg_rules.proofs.Rises.{among-put, among-filter, among-cons_same, among-cons_other}
 use Rattle.lg_rules.proofs.RowLaws.{length_put_row-le}
-use Rattle.lg_probe.specs.Meaning.Order.{Step, Joined, Chose, candidate, candidates, is_over, current_round, choice, next_round, names_after, round_after, choice_after, choices_after, then_joined, picks}
+use Rattle.lg_probe.specs.Meaning.Order.{OrderFact, Joined, Chose, candidate, candidates, is_over, current_round, choice, next_round, names_after, round_after, choice_after, choices_after, then_joined, picks}
 use Rattle.lg_probe.proofs.OrderLaws.{IsCandidate, candidate_is, first_of}
 
 -- a filter keeps no more, and fewer where it keeps out one that is there
@@ -108,7 +108,7 @@ choices : List (List ℕ) → List (List ℕ) → List ℕ → List (List ℕ)
 choices names round [] = []
 choices names round (word ∷ words) = option_to_list (choice names round word) ++ choices names (next_round names round word) words
 
-choices-are : (past : List Step) (words : List ℕ) → choices_after past words ≡ choices (names_after past) (round_after past) words
+choices-are : (past : List OrderFact) (words : List ℕ) → choices_after past words ≡ choices (names_after past) (round_after past) words
 unfolding choices
 choices-are past [] = refl
 choices-are past (word ∷ words) = ap (λ ns. option_to_list (choice_after past word) ++ ns) (choices-are (Chose word ∷ past) words)
@@ -212,10 +212,10 @@ in_window names round words m named many = elim (cases_Bool (is_among name_cmp m
   | inr fresh ↦ rest_of_round names round words m named fresh (omega (arith, many, left-le names round, among-some m names named))
 ]
 
-pub window_after : (past : List Step) (words : List ℕ) (m : List ℕ) → is_among name_cmp m (names_after past) ≡ true → 2 * length (names_after past) ≤ length words + 1 → is_among name_cmp m (choices_after past words) ≡ true
+pub window_after : (past : List OrderFact) (words : List ℕ) (m : List ℕ) → is_among name_cmp m (names_after past) ≡ true → 2 * length (names_after past) ≤ length words + 1 → is_among name_cmp m (choices_after past words) ≡ true
 window_after past words m named many = ap (is_among name_cmp m) (choices-are past words) ∙ in_window (names_after past) (round_after past) words m named many
 
-pub nobody_after : (past : List Step) (words : List ℕ) → names_after past ≡ [] → choices_after past words ≡ []
+pub nobody_after : (past : List OrderFact) (words : List ℕ) → names_after past ≡ [] → choices_after past words ≡ []
 nobody_after past words none = choices-are past words ∙ ap (λ ns. choices ns (round_after past) words) none ∙ choices-none (round_after past) words
 
 -- later choices, and the first of some, are choices by the words at their places
@@ -239,7 +239,7 @@ take-choices names round (suc k) (word ∷ words) m named =
     ∙ sym (choices-next names round word (take k words) next)
 
 -- of the names that joined each is there, and no more are
-joined-among : (ns : List (List ℕ)) (past : List Step) (m : List ℕ) → (is_among name_cmp m ns || is_among name_cmp m (names_after past)) ≡ true → is_among name_cmp m (names_after (then_joined ns past)) ≡ true
+joined-among : (ns : List (List ℕ)) (past : List OrderFact) (m : List ℕ) → (is_among name_cmp m ns || is_among name_cmp m (names_after past)) ≡ true → is_among name_cmp m (names_after (then_joined ns past)) ≡ true
 joined-among [] past m a = a
 joined-among (n ∷ ns) past m a =
     joined-among ns (Joined n ∷ past) m (ap (λ b. is_among name_cmp m ns || b) (among-put names_order m n (names_after past)) ∙ swap (is_same name_cmp n m) (is_among name_cmp m ns) (is_among name_cmp m (names_after past)) a)
@@ -249,7 +249,7 @@ joined-among (n ∷ ns) past m a =
     swap true false r e = refl
     swap false q r e = e
 
-joined-few : (ns : List (List ℕ)) (past : List Step) → length (names_after (then_joined ns past)) ≤ length ns + length (names_after past)
+joined-few : (ns : List (List ℕ)) (past : List OrderFact) → length (names_after (then_joined ns past)) ≤ length ns + length (names_after past)
 joined-few [] past = omega arith
 joined-few (n ∷ ns) past = omega (arith, joined-few ns (Joined n ∷ past), length_put_row-le names_order (λ k. k) n (names_after past))
 

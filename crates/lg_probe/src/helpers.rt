@@ -3,7 +3,7 @@ ghost use Rattle.std.specs.Prelude.{◌≡◌, ◌≤◌, ◌<◌, List, [], ◌
 ghost use Rattle.std.specs.Option.{option_to_list};
 ghost use Rattle.arrayvec.specs.ArrayVec.{array_vec_len};
 ghost use Rattle.lg_probe.specs.Meaning.Helpers.{left_by, picked, picked_by};
-ghost use Rattle.lg_probe.specs.Meaning.Order.{Step, candidate, names_after, order_after, without};
+ghost use Rattle.lg_probe.specs.Meaning.Order.{OrderFact, candidate, names_after, order_after, without};
 
 use crate::names::{remove, row_of};
 use crate::order::Order;
@@ -90,7 +90,7 @@ impl Helpers {
         requires { k ≤ MAX_HELPERS }
         ensures picked { self.new ≡ picked k words.now (without target.now others.now.names) }
         // Whatever happened to the order so far, the latest first, they are of the names that joined and didn't leave.
-        ensures past { (past : List Step) → others.now ≡ order_after past
+        ensures past { (past : List OrderFact) → others.now ≡ order_after past
             → self.new ≡ picked k words.now (without target.now (names_after past)) }
     {
         let mut left = others_than(others.names(), target);

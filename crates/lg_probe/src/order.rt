@@ -5,7 +5,7 @@ ghost use Rattle.std.specs.Option.{option_to_list};
 ghost use Rattle.lg_rules.specs.Meaning.Rows.{name_cmp, is_among, put_key, Rises};
 ghost use Rattle.lg_probe.specs.Meaning.Order.{candidate, candidates, is_over, current_round, choice, put_choice};
 ghost use Rattle.lg_probe.specs.Meaning.Order.{choice_after, ever_joined, known_names, picks, then_joined};
-ghost use Rattle.lg_probe.specs.Meaning.Order.{Step, Joined, Left, Chose, order_after, stepped};
+ghost use Rattle.lg_probe.specs.Meaning.Order.{OrderFact, Joined, Left, Chose, order_after, order_with};
 ghost use Rattle.lg_probe.specs.Meaning.Order.{EachInWindows, choices_after, names_after, window};
 ghost use Rattle.lg_probe.specs.Support.Order.{IsSound};
 
@@ -133,9 +133,9 @@ impl Order {
     /// candidates. The one at the word modulo their number, from 0, is chosen, and counts as chosen in the round.
     pub fn choose(&mut self, word: u32) -> Option<Name>
         ensures chosen { result ≡ choice self.old.names self.old.chosen word }
-        ensures order { self.new ≡ stepped self.old (Chose word) }
+        ensures order { self.new ≡ order_with self.old (Chose word) }
         // Whatever happened so far, the latest first, it is the choice after all of it.
-        ensures past { (past : List Step) → self.old ≡ order_after past
+        ensures past { (past : List OrderFact) → self.old ≡ order_after past
             → (result ≡ choice_after past word) × (self.new ≡ order_after (Chose word ∷ past)) }
     {
         choose_among(self.names.as_slice(), &mut self.chosen, word)
@@ -146,8 +146,8 @@ impl Order {
     /// with it at most 255 names have ever joined.
     pub fn join(&mut self, name: &Name)
         requires { length (put_key name_cmp name.now (known_names self.old)) ≤ MAX_OTHERS }
-        ensures order { self.new ≡ stepped self.old (Joined name.now) }
-        ensures past { (past : List Step) → self.old ≡ order_after past
+        ensures order { self.new ≡ order_with self.old (Joined name.now) }
+        ensures past { (past : List OrderFact) → self.old ≡ order_after past
             → self.new ≡ order_after (Joined name.now ∷ past) }
     {
         put(&mut self.names, name);
@@ -156,8 +156,8 @@ impl Order {
     /// A member leaves, and isn't a candidate until it joins again. Where it was chosen in the current round, it stays
     /// so.
     pub fn leave(&mut self, name: &Name)
-        ensures order { self.new ≡ stepped self.old (Left name.now) }
-        ensures past { (past : List Step) → self.old ≡ order_after past
+        ensures order { self.new ≡ order_with self.old (Left name.now) }
+        ensures past { (past : List OrderFact) → self.old ≡ order_after past
             → self.new ≡ order_after (Left name.now ∷ past) }
     {
         remove(&mut self.names, name);
@@ -204,15 +204,15 @@ pub fn choose_all(alloc: Global, names: &[Name], words: &[u32]) -> Result<Vec<Na
 
 /// An order has room for a name with which at most 255 names have ever joined.
 pub fn orders_have_room()
-    ensures { (past : List Step) (name : List ℕ) → length (ever_joined (Joined name ∷ past)) ≤ MAX_OTHERS
+    ensures { (past : List OrderFact) (name : List ℕ) → length (ever_joined (Joined name ∷ past)) ≤ MAX_OTHERS
         → length (put_key name_cmp name (known_names (order_after past))) ≤ MAX_OTHERS }
 {}
 
 /// While the names stay the same, any 2p - 1 choices in a row choose each of p names, from any state of a round on.
 /// With no names nobody is chosen.
 pub fn windows_have_each()
-    ensures each { (past : List Step) (words : List ℕ) (name : List ℕ)
+    ensures each { (past : List OrderFact) (words : List ℕ) (name : List ℕ)
         → is_among name_cmp name (names_after past) ≡ true → window (names_after past) ≤ length words
         → is_among name_cmp name (choices_after past words) ≡ true }
-    ensures none { (past : List Step) (words : List ℕ) → names_after past ≡ [] → choices_after past words ≡ [] }
+    ensures none { (past : List OrderFact) (words : List ℕ) → names_after past ≡ [] → choices_after past words ≡ [] }
 {}

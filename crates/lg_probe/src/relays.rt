@@ -121,7 +121,7 @@ impl Relays {
     }
 
     /// Takes an ack. Where there is an open relay of its number to its sender, it closes, and its asker and the number
-    /// by which that asked are answered.
+    /// by which that asked are returned.
     pub fn ack(&mut self, number: u32, sender: &Name) -> Option<(Addr, u32)>
         ensures asker { result ≡ ended_asker number sender.now self.old }
         ensures relays { self.new ≡ relays_with self.old (TargetAcked number sender.now) }
@@ -137,7 +137,7 @@ impl Relays {
         asker
     }
 
-    /// Closes the relay of a number, and answers whether one was open.
+    /// Closes the relay of a number, and returns whether one was open.
     pub fn close(&mut self, number: u32) -> bool
         ensures was_open { result ≡ is_open number self.old }
         ensures relays { self.new ≡ relays_with self.old (Closed number) }

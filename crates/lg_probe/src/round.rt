@@ -89,7 +89,7 @@ impl Round {
         number == self.number && (*sender == self.target || is_listed(&self.asked, sender))
     }
 
-    /// Takes an ack, and answers whether it is the first that counts: it has the number of the round, and comes from
+    /// Takes an ack, and returns whether it is the first that counts: it has the number of the round, and comes from
     /// the target or from a helper that was asked before.
     pub fn ack(&mut self, number: u32, sender: &Name) -> bool
         ensures first { result ≡ is_first_ack self.old number sender.now }
@@ -102,7 +102,7 @@ impl Round {
         is_first
     }
 
-    /// Takes a nack, and answers whether it counts: it has the number of the round, and is the first of a helper that
+    /// Takes a nack, and returns whether it counts: it has the number of the round, and is the first of a helper that
     /// was asked before.
     pub fn nack(&mut self, number: u32, sender: &Name) -> bool
         ensures counts { result ≡ nack_counts self.old number sender.now }
@@ -117,7 +117,7 @@ impl Round {
         counts
     }
 
-    /// Ends the round, and answers the mark that it earns: 0 where an ack counted, else 1, or 2 where an asked helper
+    /// Ends the round, and returns the mark that it earns: 0 where an ack counted, else 1, or 2 where an asked helper
     /// sent no nack. A round that failed and asked nobody earns 1.
     pub fn end(self) -> i8
         ensures mark { result ≡ mark_of self.acked self.silent }

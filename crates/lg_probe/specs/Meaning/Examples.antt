@@ -5,7 +5,8 @@ use Rattle.lg_probe.specs.declared.relays.Relay.{Relay}
 use Rattle.lg_probe.specs.Meaning.Helpers.{picked}
 use Rattle.lg_probe.specs.Meaning.Relays.{Opened, TargetAcked, Closed, ended_asker, relays_after}
 use Rattle.lg_probe.specs.Meaning.Round.{RoundFact, Asked, Acked, Nacked, is_acked, mark_of, silent_in}
-use Rattle.lg_probe.specs.Meaning.Order.{Step, Joined, Left, Chose, picks, choices_after, choice_after, order_after}
+use Rattle.lg_probe.specs.Meaning.Order.{OrderFact, Joined, Left, Chose}
+use Rattle.lg_probe.specs.Meaning.Order.{picks, choices_after, choice_after, order_after}
 
 abbrev a : List ℕ
 a = 97 ∷ []
@@ -44,7 +45,7 @@ no_names : picks [] (0 ∷ 7 ∷ []) ≡ []
 no_names = refl
 
 -- of b and d the word 1 chooses d, and once c has joined, c
-abbrev chose_c : List Step
+abbrev chose_c : List OrderFact
 chose_c = Chose 1 ∷ Joined c ∷ Chose 1 ∷ Joined b ∷ Joined d ∷ []
 
 chooses_c : choice_after (Joined c ∷ Chose 1 ∷ Joined b ∷ Joined d ∷ []) 1 ≡ Some c

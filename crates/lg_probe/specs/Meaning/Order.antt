@@ -35,36 +35,36 @@ abbrev pub next_round : List (List ℕ) → List (List ℕ) → ℕ → List (Li
 next_round names round word = option_to_list (choice names round word) ++ current_round names round
 
 -- what happens to an order: a member joins, or leaves, or one is chosen by a word
-pub data Step : Type 0 where
-  Joined : List ℕ → Step
-  Left : List ℕ → Step
-  Chose : ℕ → Step
+pub data OrderFact : Type 0 where
+  Joined : List ℕ → OrderFact
+  Left : List ℕ → OrderFact
+  Chose : ℕ → OrderFact
 
--- A past has the latest step first. The names that have joined and not left since, in their order:
-abbrev pub names_after : List Step → List (List ℕ)
+-- A past has the latest fact first. The names that have joined and not left since, in their order:
+abbrev pub names_after : List OrderFact → List (List ℕ)
 names_after [] = []
 names_after (Joined n ∷ past) = put_key name_cmp n (names_after past)
 names_after (Left n ∷ past) = without n (names_after past)
 names_after (Chose word ∷ past) = names_after past
 
 -- The names chosen since the last choice that found no candidate, that one's own choice included, the latest first:
-abbrev pub round_after : List Step → List (List ℕ)
+abbrev pub round_after : List OrderFact → List (List ℕ)
 round_after [] = []
 round_after (Joined n ∷ past) = round_after past
 round_after (Left n ∷ past) = round_after past
 round_after (Chose word ∷ past) = next_round (names_after past) (round_after past) word
 
 -- whom a word chooses after a past
-abbrev pub choice_after : List Step → ℕ → Option (List ℕ)
+abbrev pub choice_after : List OrderFact → ℕ → Option (List ℕ)
 choice_after past word = choice (names_after past) (round_after past) word
 
 -- whom words choose one after another
-abbrev pub choices_after : List Step → List ℕ → List (List ℕ)
+abbrev pub choices_after : List OrderFact → List ℕ → List (List ℕ)
 choices_after past [] = []
 choices_after past (word ∷ words) = option_to_list (choice_after past word) ++ choices_after (Chose word ∷ past) words
 
 -- a past, and then these names join
-abbrev pub then_joined : List (List ℕ) → List Step → List Step
+abbrev pub then_joined : List (List ℕ) → List OrderFact → List OrderFact
 then_joined [] past = past
 then_joined (n ∷ names) past = then_joined names (Joined n ∷ past)
 
@@ -83,7 +83,7 @@ EachInWindows names words chosen =
     → is_among name_cmp name (take (window names) (drop i chosen)) ≡ true
 
 -- the names that ever joined, in their order
-abbrev pub ever_joined : List Step → List (List ℕ)
+abbrev pub ever_joined : List OrderFact → List (List ℕ)
 ever_joined [] = []
 ever_joined (Joined n ∷ past) = put_key name_cmp n (ever_joined past)
 ever_joined (Left n ∷ past) = ever_joined past
@@ -95,18 +95,18 @@ pub record OrderValue : Type 0 where
   pub names : List (List ℕ)
   pub chosen : List (List ℕ)
 
-abbrev pub order_after : List Step → OrderValue
+abbrev pub order_after : List OrderFact → OrderValue
 order_after past = record { names = names_after past; chosen = in_order name_cmp (round_after past) }
 
 abbrev pub put_choice : Option (List ℕ) → List (List ℕ) → List (List ℕ)
 put_choice None round = round
 put_choice (Some n) round = put_key name_cmp n round
 
--- an order after one more step
-abbrev pub stepped : OrderValue → Step → OrderValue
-stepped o (Joined n) = record { names = put_key name_cmp n o.names; chosen = o.chosen }
-stepped o (Left n) = record { names = without n o.names; chosen = o.chosen }
-stepped o (Chose word) =
+-- an order after one more fact
+abbrev pub order_with : OrderValue → OrderFact → OrderValue
+order_with o (Joined n) = record { names = put_key name_cmp n o.names; chosen = o.chosen }
+order_with o (Left n) = record { names = without n o.names; chosen = o.chosen }
+order_with o (Chose word) =
     let chosen = put_choice (choice o.names o.chosen word) (current_round o.names o.chosen) in
     record { names = o.names; chosen = chosen }
 

@@ -1,5 +1,5 @@
 use Rattle.std.proofs.Common.{◌≡◌, sym, ◌∙◌, ap, subst, ℕ, List}
-use Rattle.lg_probe.specs.Meaning.Order.{OrderValue, Chose, choice, put_choice, current_round, stepped}
+use Rattle.lg_probe.specs.Meaning.Order.{OrderValue, Chose, choice, put_choice, current_round, order_with}
 use Rattle.lg_probe.specs.Support.Order.{IsSound}
 use Rattle.lg_probe.proofs.OrderLaws.{sound-choice, chosen_after, choice_after-is}
 use Rattle.lg_probe.proofs.order.Order.choose.Goals as goal
@@ -16,7 +16,7 @@ returns-clause-past c = λ past e.
     let before : ◌≡◌ {A = OrderValue} order _ = c.self.view_is ∙ e in
     let chosen = c.choose_among.ensures.chosen ∙ ap (λ ns. choice ns order.chosen c.args.word) c.as_slice.ensures.value in
     let round = c.choose_among.ensures.round ∙ ap (λ ns. put_choice (choice ns order.chosen c.args.word) (current_round ns order.chosen)) c.as_slice.ensures.value in
-    let after : ◌≡◌ {A = OrderValue} _ (stepped order (Chose c.args.word)) = λ i. record { names = order.names; chosen = round i } in (
+    let after : ◌≡◌ {A = OrderValue} _ (order_with order (Chose c.args.word)) = λ i. record { names = order.names; chosen = round i } in (
       chosen ∙ ap (λ (o : OrderValue). choice o.names o.chosen c.args.word) before ∙ choice_after-is past c.args.word,
-      after ∙ ap (λ o. stepped o (Chose c.args.word)) before ∙ chosen_after past c.args.word,
+      after ∙ ap (λ o. order_with o (Chose c.args.word)) before ∙ chosen_after past c.args.word,
     )
