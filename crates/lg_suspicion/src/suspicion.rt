@@ -1,4 +1,8 @@
-//! Suspicions.
+//! Suspicions, and where their deadlines shrink: `Suspicion::accuse` takes one more accuser that counts, and
+//! `Suspicion::deadline` then gives an earlier deadline. It is the moment of the raise and the timeout after so many
+//! confirmations, which is `SuspicionTimeout::after` of `lg_timing/src/timeout.rt`: the greatest timeout with none,
+//! the least one with all that may count, and between them the shorter the more there are. Where none may count, since
+//! there are few members, it is the least one from the raise on.
 ghost use Rattle.std.specs.Prelude.{◌≡◌, ℕ, ◌≤◌, List, [], ◌∷◌};
 ghost use Rattle.lg_rules.specs.Meaning.Rows.{name_cmp, is_among};
 ghost use Rattle.lg_timing.specs.Meaning.Config.{IsChecked};

@@ -117,8 +117,10 @@ impl SuspicionTimeout {
         self.confirmations
     }
 
-    /// The timeout after some confirmations, at most as many as count, in milliseconds: 10 to
-    /// [`MAX_SUSPICION_MS`], or 0 by default.
+    /// The timeout after `c` confirmations, at most the `k` that count, in milliseconds: 10 to [`MAX_SUSPICION_MS`], or
+    /// 0 by default. It is `max - (max - min) * log(c + 1) / log(k + 1)`, the quotient in thousandths and all divisions
+    /// rounding down: `max` with no confirmation, and `min` with `k` (Lifeguard, local health aware suspicion). With a
+    /// `k` of 0 it is always `min` (this project's choice).
     pub fn after(&self, confirmations: u64) -> u64
         requires { confirmations ≤ self.now.confirmations }
         ensures timeout { result ≡ timeout_of self.now confirmations }

@@ -1,5 +1,6 @@
 -- The event Tick: the first of the timers that are due fires, and no other (this project's choice). The start of a
--- round says no claim; when the next round starts is `round_start` in Timing.antt.
+-- round says no claim, and the next one is a scaled interval after the moment: `round_start` in Timing.antt. Which
+-- timers are set is `pending` there.
 use Rattle.std.specs.Prelude.{ℕ, List, [], ◌∷◌, Option, Some, None}
 use Rattle.lg_rules.specs.declared.claim.Claim.{Claim}
 use Rattle.lg_rules.specs.declared.claim.Status.TheVariants.{Failed}

@@ -1,22 +1,20 @@
-//! The facts that events are made of: an event comes, the member is opened, a claim is said, a timer fires. Each says
-//! what becomes of the score and of the timers; what becomes of the group lg_membership says.
-ghost use Rattle.std.specs.Prelude.{◌≡◌, ◌<◌, ◌≤◌, length, option_copied};
+//! The facts that events are made of: an event comes, the member is opened, a claim is said. Each says what becomes of
+//! the score and of the timers; what becomes of the group lg_membership says. A timer that fires is in `tick.rt`.
+ghost use Rattle.std.specs.Prelude.{◌≡◌, ◌<◌, ◌≤◌, length};
 ghost use Rattle.lg_rules.specs.Meaning.View.{changed_names};
 ghost use Rattle.lg_timing.specs.Meaning.Config.{IsChecked};
-ghost use Rattle.lg_timers.specs.declared.timer.TimerId.TheVariants.{RoundStart};
 ghost use Rattle.lg_timers.specs.Meaning.Timers.{is_set, with_timer, without_timer};
 ghost use Rattle.lg_membership.specs.declared.origin.Origin.TheVariants.{Group};
-ghost use Rattle.lg_membership.specs.Support.Reached.{IsGood};
 ghost use Rattle.lg_membership.specs.Support.State.{applied, standing};
-ghost use Rattle.lg_detector.specs.Meaning.Timing.{scaled_interval, start_timer, is_round_start};
-ghost use Rattle.lg_detector.specs.Support.State.{come, begin, marked_if, follow, apply, apply_all, start_round, fire};
+ghost use Rattle.lg_detector.specs.Meaning.Timing.{start_timer};
+ghost use Rattle.lg_detector.specs.Support.State.{come, begin, marked_if, follow, apply, apply_all};
 
 use super::{Detector, MAX_EVENTS};
 use arrayvec::ArrayVec;
 use lg_membership::{Deadline, Origin};
 use lg_rules::{Claim, MAX_CLAIMS, Name};
 use lg_timers::{MAX_TIMERS, Timer, TimerId, Timers};
-use lg_timing::{Config, MAX_SCALED_MS, Moment, Score};
+use lg_timing::{Config, Moment, Score};
 
 /// Follows what became of the deadline of a member's suspicion: its timer is set, or moved where an accuser brings the
 /// deadline nearer, or cancelled where the suspicion ended.
@@ -40,18 +38,6 @@ fn mark_if(score: &mut Score, refuted: bool)
 {
     if refuted {
         score.mark(1);
-    }
-}
-
-/// The interval, scaled by the score, in milliseconds.
-fn scaled_interval(score: &Score, config: Option<&Config>) -> u64
-    requires { IsGood (option_copied config) }
-    ensures interval { result ≡ scaled_interval (option_copied config.entry) score.now }
-    ensures within { result ≤ MAX_SCALED_MS }
-{
-    match config {
-        Some(config) => score.interval(config),
-        None => 0,
     }
 }
 
@@ -109,28 +95,5 @@ impl Detector {
             }
         }
         names
-    }
-
-    /// A timer fires. The claims that it says are said by the caller.
-    #[tactic(auto, unfolding(crate::specs::Support::State::fire))]
-    pub(super) fn fire(&mut self, timer: &Timer)
-        ensures { self.new ≡ fire timer.now self.old }
-    {
-        if matches!(timer.id, TimerId::RoundStart) {
-            self.start_round();
-        }
-    }
-
-    /// A round starts and chooses nobody, and the next one starts a scaled interval later.
-    fn start_round(&mut self)
-        ensures { self.new ≡ start_round self.old }
-    {
-        let parts = &mut *self.parts;
-        let interval = scaled_interval(&parts.score, parts.membership.config());
-        let deadline = parts.moment.milliseconds() + interval;
-        parts.timers.reset(Timer {
-            deadline,
-            id: TimerId::RoundStart,
-        });
     }
 }

@@ -1,9 +1,24 @@
-//! The event Tick: of the timers that are due the first one fires, and no other. A round starts, or a member whose
-//! suspicion runs out has failed. It is one alone so that the reply always has room; the next tick fires the next one.
-ghost use Rattle.std.specs.Prelude.{◌≡◌, ◌<◌, [], None};
+//! The event Tick. It is counted, and the detector's moment becomes that of the tick, where this is later. Of the
+//! timers that are due, set for that moment or before it, the first one fires and no other: the one with the least
+//! deadline, and of those with one deadline a suspicion before the start of a round, and a lesser name before a
+//! greater. It is one alone so that the reply always has room; the next tick fires the next one. Where none is due,
+//! nothing fires.
+//!
+//! - A suspicion: its member has failed, at the incarnation and the address of its record. That claim is applied as
+//!   one that a packet says, so the suspicion ends, its timer is cancelled, and the claim is queued.
+//! - The start of a round: nobody is chosen so far. The next round starts one interval, scaled by the score, after the
+//!   detector's moment, however long the timer was due.
+//!
+//! The reply has the timer that fired and the records that changed, and as each reply whether this member is ousted
+//! and the least deadline after the event. Nothing is sent. The random words of the tick aren't used so far.
+ghost use Rattle.std.specs.Prelude.{◌≡◌, ◌<◌, ◌≤◌, [], None, option_copied};
 ghost use Rattle.lg_rules.specs.Meaning.View.{changed};
+ghost use Rattle.lg_timers.specs.declared.timer.TimerId.TheVariants.{RoundStart};
+ghost use Rattle.lg_timers.specs.Meaning.Timers.{with_timer, without_timer};
+ghost use Rattle.lg_membership.specs.Support.Reached.{IsGood};
 ghost use Rattle.lg_detector.specs.Meaning.Tick.{failed_of};
-ghost use Rattle.lg_detector.specs.Support.State.{come};
+ghost use Rattle.lg_detector.specs.Meaning.Timing.{scaled_interval, start_timer, is_round_start};
+ghost use Rattle.lg_detector.specs.Support.State.{come, start_round, fire};
 ghost use Rattle.lg_detector.specs.Support.Step.{view_in};
 ghost use Rattle.lg_detector.specs.Support.Tick.{due, fire_due, claims_by, tick};
 
@@ -12,7 +27,7 @@ use crate::reply::Reply;
 use arrayvec::ArrayVec;
 use lg_rules::{Claim, MAX_CLAIMS, Record, Status};
 use lg_timers::{Timer, TimerId};
-use lg_timing::Moment;
+use lg_timing::{Config, MAX_SCALED_MS, Moment, Score};
 
 /// The claim that a member has failed, where it has a record.
 fn failed_claims(current: &Option<Record>) -> ArrayVec<Claim, MAX_CLAIMS>
@@ -26,6 +41,18 @@ fn failed_claims(current: &Option<Record>) -> ArrayVec<Claim, MAX_CLAIMS>
         });
     }
     claims
+}
+
+/// The interval, scaled by the score, in milliseconds.
+fn scaled_interval(score: &Score, config: Option<&Config>) -> u64
+    requires { IsGood (option_copied config) }
+    ensures interval { result ≡ scaled_interval (option_copied config.entry) score.now }
+    ensures within { result ≤ MAX_SCALED_MS }
+{
+    match config {
+        Some(config) => score.interval(config),
+        None => 0,
+    }
 }
 
 impl Detector {
@@ -77,5 +104,28 @@ impl Detector {
             ) => failed_claims(&self.record_of(member)),
             _ => ArrayVec::new(),
         }
+    }
+
+    /// A timer fires. The claims that it says are said by the caller.
+    #[tactic(auto, unfolding(crate::specs::Support::State::fire))]
+    pub(super) fn fire(&mut self, timer: &Timer)
+        ensures { self.new ≡ fire timer.now self.old }
+    {
+        if matches!(timer.id, TimerId::RoundStart) {
+            self.start_round();
+        }
+    }
+
+    /// A round starts and chooses nobody, and the next one starts a scaled interval later.
+    fn start_round(&mut self)
+        ensures { self.new ≡ start_round self.old }
+    {
+        let parts = &mut *self.parts;
+        let interval = scaled_interval(&parts.score, parts.membership.config());
+        let deadline = parts.moment.milliseconds() + interval;
+        parts.timers.reset(Timer {
+            deadline,
+            id: TimerId::RoundStart,
+        });
     }
 }

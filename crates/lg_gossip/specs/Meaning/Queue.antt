@@ -1,4 +1,12 @@
 -- The queue of claims that packets take with them (SWIM, section 4.1), and the buddy (Lifeguard's buddy system).
+--
+-- A packet that takes claims has at most 6. A packet to a member that it pings, whose record is Suspect, begins with
+-- that record, its buddy: it has one of the 6 places, and its going counts as no send. The others are of the queue,
+-- none about the buddy's member: those that were sent fewer than lambda times for each decimal digit of the number of
+-- live members, so those that haven't failed, oneself included; the ones sent least often first, and of those sent
+-- equally often the lesser name by its bytes. Each one taken counts as sent once more, and stays in the queue. A claim
+-- that is put takes the place of the one about its member, with no sends. Lambda is of the configuration, 4 by
+-- default.
 use Rattle.std.specs.Prelude.{ℕ, ◌+◌, ◌-◌, ◌*◌, Bool, true, false, ◌&&◌, ◌||◌, not, Option, Some, None, nat_lt, ◌==◌}
 use Rattle.std.specs.Prelude.{List, [], ◌∷◌, ◌++◌, length, map, filter, take, if◌then◌else◌, decimal}
 use Rattle.std.specs.Option.{option_to_list}
