@@ -6,19 +6,21 @@ mod copies;
 mod hear;
 mod many;
 mod open;
+mod playing;
 mod refused_memory;
 mod tick;
 
 use crate::{Detector, Event, MAX_MEMBERS, Reply};
 use arrayvec::ArrayVec;
 use claims::{alive, claim, failed, letter, local, numbered_name, suspect};
-use comparing::{assert_ack, is_same_reply};
+use comparing::{is_same_reply, is_same_state};
 use lg_packet::{Body, Packet};
 use lg_rules::{Claim, Name, Record};
 use lg_timers::{Timer, TimerId};
 use lg_timing::{Config, Moment};
+use playing::{Step, opened, play, play_blank, play_on, said, takes};
 use std::alloc::Global;
-use std::test::Fail;
+use std::process::Abort;
 
 /// A moment in milliseconds.
 fn at(milliseconds: u64) -> Moment {
@@ -39,28 +41,22 @@ fn opening(now: u64) -> Event {
 }
 
 /// A packet of a that says at most six claims.
-fn heard(now: u64, body: Body, said: &[Claim]) -> Event {
-    let mut claims = ArrayVec::new();
-    for claim in said {
-        if !claims.is_full() {
-            claims.push(*claim);
-        }
-    }
+fn heard(now: u64, body: Body, claims: &[Claim]) -> Event {
     Event::Heard {
         now: at(now),
         source: local(1),
         packet: Packet {
             sender: letter(b'a'),
             body,
-            claims,
+            claims: said(claims),
         },
     }
 }
 
 /// A Ping of a for the member of a letter.
-fn ping(now: u64, number: u32, target: u8, said: &[Claim]) -> Event {
+fn ping(now: u64, number: u32, target: u8, claims: &[Claim]) -> Event {
     let target = letter(target);
-    heard(now, Body::Ping { number, target }, said)
+    heard(now, Body::Ping { number, target }, claims)
 }
 
 /// The question for the member of a letter.
@@ -100,32 +96,14 @@ fn suspicion(deadline: u64, member: Name) -> Timer {
     }
 }
 
-/// The reply to an event that is accepted.
-fn reply_to(detector: &mut Detector, event: &Event) -> Result<Reply, Fail> {
-    let mut reply = Reply::default();
-    let accepted = if detector.accepts(event) {
-        detector.step(event, &mut reply);
-        Some(reply)
-    } else {
-        None
-    };
-    Ok(accepted.ok_or("the event is accepted")?)
+/// The Pings, at 0, by which a, d and e are known.
+fn others() -> Step {
+    Step::Hears(0, said(&[alive(b'a', 0), alive(b'd', 0), alive(b'e', 0)]))
 }
 
-/// b, opened at 0.
-fn opened(alloc: Global) -> Result<Detector, Fail> {
-    let mut detector = Detector::blank(alloc)?;
-    reply_to(&mut detector, &opening(0))?;
-    Ok(detector)
-}
-
-/// b, opened at 0, which knows that these others are alive.
-fn knowing(alloc: Global, others: &[u8]) -> Result<Detector, Fail> {
-    let mut detector = opened(alloc)?;
-    for other in others {
-        reply_to(&mut detector, &ping(0, 1, b'z', &[alive(*other, 0)]))?;
-    }
-    Ok(detector)
+/// A detector that nothing has happened to.
+fn blank(rt: &impl Abort, alloc: Global) -> Detector {
+    Detector::blank(alloc).expect(rt, "there is memory")
 }
 
 /// The records of all members.

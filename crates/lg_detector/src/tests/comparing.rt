@@ -1,20 +1,6 @@
-//! Replies, compared.
-use super::claims::{letter, local};
-use crate::{Outgoing, Reply};
-use lg_packet::Body;
-use lg_rules::Claim;
-use std::process::Abort;
-
-/// Asks that a reply sends one packet: an Ack of b to port 1, with this number and these claims.
-pub(super) fn assert_ack(rt: &impl Abort, reply: &Reply, number: u32, claims: &[Claim]) {
-    assert_eq!(rt; reply.sends.len(), 1);
-    for sent in &reply.sends {
-        assert_eq!(rt; sent.to, local(1));
-        assert_eq!(rt; sent.packet.sender, letter(b'b'));
-        assert_eq!(rt; sent.packet.body, Body::Ack { number });
-        assert_eq!(rt; sent.packet.claims.as_slice(), claims);
-    }
-}
+//! Replies and detectors, compared.
+use super::table_of;
+use crate::{Detector, Outgoing, Reply};
 
 fn is_same_outgoing(one: &Outgoing, other: &Outgoing) -> bool {
     one.to == other.to
@@ -36,4 +22,11 @@ pub(super) fn is_same_reply(one: &Reply, other: &Reply) -> bool {
         && one.answer == other.answer
         && one.ousted == other.ousted
         && one.next == other.next
+}
+
+/// Whether two detectors have had as many events, and have the same deadline and table.
+pub(super) fn is_same_state(one: &Detector, other: &Detector) -> bool {
+    one.events() == other.events()
+        && one.next_deadline() == other.next_deadline()
+        && table_of(one).as_slice() == table_of(other).as_slice()
 }

@@ -1,11 +1,10 @@
 //! Copies, and events that are absorbed.
 use super::{
-    alive, ask_for, ask_health, heard, is_same_reply, opening, ping, reply_to, suspect, table_of,
-    tick_at,
+    alive, ask_for, ask_health, blank, heard, is_same_reply, is_same_state, opening, ping, suspect,
+    takes, tick_at,
 };
-use crate::{Detector, Event};
+use crate::{Event, Reply};
 use lg_packet::Body;
-use std::test::Fail;
 
 /// An opening, claims, Acks, questions, and ticks that fire a round-start and a suspicion.
 fn events() -> [Event; 10] {
@@ -24,42 +23,40 @@ fn events() -> [Event; 10] {
 }
 
 #[test]
-fn copies_are_equal(rt: HostRuntime) -> Result<(), Fail> {
-    let mut detector = Detector::blank(rt.alloc())?;
-    let mut second = Detector::blank(rt.alloc())?;
+fn copies_are_equal(rt: HostRuntime) {
+    let mut detector = blank(&rt, rt.alloc());
+    let mut second = blank(&rt, rt.alloc());
+    let (mut reply, mut again) = (Reply::default(), Reply::default());
     for event in &events() {
-        let reply = reply_to(&mut detector, event)?;
-        let again = reply_to(&mut second, &event.copy())?;
-        assert!(rt; is_same_reply(&reply, &again), "{event:?}");
-        assert!(rt; is_same_reply(&reply, &reply.copy()), "{event:?}");
+        let accepted = takes(&mut detector, event, &mut reply)
+            && takes(&mut second, &event.copy(), &mut again);
+        let same = is_same_reply(&reply, &again) && is_same_reply(&reply, &reply.copy());
+        assert!(rt; accepted && same, "{event:?}");
     }
-    assert_eq!(rt;
-        table_of(&second).as_slice(),
-        table_of(&detector).as_slice()
-    );
-    Ok(())
+    assert!(rt; is_same_state(&second, &detector));
 }
 
 #[test]
-fn absorbs_as_it_steps(rt: HostRuntime) -> Result<(), Fail> {
-    let mut detector = Detector::blank(rt.alloc())?;
-    let mut absorbing = Detector::blank(rt.alloc())?;
+fn absorbs_as_it_steps(rt: HostRuntime) {
+    let mut detector = blank(&rt, rt.alloc());
+    let mut absorbing = blank(&rt, rt.alloc());
+    let mut reply = Reply::default();
     for event in &events() {
-        reply_to(&mut detector, event)?;
+        let accepted = takes(&mut detector, event, &mut reply);
         absorbing.absorb(event);
-        assert_eq!(rt; absorbing.events(), detector.events());
-        assert_eq!(rt; absorbing.next_deadline(), detector.next_deadline());
-        assert_eq!(rt;
-            table_of(&absorbing).as_slice(),
-            table_of(&detector).as_slice()
+        assert!(rt;
+            accepted && is_same_state(&absorbing, &detector),
+            "{event:?}"
         );
     }
+    let mut again = Reply::default();
     let last = ping(0, 5, b'b', &[]);
-    let reply = reply_to(&mut detector, &last)?;
-    assert!(rt; is_same_reply(&reply, &reply_to(&mut absorbing, &last)?));
-    assert_eq!(rt; reply.sends.len(), 1);
+    let accepted = takes(&mut detector, &last, &mut reply)
+        && takes(&mut absorbing, &last, &mut again);
     // The score was 1 when the last round-start fired, at 6000.
-    assert_eq!(rt; reply.next, 8000);
-    assert!(rt; reply.ousted);
-    Ok(())
+    let wanted = reply.sends.len() == 1 && reply.next == 8000 && reply.ousted;
+    assert!(rt;
+        accepted && is_same_reply(&reply, &again) && wanted,
+        "{reply:?}"
+    );
 }

@@ -1,62 +1,57 @@
 //! Packets that are heard: what their claims change, and the Acks to them.
-use super::{
-    alive, assert_ack, claim, failed, heard, knowing, letter, local, numbered_name, opened,
-    opening, ping, reply_to, suspect, suspicion, table_of, tick_at,
+use super::Step::{
+    Acks, Changed, Changes, Events, Fired, Known, Next, Ousted, Sends, Table, Takes, Tells,
 };
-use crate::{Detector, Reply};
+use super::{
+    Step, alive, blank, claim, failed, heard, letter, local, numbered_name, opened, opening,
+    others, ping, play, play_on, said, suspect, suspicion, tick_at,
+};
 use lg_packet::Body;
-use lg_rules::{Claim, Record, Status};
-use std::alloc::Global;
-use std::test::Fail;
+use lg_rules::{Claim, Status};
 
 #[test]
-fn gossips_what_it_heard(rt: HostRuntime) -> Result<(), Fail> {
-    let mut detector = opened(rt.alloc())?;
-    let other = reply_to(&mut detector, &ping(0, 7, b'c', &[alive(b'c', 0)]))?;
-    assert_eq!(rt; other.sends.len(), 0, "a Ping for another isn't acked");
-    assert_eq!(rt; other.changed.as_slice(), [alive(b'c', 0)].as_slice());
-    let own = reply_to(&mut detector, &ping(0, 8, b'b', &[]))?;
-    assert_ack(&rt, &own, 8, &[alive(b'c', 0)]);
-    assert_eq!(rt; own.changed.len(), 0);
-    Ok(())
+fn gossips_what_it_heard(rt: HostRuntime) {
+    let steps = [
+        Takes(ping(0, 7, b'c', &[alive(b'c', 0)])),
+        Sends(0),
+        Changed(said(&[alive(b'c', 0)])),
+        Takes(ping(0, 8, b'b', &[])),
+        Acks(8, said(&[alive(b'c', 0)])),
+        Changed(said(&[])),
+    ];
+    play(&rt, rt.alloc(), "a Ping for another isn't acked", &steps);
 }
 
 #[test]
-fn acks_no_ack(rt: HostRuntime) -> Result<(), Fail> {
-    let mut detector = opened(rt.alloc())?;
-    let ack = heard(0, Body::Ack { number: 9 }, &[suspect(b'c', 2, b'a')]);
-    let reply = reply_to(&mut detector, &ack)?;
-    assert_eq!(rt; reply.sends.len(), 0);
-    assert_eq!(rt;
-        reply.changed.as_slice(),
-        [suspect(b'c', 2, b'a')].as_slice()
-    );
-    let reply = reply_to(&mut detector, &ping(0, 10, b'b', &[]))?;
-    assert_ack(&rt, &reply, 10, &[suspect(b'c', 2, b'a')]);
-    Ok(())
+fn acks_no_ack(rt: HostRuntime) {
+    let steps = [
+        Takes(heard(0, Body::Ack { number: 9 }, &[suspect(b'c', 2, b'a')])),
+        Sends(0),
+        Changed(said(&[suspect(b'c', 2, b'a')])),
+        Takes(ping(0, 10, b'b', &[])),
+        Acks(10, said(&[suspect(b'c', 2, b'a')])),
+    ];
+    play(&rt, rt.alloc(), "an Ack", &steps);
 }
 
 #[test]
-fn counts_from_the_greatest_moment(rt: HostRuntime) -> Result<(), Fail> {
-    let mut detector = Detector::blank(rt.alloc())?;
-    reply_to(&mut detector, &opening(5000))?;
+fn counts_from_the_greatest_moment(rt: HostRuntime) {
+    let mut detector = blank(&rt, rt.alloc());
+    play_on(&rt, &mut detector, "opening", &[Takes(opening(5000))]);
     for now in [4000, 9000, 0, 7000] {
-        let reply = reply_to(&mut detector, &ping(now, 7, b'b', &[]))?;
-        assert_ack(&rt, &reply, 7, &[]);
-        assert_eq!(rt; reply.next, 5000, "{now}");
+        let steps = [
+            Takes(ping(now, 7, b'b', &[])),
+            Acks(7, said(&[])),
+            Next(5000),
+        ];
+        play_on(&rt, &mut detector, "a Ping", &steps);
     }
-    assert_eq!(rt; detector.events(), 5);
-    Ok(())
+    play_on(&rt, &mut detector, "after", &[Events(5)]);
 }
 
 #[test]
-fn lists_changes_by_name(rt: HostRuntime) -> Result<(), Fail> {
-    let mut detector = opened(rt.alloc())?;
-    reply_to(
-        &mut detector,
-        &ping(0, 1, b'c', &[alive(b'd', 1), alive(b'f', 0)]),
-    )?;
-    let said = [
+fn lists_changes_by_name(rt: HostRuntime) {
+    let claims = [
         alive(b'e', 0),
         alive(b'd', 1),
         suspect(b'b', 0, b'a'),
@@ -64,102 +59,105 @@ fn lists_changes_by_name(rt: HostRuntime) -> Result<(), Fail> {
         alive(b'a', 4),
         alive(b'd', 0),
     ];
-    let reply = reply_to(&mut detector, &ping(0, 2, b'c', &said))?;
-    assert_eq!(rt;
-        reply.changed.as_slice(),
-        [alive(b'a', 4), alive(b'b', 1), alive(b'e', 0)].as_slice()
-    );
-    assert_eq!(rt;
-        table_of(&detector).as_slice(),
-        [
-            alive(b'a', 4),
-            alive(b'b', 1),
-            alive(b'd', 1),
-            alive(b'e', 0),
-            alive(b'f', 0)
-        ]
-        .as_slice()
-    );
-    Ok(())
-}
-
-#[test]
-fn refutes_once(rt: HostRuntime) -> Result<(), Fail> {
-    let mut detector = opened(rt.alloc())?;
-    let said = [suspect(b'b', 0, b'a'), suspect(b'b', 0, b'c')];
-    let reply = reply_to(&mut detector, &ping(0, 9, b'b', &said))?;
-    assert_ack(&rt, &reply, 9, &[alive(b'b', 1)]);
-    assert_eq!(rt; reply.changed.as_slice(), [alive(b'b', 1)].as_slice());
-    assert_eq!(rt; reply.ousted, false);
-    assert_eq!(rt; detector.record_of(&letter(b'b')), Some(alive(b'b', 1)));
-    Ok(())
-}
-
-/// Says a claim about b, whose number is 0, in a Ping. Returns the reply and the own record after it.
-fn said_of_itself(alloc: Global, said: Claim) -> Result<(Reply, Option<Record>), Fail> {
-    let mut detector = opened(alloc)?;
-    let reply = reply_to(&mut detector, &ping(0, 1, b'b', &[said]))?;
-    Ok((reply, detector.record_of(&letter(b'b'))))
-}
-
-#[test]
-fn raises_its_number(rt: HostRuntime) -> Result<(), Fail> {
-    let rows = [
-        (alive(b'b', 3), 4),
-        (suspect(b'b', 0, b'b'), 1),
-        (suspect(b'b', 7, b'a'), 8),
-        (suspect(b'b', 999_999_999, b'a'), 1_000_000_000),
+    let table = [
+        alive(b'a', 4),
+        alive(b'b', 1),
+        alive(b'd', 1),
+        alive(b'e', 0),
+        alive(b'f', 0),
     ];
-    for (said, number) in rows {
-        let news = [alive(b'b', number)];
-        let (reply, record) = said_of_itself(rt.alloc(), said)?;
-        assert_eq!(rt; record, news.first().copied());
-        assert_eq!(rt; reply.changed.as_slice(), news.as_slice());
-        assert_eq!(rt; reply.ousted, false);
-        assert_ack(&rt, &reply, 1, &news);
-    }
-    Ok(())
-}
-
-#[test]
-fn keeps_its_number(rt: HostRuntime) -> Result<(), Fail> {
-    let rows = [
-        (alive(b'b', 0), false),
-        (alive(b'b', 1_000_000_000), true),
-        (suspect(b'b', 1_000_000_000, b'a'), true),
-        (failed(b'b', 0), true),
+    let steps = [
+        Takes(ping(0, 1, b'c', &[alive(b'd', 1), alive(b'f', 0)])),
+        Takes(ping(0, 2, b'c', &claims)),
+        Changed(said(&[alive(b'a', 4), alive(b'b', 1), alive(b'e', 0)])),
+        Table(said(&table)),
     ];
-    for (said, ousted) in rows {
-        let (reply, record) = said_of_itself(rt.alloc(), said)?;
-        assert_eq!(rt; record, Some(alive(b'b', 0)));
-        assert_eq!(rt; reply.changed.len(), 0);
-        assert_eq!(rt; reply.ousted, ousted);
-        assert_ack(&rt, &reply, 1, &[]);
-    }
-    Ok(())
+    play(&rt, rt.alloc(), "six claims", &steps);
 }
 
 #[test]
-fn stays_ousted(rt: HostRuntime) -> Result<(), Fail> {
-    let mut detector = opened(rt.alloc())?;
-    let failed = failed(b'b', 0);
-    let reply = reply_to(&mut detector, &ping(0, 1, b'b', &[failed]))?;
-    assert_eq!(rt; reply.ousted, true);
-    let reply = reply_to(&mut detector, &ping(0, 2, b'b', &[suspect(b'b', 5, b'a')]))?;
-    assert_eq!(rt; reply.ousted, true);
-    assert_ack(&rt, &reply, 2, &[alive(b'b', 6)]);
-    Ok(())
+fn refutes_once(rt: HostRuntime) {
+    let claims = [suspect(b'b', 0, b'a'), suspect(b'b', 0, b'c')];
+    let steps = [
+        Takes(ping(0, 9, b'b', &claims)),
+        Acks(9, said(&[alive(b'b', 1)])),
+        Changed(said(&[alive(b'b', 1)])),
+        Ousted(false),
+        Known(b'b', Some(alive(b'b', 1))),
+    ];
+    play(&rt, rt.alloc(), "two accusations of one number", &steps);
 }
 
-/// The claim about a member that a reply sends.
-fn sent_of(reply: &Reply, member: u8) -> Option<Claim> {
-    let member = letter(member);
-    let sent = reply.sends.first()?;
-    sent.packet
-        .claims
-        .iter()
-        .find(|claim| claim.name == member)
-        .copied()
+/// Claims about b, whose number is 0, in a Ping, by which the number becomes this.
+fn raised(claims: &[Claim], number: u32) -> [Step; 5] {
+    [
+        Takes(ping(0, 1, b'b', claims)),
+        Known(b'b', Some(alive(b'b', number))),
+        Changed(said(&[alive(b'b', number)])),
+        Ousted(false),
+        Acks(1, said(&[alive(b'b', number)])),
+    ]
+}
+
+#[test]
+fn raises_its_number(rt: HostRuntime) {
+    let rows = [
+        ("alive", said(&[alive(b'b', 3)]), 4),
+        ("suspected by itself", said(&[suspect(b'b', 0, b'b')]), 1),
+        ("at a greater number", said(&[suspect(b'b', 7, b'a')]), 8),
+        (
+            "at the last but one",
+            said(&[suspect(b'b', 999_999_999, b'a')]),
+            1_000_000_000,
+        ),
+    ];
+    for (case, claims, number) in &rows {
+        play(&rt, rt.alloc(), case, &raised(claims.as_slice(), *number));
+    }
+}
+
+/// Claims about b, whose number is 0, in a Ping, by which the number stays.
+fn kept(claims: &[Claim], ousted: bool) -> [Step; 5] {
+    [
+        Takes(ping(0, 1, b'b', claims)),
+        Known(b'b', Some(alive(b'b', 0))),
+        Changed(said(&[])),
+        Ousted(ousted),
+        Acks(1, said(&[])),
+    ]
+}
+
+#[test]
+fn keeps_its_number(rt: HostRuntime) {
+    let rows = [
+        ("alive", said(&[alive(b'b', 0)]), false),
+        (
+            "alive at the last number",
+            said(&[alive(b'b', 1_000_000_000)]),
+            true,
+        ),
+        (
+            "suspected at it",
+            said(&[suspect(b'b', 1_000_000_000, b'a')]),
+            true,
+        ),
+        ("failed", said(&[failed(b'b', 0)]), true),
+    ];
+    for (case, claims, ousted) in &rows {
+        play(&rt, rt.alloc(), case, &kept(claims.as_slice(), *ousted));
+    }
+}
+
+#[test]
+fn stays_ousted(rt: HostRuntime) {
+    let steps = [
+        Takes(ping(0, 1, b'b', &[failed(b'b', 0)])),
+        Ousted(true),
+        Takes(ping(0, 2, b'b', &[suspect(b'b', 5, b'a')])),
+        Ousted(true),
+        Acks(2, said(&[alive(b'b', 6)])),
+    ];
+    play(&rt, rt.alloc(), "failed, then suspected", &steps);
 }
 
 /// The claim that c is suspected by the member `m` with three decimal digits.
@@ -170,43 +168,53 @@ fn accused(accuser: u32) -> Claim {
 /// c is the fifth member. Of 300 accusers the first four count, and their accusations are sent. The last of these is
 /// sent four times.
 #[test]
-fn a_flood_of_accusers(rt: HostRuntime) -> Result<(), Fail> {
-    let mut detector = knowing(rt.alloc(), b"ade")?;
+fn a_flood_of_accusers(rt: HostRuntime) {
+    let mut detector = opened(&rt, rt.alloc());
+    play_on(&rt, &mut detector, "before", &[others()]);
     for accuser in 0..300 {
-        let reply = reply_to(&mut detector, &ping(2000, 2, b'b', &[accused(accuser)]))?;
         let sent = match accuser {
             0..4 => Some(accused(accuser)),
             4..7 => Some(accused(3)),
             _ => None,
         };
-        assert_eq!(rt; sent_of(&reply, b'c'), sent, "{accuser}");
         let changes = if accuser == 0 { 1 } else { 0 };
-        assert_eq!(rt; reply.changed.len(), changes, "{accuser}");
+        let steps = [
+            Takes(ping(2000, 2, b'b', &[accused(accuser)])),
+            Tells(b'c', sent),
+            Changes(changes),
+        ];
+        play_on(&rt, &mut detector, "an accuser", &steps);
     }
-    assert_eq!(rt; detector.record_of(&letter(b'c')), Some(accused(0)));
-    let reply = reply_to(&mut detector, &tick_at(40_000))?;
-    assert_eq!(rt; reply.next, 7000);
-    Ok(())
+    let after = [
+        Known(b'c', Some(accused(0))),
+        Takes(tick_at(40_000)),
+        Next(7000),
+    ];
+    play_on(&rt, &mut detector, "after", &after);
+}
+
+/// The claim that c is suspected by e, at another address.
+fn elsewhere() -> Claim {
+    Claim {
+        addr: local(7002),
+        ..suspect(b'c', 3, b'e')
+    }
 }
 
 /// An accusation is sent as it was heard; the record stays as the first one made it, and fails at its address.
 #[test]
-fn sends_what_it_heard(rt: HostRuntime) -> Result<(), Fail> {
-    let mut detector = knowing(rt.alloc(), b"ade")?;
-    let first = suspect(b'c', 3, b'd');
-    let second = Claim {
-        addr: local(7002),
-        ..suspect(b'c', 3, b'e')
-    };
-    for said in &[[first], [second]] {
-        let reply = reply_to(&mut detector, &ping(2000, 2, b'b', said))?;
-        assert_eq!(rt; sent_of(&reply, b'c'), said.first().copied());
-    }
-    let kept = Some(suspect(b'c', 3, b'd'));
-    assert_eq!(rt; detector.record_of(&letter(b'c')), kept);
-    reply_to(&mut detector, &tick_at(40_000))?;
-    let reply = reply_to(&mut detector, &tick_at(40_000))?;
-    assert_eq!(rt; reply.fired, Some(suspicion(19_500, letter(b'c'))));
-    assert_eq!(rt; reply.changed.as_slice(), [failed(b'c', 3)].as_slice());
-    Ok(())
+fn sends_what_it_heard(rt: HostRuntime) {
+    let steps = [
+        others(),
+        Takes(ping(2000, 2, b'b', &[suspect(b'c', 3, b'd')])),
+        Tells(b'c', Some(suspect(b'c', 3, b'd'))),
+        Takes(ping(2000, 2, b'b', &[elsewhere()])),
+        Tells(b'c', Some(elsewhere())),
+        Known(b'c', Some(suspect(b'c', 3, b'd'))),
+        Takes(tick_at(40_000)),
+        Takes(tick_at(40_000)),
+        Fired(Some(suspicion(19_500, letter(b'c')))),
+        Changed(said(&[failed(b'c', 3)])),
+    ];
+    play(&rt, rt.alloc(), "accused at two addresses", &steps);
 }

@@ -1,8 +1,8 @@
 //! More names than a table holds.
-use super::{alive, assert_ack, claim, letter, numbered_name, opened, ping, reply_to, table_of};
+use super::Step::{Acks, Changed, Changes, Known, Members, Takes};
+use super::{alive, claim, numbered_name, opened, ping, play_on, said};
 use crate::MAX_MEMBERS;
-use lg_rules::{Claim, Status};
-use std::test::Fail;
+use lg_rules::{Claim, Record, Status};
 
 /// The claim that the member `m` with three decimal digits is alive.
 fn numbered(number: u32) -> Claim {
@@ -15,58 +15,64 @@ fn six_below(end: u32) -> [Claim; 6] {
 }
 
 #[test]
-fn changes_where_there_is_room(rt: HostRuntime) -> Result<(), Fail> {
-    let mut detector = opened(rt.alloc())?;
-    reply_to(&mut detector, &ping(0, 1, b'c', &[alive(b'c', 2)]))?;
-    for packet in 0..43 {
-        reply_to(
-            &mut detector,
-            &ping(0, 2, b'c', &six_below(258 - 6 * packet)),
-        )?;
-    }
-    assert_eq!(rt; table_of(&detector).len(), MAX_MEMBERS);
-    let said = [alive(b'a', 0), alive(b'c', 3)];
-    let reply = reply_to(&mut detector, &ping(0, 3, b'b', &said))?;
-    assert_eq!(rt; reply.changed.as_slice(), [alive(b'c', 3)].as_slice());
-    assert_eq!(rt; table_of(&detector).len(), MAX_MEMBERS);
-    assert_eq!(rt; detector.record_of(&letter(b'a')), None);
-    // The four names that came last had no room either.
-    assert_ack(
+fn changes_where_there_is_room(rt: HostRuntime) {
+    let mut detector = opened(&rt, rt.alloc());
+    play_on(
         &rt,
-        &reply,
-        3,
-        &[
-            alive(b'c', 3),
-            numbered(4),
-            numbered(5),
-            numbered(6),
-            numbered(7),
-            numbered(8),
-        ],
+        &mut detector,
+        "before",
+        &[Takes(ping(0, 1, b'c', &[alive(b'c', 2)]))],
     );
-    Ok(())
+    for packet in 0..43 {
+        let six = ping(0, 2, b'c', &six_below(258 - 6 * packet));
+        play_on(&rt, &mut detector, "six members", &[Takes(six)]);
+    }
+    // The four names that came last had no room either.
+    let sent = [
+        alive(b'c', 3),
+        numbered(4),
+        numbered(5),
+        numbered(6),
+        numbered(7),
+        numbered(8),
+    ];
+    let steps = [
+        Members(MAX_MEMBERS),
+        Takes(ping(0, 3, b'b', &[alive(b'a', 0), alive(b'c', 3)])),
+        Changed(said(&[alive(b'c', 3)])),
+        Members(MAX_MEMBERS),
+        Known(b'a', None),
+        Acks(3, said(&sent)),
+    ];
+    play_on(&rt, &mut detector, "no more room", &steps);
+}
+
+/// Whether these records are those of b and of the numbered members from 45 on.
+fn are_first_names(records: &[Record]) -> bool {
+    records.len() == MAX_MEMBERS
+        && records.first().copied() == Some(alive(b'b', 0))
+        && (45..300)
+            .zip(records.iter().skip(1))
+            .all(|(number, record)| *record == numbered(number))
 }
 
 #[test]
-fn knows_the_first_names(rt: HostRuntime) -> Result<(), Fail> {
-    let mut detector = opened(rt.alloc())?;
+fn knows_the_first_names(rt: HostRuntime) {
+    let mut detector = opened(&rt, rt.alloc());
     for packet in 0..50 {
-        let reply = reply_to(
-            &mut detector,
-            &ping(0, 1, b'c', &six_below(300 - 6 * packet)),
-        )?;
         let changes = match packet {
             0..42 => 6,
             42 => 3,
             _ => 0,
         };
-        assert_eq!(rt; reply.changed.len(), changes, "{packet}");
+        let six = ping(0, 1, b'c', &six_below(300 - 6 * packet));
+        play_on(
+            &rt,
+            &mut detector,
+            "six members",
+            &[Takes(six), Changes(changes)],
+        );
     }
-    let table = detector.table(rt.alloc())?;
-    assert_eq!(rt; table.len(), MAX_MEMBERS);
-    assert_eq!(rt; table.first().copied(), Some(alive(b'b', 0)));
-    for (number, record) in (45..300).zip(table.iter().skip(1)) {
-        assert_eq!(rt; *record, numbered(number));
-    }
-    Ok(())
+    let table = detector.table(rt.alloc()).expect(&rt, "there is memory");
+    assert!(rt; are_first_names(table.as_slice()), "{table:?}");
 }

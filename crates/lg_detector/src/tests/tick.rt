@@ -1,33 +1,25 @@
 //! Ticks, and the timers that they fire.
+use super::Step::{Acks, Events, Fired, Hears, Known, Next, Table, Takes, Ticks};
 use super::{
-    alive, ask_for, ask_health, assert_ack, claim, failed, knowing, letter, opened, opening, ping,
-    reply_to, round_start, suspect, suspicion, table_of, tick_at,
+    Step, alive, ask_for, ask_health, claim, failed, letter, opening, others, ping, play,
+    play_blank, round_start, said, suspect, suspicion, tick_at,
 };
-use crate::Detector;
-use lg_rules::{Claim, Name, Record, Status};
-use lg_timers::Timer;
-use std::alloc::Global;
-use std::process::Abort;
-use std::test::Fail;
+use lg_rules::{Claim, Name, Status};
 
-/// A tick, and its reply: the timer that fires, the record that changes and the next deadline.
-type Row = (u64, Option<Timer>, Option<Record>, u64);
+/// A tick that fires the start of a round.
+fn starts(now: u64, deadline: u64, next: u64) -> Step {
+    Ticks(now, Some(round_start(deadline)), said(&[]), next)
+}
 
-/// Asks that the replies to ticks are as these rows say.
-fn assert_ticks(rt: &impl Abort, detector: &mut Detector, rows: &[Row]) -> Result<(), Fail> {
-    for row in rows {
-        let (now, fired, changed, next) = *row;
-        let reply = reply_to(detector, &tick_at(now))?;
-        assert_eq!(rt; reply.fired, fired, "{row:?}");
-        assert_eq!(rt; reply.changed.first().copied(), changed, "{row:?}");
-        assert!(rt; reply.changed.len() <= 1, "{row:?}");
-        assert_eq!(rt; reply.next, next, "{row:?}");
-        assert_eq!(rt; detector.next_deadline(), Some(next), "{row:?}");
-        assert_eq!(rt; reply.sends.len(), 0, "{row:?}");
-        assert_eq!(rt; reply.answer, None, "{row:?}");
-        assert_eq!(rt; reply.ousted, false, "{row:?}");
-    }
-    Ok(())
+/// A tick that fires nothing.
+fn idles(now: u64, next: u64) -> Step {
+    Ticks(now, None, said(&[]), next)
+}
+
+/// A tick that fires the suspicion of a member, which has failed then.
+fn fails(now: u64, deadline: u64, failed: Claim, next: u64) -> Step {
+    let fired = suspicion(deadline, failed.name);
+    Ticks(now, Some(fired), said(&[failed]), next)
 }
 
 /// A name of some bytes.
@@ -41,230 +33,243 @@ fn suspected(member: Name) -> Claim {
 }
 
 /// The claim that a member has failed.
-fn failed_member(member: Name) -> Option<Claim> {
-    Some(claim(member, Status::Failed, 0))
+fn failed_member(member: Name) -> Claim {
+    claim(member, Status::Failed, 0)
 }
 
 #[test]
-fn takes_a_suspect_as_failed(rt: HostRuntime) -> Result<(), Fail> {
-    let mut detector = opened(rt.alloc())?;
-    let said = [suspect(b'c', 0, b'd')];
-    let reply = reply_to(&mut detector, &ping(2000, 1, b'b', &said))?;
-    assert_ack(&rt, &reply, 1, &said);
-    assert_eq!(rt; reply.fired, None);
-    assert_eq!(rt; reply.next, 0);
-    let c_failed = Some(failed(b'c', 0));
-    let rows = [
-        (2000, Some(round_start(0)), None, 3000),
-        (7000, Some(round_start(3000)), None, 7000),
-        (7000, Some(suspicion(7000, letter(b'c'))), c_failed, 8000),
-        (7000, None, None, 8000),
-        (8000, Some(round_start(8000)), None, 9000),
+fn takes_a_suspect_as_failed(rt: HostRuntime) {
+    let steps = [
+        Takes(ping(2000, 1, b'b', &[suspect(b'c', 0, b'd')])),
+        Acks(1, said(&[suspect(b'c', 0, b'd')])),
+        Fired(None),
+        Next(0),
+        starts(2000, 0, 3000),
+        starts(7000, 3000, 7000),
+        fails(7000, 7000, failed(b'c', 0), 8000),
+        idles(7000, 8000),
+        starts(8000, 8000, 9000),
+        // What failed is gossiped, too.
+        Takes(ping(8000, 2, b'b', &[])),
+        Acks(2, said(&[failed(b'c', 0)])),
     ];
-    assert_ticks(&rt, &mut detector, &rows)?;
-    // What failed is gossiped, too.
-    let reply = reply_to(&mut detector, &ping(8000, 2, b'b', &[]))?;
-    assert_ack(&rt, &reply, 2, &[failed(b'c', 0)]);
-    Ok(())
+    play(&rt, rt.alloc(), "c is suspected", &steps);
 }
 
 #[test]
-fn is_idle_before_the_deadline(rt: HostRuntime) -> Result<(), Fail> {
-    let mut detector = opened(rt.alloc())?;
-    reply_to(&mut detector, &ping(0, 1, b'b', &[suspect(b'c', 0, b'd')]))?;
-    let before = table_of(&detector);
-    let rows = [
-        (0, Some(round_start(0)), None, 1000),
-        (0, None, None, 1000),
-        (999, None, None, 1000),
-        (1000, Some(round_start(1000)), None, 2000),
-        (1999, None, None, 2000),
+fn is_idle_before_the_deadline(rt: HostRuntime) {
+    let steps = [
+        Takes(ping(0, 1, b'b', &[suspect(b'c', 0, b'd')])),
+        Table(said(&[alive(b'b', 0), suspect(b'c', 0, b'd')])),
+        starts(0, 0, 1000),
+        idles(0, 1000),
+        idles(999, 1000),
+        starts(1000, 1000, 2000),
+        idles(1999, 2000),
+        Table(said(&[alive(b'b', 0), suspect(b'c', 0, b'd')])),
+        Events(7),
     ];
-    assert_ticks(&rt, &mut detector, &rows)?;
-    assert_eq!(rt; table_of(&detector).as_slice(), before.as_slice());
-    assert_eq!(rt; detector.events(), 7);
-    Ok(())
+    play(&rt, rt.alloc(), "c is suspected", &steps);
 }
 
 #[test]
-fn fires_one_timer_a_tick(rt: HostRuntime) -> Result<(), Fail> {
-    let mut detector = opened(rt.alloc())?;
-    let said = [suspect(b'd', 2, b'a'), suspect(b'c', 1, b'a')];
-    reply_to(&mut detector, &ping(0, 1, b'b', &said))?;
-    let (c, d) = (suspicion(5000, letter(b'c')), suspicion(5000, letter(b'd')));
-    let rows = [
-        (20_000, Some(round_start(0)), None, 5000),
-        (20_000, Some(c), Some(failed(b'c', 1)), 5000),
-        (20_000, Some(d), Some(failed(b'd', 2)), 21_000),
-        (20_000, None, None, 21_000),
+fn fires_one_timer_a_tick(rt: HostRuntime) {
+    let claims = [suspect(b'd', 2, b'a'), suspect(b'c', 1, b'a')];
+    let steps = [
+        Takes(ping(0, 1, b'b', &claims)),
+        starts(20_000, 0, 5000),
+        fails(20_000, 5000, failed(b'c', 1), 5000),
+        fails(20_000, 5000, failed(b'd', 2), 21_000),
+        idles(20_000, 21_000),
     ];
-    assert_ticks(&rt, &mut detector, &rows)
+    play(&rt, rt.alloc(), "three timers are due", &steps);
 }
 
 /// Suspicions fire before the start of a round, and among them a name before those that it begins.
 #[test]
-fn fires_ties_in_order(rt: HostRuntime) -> Result<(), Fail> {
-    let mut detector = opened(rt.alloc())?;
+fn fires_ties_in_order(rt: HostRuntime) {
     let (long, short, capital) = (named(b"ca"), named(b"c"), named(b"Z"));
-    let said = [suspected(long), suspected(short), suspected(capital)];
-    reply_to(&mut detector, &ping(0, 1, b'b', &said))?;
-    let rows = [
-        (4000, Some(round_start(0)), None, 5000),
-        (
-            5000,
-            Some(suspicion(5000, capital)),
-            failed_member(capital),
-            5000,
-        ),
-        (
-            5000,
-            Some(suspicion(5000, short)),
-            failed_member(short),
-            5000,
-        ),
-        (5000, Some(suspicion(5000, long)), failed_member(long), 5000),
-        (5000, Some(round_start(5000)), None, 6000),
+    let claims = [suspected(long), suspected(short), suspected(capital)];
+    let steps = [
+        Takes(ping(0, 1, b'b', &claims)),
+        starts(4000, 0, 5000),
+        fails(5000, 5000, failed_member(capital), 5000),
+        fails(5000, 5000, failed_member(short), 5000),
+        fails(5000, 5000, failed_member(long), 5000),
+        starts(5000, 5000, 6000),
     ];
-    assert_ticks(&rt, &mut detector, &rows)
+    play(&rt, rt.alloc(), "four timers at 5000", &steps);
 }
 
 #[test]
-fn counts_from_the_greatest_moment(rt: HostRuntime) -> Result<(), Fail> {
-    let mut detector = Detector::blank(rt.alloc())?;
-    reply_to(&mut detector, &opening(5000))?;
-    let early = [
-        (4000, Some(round_start(5000)), None, 6000),
-        (9000, Some(round_start(6000)), None, 10_000),
-        (1000, None, None, 10_000),
+fn counts_from_the_greatest_moment(rt: HostRuntime) {
+    let steps = [
+        Takes(opening(5000)),
+        starts(4000, 5000, 6000),
+        starts(9000, 6000, 10_000),
+        idles(1000, 10_000),
+        Takes(ping(2000, 1, b'b', &[suspect(b'c', 0, b'd')])),
+        Takes(ask_for(13_000, b'c')),
+        starts(9500, 10_000, 14_000),
+        Takes(ask_health(14_000)),
+        fails(0, 14_000, failed(b'c', 0), 14_000),
+        starts(0, 14_000, 15_000),
     ];
-    assert_ticks(&rt, &mut detector, &early)?;
-    reply_to(
-        &mut detector,
-        &ping(2000, 1, b'b', &[suspect(b'c', 0, b'd')]),
-    )?;
-    reply_to(&mut detector, &ask_for(13_000, b'c'))?;
-    let start = [(9500, Some(round_start(10_000)), None, 14_000)];
-    assert_ticks(&rt, &mut detector, &start)?;
-    reply_to(&mut detector, &ask_health(14_000))?;
-    let c = suspicion(14_000, letter(b'c'));
-    let rows = [
-        (0, Some(c), Some(failed(b'c', 0)), 14_000),
-        (0, Some(round_start(14_000)), None, 15_000),
-    ];
-    assert_ticks(&rt, &mut detector, &rows)
+    play_blank(&rt, rt.alloc(), "moments out of order", &steps);
 }
 
 /// The score is taken when a round starts.
 #[test]
-fn scales_the_interval(rt: HostRuntime) -> Result<(), Fail> {
-    let mut detector = opened(rt.alloc())?;
-    let reply = reply_to(&mut detector, &tick_at(0))?;
-    assert_eq!(rt; reply.next, 1000);
-    let said = [suspect(b'b', 0, b'a'), suspect(b'b', 1, b'a')];
-    let reply = reply_to(&mut detector, &ping(500, 1, b'b', &said))?;
-    assert_eq!(rt; reply.next, 1000, "the round that runs stays as it is");
-    let reply = reply_to(&mut detector, &tick_at(1000))?;
-    assert_eq!(rt; reply.fired, Some(round_start(1000)));
-    assert_eq!(rt; reply.next, 4000);
-    Ok(())
+fn scales_the_interval(rt: HostRuntime) {
+    let steps = [
+        Takes(tick_at(0)),
+        Next(1000),
+        Takes(ping(
+            500,
+            1,
+            b'b',
+            &[suspect(b'b', 0, b'a'), suspect(b'b', 1, b'a')],
+        )),
+        // The round that runs stays as it is.
+        Next(1000),
+        Takes(tick_at(1000)),
+        Fired(Some(round_start(1000))),
+        Next(4000),
+    ];
+    play(&rt, rt.alloc(), "two refutations", &steps);
 }
 
-/// b is opened at 0, knows others, and hears these claims in one packet at 2000.
-fn told(alloc: Global, others: &[u8], said: &[Claim]) -> Result<Detector, Fail> {
-    let mut detector = knowing(alloc, others)?;
-    reply_to(&mut detector, &ping(2000, 1, b'z', said))?;
-    Ok(detector)
-}
-
-/// The same, but each claim comes in a packet of its own.
-fn told_apart(alloc: Global, others: &[u8], said: &[Claim]) -> Result<Detector, Fail> {
-    let mut detector = knowing(alloc, others)?;
-    for claim in said {
-        reply_to(&mut detector, &ping(2000, 1, b'z', &[*claim]))?;
-    }
-    Ok(detector)
-}
-
-/// The next deadline once the first round-start has fired, at 40,000: that of the suspicion, or 41,000, the next
-/// round-start, where there is none.
-fn next_of(detector: &mut Detector) -> Result<u64, Fail> {
-    Ok(reply_to(detector, &tick_at(40_000))?.next)
+/// The claim that c is suspected by the member of a letter.
+fn by(accuser: u8) -> Claim {
+    suspect(b'c', 0, accuser)
 }
 
 /// The score doesn't scale the timeout of a suspicion.
 #[test]
-fn accusers_bring_the_deadline_nearer(rt: HostRuntime) -> Result<(), Fail> {
-    let (d, e) = (suspect(b'c', 0, b'd'), suspect(b'c', 0, b'e'));
-    let (a, z) = (suspect(b'c', 0, b'a'), suspect(b'c', 0, b'z'));
-    let (b, c) = (suspect(b'c', 0, b'b'), suspect(b'c', 0, b'c'));
-    let refuted = suspect(b'b', 0, b'a');
-    let rows: [(&str, &[Claim], u64); 9] = [
-        ("d", &[d], 32_000),
-        ("d, at a score of 1", &[refuted, d], 32_000),
-        ("d again", &[d, d], 32_000),
-        ("then e", &[d, d, e], 19_500),
-        ("then a", &[d, d, e, a], 12_200),
-        ("then z, a stranger", &[d, d, e, a, z], 7000),
-        ("one more", &[d, e, a, z, b], 7000),
-        ("in another order", &[z, e, d, a], 7000),
-        ("c itself", &[d, c], 19_500),
+fn accusers_bring_the_deadline_nearer(rt: HostRuntime) {
+    let rows = [
+        ("d", said(&[by(b'd')]), 32_000),
+        (
+            "d, at a score of 1",
+            said(&[suspect(b'b', 0, b'a'), by(b'd')]),
+            32_000,
+        ),
+        ("d again", said(&[by(b'd'), by(b'd')]), 32_000),
+        ("then e", said(&[by(b'd'), by(b'd'), by(b'e')]), 19_500),
+        (
+            "then a",
+            said(&[by(b'd'), by(b'd'), by(b'e'), by(b'a')]),
+            12_200,
+        ),
+        (
+            "then z, a stranger",
+            said(&[by(b'd'), by(b'd'), by(b'e'), by(b'a'), by(b'z')]),
+            7000,
+        ),
+        (
+            "one more",
+            said(&[by(b'd'), by(b'e'), by(b'a'), by(b'z'), by(b'b')]),
+            7000,
+        ),
+        (
+            "in another order",
+            said(&[by(b'z'), by(b'e'), by(b'd'), by(b'a')]),
+            7000,
+        ),
+        ("c itself", said(&[by(b'd'), by(b'c')]), 19_500),
     ];
-    for (case, said, deadline) in &rows {
-        let mut detector = told_apart(rt.alloc(), b"ade", said)?;
-        assert_eq!(rt; next_of(&mut detector)?, *deadline, "{case}");
+    for (case, claims, deadline) in &rows {
+        // Once the first round-start has fired, the next deadline is that of the suspicion.
+        let steps = [
+            others(),
+            Hears(2000, said(claims.as_slice())),
+            Takes(tick_at(40_000)),
+            Next(*deadline),
+        ];
+        play(&rt, rt.alloc(), case, &steps);
     }
-    Ok(())
 }
 
-/// c is suspected among five by d and e at 2000, and then more is said.
+/// c is suspected among five by d and e at 2000, and then more is said. Once the first round-start has fired, the next
+/// deadline is that of the suspicion, or 41,000, the next round-start, where there is none.
+fn said_then(claims: &[Claim], deadline: u64) -> [Step; 7] {
+    let fired = if deadline == 41_000 {
+        None
+    } else {
+        Some(suspicion(deadline, letter(b'c')))
+    };
+    [
+        others(),
+        Takes(ping(
+            2000,
+            1,
+            b'z',
+            &[suspect(b'c', 1, b'd'), suspect(b'c', 1, b'e')],
+        )),
+        Takes(ping(3000, 1, b'z', claims)),
+        Takes(tick_at(40_000)),
+        Next(deadline),
+        Takes(tick_at(40_000)),
+        Fired(fired),
+    ]
+}
+
 #[test]
-fn claims_renew_or_end_a_suspicion(rt: HostRuntime) -> Result<(), Fail> {
-    let raised = [suspect(b'c', 1, b'd'), suspect(b'c', 1, b'e')];
-    let (f, d) = (suspect(b'c', 2, b'f'), suspect(b'c', 2, b'd'));
-    let rows: [(&str, &[Claim], u64); 10] = [
-        ("nothing", &[], 19_500),
-        ("a lesser accusation", &[suspect(b'c', 0, b'a')], 19_500),
-        ("alive at the same number", &[alive(b'c', 1)], 19_500),
-        ("a greater accusation", &[f], 33_000),
-        ("and its confirmation", &[f, d], 20_500),
+fn claims_renew_or_end_a_suspicion(rt: HostRuntime) {
+    let confirmed = said(&[suspect(b'c', 2, b'f'), suspect(b'c', 2, b'd')]);
+    let old = said(&[suspect(b'c', 2, b'f'), suspect(b'c', 1, b'a')]);
+    let rows = [
+        ("nothing", said(&[]), 19_500),
         (
-            "and an old accusation",
-            &[f, suspect(b'c', 1, b'a')],
+            "a lesser accusation",
+            said(&[suspect(b'c', 0, b'a')]),
+            19_500,
+        ),
+        ("alive at the same number", said(&[alive(b'c', 1)]), 19_500),
+        (
+            "a greater accusation",
+            said(&[suspect(b'c', 2, b'f')]),
             33_000,
         ),
-        ("alive", &[alive(b'c', 2)], 41_000),
-        ("alive, and suspected again", &[alive(b'c', 2), d], 33_000),
-        ("failed", &[failed(b'c', 0)], 41_000),
-        ("failed, and suspected", &[failed(b'c', 0), d], 41_000),
+        ("and its confirmation", confirmed, 20_500),
+        ("and an old accusation", old, 33_000),
+        ("alive", said(&[alive(b'c', 2)]), 41_000),
+        (
+            "alive, and suspected again",
+            said(&[alive(b'c', 2), suspect(b'c', 2, b'd')]),
+            33_000,
+        ),
+        ("failed", said(&[failed(b'c', 0)]), 41_000),
+        (
+            "failed, and suspected",
+            said(&[failed(b'c', 0), suspect(b'c', 2, b'd')]),
+            41_000,
+        ),
     ];
-    for (case, said, deadline) in &rows {
-        let mut detector = told(rt.alloc(), b"ade", &raised)?;
-        reply_to(&mut detector, &ping(3000, 1, b'z', said))?;
-        assert_eq!(rt; next_of(&mut detector)?, *deadline, "{case}");
-        let fired = reply_to(&mut detector, &tick_at(40_000))?.fired;
-        let wanted = if *deadline == 41_000 {
-            None
-        } else {
-            Some(suspicion(*deadline, letter(b'c')))
-        };
-        assert_eq!(rt; fired, wanted, "{case}");
+    for (case, claims, deadline) in &rows {
+        play(
+            &rt,
+            rt.alloc(),
+            case,
+            &said_then(claims.as_slice(), *deadline),
+        );
     }
-    Ok(())
 }
 
-/// No tick fires a suspicion that was ended.
+/// No tick fires a suspicion that was ended by this claim.
+fn ended_by(claim: &Claim) -> [Step; 6] {
+    [
+        Takes(ping(2000, 1, b'z', &[suspect(b'c', 0, b'd')])),
+        Takes(ping(3000, 1, b'z', &[*claim])),
+        starts(6500, 0, 7500),
+        starts(7500, 7500, 8500),
+        starts(8500, 8500, 9500),
+        Known(b'c', Some(*claim)),
+    ]
+}
+
 #[test]
-fn an_ended_suspicion_never_fires(rt: HostRuntime) -> Result<(), Fail> {
-    for said in &[[alive(b'c', 1)], [failed(b'c', 0)]] {
-        let mut detector = told(rt.alloc(), b"", &[suspect(b'c', 0, b'd')])?;
-        reply_to(&mut detector, &ping(3000, 1, b'z', said))?;
-        for (now, start, next) in [(6500, 0, 7500), (7500, 7500, 8500), (8500, 8500, 9500)] {
-            let reply = reply_to(&mut detector, &tick_at(now))?;
-            assert_eq!(rt; reply.fired, Some(round_start(start)), "{said:?}");
-            assert_eq!(rt; reply.changed.len(), 0, "{said:?}");
-            assert_eq!(rt; reply.next, next, "{said:?}");
-        }
-        assert_eq!(rt; detector.record_of(&letter(b'c')), said.first().copied());
-    }
-    Ok(())
+fn an_ended_suspicion_never_fires(rt: HostRuntime) {
+    play(&rt, rt.alloc(), "alive", &ended_by(&alive(b'c', 1)));
+    play(&rt, rt.alloc(), "failed", &ended_by(&failed(b'c', 0)));
 }
