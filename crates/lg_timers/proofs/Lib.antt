@@ -1,5 +1,6 @@
 pub mod CancelLaws
 pub mod KeyLaws
+pub mod Parts
 pub mod Pending
 pub mod RowOrder
 pub mod SetLaws
