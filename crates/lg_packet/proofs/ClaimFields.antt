@@ -1,88 +1,20 @@
 -- The fields of claims: what is read is spelled so, and what is spelled so is read again.
-use Rattle.std.proofs.Common.{◌≡◌, ℕ, zero, suc, ◌^◌, ◌<◌, ◌≤◌, Bool, true, false, cond, eqb, ltb, List, [], ◌∷◌, ◌++◌, length, Some, None, Ok, Err, refl, sym, ap, subst, ◌∙◌, append_assoc, arith, length-append}
-use Rattle.std.specs.Int.{w16, w32, byte_at, from_be_bytes, to_be_bytes}
+use Rattle.std.proofs.Common.{◌≡◌, ℕ, zero, suc, ◌≤◌, Bool, true, false, cond, eqb, ltb, List, [], ◌∷◌, ◌++◌, length, Some, None, Ok, Err, refl, sym, ap, subst, ◌∙◌, append_assoc, arith}
+use Rattle.std.specs.Int.{w32}
 use Rattle.std.specs.List.{flat_map, AllByRecursion}
 use Rattle.std.proofs.lemmas.Bool.{eqb-true, le-ltb, ltb-false}
-use Rattle.std.proofs.lemmas.List.{take_at, drop_at}
 use Rattle.std.proofs.lemmas.List.Concat.{flat_map-cons}
-use Rattle.std.proofs.lemmas.Nat.{be_bytes_2, from_be_bytes-to_be_bytes_2}
-use Rattle.lg_rules.specs.declared.addr.Addr.{Addr}
 use Rattle.lg_rules.specs.declared.claim.Claim.{Claim}
 use Rattle.lg_rules.specs.declared.claim.Status.{Status}
 use Rattle.lg_rules.specs.declared.claim.Status.TheVariants.{Alive, Suspect, Failed}
 use Rattle.lg_packet.specs.declared.fault.Fault.TheVariants as faults
 use Rattle.lg_packet.specs.declared.kind.ClaimKind.{ClaimKind}
 use Rattle.lg_packet.specs.declared.kind.ClaimKind.TheVariants as claims
-use Rattle.lg_packet.specs.Meaning.Spelling.{claim_kind_of, byte_of_claim_kind, spelled_name, spelled_number, spelled_addr, spelled_accuser, spelled_claim, IsAddr, IsStatus, IsClaim}
-use Rattle.lg_packet.specs.Meaning.Reading.{◌>>=◌, number_at, name_at, octets_at, addr_at, incarnation_at, claim_kind_before, claim_kind_at, status_at, claim_at, claims_at}
+use Rattle.lg_packet.specs.Meaning.Spelling.{claim_kind_of, byte_of_claim_kind, spelled_name, spelled_number, spelled_addr, spelled_accuser, spelled_claim, IsStatus, IsClaim}
+use Rattle.lg_packet.specs.Meaning.Reading.{◌>>=◌, number_at, name_at, addr_at, incarnation_at, claim_kind_before, claim_kind_at, status_at, claim_at, claims_at}
 use Rattle.lg_packet.proofs.Outcomes.{step_ok, passed_by, same_ok}
 use Rattle.lg_packet.proofs.NameFields.{name_read, name_again}
-use Rattle.lg_packet.proofs.Fields.{AreBytes, behind, number_read, number_again}
-
--- ---- addresses
-
-pub octets_there : (a b c d : ℕ) (rest : List ℕ) → octets_at (a ∷ b ∷ c ∷ d ∷ rest) ≡ Ok (a ∷ b ∷ c ∷ d ∷ [], rest)
-octets_there a b c d rest =
-    let enough : ltb (length (a ∷ b ∷ c ∷ d ∷ rest)) 4 ≡ false = le-ltb (length (a ∷ b ∷ c ∷ d ∷ rest)) 4 (omega arith) in
-    rw enough refl
-
--- four bytes that were read
-pub record AreOctets (octets : List ℕ) : Type 0 where
-  pub four : length octets ≡ 4
-  pub bytes : AllByRecursion (λ b. b < 256) octets
-
-octets_read : (bytes : List ℕ) (x : List ℕ × List ℕ) → AreBytes bytes → octets_at bytes ≡ Ok x → (bytes ≡ x.0 ++ x.1) × AreOctets x.0
-octets_read [] x fit e = absurd cc
-octets_read (a ∷ []) x fit e = absurd cc
-octets_read (a ∷ b ∷ []) x fit e = absurd cc
-octets_read (a ∷ b ∷ c ∷ []) x fit e = absurd cc
-octets_read (a ∷ b ∷ c ∷ d ∷ rest) x fit e =
-    let four = a ∷ b ∷ c ∷ d ∷ [] in
-    subst (λ (y : List ℕ × List ℕ). (four ++ rest ≡ y.0 ++ y.1) × AreOctets y.0) (same_ok (four, rest) x (sym (octets_there a b c d rest) ∙ e)) (refl, record { four = refl; bytes = (fit 0, (fit 1, (fit 2, (fit 3, tt)))) })
-
-octets_again : (octets rest : List ℕ) → length octets ≡ 4 → octets_at (octets ++ rest) ≡ Ok (octets, rest)
-octets_again octets rest four =
-    let enough : ltb (length (octets ++ rest)) 4 ≡ false = le-ltb (length (octets ++ rest)) 4 (omega (arith, length-append octets rest)) in
-    rw (enough, take_at octets rest 4 four, drop_at octets rest 4 four) refl
-
-pub port_there : (a b : ℕ) (rest : List ℕ) → number_at w16 (a ∷ b ∷ rest) ≡ Ok (from_be_bytes w16 (a ∷ b ∷ []), rest)
-port_there a b rest =
-    let enough : ltb (length (a ∷ b ∷ rest)) 2 ≡ false = le-ltb (length (a ∷ b ∷ rest)) 2 (omega arith) in
-    rw enough refl
-
-port_read : (bytes : List ℕ) (x : ℕ × List ℕ) → AreBytes bytes → number_at w16 bytes ≡ Ok x → (bytes ≡ to_be_bytes w16 x.0 ++ x.1) × (x.0 < 2 ^ 16)
-port_read [] x fit e = absurd cc
-port_read (a ∷ []) x fit e = absurd cc
-port_read (a ∷ b ∷ rest) x fit e =
-    let two = a ∷ b ∷ [] in
-    let written : to_be_bytes w16 (from_be_bytes w16 two) ≡ two = be_bytes_2 two (from_be_bytes w16 two) refl front_fits refl in
-    let below : from_be_bytes w16 two < 2 ^ 16 = omega (arith, fit 0, fit 1) in
-    subst (λ (y : ℕ × List ℕ). (two ++ rest ≡ to_be_bytes w16 y.0 ++ y.1) × (y.0 < 2 ^ 16)) (same_ok (from_be_bytes w16 two, rest) x (sym (port_there a b rest) ∙ e)) (ap (λ (t : List ℕ). t ++ rest) (sym written), below)
-  where
-    front_fits : AreBytes (a ∷ b ∷ [])
-    front_fits zero = fit 0
-    front_fits (suc zero) = fit 1
-    front_fits (suc (suc i)) = omega arith
-
-port_again : (n : ℕ) (rest : List ℕ) → n < 2 ^ 16 → number_at w16 (to_be_bytes w16 n ++ rest) ≡ Ok (n, rest)
-port_again n rest fit = port_there (byte_at 1 n) (byte_at 0 n) rest ∙ rw (from_be_bytes-to_be_bytes_2 n fit) refl
-
-addr_read : (bytes : List ℕ) (x : Addr × List ℕ) → AreBytes bytes → addr_at bytes ≡ Ok x → (bytes ≡ spelled_addr x.0 ++ x.1) × IsAddr x.0
-unfolding addr_at
-addr_read bytes x fit e =
-    let a = step_ok (octets_at bytes) (λ octets. number_at w16 octets.1 >>= λ port. Ok (record { octets = octets.0; port = port.0 }, port.1)) x e in
-    let b = step_ok (number_at w16 a.0.1) (λ port. Ok (record { octets = a.0.0; port = port.0 }, port.1)) x a.2 in
-    let octets = octets_read bytes a.0 fit a.1 in
-    let port = port_read a.0.1 b.0 (behind a.0.0 a.0.1 (subst AreBytes octets.0 fit)) b.1 in
-    let made : Addr = record { octets = a.0.0; port = b.0.0 } in
-    let whole : bytes ≡ spelled_addr made ++ b.0.1 = octets.0 ∙ ap (λ (t : List ℕ). a.0.0 ++ t) port.0 ∙ sym (append_assoc a.0.0 (to_be_bytes w16 b.0.0) b.0.1) in
-    subst (λ (y : Addr × List ℕ). (bytes ≡ spelled_addr y.0 ++ y.1) × IsAddr y.0) (same_ok (made, b.0.1) x b.2) (whole, record { four = octets.1.four; octets = octets.1.bytes; port = port.1 })
-
-addr_again : (addr : Addr) (rest : List ℕ) → IsAddr addr → addr_at (spelled_addr addr ++ rest) ≡ Ok (addr, rest)
-unfolding addr_at
-addr_again addr rest fit =
-    ap addr_at (append_assoc addr.octets (to_be_bytes w16 addr.port) rest)
-    ∙ rw (octets_again addr.octets (to_be_bytes w16 addr.port ++ rest) fit.four, port_again addr.port rest fit.port) refl
+use Rattle.lg_packet.proofs.Fields.{AreBytes, behind, number_read, number_again, addr_read, addr_again}
 
 -- ---- incarnations
 

@@ -1,6 +1,6 @@
 -- The first fault of claims, by their places and as they are read.
 use Rattle.std.proofs.Common.{◌≡◌, ℕ, zero, suc, Bool, true, false, cond, eqb, ltb, leb, ◌&&◌, List, [], ◌∷◌, ◌++◌, replicate, Ok, Err, refl, sym, ap, subst, ◌∙◌, arith}
-use Rattle.std.specs.Int.{w16, w32, from_be_bytes}
+use Rattle.std.specs.Int.{w32, from_be_bytes}
 use Rattle.std.proofs.lemmas.Bool.{leb-true, eqb-true, eqb-false}
 use Rattle.lg_rules.specs.declared.addr.Addr.{Addr}
 use Rattle.lg_rules.specs.declared.claim.Claim.{Claim}
@@ -10,13 +10,12 @@ use Rattle.lg_packet.specs.declared.fault.Fault.TheVariants as faults
 use Rattle.lg_packet.specs.declared.kind.ClaimKind.{ClaimKind}
 use Rattle.lg_packet.specs.declared.kind.ClaimKind.TheVariants as claims
 use Rattle.lg_packet.specs.Meaning.Spelling.{byte_of_claim_kind}
-use Rattle.lg_packet.specs.Meaning.Reading.{◌>>=◌, name_at, number_at, octets_at, addr_at, incarnation_at, claim_kind_at, status_at, claim_at, claims_at}
-use Rattle.lg_packet.specs.Meaning.Fault.{Part, NumberByte, ClaimKindByte, IncarnationByte, number_parts, addr_parts, accuser_parts, claim_parts}
+use Rattle.lg_packet.specs.Meaning.Reading.{◌>>=◌, name_at, addr_at, incarnation_at, claim_kind_at, status_at, claim_at, claims_at}
+use Rattle.lg_packet.specs.Meaning.Fault.{Part, ClaimKindByte, IncarnationByte, addr_parts, accuser_parts, claim_parts}
 use Rattle.lg_packet.proofs.Outcomes.{fault_or, fault_then}
 use Rattle.lg_packet.proofs.Fields.{number_there}
-use Rattle.lg_packet.proofs.ClaimFields.{octets_there, port_there}
 use Rattle.lg_packet.proofs.Places.{fault_from}
-use Rattle.lg_packet.proofs.FieldPlaces.{name_fault, at_most, fault_of_test}
+use Rattle.lg_packet.proofs.FieldPlaces.{name_fault, addr_fault, at_most, fault_of_test}
 
 -- a kind of claim is 1, 2 or 3
 no_claim_kind : (b : ℕ) → eqb b 1 ≡ false → eqb b 2 ≡ false → eqb b 3 ≡ false → (leb 1 b && leb b 3) ≡ false
@@ -39,27 +38,6 @@ claim_kind_fault parts (b ∷ bytes) = step (eqb b 1) refl (eqb b 2) refl (eqb b
     step false h true i three j = let here : b ≡ 2 = eqb-true b 2 i in subst Same (sym here) refl
     step false h false i true j = let here : b ≡ 3 = eqb-true b 3 j in subst Same (sym here) refl
     step false h false i false j = rw (no_claim_kind b h i j, h, i, j) refl
-
-octets_fault : (parts : List Part) (bytes : List ℕ) → fault_from bytes (number_parts ++ parts) ≡ fault_or (λ (x : List ℕ × List ℕ). fault_from x.1 parts) (octets_at bytes)
-octets_fault parts [] = refl
-octets_fault parts (a ∷ []) = refl
-octets_fault parts (a ∷ b ∷ []) = refl
-octets_fault parts (a ∷ b ∷ c ∷ []) = refl
-octets_fault parts (a ∷ b ∷ c ∷ d ∷ rest) = sym (ap (fault_or (λ (x : List ℕ × List ℕ). fault_from x.1 parts)) (octets_there a b c d rest))
-
-port_fault : (parts : List Part) (bytes : List ℕ) → fault_from bytes (NumberByte ∷ NumberByte ∷ parts) ≡ fault_or (λ (x : ℕ × List ℕ). fault_from x.1 parts) (number_at w16 bytes)
-port_fault parts [] = refl
-port_fault parts (a ∷ []) = refl
-port_fault parts (a ∷ b ∷ rest) = sym (ap (fault_or (λ (x : ℕ × List ℕ). fault_from x.1 parts)) (port_there a b rest))
-
-addr_fault : (parts : List Part) (bytes : List ℕ) → fault_from bytes (addr_parts ++ parts) ≡ fault_or (λ (x : Addr × List ℕ). fault_from x.1 parts) (addr_at bytes)
-unfolding addr_at
-addr_fault parts bytes =
-    let on = λ (x : Addr × List ℕ). fault_from x.1 parts in
-    octets_fault (NumberByte ∷ NumberByte ∷ parts) bytes
-    ∙ fault_then (octets_at bytes) (λ octets. number_at w16 octets.1 >>= λ port. Ok (record { octets = octets.0; port = port.0 }, port.1)) (λ (x : List ℕ × List ℕ). fault_from x.1 (NumberByte ∷ NumberByte ∷ parts)) on (λ octets.
-    port_fault parts octets.1
-    ∙ fault_then (number_at w16 octets.1) (λ port. Ok (record { octets = octets.0; port = port.0 }, port.1)) (λ (x : ℕ × List ℕ). fault_from x.1 parts) on (λ port. refl))
 
 incarnation_fault : (parts : List Part) (bytes : List ℕ) → fault_from bytes (IncarnationByte [] ∷ parts) ≡ fault_or (λ (x : ℕ × List ℕ). fault_from x.1 parts) (incarnation_at bytes)
 unfolding incarnation_at

@@ -1,18 +1,19 @@
 -- The first fault of each field, by its places and as it is read.
 use Rattle.std.proofs.Common.{◌≡◌, ℕ, zero, suc, Bool, true, false, cond, eqb, ltb, leb, ◌&&◌, List, [], ◌∷◌, ◌++◌, length, take, drop, replicate, Ok, Err, refl, sym, ap, subst, ◌∙◌, arith}
 use Rattle.std.specs.List.{list_all}
-use Rattle.std.specs.Int.{w32}
-use Rattle.std.proofs.lemmas.Bool.{le-ltb, lt-ltb, ltb-true, ltb-false, le-leb, lt-leb, eqb-true, eqb-false}
+use Rattle.std.specs.Int.{w16, w32}
+use Rattle.std.proofs.lemmas.Bool.{le-ltb, lt-ltb, ltb-true, ltb-false, le-leb, lt-leb, leb-true, eqb-true, eqb-false}
 use Rattle.std.proofs.Math.Dec.{leb-suc-suc}
 use Rattle.lg_rules.specs.Meaning.Name.{is_name_byte}
+use Rattle.lg_rules.specs.declared.addr.Addr.{Addr}
 use Rattle.lg_packet.specs.declared.fault.Fault.{Fault}
 use Rattle.lg_packet.specs.declared.fault.Fault.TheVariants as faults
 use Rattle.lg_packet.specs.declared.kind.Kind.{Kind}
 use Rattle.lg_packet.specs.Meaning.Spelling.{byte_of_kind}
-use Rattle.lg_packet.specs.Meaning.Reading.{literal_at, kind_at, name_at, number_at, count_at}
-use Rattle.lg_packet.specs.Meaning.Fault.{Part, KindByte, LengthByte, NameByte, CountByte, ClaimKindByte, is_allowed, fault_at, number_parts, body_parts, brought}
-use Rattle.lg_packet.proofs.Outcomes.{fault_or}
-use Rattle.lg_packet.proofs.Fields.{number_there}
+use Rattle.lg_packet.specs.Meaning.Reading.{◌>>=◌, literal_at, kind_at, name_at, number_at, octets_at, addr_at, count_at}
+use Rattle.lg_packet.specs.Meaning.Fault.{Part, KindByte, LengthByte, NameByte, NumberByte, CountByte, ClaimKindByte, is_allowed, fault_at, number_parts, addr_parts, body_parts, brought}
+use Rattle.lg_packet.proofs.Outcomes.{fault_or, fault_then}
+use Rattle.lg_packet.proofs.Fields.{number_there, octets_there, port_there}
 use Rattle.lg_packet.proofs.Places.{fault_from}
 
 pub literal_fault : (due : ℕ) (fault : Fault) (part : Part) (parts : List Part) (bytes : List ℕ) → ((b : ℕ) → is_allowed part b ≡ eqb b due) → fault_at part ≡ fault → ((b : ℕ) → brought part b ≡ [])
@@ -24,17 +25,28 @@ literal_fault due fault part parts (b ∷ bytes) test named brings = rw (test b,
     step true = refl
     step false = refl
 
+-- a kind is 1 to 4
+no_kind : (b : ℕ) → eqb b 1 ≡ false → eqb b 2 ≡ false → eqb b 3 ≡ false → eqb b 4 ≡ false → (leb 1 b && leb b 4) ≡ false
+no_kind b one two three four = step (leb 1 b) refl (leb b 4) refl
+  where
+    step : (low : Bool) → leb 1 b ≡ low → (high : Bool) → leb b 4 ≡ high → (low && high) ≡ false
+    step true h true k = absurd (omega (arith, leb-true 1 b h, leb-true b 4 k, eqb-false b 1 one, eqb-false b 2 two, eqb-false b 3 three, eqb-false b 4 four))
+    step true h false k = refl
+    step false h high k = refl
+
 pub kind_fault : (bytes : List ℕ) → fault_from bytes (KindByte ∷ []) ≡ fault_or (λ (x : Kind × List ℕ). fault_from x.1 (LengthByte ∷ (body_parts (byte_of_kind x.0) ++ CountByte ∷ []))) (kind_at bytes)
 kind_fault [] = refl
-kind_fault (b ∷ bytes) = step (eqb b 1) refl (eqb b 3) refl
+kind_fault (b ∷ bytes) = step (eqb b 1) refl (eqb b 2) refl (eqb b 3) refl (eqb b 4) refl
   where
     Same : ℕ → Type 0
     Same n = fault_from (n ∷ bytes) (KindByte ∷ []) ≡ fault_or (λ (x : Kind × List ℕ). fault_from x.1 (LengthByte ∷ (body_parts (byte_of_kind x.0) ++ CountByte ∷ []))) (kind_at (n ∷ bytes))
 
-    step : (one : Bool) → eqb b 1 ≡ one → (three : Bool) → eqb b 3 ≡ three → Same b
-    step true h three k = let here : b ≡ 1 = eqb-true b 1 h in subst Same (sym here) refl
-    step false h true k = let here : b ≡ 3 = eqb-true b 3 k in subst Same (sym here) refl
-    step false h false k = rw (h, k) refl
+    step : (one : Bool) → eqb b 1 ≡ one → (two : Bool) → eqb b 2 ≡ two → (three : Bool) → eqb b 3 ≡ three → (four : Bool) → eqb b 4 ≡ four → Same b
+    step true h two i three j four k = let here : b ≡ 1 = eqb-true b 1 h in subst Same (sym here) refl
+    step false h true i three j four k = let here : b ≡ 2 = eqb-true b 2 i in subst Same (sym here) refl
+    step false h false i true j four k = let here : b ≡ 3 = eqb-true b 3 j in subst Same (sym here) refl
+    step false h false i false j true k = let here : b ≡ 4 = eqb-true b 4 k in subst Same (sym here) refl
+    step false h false i false j false k = rw (no_kind b h i j k, h, i, j, k) refl
 
 name_bytes_fault : (n : ℕ) (parts : List Part) (bytes : List ℕ) → fault_from bytes (replicate n NameByte ++ parts)
     ≡ cond (list_all is_name_byte (take n bytes)) (cond (ltb (length bytes) n) faults.Short (fault_from (drop n bytes) parts)) faults.Name
@@ -81,6 +93,27 @@ number_fault parts (a ∷ []) = refl
 number_fault parts (a ∷ b ∷ []) = refl
 number_fault parts (a ∷ b ∷ c ∷ []) = refl
 number_fault parts (a ∷ b ∷ c ∷ d ∷ rest) = sym (ap (fault_or (λ (x : ℕ × List ℕ). fault_from x.1 parts)) (number_there a b c d rest))
+
+octets_fault : (parts : List Part) (bytes : List ℕ) → fault_from bytes (number_parts ++ parts) ≡ fault_or (λ (x : List ℕ × List ℕ). fault_from x.1 parts) (octets_at bytes)
+octets_fault parts [] = refl
+octets_fault parts (a ∷ []) = refl
+octets_fault parts (a ∷ b ∷ []) = refl
+octets_fault parts (a ∷ b ∷ c ∷ []) = refl
+octets_fault parts (a ∷ b ∷ c ∷ d ∷ rest) = sym (ap (fault_or (λ (x : List ℕ × List ℕ). fault_from x.1 parts)) (octets_there a b c d rest))
+
+port_fault : (parts : List Part) (bytes : List ℕ) → fault_from bytes (NumberByte ∷ NumberByte ∷ parts) ≡ fault_or (λ (x : ℕ × List ℕ). fault_from x.1 parts) (number_at w16 bytes)
+port_fault parts [] = refl
+port_fault parts (a ∷ []) = refl
+port_fault parts (a ∷ b ∷ rest) = sym (ap (fault_or (λ (x : ℕ × List ℕ). fault_from x.1 parts)) (port_there a b rest))
+
+pub addr_fault : (parts : List Part) (bytes : List ℕ) → fault_from bytes (addr_parts ++ parts) ≡ fault_or (λ (x : Addr × List ℕ). fault_from x.1 parts) (addr_at bytes)
+unfolding addr_at
+addr_fault parts bytes =
+    let on = λ (x : Addr × List ℕ). fault_from x.1 parts in
+    octets_fault (NumberByte ∷ NumberByte ∷ parts) bytes
+    ∙ fault_then (octets_at bytes) (λ octets. number_at w16 octets.1 >>= λ port. Ok (record { octets = octets.0; port = port.0 }, port.1)) (λ (x : List ℕ × List ℕ). fault_from x.1 (NumberByte ∷ NumberByte ∷ parts)) on (λ octets.
+    port_fault parts octets.1
+    ∙ fault_then (number_at w16 octets.1) (λ port. Ok (record { octets = octets.0; port = port.0 }, port.1)) (λ (x : ℕ × List ℕ). fault_from x.1 parts) on (λ port. refl))
 
 -- a test from one side and from the other
 pub at_most : (n m : ℕ) (good bad : Fault) → cond (leb n m) good bad ≡ cond (ltb m n) bad good

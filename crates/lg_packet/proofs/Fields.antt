@@ -1,16 +1,19 @@
 -- The fields of a packet: what is read is spelled so, and what is spelled so is read again.
-use Rattle.std.proofs.Common.{◌≡◌, ℕ, zero, suc, ◌^◌, ◌<◌, ◌≤◌, Bool, true, false, cond, eqb, ltb, List, [], ◌∷◌, ◌++◌, length, get_or, Some, None, Ok, refl, sym, ap, subst, ◌∙◌, append_assoc, arith}
-use Rattle.std.specs.Int.{w32, byte_at, from_be_bytes, to_be_bytes}
+use Rattle.std.proofs.Common.{◌≡◌, ℕ, zero, suc, ◌^◌, ◌<◌, ◌≤◌, Bool, true, false, cond, eqb, ltb, List, [], ◌∷◌, ◌++◌, length, get_or, Some, None, Ok, refl, sym, ap, subst, ◌∙◌, append_assoc, arith, length-append}
+use Rattle.std.specs.Int.{w16, w32, byte_at, from_be_bytes, to_be_bytes}
+use Rattle.std.specs.List.{AllByRecursion}
 use Rattle.std.proofs.lemmas.Bool.{eqb-true, le-ltb, ltb-false}
-use Rattle.std.proofs.lemmas.Nat.{be_bytes_4, from_be_bytes-to_be_bytes_4}
+use Rattle.std.proofs.lemmas.List.{take_at, drop_at}
+use Rattle.std.proofs.lemmas.Nat.{be_bytes_2, be_bytes_4, from_be_bytes-to_be_bytes_2, from_be_bytes-to_be_bytes_4}
+use Rattle.lg_rules.specs.declared.addr.Addr.{Addr}
 use Rattle.lg_packet.specs.declared.fault.Fault.{Fault}
 use Rattle.lg_packet.specs.declared.fault.Fault.TheVariants as faults
 use Rattle.lg_packet.specs.declared.kind.Kind.{Kind}
 use Rattle.lg_packet.specs.declared.kind.Kind.TheVariants as kinds
 use Rattle.lg_packet.specs.declared.packet.Body.{Body}
-use Rattle.lg_packet.specs.declared.packet.Body.TheVariants.{Ping, Ack}
-use Rattle.lg_packet.specs.Meaning.Spelling.{kind_of, byte_of_kind, spelled_number, spelled_name, spelled_head, spelled_body, IsBody}
-use Rattle.lg_packet.specs.Meaning.Reading.{◌>>=◌, literal_at, kind_before, kind_at, number_at, name_at, head_at, body_at, count_at}
+use Rattle.lg_packet.specs.declared.packet.Body.TheVariants.{Ping, PingReq, Ack, Nack}
+use Rattle.lg_packet.specs.Meaning.Spelling.{kind_of, byte_of_kind, spelled_number, spelled_name, spelled_addr, spelled_head, spelled_body, IsAddr, IsBody}
+use Rattle.lg_packet.specs.Meaning.Reading.{◌>>=◌, literal_at, kind_before, kind_at, number_at, name_at, octets_at, addr_at, head_at, body_at, count_at}
 use Rattle.lg_packet.proofs.Outcomes.{step_ok, passed, passed_by, same_ok}
 use Rattle.lg_packet.proofs.NameFields.{name_read, name_again}
 
@@ -36,16 +39,26 @@ literal_read due fault (b ∷ bytes) rest e =
 
 pub kind_read : (bytes : List ℕ) (x : Kind × List ℕ) → kind_at bytes ≡ Ok x → bytes ≡ byte_of_kind x.0 ∷ x.1
 kind_read [] x e = absurd cc
-kind_read (b ∷ bytes) x e = step (eqb b 1) refl (eqb b 3) refl e
+kind_read (b ∷ bytes) x e = step (eqb b 1) refl (eqb b 2) refl (eqb b 3) refl (eqb b 4) refl e
   where
-    step : (one : Bool) → eqb b 1 ≡ one → (three : Bool) → eqb b 3 ≡ three → kind_before bytes (cond one (Some kinds.Ping) (cond three (Some kinds.Ack) None)) ≡ Ok x → b ∷ bytes ≡ byte_of_kind x.0 ∷ x.1
-    step true h three k e = let same = same_ok (kinds.Ping, bytes) x e in let here : b ≡ 1 = eqb-true b 1 h in subst (λ (y : Kind × List ℕ). b ∷ bytes ≡ byte_of_kind y.0 ∷ y.1) same (ap (λ (n : ℕ). n ∷ bytes) here)
-    step false h true k e = let same = same_ok (kinds.Ack, bytes) x e in let here : b ≡ 3 = eqb-true b 3 k in subst (λ (y : Kind × List ℕ). b ∷ bytes ≡ byte_of_kind y.0 ∷ y.1) same (ap (λ (n : ℕ). n ∷ bytes) here)
-    step false h false k e = absurd cc
+    is : (n : ℕ) (kind : Kind) → byte_of_kind kind ≡ n → eqb b n ≡ true → kind_before bytes (Some kind) ≡ Ok x → b ∷ bytes ≡ byte_of_kind x.0 ∷ x.1
+    is n kind byte h k =
+        let here : b ≡ byte_of_kind kind = eqb-true b n h ∙ sym byte in
+        subst (λ (y : Kind × List ℕ). b ∷ bytes ≡ byte_of_kind y.0 ∷ y.1) (same_ok (kind, bytes) x k) (ap (λ (m : ℕ). m ∷ bytes) here)
+
+    step : (one : Bool) → eqb b 1 ≡ one → (two : Bool) → eqb b 2 ≡ two → (three : Bool) → eqb b 3 ≡ three → (four : Bool) → eqb b 4 ≡ four
+        → kind_before bytes (cond one (Some kinds.Ping) (cond two (Some kinds.PingReq) (cond three (Some kinds.Ack) (cond four (Some kinds.Nack) None)))) ≡ Ok x → b ∷ bytes ≡ byte_of_kind x.0 ∷ x.1
+    step true h two i three j four l k = is 1 kinds.Ping refl h k
+    step false h true i three j four l k = is 2 kinds.PingReq refl i k
+    step false h false i true j four l k = is 3 kinds.Ack refl j k
+    step false h false i false j true l k = is 4 kinds.Nack refl l k
+    step false h false i false j false l k = absurd cc
 
 pub kind_again : (kind : Kind) (rest : List ℕ) → kind_at (byte_of_kind kind ∷ rest) ≡ Ok (kind, rest)
 kind_again kinds.Ping rest = refl
+kind_again kinds.PingReq rest = refl
 kind_again kinds.Ack rest = refl
+kind_again kinds.Nack rest = refl
 
 -- ---- the head
 
@@ -95,7 +108,78 @@ pub number_again : (n : ℕ) (rest : List ℕ) → n < 2 ^ 32 → number_at w32 
 number_again n rest fit =
     number_there (byte_at 3 n) (byte_at 2 n) (byte_at 1 n) (byte_at 0 n) rest ∙ rw (from_be_bytes-to_be_bytes_4 n fit) refl
 
+-- ---- addresses
+
+pub octets_there : (a b c d : ℕ) (rest : List ℕ) → octets_at (a ∷ b ∷ c ∷ d ∷ rest) ≡ Ok (a ∷ b ∷ c ∷ d ∷ [], rest)
+octets_there a b c d rest =
+    let enough : ltb (length (a ∷ b ∷ c ∷ d ∷ rest)) 4 ≡ false = le-ltb (length (a ∷ b ∷ c ∷ d ∷ rest)) 4 (omega arith) in
+    rw enough refl
+
+-- four bytes that were read
+pub record AreOctets (octets : List ℕ) : Type 0 where
+  pub four : length octets ≡ 4
+  pub bytes : AllByRecursion (λ b. b < 256) octets
+
+octets_read : (bytes : List ℕ) (x : List ℕ × List ℕ) → AreBytes bytes → octets_at bytes ≡ Ok x → (bytes ≡ x.0 ++ x.1) × AreOctets x.0
+octets_read [] x fit e = absurd cc
+octets_read (a ∷ []) x fit e = absurd cc
+octets_read (a ∷ b ∷ []) x fit e = absurd cc
+octets_read (a ∷ b ∷ c ∷ []) x fit e = absurd cc
+octets_read (a ∷ b ∷ c ∷ d ∷ rest) x fit e =
+    let four = a ∷ b ∷ c ∷ d ∷ [] in
+    subst (λ (y : List ℕ × List ℕ). (four ++ rest ≡ y.0 ++ y.1) × AreOctets y.0) (same_ok (four, rest) x (sym (octets_there a b c d rest) ∙ e)) (refl, record { four = refl; bytes = (fit 0, (fit 1, (fit 2, (fit 3, tt)))) })
+
+octets_again : (octets rest : List ℕ) → length octets ≡ 4 → octets_at (octets ++ rest) ≡ Ok (octets, rest)
+octets_again octets rest four =
+    let enough : ltb (length (octets ++ rest)) 4 ≡ false = le-ltb (length (octets ++ rest)) 4 (omega (arith, length-append octets rest)) in
+    rw (enough, take_at octets rest 4 four, drop_at octets rest 4 four) refl
+
+pub port_there : (a b : ℕ) (rest : List ℕ) → number_at w16 (a ∷ b ∷ rest) ≡ Ok (from_be_bytes w16 (a ∷ b ∷ []), rest)
+port_there a b rest =
+    let enough : ltb (length (a ∷ b ∷ rest)) 2 ≡ false = le-ltb (length (a ∷ b ∷ rest)) 2 (omega arith) in
+    rw enough refl
+
+port_read : (bytes : List ℕ) (x : ℕ × List ℕ) → AreBytes bytes → number_at w16 bytes ≡ Ok x → (bytes ≡ to_be_bytes w16 x.0 ++ x.1) × (x.0 < 2 ^ 16)
+port_read [] x fit e = absurd cc
+port_read (a ∷ []) x fit e = absurd cc
+port_read (a ∷ b ∷ rest) x fit e =
+    let two = a ∷ b ∷ [] in
+    let written : to_be_bytes w16 (from_be_bytes w16 two) ≡ two = be_bytes_2 two (from_be_bytes w16 two) refl front_fits refl in
+    let below : from_be_bytes w16 two < 2 ^ 16 = omega (arith, fit 0, fit 1) in
+    subst (λ (y : ℕ × List ℕ). (two ++ rest ≡ to_be_bytes w16 y.0 ++ y.1) × (y.0 < 2 ^ 16)) (same_ok (from_be_bytes w16 two, rest) x (sym (port_there a b rest) ∙ e)) (ap (λ (t : List ℕ). t ++ rest) (sym written), below)
+  where
+    front_fits : AreBytes (a ∷ b ∷ [])
+    front_fits zero = fit 0
+    front_fits (suc zero) = fit 1
+    front_fits (suc (suc i)) = omega arith
+
+port_again : (n : ℕ) (rest : List ℕ) → n < 2 ^ 16 → number_at w16 (to_be_bytes w16 n ++ rest) ≡ Ok (n, rest)
+port_again n rest fit = port_there (byte_at 1 n) (byte_at 0 n) rest ∙ rw (from_be_bytes-to_be_bytes_2 n fit) refl
+
+pub addr_read : (bytes : List ℕ) (x : Addr × List ℕ) → AreBytes bytes → addr_at bytes ≡ Ok x → (bytes ≡ spelled_addr x.0 ++ x.1) × IsAddr x.0
+unfolding addr_at
+addr_read bytes x fit e =
+    let a = step_ok (octets_at bytes) (λ octets. number_at w16 octets.1 >>= λ port. Ok (record { octets = octets.0; port = port.0 }, port.1)) x e in
+    let b = step_ok (number_at w16 a.0.1) (λ port. Ok (record { octets = a.0.0; port = port.0 }, port.1)) x a.2 in
+    let octets = octets_read bytes a.0 fit a.1 in
+    let port = port_read a.0.1 b.0 (behind a.0.0 a.0.1 (subst AreBytes octets.0 fit)) b.1 in
+    let made : Addr = record { octets = a.0.0; port = b.0.0 } in
+    let whole : bytes ≡ spelled_addr made ++ b.0.1 = octets.0 ∙ ap (λ (t : List ℕ). a.0.0 ++ t) port.0 ∙ sym (append_assoc a.0.0 (to_be_bytes w16 b.0.0) b.0.1) in
+    subst (λ (y : Addr × List ℕ). (bytes ≡ spelled_addr y.0 ++ y.1) × IsAddr y.0) (same_ok (made, b.0.1) x b.2) (whole, record { four = octets.1.four; octets = octets.1.bytes; port = port.1 })
+
+pub addr_again : (addr : Addr) (rest : List ℕ) → IsAddr addr → addr_at (spelled_addr addr ++ rest) ≡ Ok (addr, rest)
+unfolding addr_at
+addr_again addr rest fit =
+    ap addr_at (append_assoc addr.octets (to_be_bytes w16 addr.port) rest)
+    ∙ rw (octets_again addr.octets (to_be_bytes w16 addr.port ++ rest) fit.four, port_again addr.port rest fit.port) refl
+
 -- ---- bodies
+
+-- a PingReq's spelling, and what stands behind it
+regrouped : (number : ℕ) (target : List ℕ) (addr : Addr) (rest : List ℕ) → spelled_body (PingReq number target addr) ++ rest ≡ spelled_number number ++ (spelled_name target ++ (spelled_addr addr ++ rest))
+regrouped number target addr rest =
+    append_assoc (spelled_number number) (spelled_name target ++ spelled_addr addr) rest
+    ∙ ap (λ (t : List ℕ). spelled_number number ++ t) (append_assoc (spelled_name target) (spelled_addr addr) rest)
 
 pub body_read : (kind : Kind) (bytes : List ℕ) (x : Body × List ℕ) → AreBytes bytes → body_at kind bytes ≡ Ok x → (bytes ≡ spelled_body x.0 ++ x.1) × IsBody x.0 × (kind_of x.0 ≡ kind)
 unfolding body_at
@@ -107,15 +191,35 @@ body_read kinds.Ping bytes x fit e =
     let whole : bytes ≡ spelled_body (Ping a.0.0 b.0.0) ++ b.0.1 =
     number.0 ∙ ap (λ (t : List ℕ). spelled_number a.0.0 ++ t) target.0 ∙ sym (append_assoc (spelled_number a.0.0) (spelled_name b.0.0) b.0.1) in
     subst (λ (y : Body × List ℕ). (bytes ≡ spelled_body y.0 ++ y.1) × IsBody y.0 × (kind_of y.0 ≡ kinds.Ping)) (same_ok (Ping a.0.0 b.0.0, b.0.1) x b.2) (whole, (number.1, target.1), refl)
+body_read kinds.PingReq bytes x fit e =
+    let a = step_ok (number_at w32 bytes) (λ number. name_at number.1 >>= λ target. addr_at target.1 >>= λ addr. Ok (PingReq number.0 target.0 addr.0, addr.1)) x e in
+    let b = step_ok (name_at a.0.1) (λ target. addr_at target.1 >>= λ addr. Ok (PingReq a.0.0 target.0 addr.0, addr.1)) x a.2 in
+    let d = step_ok (addr_at b.0.1) (λ addr. Ok (PingReq a.0.0 b.0.0 addr.0, addr.1)) x b.2 in
+    let number = number_read bytes a.0 fit a.1 in
+    let behind_number : AreBytes a.0.1 = behind (spelled_number a.0.0) a.0.1 (subst AreBytes number.0 fit) in
+    let target = name_read a.0.1 b.0 b.1 in
+    let behind_target : AreBytes b.0.1 = behind (spelled_name b.0.0) b.0.1 (subst AreBytes target.0 behind_number) in
+    let addr = addr_read b.0.1 d.0 behind_target d.1 in
+    let whole : bytes ≡ spelled_body (PingReq a.0.0 b.0.0 d.0.0) ++ d.0.1 =
+    number.0 ∙ ap (λ (t : List ℕ). spelled_number a.0.0 ++ t) (target.0 ∙ ap (λ (t : List ℕ). spelled_name b.0.0 ++ t) addr.0) ∙ sym (regrouped a.0.0 b.0.0 d.0.0 d.0.1) in
+    subst (λ (y : Body × List ℕ). (bytes ≡ spelled_body y.0 ++ y.1) × IsBody y.0 × (kind_of y.0 ≡ kinds.PingReq)) (same_ok (PingReq a.0.0 b.0.0 d.0.0, d.0.1) x d.2) (whole, (number.1, target.1, addr.1), refl)
 body_read kinds.Ack bytes x fit e =
     let a = step_ok (number_at w32 bytes) (λ number. Ok (Ack number.0, number.1)) x e in
     let number = number_read bytes a.0 fit a.1 in
     subst (λ (y : Body × List ℕ). (bytes ≡ spelled_body y.0 ++ y.1) × IsBody y.0 × (kind_of y.0 ≡ kinds.Ack)) (same_ok (Ack a.0.0, a.0.1) x a.2) (number.0, number.1, refl)
+body_read kinds.Nack bytes x fit e =
+    let a = step_ok (number_at w32 bytes) (λ number. Ok (Nack number.0, number.1)) x e in
+    let number = number_read bytes a.0 fit a.1 in
+    subst (λ (y : Body × List ℕ). (bytes ≡ spelled_body y.0 ++ y.1) × IsBody y.0 × (kind_of y.0 ≡ kinds.Nack)) (same_ok (Nack a.0.0, a.0.1) x a.2) (number.0, number.1, refl)
 
 pub body_again : (body : Body) (rest : List ℕ) → IsBody body → body_at (kind_of body) (spelled_body body ++ rest) ≡ Ok (body, rest)
 unfolding body_at
 body_again (Ping number target) rest fit = rw (number_again number (spelled_name target ++ rest) fit.0, name_again target rest fit.1) refl
+body_again (PingReq number target addr) rest fit =
+    ap (body_at kinds.PingReq) (regrouped number target addr rest)
+    ∙ rw (number_again number (spelled_name target ++ (spelled_addr addr ++ rest)) fit.0, name_again target (spelled_addr addr ++ rest) fit.1, addr_again addr rest fit.2) refl
 body_again (Ack number) rest fit = rw (number_again number rest fit) refl
+body_again (Nack number) rest fit = rw (number_again number rest fit) refl
 
 -- ---- the count of claims
 

@@ -3,20 +3,21 @@ use Rattle.std.proofs.Common.{◌≡◌, ℕ, suc, cond, eqb, List, [], ◌∷�
 use Rattle.std.specs.Prelude.{IfErr}
 use Rattle.std.specs.Int.{w32}
 use Rattle.std.proofs.lemmas.Bool.{ne_eqb}
+use Rattle.lg_rules.specs.declared.addr.Addr.{Addr}
 use Rattle.lg_rules.specs.declared.claim.Claim.{Claim}
 use Rattle.lg_packet.specs.declared.fault.Fault.{Fault}
 use Rattle.lg_packet.specs.declared.fault.Fault.TheVariants as faults
 use Rattle.lg_packet.specs.declared.kind.Kind.{Kind}
 use Rattle.lg_packet.specs.declared.kind.Kind.TheVariants as kinds
 use Rattle.lg_packet.specs.declared.packet.Body.{Body}
-use Rattle.lg_packet.specs.declared.packet.Body.TheVariants.{Ping, Ack}
+use Rattle.lg_packet.specs.declared.packet.Body.TheVariants.{Ping, PingReq, Ack, Nack}
 use Rattle.lg_packet.specs.declared.packet.Packet.{Packet}
 use Rattle.lg_packet.specs.Meaning.Spelling.{byte_of_kind}
-use Rattle.lg_packet.specs.Meaning.Reading.{◌>>=◌, literal_at, kind_at, name_at, number_at, head_at, body_at, count_at, claims_at, packet_at, packet_of}
-use Rattle.lg_packet.specs.Meaning.Fault.{Part, MagicByte, VersionByte, KindByte, LengthByte, CountByte, ClaimKindByte, body_parts, packet_parts, fault_of}
+use Rattle.lg_packet.specs.Meaning.Reading.{◌>>=◌, literal_at, kind_at, name_at, number_at, addr_at, head_at, body_at, count_at, claims_at, packet_at, packet_of}
+use Rattle.lg_packet.specs.Meaning.Fault.{Part, MagicByte, VersionByte, KindByte, LengthByte, CountByte, ClaimKindByte, addr_parts, body_parts, packet_parts, fault_of}
 use Rattle.lg_packet.proofs.Outcomes.{fault_or, fault_then}
 use Rattle.lg_packet.proofs.Places.{fault_from, by_places}
-use Rattle.lg_packet.proofs.FieldPlaces.{literal_fault, kind_fault, name_fault, number_fault, count_fault}
+use Rattle.lg_packet.proofs.FieldPlaces.{literal_fault, kind_fault, name_fault, number_fault, addr_fault, count_fault}
 use Rattle.lg_packet.proofs.ClaimPlaces.{claims_fault}
 
 head_fault : (bytes : List ℕ) → fault_from bytes packet_parts ≡ fault_or (λ (x : Kind × List ℕ). fault_from x.1 (LengthByte ∷ (body_parts (byte_of_kind x.0) ++ CountByte ∷ []))) (head_at bytes)
@@ -40,10 +41,22 @@ body_fault kinds.Ping parts bytes =
     ∙ fault_then (number_at w32 bytes) (λ number. name_at number.1 >>= λ target. Ok (Ping number.0 target.0, target.1)) (λ (x : ℕ × List ℕ). fault_from x.1 (LengthByte ∷ parts)) on (λ number.
     name_fault parts number.1
     ∙ fault_then (name_at number.1) (λ target. Ok (Ping number.0 target.0, target.1)) (λ (x : List ℕ × List ℕ). fault_from x.1 parts) on (λ target. refl))
+body_fault kinds.PingReq parts bytes =
+    let on = λ (x : Body × List ℕ). fault_from x.1 parts in
+    number_fault (LengthByte ∷ (addr_parts ++ parts)) bytes
+    ∙ fault_then (number_at w32 bytes) (λ number. name_at number.1 >>= λ target. addr_at target.1 >>= λ addr. Ok (PingReq number.0 target.0 addr.0, addr.1)) (λ (x : ℕ × List ℕ). fault_from x.1 (LengthByte ∷ (addr_parts ++ parts))) on (λ number.
+    name_fault (addr_parts ++ parts) number.1
+    ∙ fault_then (name_at number.1) (λ target. addr_at target.1 >>= λ addr. Ok (PingReq number.0 target.0 addr.0, addr.1)) (λ (x : List ℕ × List ℕ). fault_from x.1 (addr_parts ++ parts)) on (λ target.
+    addr_fault parts target.1
+    ∙ fault_then (addr_at target.1) (λ addr. Ok (PingReq number.0 target.0 addr.0, addr.1)) (λ (x : Addr × List ℕ). fault_from x.1 parts) on (λ addr. refl)))
 body_fault kinds.Ack parts bytes =
     let on = λ (x : Body × List ℕ). fault_from x.1 parts in
     number_fault parts bytes
     ∙ fault_then (number_at w32 bytes) (λ number. Ok (Ack number.0, number.1)) (λ (x : ℕ × List ℕ). fault_from x.1 parts) on (λ number. refl)
+body_fault kinds.Nack parts bytes =
+    let on = λ (x : Body × List ℕ). fault_from x.1 parts in
+    number_fault parts bytes
+    ∙ fault_then (number_at w32 bytes) (λ number. Ok (Nack number.0, number.1)) (λ (x : ℕ × List ℕ). fault_from x.1 parts) on (λ number. refl)
 
 packet_fault : (bytes : List ℕ) → fault_from bytes packet_parts ≡ fault_or (λ (x : Packet × List ℕ). fault_from x.1 []) (packet_at bytes)
 unfolding packet_at

@@ -11,8 +11,12 @@ use lg_rules::Status;
 pub(crate) enum Kind {
     /// A Ping.
     Ping = 1,
+    /// A PingReq.
+    PingReq = 2,
     /// An Ack.
     Ack = 3,
+    /// A Nack.
+    Nack = 4,
 }
 
 /// The kind that a byte stands for.
@@ -21,7 +25,9 @@ pub(crate) fn kind_of_byte(byte: u8) -> Option<Kind>
 {
     match byte {
         1 => Some(Kind::Ping),
+        2 => Some(Kind::PingReq),
         3 => Some(Kind::Ack),
+        4 => Some(Kind::Nack),
         _ => None,
     }
 }
@@ -32,7 +38,9 @@ pub(crate) fn kind_of(body: &Body) -> Kind
 {
     match body {
         Body::Ping { .. } => Kind::Ping,
+        Body::PingReq { .. } => Kind::PingReq,
         Body::Ack { .. } => Kind::Ack,
+        Body::Nack { .. } => Kind::Nack,
     }
 }
 

@@ -2,9 +2,9 @@
 ghost use Rattle.std.specs.Prelude.{◌≡◌};
 
 use arrayvec::ArrayVec;
-use lg_rules::{Claim, MAX_CLAIMS, Name};
+use lg_rules::{Addr, Claim, MAX_CLAIMS, Name};
 
-/// What a packet asks for or acknowledges (SWIM, section 3.1).
+/// What a packet asks for, or answers (SWIM, section 3.1; a Nack is Lifeguard's).
 #[derive(Clone, Copy, Debug, PartialEq, Eq)]
 pub enum Body {
     /// Asks a member for an Ack with this number.
@@ -14,9 +14,24 @@ pub enum Body {
         /// The member that is asked.
         target: Name,
     },
-    /// Acknowledges a Ping.
+    /// Asks a helper to probe a member for the sender.
+    PingReq {
+        /// The sender's number of its probe.
+        number: u32,
+        /// The member that is to be probed.
+        target: Name,
+        /// Where the target is reached; the helper needn't know the target (this project's choice).
+        addr: Addr,
+    },
+    /// Acknowledges a Ping or, on behalf of its target, a PingReq.
     Ack {
-        /// The number of the Ping.
+        /// The number of the Ping or the PingReq.
+        number: u32,
+    },
+    /// Tells the sender of a PingReq that the helper has no Ack for it so far (Lifeguard, local health aware
+    /// probe).
+    Nack {
+        /// The number of the PingReq.
         number: u32,
     },
 }
@@ -26,7 +41,7 @@ pub enum Body {
 pub struct Packet {
     /// The member that sent it.
     pub sender: Name,
-    /// What it asks for or acknowledges.
+    /// What it asks for, or answers.
     pub body: Body,
     /// What it says of members, in the order in which it is heard (SWIM, section 4.1).
     pub claims: ArrayVec<Claim, MAX_CLAIMS>,

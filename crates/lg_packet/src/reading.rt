@@ -105,31 +105,6 @@ impl Reader<'_> {
         Ok(u32::from_be_bytes([*a, *b, *c, *d]))
     }
 
-    #[tactic(auto, unfolding(crate::specs::Meaning::Reading::head_at))]
-    fn head(&mut self) -> Result<Kind, Fault>
-        ensures { Gives (λ x. (x, self.new.rest.now)) result (head_at self.old.rest.now) }
-    {
-        self.literal(0x53, Fault::Magic)?;
-        self.literal(0x4c, Fault::Magic)?;
-        self.literal(1, Fault::Version)?;
-        self.kind()
-    }
-
-    #[tactic(auto, unfolding(crate::specs::Meaning::Reading::body_at))]
-    fn body(&mut self, kind: Kind) -> Result<Body, Fault>
-        ensures { Gives (λ x. (x, self.new.rest.now)) result (body_at kind self.old.rest.now) }
-    {
-        match kind {
-            Kind::Ping => Ok(Body::Ping {
-                number: self.number()?,
-                target: self.name()?,
-            }),
-            Kind::Ack => Ok(Body::Ack {
-                number: self.number()?,
-            }),
-        }
-    }
-
     fn octets(&mut self) -> Result<[u8; 4], Fault>
         ensures { Gives (λ x. (x, self.new.rest.now)) result (octets_at self.old.rest.now) }
     {
@@ -157,6 +132,39 @@ impl Reader<'_> {
         let octets = self.octets()?;
         let port = self.port()?;
         Ok(Addr { octets, port })
+    }
+
+    #[tactic(auto, unfolding(crate::specs::Meaning::Reading::head_at))]
+    fn head(&mut self) -> Result<Kind, Fault>
+        ensures { Gives (λ x. (x, self.new.rest.now)) result (head_at self.old.rest.now) }
+    {
+        self.literal(0x53, Fault::Magic)?;
+        self.literal(0x4c, Fault::Magic)?;
+        self.literal(1, Fault::Version)?;
+        self.kind()
+    }
+
+    #[tactic(auto, unfolding(crate::specs::Meaning::Reading::body_at))]
+    fn body(&mut self, kind: Kind) -> Result<Body, Fault>
+        ensures { Gives (λ x. (x, self.new.rest.now)) result (body_at kind self.old.rest.now) }
+    {
+        match kind {
+            Kind::Ping => Ok(Body::Ping {
+                number: self.number()?,
+                target: self.name()?,
+            }),
+            Kind::PingReq => Ok(Body::PingReq {
+                number: self.number()?,
+                target: self.name()?,
+                addr: self.addr()?,
+            }),
+            Kind::Ack => Ok(Body::Ack {
+                number: self.number()?,
+            }),
+            Kind::Nack => Ok(Body::Nack {
+                number: self.number()?,
+            }),
+        }
     }
 
     /// An incarnation, judged once its four bytes are there.

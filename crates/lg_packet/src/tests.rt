@@ -16,6 +16,12 @@ const PING: &[u8] = b"SL\x01\x01\x01a\x00\x00\x00\x07\x01b\x00";
 /// An Ack of `b`, numbered 7.
 const ACK: &[u8] = b"SL\x01\x03\x01b\x00\x00\x00\x07\x00";
 
+/// `a` asks a helper to probe `c` at port 7003, for its probe numbered 1.
+const PING_REQ: &[u8] = b"SL\x01\x02\x01a\x00\x00\x00\x01\x01c\x7f\x00\x00\x01\x1b\x5b\x00";
+
+/// The helper `b` has no Ack for the probe numbered 1.
+const NACK: &[u8] = b"SL\x01\x04\x01b\x00\x00\x00\x01\x00";
+
 /// A Ping from `a` for `c`, that says that `c` is there.
 const ALIVE: &[u8] = b"SL\x01\x01\x01a\x00\x00\x00\x07\x01c\x01\
     \x01\x01c\x7f\x00\x00\x01\x1b\x5b\x00\x00\x00\x00";
@@ -88,6 +94,16 @@ fn near_an_ack(rt: HostRuntime) -> Result<(), Fail> {
 }
 
 #[test]
+fn near_a_ping_req(rt: HostRuntime) -> Result<(), Fail> {
+    agree_near(&rt, rt.alloc(), PING_REQ)
+}
+
+#[test]
+fn near_a_nack(rt: HostRuntime) -> Result<(), Fail> {
+    agree_near(&rt, rt.alloc(), NACK)
+}
+
+#[test]
 fn near_a_claim(rt: HostRuntime) -> Result<(), Fail> {
     agree_near(&rt, rt.alloc(), ALIVE)?;
     agree_near(&rt, rt.alloc(), ACK_ALIVE)
@@ -108,7 +124,7 @@ fn near_the_greatest_incarnation(rt: HostRuntime) -> Result<(), Fail> {
 fn fills_a_packet_in_place(rt: HostRuntime) -> Result<(), Fail> {
     let mut packet = Packet::default();
     let mut out = ArrayVec::new();
-    for bytes in [SUSPECTS, PING, ALIVE, ACK] {
+    for bytes in [SUSPECTS, PING, PING_REQ, ALIVE, NACK, ACK] {
         assert_eq!(rt; decode_into(bytes, &mut packet), Ok(()));
         encode(&packet, &mut out);
         assert_eq!(rt; out.as_slice(), bytes);
@@ -183,18 +199,21 @@ fn writes_and_reads_the_longest_packet(rt: HostRuntime) -> Result<(), Fail> {
     );
     let packet = Packet {
         sender: long,
-        body: Body::Ping {
+        body: Body::PingReq {
             number: u32::MAX,
             target: long,
+            addr: Addr::new([255; 4], u16::MAX),
         },
         claims,
     };
     let mut out = ArrayVec::new();
     encode(&packet, &mut out);
-    assert_eq!(rt; out.len(), 4 + 33 + 37 + 1 + 6 * 77);
+    assert_eq!(rt; out.len(), 4 + 33 + 43 + 1 + 6 * 77);
+    assert_eq!(rt; out.len(), MAX_PACKET);
     agree(&rt, rt.alloc(), &out)?;
     let read = decode(&out).ok().ok_or("the bytes are a packet")?;
     assert_eq!(rt; read.sender, long);
+    assert_eq!(rt; read.body, packet.body);
     assert_eq!(rt; read.claims.as_slice(), packet.claims.as_slice());
     let mut longer = out.to_vec(rt.alloc())?;
     longer.push(0)?;
@@ -229,6 +248,50 @@ fn reads_and_writes_a_ping_and_an_ack(rt: HostRuntime) -> Result<(), Fail> {
         out.as_slice(),
         b"SL\x01\x03\x01a\x00\x00\x00\x00\x00".as_slice()
     );
+    Ok(())
+}
+
+#[test]
+fn reads_and_writes_a_ping_req_and_a_nack(rt: HostRuntime) -> Result<(), Fail> {
+    let (a, b, c) = (name(b"a")?, name(b"b")?, name(b"c")?);
+    let asks = Body::PingReq {
+        number: 1,
+        target: c,
+        addr: Addr::new([127, 0, 0, 1], 7003),
+    };
+    let rows = [(PING_REQ, a, asks), (NACK, b, Body::Nack { number: 1 })];
+    let mut out = ArrayVec::new();
+    for (bytes, sender, body) in rows {
+        let packet = Packet {
+            sender,
+            body,
+            claims: ArrayVec::new(),
+        };
+        encode(&packet, &mut out);
+        assert_eq!(rt; out.as_slice(), bytes);
+        let read = decode(bytes).ok().ok_or("the bytes are a packet")?;
+        assert_eq!(rt; read.sender, sender);
+        assert_eq!(rt; read.body, body);
+        assert!(rt; read.claims.is_empty());
+    }
+    Ok(())
+}
+
+#[test]
+fn refuses_what_is_near_a_ping_req_and_a_nack(rt: HostRuntime) -> Result<(), Fail> {
+    for bytes in [PING_REQ, NACK] {
+        for end in 0..bytes.len() {
+            assert_eq!(rt; decode(&bytes[..end]).err(), Some(Fault::Short), "{end}");
+        }
+        let mut changed = bytes.to_vec(rt.alloc())?;
+        changed.push(0)?;
+        assert_eq!(rt; decode(&changed).err(), Some(Fault::Trailing));
+        for kind in [0, 5, 6, 7] {
+            assert!(rt; changed.len() > 3);
+            changed[3] = kind;
+            assert_eq!(rt; decode(&changed).err(), Some(Fault::Kind), "{kind}");
+        }
+    }
     Ok(())
 }
 

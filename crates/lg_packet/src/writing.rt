@@ -16,11 +16,14 @@ use lg_rules::{Addr, Claim, MAX_CLAIMS, MAX_NAME, Name, Status};
 /// The room for the length and the bytes of a name: 33.
 const NAME_ROOM: usize = 1 + MAX_NAME;
 
-/// The room for a body (this project's choice). The longest so far is a Ping's, of 37.
-const BODY_ROOM: usize = 43;
+/// The room for the bytes of an address: 6.
+const ADDR_ROOM: usize = 4 + 2;
+
+/// The room for the longest body, that of a PingReq, with a number, a name and an address: 43.
+const BODY_ROOM: usize = 4 + NAME_ROOM + ADDR_ROOM;
 
 /// The room for the kind, the name, the address, the incarnation and the accuser of a claim: 77.
-const CLAIM_ROOM: usize = 1 + NAME_ROOM + 6 + 4 + NAME_ROOM;
+const CLAIM_ROOM: usize = 1 + NAME_ROOM + ADDR_ROOM + 4 + NAME_ROOM;
 
 /// The room for the bytes of a packet, 543 (this project's choice): 4 of head, 33 of the sender's name,
 /// 43 of the body, 1 of the count, and 6 claims of at most 77.
@@ -57,6 +60,17 @@ fn put_name(out: &mut Row, name: &Name)
     put(out, text);
 }
 
+fn put_addr(out: &mut Row, addr: &Addr)
+    requires { array_vec_len out.old + ADDR_ROOM ≤ MAX_PACKET }
+    ensures items { out.new.items ≡ out.old.items ++ spelled_addr addr.now }
+    ensures len { array_vec_len out.new ≡ array_vec_len out.old + ADDR_ROOM }
+    ensures addr { IsAddr addr.now }
+{
+    let [a, b, c, d] = addr.octets;
+    let [high, low] = addr.port.to_be_bytes();
+    put(out, &[a, b, c, d, high, low]);
+}
+
 fn put_body(out: &mut Row, body: &Body)
     requires { array_vec_len out.old + BODY_ROOM ≤ MAX_PACKET }
     ensures items { out.new.items ≡ out.old.items ++ spelled_body body.now }
@@ -68,19 +82,17 @@ fn put_body(out: &mut Row, body: &Body)
             put(out, &number.to_be_bytes());
             put_name(out, target);
         }
-        Body::Ack { number } => put(out, &number.to_be_bytes()),
+        Body::PingReq {
+            number,
+            target,
+            addr,
+        } => {
+            put(out, &number.to_be_bytes());
+            put_name(out, target);
+            put_addr(out, addr);
+        }
+        Body::Ack { number } | Body::Nack { number } => put(out, &number.to_be_bytes()),
     }
-}
-
-fn put_addr(out: &mut Row, addr: &Addr)
-    requires { array_vec_len out.old + 6 ≤ MAX_PACKET }
-    ensures items { out.new.items ≡ out.old.items ++ spelled_addr addr.now }
-    ensures len { array_vec_len out.new ≡ array_vec_len out.old + 6 }
-    ensures addr { IsAddr addr.now }
-{
-    let [a, b, c, d] = addr.octets;
-    let [high, low] = addr.port.to_be_bytes();
-    put(out, &[a, b, c, d, high, low]);
 }
 
 fn put_accuser(out: &mut Row, status: &Status)

@@ -1,13 +1,13 @@
 -- Worked rows.
-use Rattle.std.specs.Prelude.{◌≡◌, ℕ, List, [], ◌∷◌, take, Ok, Err, refl}
+use Rattle.std.specs.Prelude.{◌≡◌, ℕ, List, [], ◌∷◌, length, replicate, take, Ok, Err, refl}
 use Rattle.lg_rules.specs.declared.addr.Addr.{Addr}
 use Rattle.lg_rules.specs.declared.claim.Claim.{Claim}
 use Rattle.lg_rules.specs.declared.claim.Status.TheVariants.{Alive, Suspect}
 use Rattle.lg_packet.specs.declared.fault.Fault.{Fault}
 use Rattle.lg_packet.specs.declared.fault.Fault.TheVariants as faults
-use Rattle.lg_packet.specs.declared.packet.Body.TheVariants.{Ping, Ack}
+use Rattle.lg_packet.specs.declared.packet.Body.TheVariants.{Ping, PingReq, Ack, Nack}
 use Rattle.lg_packet.specs.declared.packet.Packet.{Packet}
-use Rattle.lg_packet.specs.Meaning.Spelling.{spelling}
+use Rattle.lg_packet.specs.Meaning.Spelling.{spelled_body, spelling}
 use Rattle.lg_packet.specs.Meaning.Reading.{name_at, head_at, body_at, claims_at, packet_at, packet_of}
 use Rattle.lg_packet.specs.Meaning.Reading.{addr_at, incarnation_at, status_at, claim_at}
 use Rattle.lg_packet.specs.Meaning.Fault.{fault_of, first_fault, fault_behind}
@@ -73,6 +73,10 @@ other_kind : Fails (0x53 ∷ 0x4c ∷ 1 ∷ 7 ∷ []) faults.Kind
 unfolding packet_of packet_at head_at name_at body_at claims_at fault_of first_fault fault_behind
 other_kind = record { read = refl; placed = refl }
 
+fifth_kind : Fails (0x53 ∷ 0x4c ∷ 1 ∷ 5 ∷ []) faults.Kind
+unfolding packet_of packet_at head_at name_at body_at claims_at fault_of first_fault fault_behind
+fifth_kind = record { read = refl; placed = refl }
+
 -- the length of a name is judged at once
 no_name : Fails (0x53 ∷ 0x4c ∷ 1 ∷ 1 ∷ 0 ∷ []) faults.Name
 unfolding packet_of packet_at head_at name_at body_at claims_at fault_of first_fault fault_behind
@@ -100,11 +104,98 @@ longer_ping : Fails (0x53 ∷ 0x4c ∷ 1 ∷ 1 ∷ 1 ∷ 97 ∷ 0 ∷ 0 ∷ 0 �
 unfolding packet_of packet_at head_at name_at body_at claims_at fault_of first_fault fault_behind
 longer_ping = record { read = refl; placed = refl }
 
--- ---- claims
-
 -- a place at 127.0.0.1 and this port
 abbrev at_port : ℕ → Addr
 at_port port = record { octets = 127 ∷ 0 ∷ 0 ∷ 1 ∷ []; port = port }
+
+-- ---- what a helper hears and tells
+
+-- a asks a helper, by its probe numbered 1, to probe c at port 7003
+abbrev ping_req : Packet
+ping_req = record { sender = 97 ∷ []; body = PingReq 1 (99 ∷ []) (at_port 7003); claims = record { items = [] } }
+
+abbrev ping_req_bytes : List ℕ
+ping_req_bytes =
+    0x53 ∷ 0x4c ∷ 1 ∷ 2 ∷ 1 ∷ 97 ∷ 0 ∷ 0 ∷ 0 ∷ 1 ∷ 1 ∷ 99 ∷ 0x7f ∷ 0 ∷ 0 ∷ 1 ∷ 0x1b ∷ 0x5b ∷ 0 ∷ []
+
+-- the helper b has no Ack for the probe numbered 1 so far
+abbrev nack : Packet
+nack = record { sender = 98 ∷ []; body = Nack 1; claims = record { items = [] } }
+
+abbrev nack_bytes : List ℕ
+nack_bytes = 0x53 ∷ 0x4c ∷ 1 ∷ 4 ∷ 1 ∷ 98 ∷ 0 ∷ 0 ∷ 0 ∷ 1 ∷ 0 ∷ []
+
+spelled_ping_req : spelling ping_req ≡ ping_req_bytes
+unfolding spelling
+spelled_ping_req = refl
+
+spelled_nack : spelling nack ≡ nack_bytes
+unfolding spelling
+spelled_nack = refl
+
+read_ping_req : packet_of ping_req_bytes ≡ Ok ping_req
+unfolding packet_of packet_at head_at name_at addr_at body_at claims_at
+read_ping_req = refl
+
+read_nack : packet_of nack_bytes ≡ Ok nack
+unfolding packet_of packet_at head_at name_at body_at claims_at
+read_nack = refl
+
+-- the longest body and the longest packet
+longest_body : length (spelled_body (PingReq 4294967295 (replicate 32 99) (at_port 65535))) ≡ 43
+longest_body = refl
+
+abbrev longest : Packet
+longest =
+    let name = replicate 32 99 in
+    let claim : Claim = record { name = name; addr = at_port 65535; status = Suspect name; incarnation = 1000000000 } in
+    let asks = PingReq 4294967295 name (at_port 65535) in
+    record { sender = name; body = asks; claims = record { items = replicate 6 claim } }
+
+longest_packet : length (spelling longest) ≡ 543
+unfolding spelling
+longest_packet = refl
+
+-- a PingReq that ends in its number, in its target, and in its address: in the four bytes and in the port
+short_number : Fails (take 9 ping_req_bytes) faults.Short
+unfolding packet_of packet_at head_at name_at body_at claims_at fault_of first_fault fault_behind
+short_number = record { read = refl; placed = refl }
+
+short_target : Fails (take 11 ping_req_bytes) faults.Short
+unfolding packet_of packet_at head_at name_at body_at claims_at fault_of first_fault fault_behind
+short_target = record { read = refl; placed = refl }
+
+short_octets : Fails (take 15 ping_req_bytes) faults.Short
+unfolding packet_of packet_at head_at name_at addr_at body_at claims_at fault_of first_fault fault_behind
+short_octets = record { read = refl; placed = refl }
+
+short_port : Fails (take 17 ping_req_bytes) faults.Short
+unfolding packet_of packet_at head_at name_at addr_at body_at claims_at fault_of first_fault fault_behind
+short_port = record { read = refl; placed = refl }
+
+-- a target with no byte, with 33, and with a bad one
+no_target : Fails (0x53 ∷ 0x4c ∷ 1 ∷ 2 ∷ 1 ∷ 97 ∷ 0 ∷ 0 ∷ 0 ∷ 1 ∷ 0 ∷ []) faults.Name
+unfolding packet_of packet_at head_at name_at body_at claims_at fault_of first_fault fault_behind
+no_target = record { read = refl; placed = refl }
+
+long_target : Fails (0x53 ∷ 0x4c ∷ 1 ∷ 2 ∷ 1 ∷ 97 ∷ 0 ∷ 0 ∷ 0 ∷ 1 ∷ 33 ∷ []) faults.Name
+unfolding packet_of packet_at head_at name_at body_at claims_at fault_of first_fault fault_behind
+long_target = record { read = refl; placed = refl }
+
+bad_target : Fails (0x53 ∷ 0x4c ∷ 1 ∷ 2 ∷ 1 ∷ 97 ∷ 0 ∷ 0 ∷ 0 ∷ 1 ∷ 2 ∷ 32 ∷ []) faults.Name
+unfolding packet_of packet_at head_at name_at body_at claims_at fault_of first_fault fault_behind
+bad_target = record { read = refl; placed = refl }
+
+-- a Nack that ends in its number, and one with a byte more
+short_nack : Fails (take 9 nack_bytes) faults.Short
+unfolding packet_of packet_at head_at name_at body_at claims_at fault_of first_fault fault_behind
+short_nack = record { read = refl; placed = refl }
+
+longer_nack : Fails (0x53 ∷ 0x4c ∷ 1 ∷ 4 ∷ 1 ∷ 98 ∷ 0 ∷ 0 ∷ 0 ∷ 1 ∷ 0 ∷ 0 ∷ []) faults.Trailing
+unfolding packet_of packet_at head_at name_at body_at claims_at fault_of first_fault fault_behind
+longer_nack = record { read = refl; placed = refl }
+
+-- ---- claims
 
 -- a says to b that c is there
 abbrev alive : Packet

@@ -23,7 +23,7 @@ pub data Part : Type 0 where
 abbrev pub is_allowed : Part → ℕ → Bool
 is_allowed (MagicByte magic) b = b == magic
 is_allowed VersionByte b = b == 1
-is_allowed KindByte b = b == 1 || b == 3
+is_allowed KindByte b = nat_le 1 b && nat_le b 4
 is_allowed LengthByte b = nat_le 1 b && nat_le b most_name_bytes
 is_allowed NameByte b = is_name_byte b
 is_allowed NumberByte b = true
@@ -44,17 +44,19 @@ fault_at CountByte = faults.Count
 fault_at ClaimKindByte = faults.ClaimKind
 fault_at (IncarnationByte before) = faults.Incarnation
 
--- the parts of a number, and of the body of a kind
+-- the parts of a number, of an address, and of the body of a kind
 abbrev pub number_parts : List Part
 number_parts = replicate 4 NumberByte
 
-abbrev pub body_parts : ℕ → List Part
-body_parts kind = if kind == 1 then number_parts ++ LengthByte ∷ [] else number_parts
-
--- the parts of an address, and of a claim of a kind behind its kind
 abbrev pub addr_parts : List Part
 addr_parts = replicate 6 NumberByte
 
+abbrev pub body_parts : ℕ → List Part
+body_parts kind =
+    if kind == 1 then number_parts ++ LengthByte ∷ []
+    else if kind == 2 then number_parts ++ LengthByte ∷ addr_parts else number_parts
+
+-- the parts of a claim of a kind behind its kind
 abbrev pub accuser_parts : ℕ → List Part
 accuser_parts kind = if kind == 2 then LengthByte ∷ [] else []
 

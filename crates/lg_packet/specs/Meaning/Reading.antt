@@ -18,7 +18,7 @@ use Rattle.lg_packet.specs.declared.kind.ClaimKind.TheVariants as claims
 use Rattle.lg_packet.specs.declared.kind.Kind.{Kind}
 use Rattle.lg_packet.specs.declared.kind.Kind.TheVariants as kinds
 use Rattle.lg_packet.specs.declared.packet.Body.{Body}
-use Rattle.lg_packet.specs.declared.packet.Body.TheVariants.{Ping, Ack}
+use Rattle.lg_packet.specs.declared.packet.Body.TheVariants.{Ping, PingReq, Ack, Nack}
 use Rattle.lg_packet.specs.declared.packet.Packet.{Packet}
 
 infixl 10 ◌>>=◌
@@ -32,7 +32,10 @@ literal_at due fault [] = Err faults.Short
 literal_at due fault (b ∷ rest) = if b == due then Ok rest else Err fault
 
 abbrev pub kind_of_byte : ℕ → Option Kind
-kind_of_byte b = if b == 1 then Some kinds.Ping else if b == 3 then Some kinds.Ack else None
+kind_of_byte b =
+    if b == 1 then Some kinds.Ping
+    else if b == 2 then Some kinds.PingReq
+    else if b == 3 then Some kinds.Ack else if b == 4 then Some kinds.Nack else None
 
 abbrev pub kind_before : List ℕ → Option Kind → Result (Kind × List ℕ) Fault
 kind_before rest None = Err faults.Kind
@@ -59,6 +62,15 @@ number_at w bytes =
     if nat_lt (length bytes) (byte_len w) then Err faults.Short
     else Ok (from_be_bytes w (take (byte_len w) bytes), drop (byte_len w) bytes)
 
+abbrev pub octets_at : List ℕ → Result (List ℕ × List ℕ) Fault
+octets_at bytes = if nat_lt (length bytes) 4 then Err faults.Short else Ok (take 4 bytes, drop 4 bytes)
+
+unfoldable pub addr_at : List ℕ → Result (Addr × List ℕ) Fault
+addr_at bytes = do
+  octets ← octets_at bytes
+  port ← number_at w16 octets.1
+  Ok (record { octets = octets.0; port = port.0 }, port.1)
+
 -- the magic, the version and the kind
 unfoldable pub head_at : List ℕ → Result (Kind × List ℕ) Fault
 head_at bytes = do
@@ -72,20 +84,19 @@ body_at kinds.Ping bytes = do
   number ← number_at w32 bytes
   target ← name_at number.1
   Ok (Ping number.0 target.0, target.1)
+body_at kinds.PingReq bytes = do
+  number ← number_at w32 bytes
+  target ← name_at number.1
+  addr ← addr_at target.1
+  Ok (PingReq number.0 target.0 addr.0, addr.1)
 body_at kinds.Ack bytes = do
   number ← number_at w32 bytes
   Ok (Ack number.0, number.1)
+body_at kinds.Nack bytes = do
+  number ← number_at w32 bytes
+  Ok (Nack number.0, number.1)
 
 -- ---- claims
-
-abbrev pub octets_at : List ℕ → Result (List ℕ × List ℕ) Fault
-octets_at bytes = if nat_lt (length bytes) 4 then Err faults.Short else Ok (take 4 bytes, drop 4 bytes)
-
-unfoldable pub addr_at : List ℕ → Result (Addr × List ℕ) Fault
-addr_at bytes = do
-  octets ← octets_at bytes
-  port ← number_at w16 octets.1
-  Ok (record { octets = octets.0; port = port.0 }, port.1)
 
 -- all four bytes are there before the number is judged
 unfoldable pub incarnation_at : List ℕ → Result (ℕ × List ℕ) Fault

@@ -13,17 +13,21 @@ use Rattle.lg_packet.specs.declared.kind.ClaimKind.TheVariants as claims
 use Rattle.lg_packet.specs.declared.kind.Kind.{Kind}
 use Rattle.lg_packet.specs.declared.kind.Kind.TheVariants as kinds
 use Rattle.lg_packet.specs.declared.packet.Body.{Body}
-use Rattle.lg_packet.specs.declared.packet.Body.TheVariants.{Ping, Ack}
+use Rattle.lg_packet.specs.declared.packet.Body.TheVariants.{Ping, PingReq, Ack, Nack}
 use Rattle.lg_packet.specs.declared.packet.Packet.{Packet}
 
 abbrev pub kind_of : Body → Kind
 kind_of (Ping number target) = kinds.Ping
+kind_of (PingReq number target addr) = kinds.PingReq
 kind_of (Ack number) = kinds.Ack
+kind_of (Nack number) = kinds.Nack
 
 -- the byte that stands for a kind
 abbrev pub byte_of_kind : Kind → ℕ
 byte_of_kind kinds.Ping = 1
+byte_of_kind kinds.PingReq = 2
 byte_of_kind kinds.Ack = 3
+byte_of_kind kinds.Nack = 4
 
 abbrev pub claim_kind_of : Status → ClaimKind
 claim_kind_of Alive = claims.Alive
@@ -43,16 +47,19 @@ spelled_name name = length name ∷ name
 abbrev pub spelled_number : ℕ → List ℕ
 spelled_number number = to_be_bytes w32 number
 
+-- the four bytes, and the port
+abbrev pub spelled_addr : Addr → List ℕ
+spelled_addr addr = addr.octets ++ to_be_bytes w16 addr.port
+
 abbrev pub spelled_body : Body → List ℕ
 spelled_body (Ping number target) = spelled_number number ++ spelled_name target
+spelled_body (PingReq number target addr) = spelled_number number ++ (spelled_name target ++ spelled_addr addr)
 spelled_body (Ack number) = spelled_number number
+spelled_body (Nack number) = spelled_number number
 
 -- the magic, the version and the kind
 abbrev pub spelled_head : Kind → List ℕ
 spelled_head kind = 0x53 ∷ 0x4c ∷ 1 ∷ byte_of_kind kind ∷ []
-
-abbrev pub spelled_addr : Addr → List ℕ
-spelled_addr addr = addr.octets ++ to_be_bytes w16 addr.port
 
 -- the accuser, where there is one
 abbrev pub spelled_accuser : Status → List ℕ
@@ -77,14 +84,16 @@ spelling p =
 
 -- What has a spelling: names that are names, numbers of four bytes, addresses of four bytes and a port of two,
 -- incarnations of at most 1,000,000,000, and at most 6 claims.
-abbrev pub IsBody : Body → Type 0
-IsBody (Ping number target) = (number < 2 ^ 32) × IsTrue (is_name target)
-IsBody (Ack number) = number < 2 ^ 32
-
 pub record IsAddr (addr : Addr) : Type 0 where
   pub four : length addr.octets ≡ 4
   pub octets : AllByRecursion (λ b. b < 256) addr.octets
   pub port : addr.port < 2 ^ 16
+
+abbrev pub IsBody : Body → Type 0
+IsBody (Ping number target) = (number < 2 ^ 32) × IsTrue (is_name target)
+IsBody (PingReq number target addr) = (number < 2 ^ 32) × IsTrue (is_name target) × IsAddr addr
+IsBody (Ack number) = number < 2 ^ 32
+IsBody (Nack number) = number < 2 ^ 32
 
 abbrev pub IsStatus : Status → Type 0
 IsStatus Alive = Unit {0}

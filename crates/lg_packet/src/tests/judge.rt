@@ -21,7 +21,7 @@ enum Due {
 fn fault_of(due: Due, byte: u8) -> Option<Fault> {
     let (stands, fault) = match due {
         Due::Exactly(wanted, fault) => (byte == wanted, fault),
-        Due::Kind => (byte == 1 || byte == 3, Fault::Kind),
+        Due::Kind => (matches!(byte, 1..=4), Fault::Kind),
         Due::Length => (byte != 0 && byte < 33, Fault::Name),
         Due::NameByte => (
             byte.is_ascii_alphanumeric() || b"._-".contains(&byte),
@@ -43,7 +43,12 @@ fn bring(due: Due, byte: u8, stack: &mut Vec<Due>) -> Result<(), AllocError> {
     match due {
         Due::Kind => {
             stack.push(Due::Count)?;
-            if byte == 1 {
+            if byte == 2 {
+                for _ in 0..6 {
+                    stack.push(Due::Any)?;
+                }
+            }
+            if byte == 1 || byte == 2 {
                 stack.push(Due::Length)?;
             }
             for _ in 0..4 {
