@@ -1,16 +1,15 @@
 //! What a member knows of its group.
-ghost use Rattle.std.specs.Prelude.{◌≡◌, ◌≢◌, [], ◌∷◌, ◌&&◌, ◌||◌, None};
+ghost use Rattle.std.specs.Prelude.{◌≡◌, ◌≢◌, [], ◌∷◌, ◌&&◌, ◌||◌, option_copied};
 ghost use Rattle.lg_rules.specs.Meaning.Rows.{name_cmp, is_same};
-ghost use Rattle.lg_rules.specs.Meaning.Table.{live_in};
 ghost use Rattle.lg_rules.specs.Meaning.View.{is_rise};
 ghost use Rattle.lg_timing.specs.Meaning.Config.{IsChecked};
-ghost use Rattle.lg_gossip.specs.Meaning.Queue.{taken_of, fill_of};
-ghost use Rattle.lg_membership.specs.Meaning.Log.{Fact, Log, Opened, Said, Sent, live};
-ghost use Rattle.lg_membership.specs.Meaning.Gossip.{put_of_own, put_if, queue};
+ghost use Rattle.lg_membership.specs.Meaning.Log.{Fact, Log, Opened, Said, Sent};
+ghost use Rattle.lg_membership.specs.Meaning.Gossip.{put_of_own, put_if, target_record, taken, fill};
 ghost use Rattle.lg_membership.specs.Meaning.Suspicions.{is_accusation};
 ghost use Rattle.lg_membership.specs.Meaning.Applied.{is_refuted, IsApplied};
 ghost use Rattle.lg_membership.specs.Support.State.{state_of, open_with, apply, apply_own, apply_other};
-ghost use Rattle.lg_membership.specs.Support.State.{applied, applied_own, applied_other, send, queue_with};
+ghost use Rattle.lg_membership.specs.Support.State.{applied, applied_own, applied_other};
+ghost use Rattle.lg_membership.specs.Support.State.{send, queue_with, taken_in, fill_in};
 ghost use Rattle.lg_membership.specs.Support.Changes.{is_override, stands};
 ghost use Rattle.lg_membership.specs.Support.Room.{HasPlace};
 
@@ -19,7 +18,7 @@ use crate::origin::Origin;
 use crate::suspicions::{Suspicions, suspect};
 use arrayvec::ArrayVec;
 use lg_gossip::Queue;
-use lg_rules::{Addr, Claim, Heard, MAX_CLAIMS, Members, Name, Own, OwnHeard};
+use lg_rules::{Addr, Claim, Heard, MAX_CLAIMS, Members, Name, Own, OwnHeard, Record};
 use lg_timing::{Config, Moment};
 use std::marker::Model;
 
@@ -137,6 +136,13 @@ fn put_of_other(origin: Origin, counts: bool, claim: &Claim) -> Option<Claim>
     }
 }
 
+/// The record of the member that a Ping goes to, where it is another that is known.
+fn target_record<'a>(members: &'a Members, target: Option<&Name>) -> Option<&'a Record>
+    ensures { option_copied result ≡ target_record (option_copied target.entry) members.now.table }
+{
+    target.and_then(|name| members.get(name))
+}
+
 impl Membership {
     /// A member that wasn't opened: nobody is known, and it has a name that stands for none.
     pub fn blank() -> Membership
@@ -224,18 +230,22 @@ impl Membership {
         }
     }
 
-    /// Writes the claims of the next packet that is no Ping, in the place of what was there: those of the queue that
-    /// have their turn, which count as sent once more (SWIM, section 4.1).
-    pub fn fill_into(&mut self, claims: &mut ArrayVec<Claim, MAX_CLAIMS>)
-        ensures claims { claims.new.items ≡ fill_of self.old.queue None (live_in self.old.members.table) }
-        ensures state { let taken = taken_of self.old.queue None (live_in self.old.members.table) in
-            self.new ≡ send taken self.old }
-        // After any log, the claims are those of its queue, and it goes on by the packet that took them.
+    /// Writes the claims of the next packet, at most six, in the place of what was there: those of the queue that have
+    /// their turn, which count as sent once more (SWIM, section 4.1).
+    ///
+    /// `target` is the member that a Ping goes to; a packet that is no Ping has none. Where its record is Suspect, that
+    /// record stands first, doesn't count as sent, and the queue's claim about the member is passed over (Lifeguard,
+    /// buddy system). A target that isn't known adds nothing, and nor does oneself.
+    pub fn fill_into(&mut self, target: Option<&Name>, claims: &mut ArrayVec<Claim, MAX_CLAIMS>)
+        ensures claims { claims.new.items ≡ fill_in (option_copied target.entry) self.old }
+        ensures state { self.new ≡ send (taken_in (option_copied target.entry) self.old) self.old }
+        // After any log, the claims are those that it gives, and it goes on by the packet that took them.
         ensures filled { (log : Log) → self.old ≡ state_of log
-            → claims.new.items ≡ fill_of (queue log) None (live log) }
+            → claims.new.items ≡ fill (option_copied target.entry) log }
         ensures log { (log : Log) → self.old ≡ state_of log
-            → self.new ≡ state_of (Sent (taken_of (queue log) None (live log)) ∷ log) }
+            → self.new ≡ state_of (Sent (taken (option_copied target.entry) log) ∷ log) }
     {
-        self.queue.fill_into(None, self.members.live(), claims);
+        let to = target_record(&self.members, target);
+        self.queue.fill_into(to, self.members.live(), claims);
     }
 }

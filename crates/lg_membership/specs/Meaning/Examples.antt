@@ -18,7 +18,7 @@ use Rattle.lg_membership.specs.declared.origin.Origin.TheVariants.{Seed, Group}
 use Rattle.lg_membership.specs.declared.suspected.Suspected.{Suspected}
 use Rattle.lg_membership.specs.Meaning.Log.{Fact, Log, Opened, Said, Sent, own, live, view}
 use Rattle.lg_membership.specs.Meaning.Suspicions.{suspicions, suspected}
-use Rattle.lg_membership.specs.Meaning.Gossip.{put_by, queued, queue_rows, queue}
+use Rattle.lg_membership.specs.Meaning.Gossip.{put_by, queued, queue_rows, queue, taken, fill}
 
 -- the letters that name the members
 abbrev a : ℕ
@@ -177,6 +177,34 @@ sendable_again = refl
 queued_afresh : (queue (says 0 (on c Alive 1) ∷ sent heard)).rows ≡ record { claim = on c Alive 1; sends = 0 } ∷ []
 unfolding table_of record_of roster takes put_by queued queue_rows suspicions
 queued_afresh = refl
+
+-- c is suspected by a, and d is alive. A Ping to c begins with c's record and takes the claim about d of the queue; so
+-- the packet after it still has both.
+abbrev suspected-c : Claim
+suspected-c = on c (accused_by a) 2
+
+abbrev alive-d : Claim
+alive-d = on d Alive 0
+
+abbrev two_heard : Log
+two_heard = says 0 alive-d ∷ says 0 suspected-c ∷ opened ∷ []
+
+ping_begins_with_buddy : fill (Some (c ∷ [])) two_heard ≡ suspected-c ∷ alive-d ∷ []
+unfolding table_of record_of roster takes put_by queued queue_rows suspicions taken_of digits
+ping_begins_with_buddy = refl
+
+ping_takes_others : taken (Some (c ∷ [])) two_heard ≡ alive-d ∷ []
+unfolding table_of record_of roster takes put_by queued queue_rows suspicions taken_of digits
+ping_takes_others = refl
+
+ping_to_one_alive : fill (Some (d ∷ [])) two_heard ≡ suspected-c ∷ alive-d ∷ []
+unfolding table_of record_of roster takes put_by queued queue_rows suspicions taken_of digits
+ping_to_one_alive = refl
+
+after_that_ping : (queue (Sent (alive-d ∷ []) ∷ two_heard)).rows
+    ≡ record { claim = suspected-c; sends = 0 } ∷ record { claim = alive-d; sends = 1 } ∷ []
+unfolding table_of record_of roster takes put_by queued queue_rows suspicions
+after_that_ping = refl
 
 -- An accuser that counts is queued, and one that counts already isn't.
 abbrev queued_about : ℕ → Log → Option Queued

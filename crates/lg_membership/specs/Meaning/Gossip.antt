@@ -4,18 +4,18 @@ use Rattle.std.specs.Prelude.{List, [], ◌∷◌, map, Option, Some, None, opti
 use Rattle.std.specs.List.{filter_map}
 use Rattle.lg_rules.specs.declared.claim.Claim.{Claim}
 use Rattle.lg_rules.specs.Meaning.Claim.{name_of}
-use Rattle.lg_rules.specs.Meaning.Rows.{name_cmp, is_same, is_among}
+use Rattle.lg_rules.specs.Meaning.Rows.{name_cmp, is_same, is_among, row_at}
 use Rattle.lg_rules.specs.Meaning.Table.{takes}
 use Rattle.lg_rules.specs.declared.own.OwnHeard.{OwnHeard}
 use Rattle.lg_rules.specs.declared.own.OwnHeard.TheVariants.{Refuted, Raised, Ousted, Ignored}
 use Rattle.lg_rules.specs.Meaning.Own.{Oneself, own_hearing, own_heard, own_record}
 use Rattle.lg_timing.specs.declared.config.Config.{Config}
 use Rattle.lg_gossip.specs.declared.queued.Queued.{Queued}
-use Rattle.lg_gossip.specs.Meaning.Queue.{GossipQueue}
+use Rattle.lg_gossip.specs.Meaning.Queue.{GossipQueue, taken_of, fill_of}
 use Rattle.lg_membership.specs.declared.origin.Origin.{Origin}
 use Rattle.lg_membership.specs.declared.origin.Origin.TheVariants.{Seed, Group}
 use Rattle.lg_membership.specs.declared.suspected.Suspected.{Suspected}
-use Rattle.lg_membership.specs.Meaning.Log.{Log, Opened, Said, Sent, config, me, own, table, known}
+use Rattle.lg_membership.specs.Meaning.Log.{Log, Opened, Said, Sent, config, me, own, table, live, known}
 use Rattle.lg_membership.specs.Meaning.Suspicions.{suspicions, confirms}
 
 -- What is put into the queue where a claim is said: the claim, where the opening doesn't say it and it makes or
@@ -74,3 +74,17 @@ lambda_in (Some opening) = opening.lambda
 
 abbrev pub queue : Log → GossipQueue
 queue log = record { lambda = lambda_in (config log); rows = queue_rows log }
+
+-- The record of the member that a Ping goes to, where it is another that is known: where that record is Suspect, it is
+-- the packet's buddy (Lifeguard, buddy system). A packet that is no Ping has no such member.
+abbrev pub target_record : Option (List ℕ) → List Claim → Option Claim
+target_record None rows = None
+target_record (Some target) rows = row_at name_cmp name_of target rows
+
+-- the claims of the queue that a packet takes, which goes to this target or is no Ping
+abbrev pub taken : Option (List ℕ) → Log → List Claim
+taken target log = taken_of (queue log) (target_record target (table log)) (live log)
+
+-- all claims of that packet: its buddy, if it has one, and those taken
+abbrev pub fill : Option (List ℕ) → Log → List Claim
+fill target log = fill_of (queue log) (target_record target (table log)) (live log)

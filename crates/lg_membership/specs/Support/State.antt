@@ -5,17 +5,17 @@ use Rattle.lg_rules.specs.declared.own.OwnHeard.{OwnHeard}
 use Rattle.lg_rules.specs.Meaning.Claim.{name_of}
 use Rattle.lg_rules.specs.Meaning.Own.{Oneself, own_of, own_hearing, own_heard}
 use Rattle.lg_rules.specs.Meaning.Rows.{name_cmp, is_same, put_row}
-use Rattle.lg_rules.specs.Meaning.Table.{Known, known_of, takes, heard}
+use Rattle.lg_rules.specs.Meaning.Table.{Known, known_of, takes, heard, live_in}
 use Rattle.lg_rules.specs.Meaning.View.{Standing, is_rise}
 use Rattle.lg_timing.specs.declared.config.Config.{Config}
-use Rattle.lg_gossip.specs.Meaning.Queue.{GossipQueue, put_of, sent_once}
+use Rattle.lg_gossip.specs.Meaning.Queue.{GossipQueue, put_of, sent_once, taken_of, fill_of}
 use Rattle.lg_membership.specs.declared.applied.Applied.{Applied}
 use Rattle.lg_membership.specs.declared.applied.Deadline.TheVariants.{Stays}
 use Rattle.lg_membership.specs.declared.origin.Origin.{Origin}
 use Rattle.lg_membership.specs.declared.suspected.Suspected.{Suspected}
 use Rattle.lg_membership.specs.Meaning.Log.{Log, config, me, said, own, view_in}
 use Rattle.lg_membership.specs.Meaning.Suspicions.{suspicions}
-use Rattle.lg_membership.specs.Meaning.Gossip.{queue, put_of_own, put_of_other}
+use Rattle.lg_membership.specs.Meaning.Gossip.{queue, put_of_own, put_of_other, target_record}
 use Rattle.lg_membership.specs.Meaning.Applied.{is_refuted}
 use Rattle.lg_membership.specs.Support.Changes.{Change, change_of, suspicions_after, deadline_after}
 
@@ -111,6 +111,13 @@ applied now c s = if is_same name_cmp c.name s.own.name then applied_own c s els
 abbrev pub apply_all : ℕ → Origin → List Claim → State → State
 apply_all now origin [] s = s
 apply_all now origin (c ∷ cs) s = apply_all now origin cs (apply now origin c s)
+
+-- the claims of the queue that a packet to this target takes, and all its claims
+abbrev pub taken_in : Option (List ℕ) → State → List Claim
+taken_in target s = taken_of s.queue (target_record target s.members.table) (live_in s.members.table)
+
+abbrev pub fill_in : Option (List ℕ) → State → List Claim
+fill_in target s = fill_of s.queue (target_record target s.members.table) (live_in s.members.table)
 
 -- a packet is sent that took these claims of the queue
 abbrev pub send : List Claim → State → State
