@@ -1,4 +1,4 @@
--- What applying a claim says of the record and the suspicion of the claim's member.
+-- What applying a claim says of the record and the suspicion of the claim's member, and of those that haven't failed.
 use Rattle.std.proofs.Common.{◌≡◌, ◌≢◌, ℕ, Bool, true, false, cond, List, ◌∷◌, Option, Some, None, inl, inr, refl, sym, ◌∙◌, ap, subst}
 use Rattle.std.proofs.lemmas.Bool.{cases_Bool, false≢true}
 use Rattle.std.specs.Prelude.{⊤, option_map}
@@ -22,14 +22,16 @@ use Rattle.lg_membership.specs.declared.applied.Applied.{Applied}
 use Rattle.lg_membership.specs.declared.applied.Deadline.{Deadline}
 use Rattle.lg_membership.specs.declared.origin.Origin.{Origin}
 use Rattle.lg_membership.specs.declared.suspected.Suspected.{Suspected}
-use Rattle.lg_membership.specs.Meaning.Log.{Log, Said, config, me, said, own, table, addr_in}
+use Rattle.lg_membership.specs.Meaning.Log.{Log, Said, config, me, said, own, table, live_others, addr_in}
 use Rattle.lg_membership.specs.Meaning.Suspicions.{suspicions, suspected_name}
 use Rattle.lg_membership.specs.Meaning.Applied.{record_in, suspicion_in, is_refuted, IsRecordChange, IsDeadlineChange, IsApplied}
-use Rattle.lg_membership.specs.Support.Changes.{Change, Nothing, Ending, Putting, raised, ended, overriding, accusing, change_by, change_of, row_about, suspicions_after, deadline_after}
-use Rattle.lg_membership.specs.Support.State.{State, state_of, standing, applied_own, applied_other, applied}
+use Rattle.lg_membership.specs.Support.Changes.{Change, Nothing, Ending, Putting, raised, ended, overriding, accusing, change_by, change_of, row_about, suspicions_after, deadline_after, live_after}
+use Rattle.lg_membership.specs.Support.State.{State, state_of, standing, live_others_in, apply, applied_own, applied_other, applied}
+use Rattle.lg_membership.specs.Support.Reached.{IsReached}
 use Rattle.lg_membership.proofs.Applying.{applied-changed}
 use Rattle.lg_membership.proofs.Chosen.{found_key}
-use Rattle.lg_membership.proofs.FactLaws.{own_name}
+use Rattle.lg_membership.proofs.FactLaws.{own_name, apply-state}
+use Rattle.lg_membership.proofs.LiveOthers.{presence-own, presence-other, live-said}
 use Rattle.lg_membership.proofs.Removing.{row_at-without}
 use Rattle.lg_membership.proofs.SuspicionLaws.{suspicions-own, suspicions-other}
 
@@ -134,6 +136,7 @@ applied-log now origin c log = elim (cases_key names_order c.name (me log)) [
         deadline =
             subst (λ (d : Deadline). IsDeadlineChange (suspicion_in log c.name) (suspicion_in (Said now origin c ∷ log) c.name) d) (sym (ap (λ (a : Applied). a.deadline) is))
             (ap (row_at name_cmp suspected_name c.name) (sym (suspicions-own now origin log c same)));
+        presence = ap (λ (a : Applied). a.presence) is ∙ presence-own now origin c log same;
       })
   | inr other ↦ (
       let apart : c.name ≢ (own log).name = λ e. other (e ∙ own_name log) in
@@ -144,5 +147,21 @@ applied-log now origin c log = elim (cases_key names_order c.name (me log)) [
         deadline =
             subst (λ (d : Deadline). IsDeadlineChange (suspicion_in log c.name) (suspicion_in (Said now origin c ∷ log) c.name) d) (sym (ap (λ (a : Applied). a.deadline) is))
             (deadline-other now origin c log other);
+        presence = ap (λ (a : Applied). a.presence) is ∙ presence-other now origin c log other;
       })
 ]
+
+-- Which others haven't failed once a claim is said, by what applying it says: those before where its member stays, those
+-- and it where it joins, and those without it where it leaves.
+pub live-applied : (now : ℕ) (origin : Origin) (c : Claim) (log : Log) (applied : Applied) → IsApplied now origin c log applied
+    → live_others (Said now origin c ∷ log) ≡ live_after applied.presence c.name (live_others log)
+live-applied now origin c log applied is =
+    live-said now origin c log ∙ ap (λ p. live_after p c.name (live_others log)) (sym is.presence)
+
+-- the same by the state
+pub live-apply : (now : ℕ) (origin : Origin) (c : Claim) (s : State) → IsReached s
+    → live_others_in (apply now origin c s) ≡ live_after (applied now c s).presence c.name (live_others_in s)
+live-apply now origin c s r =
+    let law : (t : State) → Type 0 = λ t. live_others_in (apply now origin c t) ≡ live_after (applied now c t).presence c.name (live_others_in t) in
+    subst law (sym r.is)
+    (ap live_others_in (apply-state now origin c r.log) ∙ live-applied now origin c r.log (applied now c (state_of r.log)) (applied-log now origin c r.log))

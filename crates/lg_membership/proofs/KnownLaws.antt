@@ -1,5 +1,5 @@
 -- The names that are known, when a claim is said.
-use Rattle.std.proofs.Common.{◌≡◌, ℕ, ◌≤◌, Bool, true, false, ◌||◌, List, ◌∷◌, length, inl, inr, refl, sym, ◌∙◌, ap, arith}
+use Rattle.std.proofs.Common.{◌≡◌, ◌≢◌, ℕ, ◌≤◌, Bool, true, false, ◌||◌, List, ◌∷◌, length, inl, inr, refl, sym, ◌∙◌, ap, arith}
 use Rattle.lg_rules.specs.declared.claim.Claim.{Claim}
 use Rattle.lg_rules.specs.Meaning.Rows.{name_cmp, is_same, is_among, put_key, Rises}
 use Rattle.lg_rules.specs.Meaning.Table.{roster}
@@ -7,8 +7,9 @@ use Rattle.lg_rules.proofs.KeyOrder.{names_order, cases_key}
 use Rattle.lg_rules.proofs.Rises.{rises-put, among-put, among-put_same, same_members, length-put}
 use Rattle.lg_rules.proofs.Roster.{rises-roster, roster-own, length-roster, own_unknown}
 use Rattle.lg_rules.proofs.Tables.{IsTaken, Taken, Unbeaten, Out, heard_cases}
+use Rattle.lg_timing.specs.declared.config.Config.{Config}
 use Rattle.lg_membership.specs.declared.origin.Origin.{Origin}
-use Rattle.lg_membership.specs.Meaning.Log.{Log, Said, me, said, known}
+use Rattle.lg_membership.specs.Meaning.Log.{Fact, Log, Opened, Said, Sent, me, said, known}
 
 pub rises-known : (log : Log) → Rises name_cmp (known log)
 rises-known log = rises-put names_order (me log) (roster (me log) (said log)) (rises-roster (me log) (said log))
@@ -68,3 +69,34 @@ known-grows now origin log c m among = elim (cases_key names_order c.name (me lo
     | Out o ↦ ap (is_among name_cmp m) (known-passed now origin log c o.names) ∙ among
   ]
 ]
+
+-- So do the others that are known, of whom there are at most 255.
+pub others-grow : (now : ℕ) (origin : Origin) (log : Log) (c : Claim) (m : List ℕ) → is_among name_cmp m (roster (me log) (said log)) ≡ true
+    → is_among name_cmp m (roster (me log) (c ∷ said log)) ≡ true
+others-grow now origin log c m among = elim (cases_key names_order c.name (me log)) [
+  | inl same ↦ ap (is_among name_cmp m) (roster-own (me log) c (said log) same) ∙ among
+  | inr other ↦ elim (heard_cases (me log) c (said log) other) [
+    | Taken t ↦ (
+        ap (is_among name_cmp m) t.names
+        ∙ among-put names_order m c.name (roster (me log) (said log))
+        ∙ or_right (is_same name_cmp c.name m) among)
+    | Unbeaten k ↦ ap (is_among name_cmp m) k.names ∙ among
+    | Out o ↦ ap (is_among name_cmp m) o.names ∙ among
+  ]
+]
+
+pub length-others : (log : Log) → length (roster (me log) (said log)) ≤ 255
+length-others log = length-roster (me log) (said log)
+
+-- Whatever happens but an opening, who is known stays known.
+pub others-stay : (fact : Fact) (log : Log) (m : List ℕ) → ((opening : Config) → fact ≢ Opened opening)
+    → is_among name_cmp m (roster (me log) (said log)) ≡ true → is_among name_cmp m (roster (me (fact ∷ log)) (said (fact ∷ log))) ≡ true
+others-stay (Opened opening) log m unopened among = absurd (unopened opening refl)
+others-stay (Said now origin c) log m unopened among = others-grow now origin log c m among
+others-stay (Sent taken) log m unopened among = among
+
+pub known-stays : (fact : Fact) (log : Log) (m : List ℕ) → ((opening : Config) → fact ≢ Opened opening)
+    → is_among name_cmp m (known log) ≡ true → is_among name_cmp m (known (fact ∷ log)) ≡ true
+known-stays (Opened opening) log m unopened among = absurd (unopened opening refl)
+known-stays (Said now origin c) log m unopened among = known-grows now origin log c m among
+known-stays (Sent taken) log m unopened among = among

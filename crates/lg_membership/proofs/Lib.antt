@@ -13,4 +13,5 @@ pub mod Hearings
 pub mod Chosen
 pub mod Shown
 pub mod Differing
+pub mod LiveOthers
 pub mod AppliedLaws

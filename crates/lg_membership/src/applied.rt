@@ -11,6 +11,17 @@ pub enum Deadline {
     Stands(u64),
 }
 
+/// What becomes of a member's place among those that haven't failed when a claim about the member is applied.
+#[derive(Clone, Copy, Debug, PartialEq, Eq)]
+pub enum Presence {
+    /// As before: it still is among them, or it still isn't.
+    Stays,
+    /// It is among them from now on, and wasn't before.
+    Joins,
+    /// It was among them, and isn't any longer: it failed.
+    Leaves,
+}
+
 /// What applying a claim did.
 #[derive(Clone, Copy, Debug, PartialEq, Eq)]
 pub struct Applied {
@@ -20,4 +31,7 @@ pub struct Applied {
     pub refuted: bool,
     /// What becomes of the deadline of the claim's member.
     pub deadline: Deadline,
+    /// Whether the claim's member, where it is another, joins the members that haven't failed, or leaves them. Of
+    /// oneself it is always [`Presence::Stays`].
+    pub presence: Presence,
 }

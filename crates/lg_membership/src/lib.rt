@@ -8,7 +8,7 @@ mod origin;
 mod suspected;
 mod suspicions;
 
-pub use applied::{Applied, Deadline};
+pub use applied::{Applied, Deadline, Presence};
 pub use membership::{MAX_MEMBERS, Membership};
 pub use origin::Origin;
 

@@ -10,16 +10,17 @@ ghost use Rattle.lg_membership.specs.Meaning.Applied.{is_refuted, IsApplied};
 ghost use Rattle.lg_membership.specs.Support.State.{state_of, open_with, apply, apply_own, apply_other};
 ghost use Rattle.lg_membership.specs.Support.State.{applied, applied_own, applied_other};
 ghost use Rattle.lg_membership.specs.Support.State.{send, queue_with, taken_in, fill_in};
-ghost use Rattle.lg_membership.specs.Support.Changes.{is_override, stands};
+ghost use Rattle.lg_membership.specs.Support.Changes.{is_override, stands, presence_by};
 ghost use Rattle.lg_membership.specs.Support.Room.{HasPlace};
 
-use crate::applied::{Applied, Deadline};
+use crate::applied::{Applied, Deadline, Presence};
 use crate::origin::Origin;
 use crate::suspicions::{Suspicions, suspect};
 use arrayvec::ArrayVec;
 use lg_gossip::Queue;
 use lg_rules::{Addr, Claim, Heard, MAX_CLAIMS, Members, Name, Own, OwnHeard, Record};
 use lg_timing::{Config, Moment};
+use std::cmp::Ordering;
 use std::marker::Model;
 
 mod readers;
@@ -143,6 +144,18 @@ fn target_record<'a>(members: &'a Members, target: Option<&Name>) -> Option<&'a 
     target.and_then(|name| members.get(name))
 }
 
+/// Whether a claim's member joined those that haven't failed, or left them, by how many there were before the claim and
+/// are after it.
+fn presence_by(before: usize, after: usize) -> Presence
+    ensures { result ≡ presence_by before after }
+{
+    match after.cmp(&before) {
+        Ordering::Less => Presence::Leaves,
+        Ordering::Equal => Presence::Stays,
+        Ordering::Greater => Presence::Joins,
+    }
+}
+
 impl Membership {
     /// A member that wasn't opened: nobody is known, and it has a name that stands for none.
     pub fn blank() -> Membership
@@ -181,7 +194,7 @@ impl Membership {
         ensures applied { result ≡ applied now claim.now self.old }
         // Whatever was said before, the log goes on by this claim.
         ensures log { (log : Log) → self.old ≡ state_of log → self.new ≡ state_of (Said now origin claim.now ∷ log) }
-        // It is what the claim changes of its member's record and suspicion.
+        // It is what the claim changes of its member's record and suspicion, and of those that haven't failed.
         ensures meaning { (log : Log) → self.old ≡ state_of log → IsApplied now origin claim.now log result }
     {
         if is_same_name(&claim.name, &self.own.name()) {
@@ -203,6 +216,7 @@ impl Membership {
             changed: is_rise(heard),
             refuted: is_refuted(heard),
             deadline: Deadline::Stays,
+            presence: Presence::Stays,
         }
     }
 
@@ -212,7 +226,9 @@ impl Membership {
         ensures state { self.new ≡ apply_other now origin claim.now self.old }
         ensures applied { result ≡ applied_other now claim.now self.old }
     {
+        let before = self.members.live();
         let heard = self.members.hear(claim);
+        let presence = presence_by(before, self.members.live());
         let deadline = suspect(
             &mut self.suspicions,
             &self.config,
@@ -227,6 +243,7 @@ impl Membership {
             changed: is_override(heard),
             refuted: false,
             deadline,
+            presence,
         }
     }
 

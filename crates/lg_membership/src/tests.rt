@@ -1,7 +1,7 @@
 //! Worked claims of b, which is at 127.0.0.1:7000.
 mod queue;
 
-use crate::{Applied, Deadline, MAX_MEMBERS, Membership, Origin};
+use crate::{Applied, Deadline, MAX_MEMBERS, Membership, Origin, Presence};
 use arrayvec::ArrayVec;
 use lg_rules::{Addr, Claim, Incarnation, MAX_CLAIMS, Name, Status};
 use lg_timing::{Config, Moment};
@@ -75,12 +75,21 @@ fn among_five() -> Membership {
     b
 }
 
-/// What a claim did that isn't a suspicion of oneself.
+/// What a claim did that isn't a suspicion of oneself, and by which no member joined or left.
 fn did(changed: bool, deadline: Deadline) -> Applied {
     Applied {
         changed,
         refuted: false,
         deadline,
+        presence: Presence::Stays,
+    }
+}
+
+/// What a claim did by which a member joined those that haven't failed.
+fn joined(deadline: Deadline) -> Applied {
+    Applied {
+        presence: Presence::Joins,
+        ..did(true, deadline)
     }
 }
 
@@ -99,7 +108,7 @@ fn nobody_is_known_before_the_opening(rt: HostRuntime) {
     assert!(rt; b.config().is_none());
     assert_eq!(rt;
         say(&mut b, 10, &suspect(b"c", b"d", 0)),
-        did(true, Deadline::Stays)
+        joined(Deadline::Stays)
     );
     assert_eq!(rt; b.live(), 2);
     assert_eq!(rt; b.record_of(&name(b"c")), None);
@@ -133,10 +142,7 @@ fn records_are_in_the_order_of_names(rt: HostRuntime) {
     let mut table: ArrayVec<Claim, MAX_MEMBERS> = ArrayVec::new();
     let mut row: ArrayVec<Claim, MAX_CLAIMS> = ArrayVec::new();
     for other in [b"d", b"c", b"a"] {
-        assert_eq!(rt;
-            say(&mut b, 0, &alive(other, 2)),
-            did(true, Deadline::Stays)
-        );
+        assert_eq!(rt; say(&mut b, 0, &alive(other, 2)), joined(Deadline::Stays));
     }
     b.put_table(&mut table);
     assert_eq!(rt;
@@ -189,7 +195,14 @@ fn the_second_accuser_moves_the_deadline(rt: HostRuntime) {
             suspect(b"c", b"e", 0),
             did(false, Deadline::Stands(19500)),
         ),
-        (2700, failed(b"c", 0), did(true, Deadline::Ends)),
+        (
+            2700,
+            failed(b"c", 0),
+            Applied {
+                presence: Presence::Leaves,
+                ..did(true, Deadline::Ends)
+            },
+        ),
         (2800, suspect(b"c", b"a", 9), did(false, Deadline::Stays)),
         (
             3000,
@@ -209,13 +222,30 @@ fn the_second_accuser_moves_the_deadline(rt: HostRuntime) {
 }
 
 #[test]
+fn a_member_joins_those_that_have_not_failed_and_leaves_them(rt: HostRuntime) {
+    let mut b = opened();
+    let cases: [(Claim, Presence, usize); 9] = [
+        (alive(b"a", 0), Presence::Joins, 2),
+        (suspect(b"a", b"c", 0), Presence::Stays, 2),
+        (suspect(b"c", b"a", 3), Presence::Joins, 3),
+        (failed(b"a", 0), Presence::Leaves, 2),
+        (alive(b"a", 9), Presence::Stays, 2),
+        (failed(b"d", 0), Presence::Stays, 2),
+        (alive(b"d", 1), Presence::Stays, 2),
+        (suspect(b"b", b"c", 0), Presence::Stays, 2),
+        (failed(b"b", 0), Presence::Stays, 2),
+    ];
+    for (said, presence, live) in cases {
+        assert_eq!(rt; say(&mut b, 2000, &said).presence, presence, "{said:?}");
+        assert_eq!(rt; b.live(), live, "{said:?}");
+    }
+}
+
+#[test]
 fn none_confirms_among_two(rt: HostRuntime) {
     let mut b = opened();
     let accused = suspect(b"c", b"d", 0);
-    assert_eq!(rt;
-        say(&mut b, 2000, &accused),
-        did(true, Deadline::Stands(7000))
-    );
+    assert_eq!(rt; say(&mut b, 2000, &accused), joined(Deadline::Stands(7000)));
     assert_eq!(rt;
         say(&mut b, 2100, &suspect(b"c", b"e", 0)),
         did(false, Deadline::Stays)
@@ -227,9 +257,8 @@ fn none_confirms_among_two(rt: HostRuntime) {
 fn a_suspicion_of_oneself_is_refuted_once(rt: HostRuntime) {
     let mut b = opened();
     let refuted = Applied {
-        changed: true,
         refuted: true,
-        deadline: Deadline::Stays,
+        ..did(true, Deadline::Stays)
     };
     assert_eq!(rt; say(&mut b, 0, &suspect(b"b", b"a", 0)), refuted);
     assert_eq!(rt;
@@ -261,7 +290,12 @@ fn knows_256_names(rt: HostRuntime) {
     say(&mut b, 0, &alive(b"c", 2));
     for number in 0..300u16 {
         let applied = say(&mut b, 0, &claim(numbered(number), Status::Alive, 0));
-        assert_eq!(rt; applied, did(number < 254, Deadline::Stays), "{number}");
+        let expected = if number < 254 {
+            joined(Deadline::Stays)
+        } else {
+            did(false, Deadline::Stays)
+        };
+        assert_eq!(rt; applied, expected, "{number}");
     }
     assert_eq!(rt; b.live(), MAX_MEMBERS);
     assert_eq!(rt; b.record_of(&numbered(254)), None);

@@ -5,15 +5,17 @@ use Rattle.lg_rules.specs.declared.own.OwnHeard.{OwnHeard}
 use Rattle.lg_rules.specs.declared.own.OwnHeard.TheVariants.{Refuted, Raised, Ousted, Ignored}
 use Rattle.lg_rules.specs.Meaning.Claim.{name_of}
 use Rattle.lg_rules.specs.Meaning.Own.{own_hearing, own_record}
-use Rattle.lg_rules.specs.Meaning.Rows.{name_cmp, row_at}
+use Rattle.lg_rules.specs.Meaning.Rows.{name_cmp, is_among, row_at}
 use Rattle.lg_rules.specs.Meaning.View.{view_of}
 use Rattle.lg_suspicion.specs.Meaning.Accusers.{deadline_of}
 use Rattle.lg_membership.specs.declared.applied.Applied.{Applied}
 use Rattle.lg_membership.specs.declared.applied.Deadline.{Deadline}
 use Rattle.lg_membership.specs.declared.applied.Deadline.TheVariants.{Stays, Ends, Stands}
+use Rattle.lg_membership.specs.declared.applied.Presence.{Presence}
+use Rattle.lg_membership.specs.declared.applied.Presence.TheVariants.{Stays as Remains, Joins, Leaves}
 use Rattle.lg_membership.specs.declared.origin.Origin.{Origin}
 use Rattle.lg_membership.specs.declared.suspected.Suspected.{Suspected}
-use Rattle.lg_membership.specs.Meaning.Log.{Log, Said, own, table}
+use Rattle.lg_membership.specs.Meaning.Log.{Log, Said, own, table, live_others}
 use Rattle.lg_membership.specs.Meaning.Suspicions.{suspicions, suspected_name}
 
 -- the record of a member, oneself included; from the opening on it is that of the view
@@ -42,11 +44,24 @@ IsDeadlineChange before after Stays = after ≡ before
 IsDeadlineChange before after Ends = (before ≢ None) × (after ≡ None)
 IsDeadlineChange before after (Stands deadline) = option_map (λ r. deadline_of r.suspicion) after ≡ Some deadline
 
--- A claim is said after a log: what it changes of the record and of the deadline of its member, and whether it is
--- refuted.
+-- whether a member is among the others that haven't failed
+abbrev pub is_live : Log → List ℕ → Bool
+is_live log m = is_among name_cmp m (live_others log)
+
+-- A member is among them as before; or it is and wasn't; or it was and isn't.
+abbrev pub presence_of : Bool → Bool → Presence
+presence_of true true = Remains
+presence_of false false = Remains
+presence_of false true = Joins
+presence_of true false = Leaves
+
+-- A claim is said after a log: what it changes of the record and of the deadline of its member, whether it is refuted,
+-- and whether its member joins the others that haven't failed, or leaves them.
 pub record IsApplied (now : ℕ) (origin : Origin) (c : Claim) (log : Log) (applied : Applied) : Type 0 where
   pub changed : (let after = Said now origin c ∷ log in
       IsRecordChange (record_in log c.name) (record_in after c.name) applied.changed)
   pub refuted : applied.refuted ≡ is_refuted (own_hearing (own log) c)
   pub deadline : (let after = Said now origin c ∷ log in
       IsDeadlineChange (suspicion_in log c.name) (suspicion_in after c.name) applied.deadline)
+  pub presence : (let after = Said now origin c ∷ log in
+      applied.presence ≡ presence_of (is_live log c.name) (is_live after c.name))

@@ -14,11 +14,14 @@ use Rattle.lg_timing.specs.Meaning.Timeouts.{range_of, timeout_of}
 use Rattle.lg_suspicion.specs.Meaning.Accusers.{counted_accusers, deadline_of}
 use Rattle.lg_gossip.specs.declared.queued.Queued.{Queued}
 use Rattle.lg_gossip.specs.Meaning.Queue.{taken_of, fill_of}
+use Rattle.lg_membership.specs.declared.applied.Presence.{Presence}
+use Rattle.lg_membership.specs.declared.applied.Presence.TheVariants.{Stays as Remains, Joins, Leaves}
 use Rattle.lg_membership.specs.declared.origin.Origin.TheVariants.{Seed, Group}
 use Rattle.lg_membership.specs.declared.suspected.Suspected.{Suspected}
-use Rattle.lg_membership.specs.Meaning.Log.{Fact, Log, Opened, Said, Sent, own, live, view}
+use Rattle.lg_membership.specs.Meaning.Log.{Fact, Log, Opened, Said, Sent, own, live, live_others, view}
 use Rattle.lg_membership.specs.Meaning.Suspicions.{suspicions, suspected}
 use Rattle.lg_membership.specs.Meaning.Gossip.{put_by, queued, queue_rows, queue, taken, fill}
+use Rattle.lg_membership.specs.Meaning.Applied.{is_live, presence_of}
 
 -- the letters that name the members
 abbrev a : ℕ
@@ -118,6 +121,43 @@ too_few = refl
 four_live : live (says 2000 (on c Failed 0) ∷ others) ≡ 4
 unfolding table_of record_of roster
 four_live = refl
+
+-- a joins the others that haven't failed, stays among them while it is suspected, and leaves them where it fails, for
+-- ever.
+abbrev begun : Log
+begun = opened ∷ []
+
+abbrev with_a : Log
+with_a = says 0 (on a Alive 0) ∷ begun
+
+abbrev suspected_a : Log
+suspected_a = says 2000 (on a (accused_by c) 0) ∷ with_a
+
+abbrev failed_a : Log
+failed_a = says 7000 (on a Failed 0) ∷ suspected_a
+
+a_is_live : live_others suspected_a ≡ (a ∷ []) ∷ []
+unfolding table_of record_of roster
+a_is_live = refl
+
+none_is_live : live_others (says 8000 (on a Alive 1) ∷ failed_a) ≡ []
+unfolding table_of record_of roster
+none_is_live = refl
+
+abbrev presence_of_a : Log → Log → Presence
+presence_of_a before after = presence_of (is_live before (a ∷ [])) (is_live after (a ∷ []))
+
+a_joins : presence_of_a begun with_a ≡ Joins
+unfolding table_of record_of roster
+a_joins = refl
+
+a_stays : presence_of_a with_a suspected_a ≡ Remains
+unfolding table_of record_of roster
+a_stays = refl
+
+a_leaves : presence_of_a suspected_a failed_a ≡ Leaves
+unfolding table_of record_of roster
+a_leaves = refl
 
 -- b is suspected by a and then by c, both at 0: it refutes once.
 abbrev refuted : Log

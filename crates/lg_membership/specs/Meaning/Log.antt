@@ -1,9 +1,10 @@
 -- What a member hears of its group, as facts, and what is read off them.
-use Rattle.std.specs.Prelude.{ℕ, List, [], ◌∷◌, Option, Some, None}
+use Rattle.std.specs.Prelude.{ℕ, not, List, [], ◌∷◌, map, filter, Option, Some, None}
 use Rattle.lg_rules.specs.declared.addr.Addr.{Addr}
 use Rattle.lg_rules.specs.declared.claim.Claim.{Claim}
+use Rattle.lg_rules.specs.Meaning.Claim.{name_of}
 use Rattle.lg_rules.specs.Meaning.Rows.{name_cmp, put_key}
-use Rattle.lg_rules.specs.Meaning.Table.{roster, table_of, live_in}
+use Rattle.lg_rules.specs.Meaning.Table.{roster, table_of, is_failed, live_in}
 use Rattle.lg_rules.specs.Meaning.Own.{Oneself, own_of, own_record}
 use Rattle.lg_rules.specs.Meaning.View.{view_of}
 use Rattle.lg_timing.specs.declared.config.Config.{Config}
@@ -55,6 +56,14 @@ table log = table_of (me log) (said log)
 -- how many members haven't failed, oneself included (n)
 abbrev pub live : Log → ℕ
 live log = live_in (table log)
+
+-- of some records, the names of those that aren't Failed
+abbrev pub live_names : List Claim → List (List ℕ)
+live_names rows = map name_of (filter (λ r. not (is_failed r.status)) rows)
+
+-- the others that haven't failed, in the order of names
+abbrev pub live_others : Log → List (List ℕ)
+live_others log = live_names (table log)
 
 -- the names that are known
 abbrev pub known : Log → List (List ℕ)

@@ -1,4 +1,5 @@
--- What a claim about another changes of the suspicions, by the values before it.
+-- What a claim about another changes of the suspicions and of those that haven't failed, by the values before it.
+use Rattle.std.specs.Ordering.{nat_cmp}
 use Rattle.std.specs.Prelude.{◌≡◌, ℕ, Bool, true, false, List, [], ◌∷◌, Option, Some, None, if◌then◌else◌}
 use Rattle.lg_rules.specs.declared.claim.Claim.{Claim}
 use Rattle.lg_rules.specs.declared.claim.Status.{Status}
@@ -6,14 +7,18 @@ use Rattle.lg_rules.specs.declared.claim.Status.TheVariants.{Alive, Suspect, Fai
 use Rattle.lg_rules.specs.declared.members.Heard.{Heard}
 use Rattle.lg_rules.specs.declared.members.Heard.TheVariants.{Overrode, Accused}
 use Rattle.lg_rules.specs.Meaning.Claim.{accuser_of}
-use Rattle.lg_rules.specs.Meaning.Rows.{name_cmp, put_row, row_at, without_row}
+use Rattle.lg_rules.specs.Meaning.Rows.{name_cmp, by_order, is_among, put_key, put_row, row_at, without_row}
 use Rattle.lg_rules.specs.Meaning.Table.{hearing_of, heard, live_in}
 use Rattle.lg_timing.specs.declared.config.Config.{Config}
 use Rattle.lg_timing.specs.Meaning.Timeouts.{range_of}
 use Rattle.lg_suspicion.specs.Meaning.Accusers.{SuspicionValue, accuser_counts, accused, deadline_of}
 use Rattle.lg_membership.specs.declared.applied.Deadline.{Deadline}
 use Rattle.lg_membership.specs.declared.applied.Deadline.TheVariants.{Stays, Ends, Stands}
+use Rattle.lg_membership.specs.declared.applied.Presence.{Presence}
+use Rattle.lg_membership.specs.declared.applied.Presence.TheVariants.{Stays as Remains, Joins, Leaves}
 use Rattle.lg_membership.specs.declared.suspected.Suspected.{Suspected}
+use Rattle.lg_membership.specs.Meaning.Applied.{presence_of}
+use Rattle.lg_membership.specs.Meaning.Log.{live_names}
 use Rattle.lg_membership.specs.Meaning.Suspicions.{suspected_name}
 
 -- nothing; the suspicion of a member ends; or one is put, raised anew or with one more accuser
@@ -87,3 +92,18 @@ stands (Stands deadline) = true
 abbrev pub is_override : Heard → Bool
 is_override Overrode = true
 is_override _ = false
+
+-- whether the claim's member joins those that haven't failed, or leaves them; and the same by how many haven't failed
+-- before the claim and after it
+abbrev pub presence_heard : List Claim → Claim → Presence
+presence_heard table c =
+    presence_of (is_among name_cmp c.name (live_names table)) (is_among name_cmp c.name (live_names (heard table c)))
+
+abbrev pub presence_by : ℕ → ℕ → Presence
+presence_by before after = by_order (nat_cmp after before) Leaves Remains Joins
+
+-- which they are then
+abbrev pub live_after : Presence → List ℕ → List (List ℕ) → List (List ℕ)
+live_after Remains m names = names
+live_after Joins m names = put_key name_cmp m names
+live_after Leaves m names = without_row name_cmp (λ n. n) m names

@@ -11,13 +11,14 @@ use Rattle.lg_timing.specs.declared.config.Config.{Config}
 use Rattle.lg_gossip.specs.Meaning.Queue.{GossipQueue, put_of, sent_once, taken_of, fill_of}
 use Rattle.lg_membership.specs.declared.applied.Applied.{Applied}
 use Rattle.lg_membership.specs.declared.applied.Deadline.TheVariants.{Stays}
+use Rattle.lg_membership.specs.declared.applied.Presence.TheVariants.{Stays as Remains}
 use Rattle.lg_membership.specs.declared.origin.Origin.{Origin}
 use Rattle.lg_membership.specs.declared.suspected.Suspected.{Suspected}
-use Rattle.lg_membership.specs.Meaning.Log.{Log, config, me, said, own, view_in}
+use Rattle.lg_membership.specs.Meaning.Log.{Log, config, me, said, own, live_names, view_in}
 use Rattle.lg_membership.specs.Meaning.Suspicions.{suspicions}
 use Rattle.lg_membership.specs.Meaning.Gossip.{queue, put_of_own, put_of_other, target_record}
 use Rattle.lg_membership.specs.Meaning.Applied.{is_refuted}
-use Rattle.lg_membership.specs.Support.Changes.{Change, change_of, suspicions_after, deadline_after}
+use Rattle.lg_membership.specs.Support.Changes.{Change, change_of, suspicions_after, deadline_after, presence_heard}
 
 pub record State : Type 0 where
   pub config : Option Config
@@ -49,6 +50,10 @@ open_with opening s = record {
 -- oneself and the records of the others
 abbrev pub standing : State → Standing
 standing s = record { own = s.own; table = s.members.table }
+
+-- the others that haven't failed
+abbrev pub live_others_in : State → List (List ℕ)
+live_others_in s = live_names s.members.table
 
 -- the member table, oneself included
 abbrev pub shown : State → List Claim
@@ -98,11 +103,14 @@ apply now origin c s = if is_same name_cmp c.name s.own.name then apply_own c s 
 -- what applying it did
 abbrev pub applied_own : Claim → State → Applied
 applied_own c s =
-    record { changed = is_rise (own_hearing_in c s); refuted = is_refuted (own_hearing_in c s); deadline = Stays }
+    let hearing = own_hearing_in c s in
+    record { changed = is_rise hearing; refuted = is_refuted hearing; deadline = Stays; presence = Remains }
 
 abbrev pub applied_other : ℕ → Claim → State → Applied
 applied_other now c s =
-    record { changed = takes s.members.table c; refuted = false; deadline = deadline_after (change_in now c s) }
+    let table = s.members.table in
+    let deadline = deadline_after (change_in now c s) in
+    record { changed = takes table c; refuted = false; deadline = deadline; presence = presence_heard table c }
 
 unfoldable pub applied : ℕ → Claim → State → Applied
 applied now c s = if is_same name_cmp c.name s.own.name then applied_own c s else applied_other now c s

@@ -1,11 +1,12 @@
-use Rattle.std.proofs.Common.{◌≡◌, ◌≢◌, Option, ap, sym, subst, ◌∙◌}
+use Rattle.std.proofs.Common.{◌≡◌, ◌≢◌, false, Option, ap, sym, subst, ◌∙◌}
 use Rattle.lg_rules.specs.declared.claim.Claim.{Claim}
 use Rattle.lg_rules.specs.Meaning.Table.{hearing_of, heard, live_in}
 use Rattle.lg_membership.specs.Meaning.Gossip.{put_if}
-use Rattle.lg_membership.specs.Support.Changes.{change_by, row_about, suspicions_after, deadline_after}
+use Rattle.lg_membership.specs.Support.Changes.{change_by, row_about, suspicions_after, deadline_after, is_override, presence_by}
 use Rattle.lg_membership.specs.Support.Room.{HasPlace}
-use Rattle.lg_membership.specs.Support.State.{State, queue_with}
-use Rattle.lg_membership.proofs.Hearings.{overrode-takes, counts_for}
+use Rattle.lg_membership.specs.Support.State.{State, queue_with, applied_other}
+use Rattle.lg_membership.proofs.Hearings.{override-takes, overrode-takes, counts_for}
+use Rattle.lg_membership.proofs.LiveOthers.{presence-counted}
 use Rattle.lg_membership.proofs.Reaching.{reached-other}
 use Rattle.lg_membership.proofs.Rooms.{reached-ordered, other_place, other_seat}
 use Rattle.lg_membership.proofs.membership.Membership.apply_other.Goals as goal
@@ -58,3 +59,21 @@ invariant_of-self c =
     reached-other _ _ c.args.now c.args.origin claim (λ same. c.requires (same ∙ ap (λ (s : State). s.own.name) c.self.view_is))
     (λ i. record { config = inside.config; own = inside.own; members = members i; suspicions = rows i; queue = queue i })
     c.self.invariant
+
+pub returns-clause-applied : goal.returns-clause-applied
+returns-clause-applied c =
+    let inside = c.self.inside in
+    let claim = c.args.claim.now in
+    let table = inside.members.table in
+    let row = row_about claim inside.suspicions.items in
+    let after = c.hear-heard.ensures.table in
+    let hearing = c.hear-heard.ensures.hearing in
+    let changed = c.is_override.ensures ∙ ap is_override hearing ∙ override-takes table claim in
+    let deadline = c.suspect-deadline.ensures.deadline ∙ (λ i. deadline_after (change_by (hearing i) inside.config c.args.now (live_in (after i)) row claim)) in
+    let live = c.live.ensures.count ∙ ap live_in after in
+    let presence =
+    c.presence_by-presence.ensures
+    ∙ (λ i. presence_by (c.live-before.ensures.count i) (live i))
+    ∙ presence-counted table claim (reached-ordered _ c.self.invariant).rises in
+    (λ i. record { changed = changed i; refuted = false; deadline = deadline i; presence = presence i })
+    ∙ ap (applied_other c.args.now claim) c.self.view_is
