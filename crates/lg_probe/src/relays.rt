@@ -1,7 +1,7 @@
 //! Relays.
-ghost use Rattle.std.specs.Prelude.{◌≡◌, ◌<◌, ◌≤◌, List, [], ◌∷◌, length, None};
+ghost use Rattle.std.specs.Prelude.{◌≡◌, ◌<◌, ◌≤◌, List, [], ◌∷◌, length, None, position};
 ghost use Rattle.lg_probe.specs.Meaning.Relays.{RelayFact, Opened, TargetAcked, Closed, relays_with, relays_after};
-ghost use Rattle.lg_probe.specs.Meaning.Relays.{AreApart, asker_at, ended_asker, is_open};
+ghost use Rattle.lg_probe.specs.Meaning.Relays.{AreApart, asker_at, ended_asker, has_number, is_ended, is_open};
 
 use arrayvec::ArrayVec;
 use lg_rules::{Addr, Name};
@@ -44,8 +44,6 @@ impl Model for Relays {
 }
 
 impl Relay {
-    ghost use Rattle.lg_probe.specs.Meaning.Relays.{has_number, is_ended};
-
     /// Whether it has a number.
     fn has_number(&self, number: u32) -> bool
         ensures { result ≡ has_number number self.now }
@@ -60,6 +58,22 @@ impl Relay {
     {
         self.number == number && self.target == *sender
     }
+}
+
+/// Where the first of these relays stands that an ack ends.
+fn place_ended(relays: &[Relay], number: u32, sender: &Name) -> Option<usize>
+    ensures { result ≡ position (is_ended number sender.now) relays.now }
+{
+    relays
+        .iter()
+        .position(|relay| relay.is_ended(number, sender))
+}
+
+/// Where the first of these relays stands that has a number.
+fn place_of(relays: &[Relay], number: u32) -> Option<usize>
+    ensures { result ≡ position (has_number number) relays.now }
+{
+    relays.iter().position(|relay| relay.has_number(number))
 }
 
 impl Relays {
@@ -128,13 +142,9 @@ impl Relays {
         ensures past { (past : List RelayFact) → self.old ≡ relays_after past
             → self.new ≡ relays_after (TargetAcked number sender.now ∷ past) }
     {
-        let asker = self
-            .open
-            .iter()
-            .find(|relay| relay.is_ended(number, sender))
-            .map(|relay| (relay.asker, relay.asked));
-        self.open.retain(|relay| !relay.is_ended(number, sender));
-        asker
+        let place = place_ended(self.open.as_slice(), number, sender)?;
+        let relay = self.open.remove(place);
+        Some((relay.asker, relay.asked))
     }
 
     /// Closes the relay of a number, and returns whether one was open.
@@ -144,8 +154,12 @@ impl Relays {
         ensures past { (past : List RelayFact) → self.old ≡ relays_after past
             → self.new ≡ relays_after (Closed number ∷ past) }
     {
-        let was_open = self.open.iter().any(|relay| relay.has_number(number));
-        self.open.retain(|relay| !relay.has_number(number));
-        was_open
+        match place_of(self.open.as_slice(), number) {
+            Some(place) => {
+                self.open.remove(place);
+                true
+            }
+            None => false,
+        }
     }
 }
