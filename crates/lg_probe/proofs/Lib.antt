@@ -1,5 +1,6 @@
 pub mod NameRows
 pub mod OrderLaws
+pub mod Candidates
 pub mod Joining
 pub mod RoundLaws
 pub mod Picking

@@ -1,6 +1,7 @@
 -- Names in rising order: which are among them, and how many there are.
-use Rattle.std.proofs.Common.{◌≡◌, ◌≢◌, ℕ, ◌≤◌, Bool, true, false, ◌||◌, List, [], ◌∷◌, ◌++◌, length, map, Some, None, refl, sym, ◌∙◌, ap, subst, arith}
+use Rattle.std.proofs.Common.{◌≡◌, ◌≢◌, ℕ, ◌≤◌, Bool, true, false, not, ◌||◌, List, [], ◌∷◌, ◌++◌, length, map, Some, None, inl, inr, refl, sym, ◌∙◌, ap, subst, arith}
 use Rattle.std.specs.Prelude.{filter}
+use Rattle.std.proofs.lemmas.Bool.{cases_Bool}
 use Rattle.std.specs.declared.cmp.Ordering.TheVariants.{Greater}
 use Rattle.lg_rules.specs.Meaning.Rows.{name_cmp, is_same, is_among, row_at, Rises}
 use Rattle.lg_rules.proofs.Cases.{Below, Tied, Above, compared}
@@ -54,3 +55,17 @@ among-append k (x ∷ xs) ys = ap (λ b. is_same name_cmp x k || b) (among-appen
     assoc : (p q r : Bool) → (p || (q || r)) ≡ ((p || q) || r)
     assoc true q r = refl
     assoc false q r = refl
+
+-- those that pass neither of two tests
+pub neither : {A : Type 0} (p q : A → Bool) (xs : List A) → filter (λ x. not (p x || q x)) xs ≡ filter (λ x. not (p x)) (filter (λ x. not (q x)) xs)
+neither p q [] = refl
+neither p q (x ∷ xs) = elim (cases_Bool (q x)) [
+  | inl t ↦ elim (cases_Bool (p x)) [
+    | inl u ↦ rw (t, u) (neither p q xs)
+    | inr v ↦ rw (t, v) (neither p q xs)
+  ]
+  | inr f ↦ elim (cases_Bool (p x)) [
+    | inl u ↦ rw (f, u) (neither p q xs)
+    | inr v ↦ rw (f, v) (ap (λ ys. x ∷ ys) (neither p q xs))
+  ]
+]

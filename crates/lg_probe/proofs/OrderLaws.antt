@@ -4,6 +4,7 @@ use Rattle.std.specs.Prelude.{filter, slice_get}
 use Rattle.std.specs.List.{list_all}
 use Rattle.std.specs.Option.{option_to_list}
 use Rattle.std.proofs.lemmas.Bool.{false≢true, not-true}
+use Rattle.lg_rules.specs.declared.members.TheConstants.{MAX_OTHERS}
 use Rattle.lg_rules.specs.Meaning.Rows.{name_cmp, is_same, is_among, put_key, in_order, Rises}
 use Rattle.lg_rules.proofs.KeyOrder.{names_order, key_is}
 use Rattle.lg_rules.proofs.Rises.{rises-put, rises-in_order, rises-filter, among-put, among-in_order, among-filter, among-cons_same, among-later, length-put}
@@ -155,17 +156,20 @@ sound-choice o word sound = step (choice o.names o.chosen word) (λ n e. candida
     }
 
 -- a member that joins
-pub join_room : (o : OrderValue) (m : ℕ) (n : List ℕ) → IsSound o → length (put_key name_cmp n (known_names o)) ≤ m → is_among name_cmp n o.names ≡ false → length o.names < m
-join_room o m n sound few fresh =
+pub join_few : (o : OrderValue) (m : ℕ) (n : List ℕ) → IsSound o → length (put_key name_cmp n (known_names o)) ≤ m → length (put_key name_cmp n o.names) ≤ m
+join_few o m n sound few =
     let within : length (put_key name_cmp n o.names) ≤ length (put_key name_cmp n (known_names o)) = names_few (put_key name_cmp n o.names) (put_key name_cmp n (known_names o)) (rises-put names_order n o.names sound.names_rise) (λ k a. among-put names_order k n (known_names o) ∙ known k (in_either _ _ (sym (among-put names_order k n o.names) ∙ a))) in
-    omega (arith, within, few, length-put names_order n o.names fresh)
+    omega (arith, within, few)
   where
     known : (k : List ℕ) → InEither (is_same name_cmp n k) (is_among name_cmp k o.names) → (is_same name_cmp n k || is_among name_cmp k (known_names o)) ≡ true
     known k (First s) = first_of _ (is_among name_cmp k (known_names o)) s
     known k (Second a) = second_of (is_same name_cmp n k) _ (among-in_order names_order k (o.chosen ++ o.names) ∙ known_name o k a)
 
-pub sound-join : (o : OrderValue) (n : List ℕ) (m : ℕ) → IsSound o → length (put_key name_cmp n (known_names o)) ≤ m → length (known_names (order_with o (Joined n))) ≤ m
-sound-join o n m sound few =
+pub join_room : (o : OrderValue) (m : ℕ) (n : List ℕ) → IsSound o → length (put_key name_cmp n (known_names o)) ≤ m → is_among name_cmp n o.names ≡ false → length o.names < m
+join_room o m n sound few fresh = omega (arith, join_few o m n sound few, length-put names_order n o.names fresh)
+
+known-join : (o : OrderValue) (n : List ℕ) (m : ℕ) → IsSound o → length (put_key name_cmp n (known_names o)) ≤ m → length (known_names (order_with o (Joined n))) ≤ m
+known-join o n m sound few =
     let after = known_names (order_with o (Joined n)) in
     let within : length after ≤ length (put_key name_cmp n (known_names o)) = names_few after (put_key name_cmp n (known_names o)) (rises-in_order names_order (o.chosen ++ put_key name_cmp n o.names)) (λ k a. among-put names_order k n (known_names o) ∙ known k (in_either _ _ (sym (among-append k o.chosen (put_key name_cmp n o.names)) ∙ sym (among-in_order names_order k (o.chosen ++ put_key name_cmp n o.names)) ∙ a))) in
     omega (arith, within, few)
@@ -179,6 +183,13 @@ sound-join o n m sound few =
       | First s ↦ first_of _ (is_among name_cmp k (known_names o)) s
       | Second b ↦ knew k (known_name o k b)
     ]
+
+pub sound-join : (o : OrderValue) (n : List ℕ) → IsSound o → length (put_key name_cmp n (known_names o)) ≤ MAX_OTHERS → IsSound (order_with o (Joined n))
+sound-join o n sound few = record {
+  names_rise = rises-put names_order n o.names sound.names_rise;
+  chosen_rise = sound.chosen_rise;
+  few = known-join o n MAX_OTHERS sound few;
+}
 
 -- a member that leaves
 pub sound-leave : (o : OrderValue) (n : List ℕ) → IsSound o → IsSound (order_with o (Left n))

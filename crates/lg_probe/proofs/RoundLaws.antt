@@ -1,25 +1,12 @@
 -- What a nack does to a round.
-use Rattle.std.proofs.Common.{◌≡◌, ℕ, Bool, true, false, not, cond, ◌||◌, ◌&&◌, List, [], ◌∷◌, inl, inr, refl, sym, ◌∙◌, ap}
+use Rattle.std.proofs.Common.{◌≡◌, ℕ, Bool, true, false, cond, ◌&&◌, List, [], ◌∷◌, inl, inr, refl, sym, ◌∙◌, ap}
 use Rattle.std.specs.Prelude.{filter, ◌==◌}
 use Rattle.std.proofs.lemmas.Bool.{cases_Bool}
 use Rattle.lg_rules.specs.Meaning.Rows.{name_cmp, is_same, is_among}
 use Rattle.lg_rules.proofs.RowsFound.{filter-none}
+use Rattle.lg_probe.proofs.NameRows.{neither}
 use Rattle.lg_probe.specs.Meaning.Order.{without}
 use Rattle.lg_probe.specs.Meaning.Round.{RoundFact, Asked, Nacked, asked_in, has_nacked, silent_in, round_of, round_with}
-
--- those that pass neither of two tests
-neither : {A : Type 0} (p q : A → Bool) (xs : List A) → filter (λ x. not (p x || q x)) xs ≡ filter (λ x. not (p x)) (filter (λ x. not (q x)) xs)
-neither p q [] = refl
-neither p q (x ∷ xs) = elim (cases_Bool (q x)) [
-  | inl t ↦ elim (cases_Bool (p x)) [
-    | inl u ↦ rw (t, u) (neither p q xs)
-    | inr v ↦ rw (t, v) (neither p q xs)
-  ]
-  | inr f ↦ elim (cases_Bool (p x)) [
-    | inl u ↦ rw (f, u) (neither p q xs)
-    | inr v ↦ rw (f, v) (ap (λ ys. x ∷ ys) (neither p q xs))
-  ]
-]
 
 -- a nack leaves the other silent helpers
 silent-nacked : (number k : ℕ) (sender : List ℕ) (past : List RoundFact)

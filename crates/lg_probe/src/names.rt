@@ -1,5 +1,5 @@
 //! Names in their order.
-ghost use Rattle.std.specs.Prelude.{◌≡◌, ◌≤◌, ◌<◌, false, length, MatchResult};
+ghost use Rattle.std.specs.Prelude.{◌≡◌, ◌+◌, ◌≤◌, ◌<◌, false, ◌++◌, length, MatchResult};
 ghost use Rattle.std.specs.List.{prefix_len};
 ghost use Rattle.std.specs.Ordering.{is_lt};
 ghost use Rattle.arrayvec.specs.ArrayVec.{array_vec_len};
@@ -56,7 +56,17 @@ pub(crate) fn put(names: &mut ArrayVec<Name, MAX_OTHERS>, name: &Name)
     }
 }
 
-/// Takes a name out of names, where it is among them.
+/// Takes a name out of names in rising order, where it is among them.
+pub(crate) fn take_out(names: &mut ArrayVec<Name, MAX_OTHERS>, name: &Name)
+    requires { Rises name_cmp names.old.items }
+    ensures { names.new.items ≡ without name.now names.old.items }
+{
+    if let Ok(at) = seat_of(names.as_slice(), name) {
+        names.remove(at);
+    }
+}
+
+/// Takes a name out of names in any order, where it is among them.
 pub(crate) fn remove<const N: usize>(names: &mut ArrayVec<Name, N>, name: &Name)
     ensures { names.new.items ≡ without name.now names.old.items }
 {
@@ -68,6 +78,16 @@ pub(crate) fn is_listed(names: &[Name], name: &Name) -> bool
     ensures { result ≡ is_among name_cmp name.now names.now }
 {
     names.contains(name)
+}
+
+/// Puts these names behind those of a row.
+pub(crate) fn push_all<const N: usize>(row: &mut ArrayVec<Name, N>, names: &[Name])
+    requires { array_vec_len row.old + length names.now ≤ N }
+    ensures { row.new.items ≡ row.old.items ++ names.now }
+{
+    for name in names {
+        row.push(*name);
+    }
 }
 
 /// A row of some names.

@@ -1,79 +1,66 @@
 //! The order of probing.
-ghost use Rattle.std.specs.Prelude.{◌≡◌, ◌≤◌, true, not, ℕ, List, [], ◌∷◌, ◌++◌, length, count_by, slice_get};
+ghost use Rattle.std.specs.Prelude.{◌≡◌, ◌≤◌, true, ℕ, List, [], ◌∷◌, ◌++◌, length};
 ghost use Rattle.std.specs.Prelude.{IfOk, OnOk};
 ghost use Rattle.std.specs.Option.{option_to_list};
 ghost use Rattle.lg_rules.specs.Meaning.Rows.{name_cmp, is_among, put_key, Rises};
-ghost use Rattle.lg_probe.specs.Meaning.Order.{candidate, candidates, is_over, current_round, choice, put_choice};
+ghost use Rattle.lg_probe.specs.Meaning.Order.{candidate, candidates, current_round, choice, put_choice};
 ghost use Rattle.lg_probe.specs.Meaning.Order.{choice_after, ever_joined, known_names, picks, then_joined};
 ghost use Rattle.lg_probe.specs.Meaning.Order.{OrderFact, Joined, Left, Chose, order_after, order_with};
 ghost use Rattle.lg_probe.specs.Meaning.Order.{EachInWindows, choices_after, names_after, window};
-ghost use Rattle.lg_probe.specs.Support.Order.{IsSound};
+ghost use Rattle.lg_probe.specs.Meaning.Helpers.{left_by};
+ghost use Rattle.lg_probe.specs.Support.Order.{IsKept};
 
-use crate::names::{is_among, put, remove};
+use crate::names::{is_among, push_all, put, take_out};
 use arrayvec::ArrayVec;
 use lg_rules::{MAX_OTHERS, Name};
 use std::alloc::{AllocError, Global};
 use std::marker::Model;
 
-/// Whether each of these names is chosen.
-fn is_over(names: &[Name], chosen: &[Name]) -> bool
-    requires { Rises name_cmp chosen.now }
-    ensures { result ≡ is_over names.now chosen.now }
+/// Takes out of some names the one that a word chooses, where there is one.
+fn take_one(names: &mut ArrayVec<Name, MAX_OTHERS>, word: u32) -> Option<Name>
+    ensures name { result ≡ candidate word names.old.items }
+    ensures left { names.new.items ≡ left_by word names.old.items }
 {
-    names.iter().all(|name| is_among(chosen, name))
-}
-
-/// How many of these names aren't chosen.
-fn count_candidates(names: &[Name], chosen: &[Name]) -> usize
-    requires { Rises name_cmp chosen.now }
-    ensures { result ≡ count_by (λ n. not (is_among name_cmp n chosen.now)) names.now }
-{
-    names.iter().filter(|name| !is_among(chosen, name)).count()
-}
-
-/// The one at an index, from 0, of the names that aren't chosen.
-fn candidate_at(names: &[Name], chosen: &[Name], index: usize) -> Option<Name>
-    requires { Rises name_cmp chosen.now }
-    ensures { result ≡ slice_get (candidates names.now chosen.now) index }
-{
-    names
-        .iter()
-        .filter(|name| !is_among(chosen, name))
-        .nth(index)
-        .copied()
-}
-
-/// The one that a word chooses of the names that aren't chosen, where there is one.
-fn candidate(names: &[Name], chosen: &[Name], word: u32) -> Option<Name>
-    requires { Rises name_cmp chosen.now }
-    ensures { result ≡ candidate word (candidates names.now chosen.now) }
-{
-    let count = count_candidates(names, chosen);
+    let count = names.len();
     if count == 0 {
         return None;
     }
-    candidate_at(names, chosen, word as usize % count)
+    names.pop_at(word as usize % count)
 }
 
-/// Begins a new round where no name is a candidate.
-fn begin_round(names: &[Name], chosen: &mut ArrayVec<Name, MAX_OTHERS>)
-    requires { Rises name_cmp chosen.old.items }
-    ensures { chosen.new.items ≡ current_round names.now chosen.old.items }
+/// Begins a new round where no candidate remains: each name is one then.
+fn begin_round(
+    names: &[Name],
+    chosen: &mut ArrayVec<Name, MAX_OTHERS>,
+    remaining: &mut ArrayVec<Name, MAX_OTHERS>,
+)
+    requires few { length names.now ≤ MAX_OTHERS }
+    requires remaining { remaining.old.items ≡ candidates names.now chosen.old.items }
+    ensures chosen { chosen.new.items ≡ current_round names.now chosen.old.items }
+    ensures remaining { remaining.new.items ≡ candidates names.now (current_round names.now chosen.old.items) }
 {
-    if is_over(names, chosen.as_slice()) {
+    if remaining.is_empty() {
         chosen.clear();
+        push_all(remaining, names);
     }
 }
 
-/// Chooses one of these names by a word, which then counts as chosen.
-fn choose_among(names: &[Name], chosen: &mut ArrayVec<Name, MAX_OTHERS>, word: u32) -> Option<Name>
-    requires { IsSound record { names = names.now; chosen = chosen.old.items } }
+/// Chooses one of these names by a word, which then counts as chosen and is no candidate.
+fn choose_among(
+    names: &[Name],
+    chosen: &mut ArrayVec<Name, MAX_OTHERS>,
+    remaining: &mut ArrayVec<Name, MAX_OTHERS>,
+    word: u32,
+) -> Option<Name>
+    requires few { length names.now ≤ MAX_OTHERS }
+    requires kept { IsKept names.now chosen.old.items remaining.old.items }
     ensures chosen { result ≡ choice names.now chosen.old.items word }
     ensures round { let named = choice names.now chosen.old.items word in
         chosen.new.items ≡ put_choice named (current_round names.now chosen.old.items) }
+    ensures remaining { remaining.new.items ≡ candidates names.now chosen.new.items }
 {
-    begin_round(names, chosen);
-    let name = candidate(names, chosen.as_slice(), word)?;
+    begin_round(names, chosen, remaining);
+    let name = take_one(remaining, word)?;
     put(chosen, &name);
     Some(name)
 }
@@ -86,6 +73,8 @@ fn choose_among(names: &[Name], chosen: &mut ArrayVec<Name, MAX_OTHERS>, word: u
 pub struct Order {
     names: ArrayVec<Name, MAX_OTHERS>,
     chosen: ArrayVec<Name, MAX_OTHERS>,
+    // The candidates: the names that aren't chosen, kept so that a choice doesn't have to look for them.
+    remaining: ArrayVec<Name, MAX_OTHERS>,
 }
 
 impl Model for Order {
@@ -95,9 +84,9 @@ impl Model for Order {
 
     ghost view = { λ o. record { names = o.names.items; chosen = o.chosen.items } };
 
-    ghost use Rattle.lg_probe.specs.Support.Order.{IsSound};
+    ghost use Rattle.lg_probe.specs.Support.Order.{IsKept};
 
-    ghost invariant = { λ o. IsSound record { names = o.names.items; chosen = o.chosen.items } };
+    ghost invariant = { λ o. IsKept o.names.items o.chosen.items o.remaining.items };
 }
 
 impl Order {
@@ -108,6 +97,7 @@ impl Order {
         Order {
             names: ArrayVec::new(),
             chosen: ArrayVec::new(),
+            remaining: ArrayVec::new(),
         }
     }
 
@@ -138,7 +128,12 @@ impl Order {
         ensures past { (past : List OrderFact) → self.old ≡ order_after past
             → (result ≡ choice_after past word) × (self.new ≡ order_after (Chose word ∷ past)) }
     {
-        choose_among(self.names.as_slice(), &mut self.chosen, word)
+        choose_among(
+            self.names.as_slice(),
+            &mut self.chosen,
+            &mut self.remaining,
+            word,
+        )
     }
 
     /// A member joins: it is a candidate at once, where it isn't chosen in the current round. With it at most 255
@@ -151,6 +146,9 @@ impl Order {
             → self.new ≡ order_after (Joined name.now ∷ past) }
     {
         put(&mut self.names, name);
+        if !is_among(self.chosen.as_slice(), name) {
+            put(&mut self.remaining, name);
+        }
     }
 
     /// A member leaves, and isn't a candidate until it joins again. Where it was chosen in the current round, it stays
@@ -160,7 +158,8 @@ impl Order {
         ensures past { (past : List OrderFact) → self.old ≡ order_after past
             → self.new ≡ order_after (Left name.now ∷ past) }
     {
-        remove(&mut self.names, name);
+        take_out(&mut self.names, name);
+        take_out(&mut self.remaining, name);
     }
 }
 

@@ -4,7 +4,7 @@ ghost use Rattle.lg_probe.specs.Meaning.Round.{RoundFact, Asked, Acked, Nacked, 
 ghost use Rattle.lg_probe.specs.Meaning.Round.{is_acked, mark_of, round_of, round_with, silent_in};
 
 use crate::helpers::{Helpers, MAX_HELPERS};
-use crate::names::{is_listed, remove, row_of};
+use crate::names::{is_listed, push_all, remove};
 use arrayvec::ArrayVec;
 use lg_rules::Name;
 use std::marker::Model;
@@ -77,8 +77,10 @@ impl Round {
         ensures past { (past : List RoundFact) → let after = round_of self.old.number self.old.target in
             self.old ≡ after past → self.new ≡ after (Asked helpers.now ∷ past) }
     {
-        self.asked = row_of(helpers.names());
-        self.silent = row_of(helpers.names());
+        self.asked.clear();
+        push_all(&mut self.asked, helpers.names());
+        self.silent.clear();
+        push_all(&mut self.silent, helpers.names());
     }
 
     /// Whether an ack counts: it has the number of the round, and comes from the target or from an asked helper.

@@ -1,11 +1,16 @@
 -- What holds of every order.
-use Rattle.std.specs.Prelude.{◌≤◌, length}
+use Rattle.std.specs.Prelude.{ℕ, ◌≡◌, ◌≤◌, List, length}
 use Rattle.lg_rules.specs.declared.members.TheConstants.{MAX_OTHERS}
 use Rattle.lg_rules.specs.Meaning.Rows.{name_cmp, Rises}
-use Rattle.lg_probe.specs.Meaning.Order.{OrderValue, known_names}
+use Rattle.lg_probe.specs.Meaning.Order.{OrderValue, candidates, known_names}
 
 -- its rows are in the order of names, and there is room for all that it knows
 pub record IsSound (order : OrderValue) : Type 0 where
   pub names_rise : Rises name_cmp order.names
   pub chosen_rise : Rises name_cmp order.chosen
   pub few : length (known_names order) ≤ MAX_OTHERS
+
+-- the candidates that are kept beside them are those of the round
+pub record IsKept (names chosen remaining : List (List ℕ)) : Type 0 where
+  pub sound : IsSound record { names = names; chosen = chosen }
+  pub rest : remaining ≡ candidates names chosen

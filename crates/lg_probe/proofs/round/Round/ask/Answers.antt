@@ -6,6 +6,6 @@ use Rattle.lg_probe.proofs.round.Round.ask.Goals as goal
 pub returns-clause-past : goal.returns-clause-past
 returns-clause-past c =
     let fact = Asked c.args.helpers.now in
-    let new : RoundValue = record { number = c.self.inside.number; target = c.self.inside.target; asked = c.row_of-self-inside.result.items; silent = c.row_of-self-inside-2.result.items; acked = c.self.inside.acked } in
+    let new : RoundValue = record { number = c.self.inside.number; target = c.self.inside.target; asked = c.push_all.new.row.items; silent = c.push_all-2.new.row.items; acked = c.self.inside.acked } in
     let done : new ≡ round_with c.args.self.now fact = search rules in
     λ past e. done ∙ ap (λ r. round_with r fact) e ∙ asked_after c.args.self.now.number c.args.self.now.target past c.args.helpers.now
