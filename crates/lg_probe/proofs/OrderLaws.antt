@@ -38,18 +38,18 @@ over-in_order names round i = list_all (λ n. among-in_order names_order n round
 candidates-in_order : (names round : List (List ℕ)) → candidates names (in_order name_cmp round) ≡ candidates names round
 candidates-in_order names round i = filter (λ n. not (among-in_order names_order n round i)) names
 
-current-in_order : (names round : List (List ℕ)) → current_round names (in_order name_cmp round) ≡ in_order name_cmp (current_round names round)
+pub current-in_order : (names round : List (List ℕ)) → current_round names (in_order name_cmp round) ≡ in_order name_cmp (current_round names round)
 current-in_order names round = ap (λ b. cond b [] (in_order name_cmp round)) (over-in_order names round) ∙ either (is_over names round)
   where
     either : (b : Bool) → cond b [] (in_order name_cmp round) ≡ in_order name_cmp (cond b [] round)
     either true = refl
     either false = refl
 
-choice-in_order : (names round : List (List ℕ)) (word : ℕ) → choice names (in_order name_cmp round) word ≡ choice names round word
+pub choice-in_order : (names round : List (List ℕ)) (word : ℕ) → choice names (in_order name_cmp round) word ≡ choice names round word
 choice-in_order names round word =
     ap (λ r. candidate word (candidates names r)) (current-in_order names round) ∙ ap (candidate word) (candidates-in_order names (current_round names round))
 
-put_choice-in_order : (o : Option (List ℕ)) (round : List (List ℕ)) → put_choice o (in_order name_cmp round) ≡ in_order name_cmp (option_to_list o ++ round)
+pub put_choice-in_order : (o : Option (List ℕ)) (round : List (List ℕ)) → put_choice o (in_order name_cmp round) ≡ in_order name_cmp (option_to_list o ++ round)
 put_choice-in_order None round = refl
 put_choice-in_order (Some n) round = refl
 

@@ -63,6 +63,13 @@ impl Round {
         self.target
     }
 
+    /// Whether an ack counted.
+    pub fn is_acked(&self) -> bool
+        ensures { result ≡ self.now.acked }
+    {
+        self.acked
+    }
+
     /// The helpers that were asked.
     pub fn asked(&self) -> &[Name]
         ensures { result.now ≡ self.now.asked }
