@@ -1,2 +1,3 @@
 -- What only carries the proofs.
+pub mod Helpers
 pub mod Order

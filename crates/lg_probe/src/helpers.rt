@@ -1,11 +1,13 @@
 //! The helpers of a probe.
-ghost use Rattle.std.specs.Prelude.{◌≡◌, ◌≤◌, ◌<◌, List, [], ◌++◌, length};
+ghost use Rattle.std.specs.Prelude.{◌≡◌, ◌≤◌, ◌<◌, ◌+◌, ℕ, List, [], ◌++◌, length, slice_get};
 ghost use Rattle.std.specs.Option.{option_to_list};
 ghost use Rattle.arrayvec.specs.ArrayVec.{array_vec_len};
 ghost use Rattle.lg_probe.specs.Meaning.Helpers.{left_by, picked, picked_by};
+ghost use Rattle.lg_rules.specs.Meaning.Rows.{name_cmp, Rises};
 ghost use Rattle.lg_probe.specs.Meaning.Order.{OrderFact, candidate, names_after, order_after, without};
+ghost use Rattle.lg_probe.specs.Support.Helpers.{left_at, AreTaken};
 
-use crate::names::{remove, row_of};
+use crate::names::seat_of;
 use crate::order::Order;
 use arrayvec::ArrayVec;
 use lg_rules::{MAX_OTHERS, Name};
@@ -13,6 +15,9 @@ use std::marker::Model;
 
 /// The most helpers of a probe: 8 (this project's choice).
 pub const MAX_HELPERS: usize = 8;
+
+/// The most places that a pick takes out: those of the helpers and of the target.
+const MAX_PLACES: usize = MAX_HELPERS + 1;
 
 /// The members that are asked to probe a target too, at most 8, in the order in which they were picked (SWIM, section
 /// 3.1). No call takes memory. A contract sees their names.
@@ -29,26 +34,55 @@ impl Model for Helpers {
     ghost view = { λ h. h.names.items };
 }
 
-/// These names without one.
-fn others_than(names: &[Name], name: &Name) -> ArrayVec<Name, MAX_OTHERS>
-    requires { length names.now ≤ MAX_OTHERS }
-    ensures { result.items ≡ without name.now names.now }
+/// The places of names that are taken out, the latest first: each is a place among the names left before it.
+type Places = ArrayVec<usize, MAX_PLACES>;
+
+/// The place of the target, where it is among the names.
+fn places_of(names: &[Name], target: &Name) -> Places
+    requires { Rises name_cmp names.now }
+    ensures others { left_at result.items names.now ≡ without target.now names.now }
+    ensures counted { AreTaken result.items names.now }
+    ensures few { array_vec_len result ≤ 1 }
 {
-    let mut others = row_of(names);
-    remove(&mut others, name);
-    others
+    let mut taken = ArrayVec::new();
+    if let Ok(place) = seat_of(names, target) {
+        taken.push(place);
+    }
+    taken
+}
+
+/// Where the name at a place among those left stands among all of them.
+fn place_among_all(taken: &[usize], mut place: usize) -> usize
+    requires few { length taken.now ≤ MAX_PLACES }
+    requires within { place < MAX_OTHERS }
+    ensures { (names : List (List ℕ)) → slice_get names result ≡ slice_get (left_at taken.now names) place }
+{
+    for earlier in taken {
+        if *earlier <= place {
+            place += 1;
+        }
+    }
+    place
 }
 
 /// Picks by a word one of the names that are left.
-fn pick_one(left: &mut ArrayVec<Name, MAX_OTHERS>, word: u32) -> Option<Name>
-    ensures picked { result ≡ candidate word left.old.items }
-    ensures left { left.new.items ≡ left_by word left.old.items }
+fn pick_one(names: &[Name], taken: &mut Places, word: u32) -> Option<Name>
+    requires few { length names.now ≤ MAX_OTHERS }
+    requires room { array_vec_len taken.old < MAX_PLACES }
+    requires counted { AreTaken taken.old.items names.now }
+    ensures picked { result ≡ candidate word (left_at taken.old.items names.now) }
+    ensures left { left_at taken.new.items names.now ≡ left_by word (left_at taken.old.items names.now) }
+    ensures counted { AreTaken taken.new.items names.now }
+    ensures few { array_vec_len taken.new ≤ array_vec_len taken.old + 1 }
 {
-    let count = left.len();
+    let count = names.len() - taken.len();
     if count == 0 {
         return None;
     }
-    left.pop_at(word as usize % count)
+    let place = word as usize % count;
+    let name = names[place_among_all(taken.as_slice(), place)];
+    taken.insert(0, place);
+    Some(name)
 }
 
 /// Puts who was picked, if anybody was, behind those picked before.
@@ -61,14 +95,17 @@ fn push_helper(helpers: &mut ArrayVec<Name, MAX_HELPERS>, name: Option<Name>)
     }
 }
 
-/// Picks by each word one of the names that are left.
-fn pick_all(left: &mut ArrayVec<Name, MAX_OTHERS>, words: &[u32]) -> ArrayVec<Name, MAX_HELPERS>
-    requires { length words.now ≤ MAX_HELPERS }
-    ensures { result.items ≡ picked_by words.now left.old.items }
+/// Picks by each word one of the names that are left, the target excepted.
+fn pick_all(names: &[Name], target: &Name, words: &[u32]) -> ArrayVec<Name, MAX_HELPERS>
+    requires few { length names.now ≤ MAX_OTHERS }
+    requires rises { Rises name_cmp names.now }
+    requires words { length words.now ≤ MAX_HELPERS }
+    ensures { result.items ≡ picked_by words.now (without target.now names.now) }
 {
+    let mut taken = places_of(names, target);
     let mut helpers = ArrayVec::new();
     for word in words {
-        push_helper(&mut helpers, pick_one(left, *word));
+        push_helper(&mut helpers, pick_one(names, &mut taken, *word));
     }
     helpers
 }
@@ -93,8 +130,7 @@ impl Helpers {
         ensures past { (past : List OrderFact) → others.now ≡ order_after past
             → self.new ≡ picked k words.now (without target.now (names_after past)) }
     {
-        let mut left = others_than(others.names(), target);
-        self.names = pick_all(&mut left, &words[..k]);
+        self.names = pick_all(others.names(), target, &words[..k]);
     }
 
     /// Their names, in the order in which they were picked.

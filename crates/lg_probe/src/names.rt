@@ -19,7 +19,7 @@ fn place_of(names: &[Name], name: &Name) -> usize
 }
 
 /// Where a name stands among names in rising order, or else where it would be inserted.
-fn seat_of(names: &[Name], name: &Name) -> Result<usize, usize>
+pub(crate) fn seat_of(names: &[Name], name: &Name) -> Result<usize, usize>
     requires { Rises name_cmp names.now }
     ensures { let has = HasRow name_cmp (λ m. m) name.now names.now in
         let lacks = LacksRow name_cmp (λ m. m) name.now names.now in
@@ -88,16 +88,4 @@ pub(crate) fn push_all<const N: usize>(row: &mut ArrayVec<Name, N>, names: &[Nam
     for name in names {
         row.push(*name);
     }
-}
-
-/// A row of some names.
-pub(crate) fn row_of<const N: usize>(names: &[Name]) -> ArrayVec<Name, N>
-    requires { length names.now ≤ N }
-    ensures { result.items ≡ names.now }
-{
-    let mut row = ArrayVec::new();
-    for name in names {
-        row.push(*name);
-    }
-    row
 }
