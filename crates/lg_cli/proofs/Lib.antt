@@ -3,4 +3,5 @@ pub mod CommandLaws
 pub mod HeardLines
 pub mod HexLines
 pub mod LineLaws
+pub mod ListLaws
 pub mod TimeoutLaws

@@ -5,9 +5,9 @@ ghost use Rattle.clap.specs.Matches.{found_of};
 ghost use Rattle.clap.specs.Simple.{app_of, subcommand_rows_of};
 ghost use Rattle.clap.specs.Walk.{rows_of, rule_of};
 ghost use Rattle.clap.specs.declared.builder.command.Command.TheViews.{out-Command as fields_of};
-ghost use Rattle.lg_cli.specs.Meaning.Commands.{answer_app, asked, lg_app, line_faults, name_of_rows, number_in};
-ghost use Rattle.lg_cli.specs.Meaning.Commands.{number_rule, numbers_in, request_faults, request_of_rows};
-ghost use Rattle.lg_cli.specs.Meaning.Commands.{timeouts_app, IfTimeouts};
+ghost use Rattle.lg_cli.specs.Meaning.Commands.{answer_app, asked, lg_app, line_faults, number_in, number_rule};
+ghost use Rattle.lg_cli.specs.Meaning.Commands.{numbers_in, order_app, request_faults, request_of_rows};
+ghost use Rattle.lg_cli.specs.Meaning.Commands.{text_in, text_rule, timeouts_app, IfTimeouts};
 ghost use Rattle.lg_cli.specs.Meaning.Timeouts.{are_good};
 ghost use Rattle.lg_cli.specs.Support.Requests.{request_of};
 
@@ -28,6 +28,13 @@ pub enum Asked<'a> {
         /// The text, which may be no name.
         name: &'a str,
     },
+    /// The command `order`, with the texts that are to list its names and its words.
+    Order {
+        /// The text of the names, which may be bad.
+        names: &'a str,
+        /// The text of the words, which may be bad.
+        words: &'a str,
+    },
     /// The command `timeouts`.
     Timeouts {
         /// Its numbers.
@@ -35,20 +42,46 @@ pub enum Asked<'a> {
     },
 }
 
+/// The option `--ID TEXT`, which is required.
+fn text_option<'a>(alloc: Global, id: &'a str, text: &'a str) -> Arg<'a>
+    ensures rule { rule_of result ≡ text_rule id.entry.now }
+    ensures local { result.global ≡ false }
+{
+    Arg::new(alloc, id)
+        .long(id)
+        .value_name(text)
+        .required(true)
+        .action(ArgAction::Set)
+}
+
 /// The command `answer --name NAME`.
 fn answer_command<'a>(alloc: Global) -> Result<Command<'a>, AllocError>
     ensures app { IfOk result (λ command. app_of command ≡ answer_app) }
     ensures local { IfOk result (λ command. (fields_of command).has_globals ≡ false) }
 {
-    let name = Arg::new(alloc, "name")
-        .long("name")
-        .value_name("NAME")
-        .help("The name of the detector, of 1 to 32 bytes of A-Z a-z 0-9 . _ -")
-        .required(true)
-        .action(ArgAction::Set);
+    let name = text_option(alloc, "name", "NAME").help(
+        "The name of the detector, of 1 to 32 bytes of A-Z a-z 0-9 . _ -",
+    );
     Command::new(alloc, "answer")
         .about("Answers packets, a line of hex each, as a detector does")
         .arg(name)
+}
+
+/// The command `order --names LIST --words LIST`.
+fn order_command<'a>(alloc: Global) -> Result<Command<'a>, AllocError>
+    ensures app { IfOk result (λ command. app_of command ≡ order_app) }
+    ensures local { IfOk result (λ command. (fields_of command).has_globals ≡ false) }
+{
+    let names = text_option(alloc, "names", "LIST").help(
+        "The names, 1 to 255 different ones between commas",
+    );
+    let words = text_option(alloc, "words", "LIST").help(
+        "The words, numbers from 0 to 4294967295 between commas",
+    );
+    Command::new(alloc, "order")
+        .about("Writes whom words choose to be probed, one after another of the names")
+        .arg(names)?
+        .arg(words)
 }
 
 /// The option `--ID N`, a number between two others, which count.
@@ -97,11 +130,13 @@ fn lg_command<'a>(alloc: Global) -> Result<Command<'a>, AllocError>
     ensures { IfOk result (λ command. app_of command ≡ lg_app) }
 {
     let answer = answer_command(alloc)?;
+    let order = order_command(alloc)?;
     let timeouts = timeouts_command(alloc)?;
     let lg = Command::new(alloc, "lg")
         .about("A SWIM failure detector with Lifeguard's extensions")
         .subcommand_required(true)
         .subcommand(answer)?
+        .subcommand(order)?
         .subcommand(timeouts)?;
     Ok(lg)
 }
@@ -142,13 +177,18 @@ fn checked<'a>(asked: Asked<'a>, lg: &mut Command) -> Result<Asked<'a>, Error>
 fn asked_in<'a>(matches: &ArgMatches<'a>) -> Asked<'a>
     ensures { request_of result ≡ request_of_rows (subcommand_rows_of matches.now) }
 {
-    match matches.subcommand_matches("timeouts") {
-        Some(found) => Asked::Timeouts {
+    match matches.subcommand() {
+        Some(("timeouts", found)) => Asked::Timeouts {
             numbers: numbers_in(found),
         },
-        None => Asked::Answer {
-            name: name_in(matches),
+        Some(("order", found)) => Asked::Order {
+            names: text_in(found, "names"),
+            words: text_in(found, "words"),
         },
+        Some((_, found)) => Asked::Answer {
+            name: text_in(found, "name"),
+        },
+        None => Asked::Answer { name: "" },
     }
 }
 
@@ -172,12 +212,9 @@ fn number_in(found: &ArgMatches, id: &str) -> u64
     found.get_one(id).unwrap_or(0)
 }
 
-/// The text of the option `--name` of the command that was met, or an empty one where there is none.
-fn name_in<'a>(matches: &ArgMatches<'a>) -> &'a str
-    ensures { result.now ≡ name_of_rows (subcommand_rows_of matches.now) }
+/// The text of an option, or an empty one where it has none.
+fn text_in<'a>(found: &ArgMatches<'a>, id: &str) -> &'a str
+    ensures { result.now ≡ text_in (rows_of (found_of found.now)) id.now }
 {
-    match matches.subcommand() {
-        Some((_, found)) => found.get_str("name").unwrap_or(""),
-        None => "",
-    }
+    found.get_str(id).unwrap_or("")
 }

@@ -7,6 +7,7 @@ mod fault;
 mod input;
 mod line;
 mod lines;
+mod order;
 mod program;
 mod run;
 #[cfg(test)]

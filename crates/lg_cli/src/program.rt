@@ -1,17 +1,20 @@
 //! The program over any reader and writers: its commands, its statuses, and what it says of faults.
-ghost use Rattle.std.specs.Prelude.{◌≡◌, ◌≢◌, ◌⊎◌, IfOk, [], map, true};
+ghost use Rattle.std.specs.Prelude.{◌≡◌, ◌≢◌, ◌⊎◌, Err, IfOk, [], map, true};
 ghost use Rattle.std.specs.Result.{is_err};
 ghost use Rattle.std.specs.IoError.{error_kind};
 ghost use Rattle.clap.specs.Values.{kind_of};
 ghost use Rattle.lg_rules.specs.Meaning.Name.{name_of_text};
+ghost use Rattle.lg_cli.specs.Meaning.Choosing.{order_text};
 ghost use Rattle.lg_cli.specs.Meaning.Faults.{run_fault_text};
-ghost use Rattle.lg_cli.specs.Meaning.Running.{AppendsFront, FailsBy, ReadsWhole, RunsAnswer, RunsTimeouts};
-ghost use Rattle.lg_cli.specs.Meaning.Commands.{asked, line_faults, status_of_kind, IfAnswer, IfTimeouts, RefusesLine};
+ghost use Rattle.lg_cli.specs.Meaning.Running.{AppendsFront, FailsBy, ReadsWhole, RunsAnswer, RunsOrder, RunsTimeouts};
+ghost use Rattle.lg_cli.specs.Meaning.Commands.{asked, line_faults, status_of_kind, IfAnswer, IfOrder, IfTimeouts};
+ghost use Rattle.lg_cli.specs.Meaning.Commands.{RefusesLine};
 ghost use Rattle.lg_cli.specs.Meaning.Timeouts.{are_good};
 
 use crate::command::{Asked, read_words};
 use crate::fault::RunFault;
-use crate::run::{answer_run, timeouts_run};
+use crate::order::{BadList, OrderFault};
+use crate::run::{answer_run, order_run, timeouts_run};
 use crate::timeouts::Numbers;
 use clap::Error;
 use clap::error::ErrorKind;
@@ -37,9 +40,10 @@ const BAD_INPUT: u8 = 3;
 /// are 0 where all was done, also where help was asked for, which is written; 1 where memory, a
 /// read or a write failed, reported as `lg: memory`, `lg: read` or `lg: write`; 2 where the command
 /// line is refused, reported by a text of the command line's own; 3 for bad input: `lg: bad names`
-/// where the text of `--name` is no name, and nothing is then read, or a faulty line of the input
-/// of `answer`, of which nothing is reported. `timeouts` reads nothing. A line that `faults` doesn't
-/// take is dropped.
+/// where the text of `--name` is no name, and nothing is then read, or where that of `--names` is no
+/// list of 1 to 255 different names, `lg: bad words` where that of `--words` is no list of words, or
+/// a faulty line of the input of `answer`, of which nothing is reported. `order` and `timeouts` read
+/// nothing. A line that `faults` doesn't take is dropped.
 pub fn run_words<S: AsStr, R: Read, W: Write, F: Write>(
     alloc: Global,
     words: &[S],
@@ -57,6 +61,12 @@ pub fn run_words<S: AsStr, R: Read, W: Write, F: Write>(
         (λ text. is_err (name_of_text text) ≡ true → reader.new ≡ reader.old) }
     ensures unnamed { let line = map S.text words.now in line_faults line ≡ []
         → IfAnswer (asked line) (λ text. is_err (name_of_text text) ≡ true → writer.new ≡ writer.old) }
+    ensures ordered { let line = map S.text words.now in line_faults line ≡ [] → result ≢ FAILED
+        → IfOrder (asked line) (λ names listed. RunsOrder (W.contents writer.old) (W.contents writer.new)
+        (F.contents faults.old) (F.contents faults.new) (order_text names listed) result) }
+    ensures unlisted { let line = map S.text words.now in line_faults line ≡ [] → IfOrder (asked line)
+        (λ names listed. is_err (order_text names listed) ≡ true → writer.new ≡ writer.old) }
+    ensures ordered_unread { IfOrder (asked (map S.text words.now)) (λ _ _. reader.new ≡ reader.old) }
     ensures timed { let line = map S.text words.now in line_faults line ≡ [] → result ≢ FAILED
         → IfTimeouts (asked line)
         (λ numbers. RunsTimeouts (W.contents writer.old) (W.contents writer.new) numbers result) }
@@ -78,6 +88,7 @@ pub fn run_words<S: AsStr, R: Read, W: Write, F: Write>(
 {
     match read_words(alloc, words) {
         Ok(Asked::Answer { name }) => answer_named(alloc, name, reader, writer, faults),
+        Ok(Asked::Order { names, words }) => order_lists(alloc, names, words, writer, faults),
         Ok(Asked::Timeouts { numbers }) => timeouts_of(alloc, &numbers, writer, faults),
         Err(error) => report_refusal(&error, writer, faults),
     }
@@ -105,13 +116,42 @@ fn answer_named<R: Read, W: Write, F: Write>(
     let name = match Name::new(name.as_bytes()) {
         Ok(name) => name,
         Err(_) => {
-            report(faults, "lg: bad names\n");
+            report(faults, BadList::Names.text());
             return BAD_INPUT;
         }
     };
     match answer_run(alloc, reader, writer, &name) {
         Ok(end) => end as u8,
         Err(fault) => {
+            report(faults, fault.text());
+            FAILED
+        }
+    }
+}
+
+/// Runs `order` for texts that should list names and words.
+fn order_lists<W: Write, F: Write>(
+    alloc: Global,
+    names: &str,
+    words: &str,
+    writer: &mut W,
+    faults: &mut F,
+) -> u8
+    ensures ordered { result ≢ FAILED → RunsOrder (W.contents writer.old) (W.contents writer.new)
+        (F.contents faults.old) (F.contents faults.new) (order_text names.now words.now) result }
+    ensures names { order_text names.now words.now ≡ Err BadList.Names → result ≡ BAD_INPUT }
+    ensures unlisted { is_err (order_text names.now words.now) ≡ true → writer.new ≡ writer.old }
+    ensures failed { result ≡ FAILED
+        → FailsBy (F.contents faults.old) (F.contents faults.new) writer.old writer.new }
+    ensures run { result ≢ USAGE }
+{
+    match order_run(alloc, writer, names, words) {
+        Ok(()) => 0,
+        Err(OrderFault::Bad(list)) => {
+            report(faults, list.text());
+            BAD_INPUT
+        }
+        Err(OrderFault::Run(fault)) => {
             report(faults, fault.text());
             FAILED
         }

@@ -1,13 +1,16 @@
 //! Runs the commands over a reader and a writer.
-ghost use Rattle.std.specs.Prelude.{◌≡◌, ◌≢◌, ◌⊎◌, ◌+◌, ◌≤◌, ◌<◌, true, Err, IfErr, IfOk, IfSome, OnOk, length};
+ghost use Rattle.std.specs.Prelude.{◌≡◌, ◌≢◌, ◌⊎◌, ◌+◌, ◌≤◌, ◌<◌, true, Err, IfErr, IfOk, IfSome, IsOkAnd, OnOk};
+ghost use Rattle.std.specs.Prelude.{length};
 ghost use Rattle.std.specs.Io.KnownBytes.{Appends};
 ghost use Rattle.lg_cli.specs.Meaning.Answering.{answer_end, answer_text};
-ghost use Rattle.lg_cli.specs.Meaning.Running.{AnswersInput, ReadsWhole, TakesAtMost};
+ghost use Rattle.lg_cli.specs.Meaning.Choosing.{order_text};
+ghost use Rattle.lg_cli.specs.Meaning.Running.{AnswersInput, IsFaultOf, ReadsWhole, TakesAtMost};
 ghost use Rattle.lg_cli.specs.Meaning.Timeouts.{are_good, timeouts_text};
 
 use crate::answer::{End, answer};
 use crate::fault::RunFault;
 use crate::input::{MAX_INPUT, read_input};
+use crate::order::{BadList, OrderFault, order};
 use crate::timeouts::{Numbers, timeouts};
 use lg_rules::Name;
 use std::alloc::Global;
@@ -83,6 +86,30 @@ pub fn timeouts_run<W: Write>(
 {
     let text = timeouts(alloc, numbers)?;
     write_whole(writer, text.as_bytes())
+}
+
+/// Runs the command `order`: writes whom words choose one after another of some names, a line each,
+/// and nothing else.
+///
+/// The two texts are those of [`order`], which says when a list is bad. The whole text is made before
+/// its first byte is written: nothing is written where a list is bad or with [`RunFault::Memory`], and
+/// [`RunFault::Write`], which comes only where both lists are good, doesn't say how much stands
+/// written. For each number of names time and memory are in proportion to the words.
+pub fn order_run<W: Write>(
+    alloc: Global,
+    writer: &mut W,
+    names: &str,
+    words: &str,
+) -> Result<(), OrderFault>
+    ensures text { OnOk result (IsOkAnd (order_text names.now words.now)
+        (λ text. Appends (W.contents writer.old) (W.contents writer.new) text)) }
+    ensures refused { IfErr result (IsFaultOf (order_text names.now words.now)) }
+    ensures names { order_text names.now words.now ≡ Err BadList.Names → result ≡ Err (OrderFault.Bad BadList.Names) }
+    ensures unwritten { IfErr result (λ fault. fault ≢ OrderFault.Run RunFault.Write → writer.new ≡ writer.old) }
+{
+    let text = order(alloc, names, words)?;
+    write_whole(writer, &text)?;
+    Ok(())
 }
 
 /// Writes a text and hands it on. Where that fails, a beginning of the text may be written.

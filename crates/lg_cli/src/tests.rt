@@ -3,6 +3,7 @@
 mod command_line;
 mod floods;
 mod limits;
+mod order;
 mod readers;
 mod refused_memory;
 mod rows;

@@ -1,6 +1,6 @@
 -- The command line of the program.
 use Rattle.std.specs.Prelude.{◌≡◌, ℕ, Bool, true, false, List, [], ◌∷◌, Option, Some, codes, if◌then◌else◌}
-use Rattle.std.specs.Prelude.{option_and_then, unwrap_or}
+use Rattle.std.specs.Prelude.{unwrap_or}
 use Rattle.std.specs.Option.{option_map_or}
 use Rattle.std.specs.Str.{bytes_eq}
 use Rattle.std.specs.Str.Parse.{digits_value, without_leading_plus}
@@ -18,14 +18,17 @@ use Rattle.lg_timing.specs.Meaning.Bounds.{least_interval_ms, most_confirmations
 use Rattle.lg_cli.specs.Meaning.Timeouts.{are_good}
 use Rattle.lg_cli.specs.declared.timeouts.Numbers.{Numbers}
 
--- the option `--name NAME`, which is required
-abbrev pub name_rule : Rule
-name_rule =
-    let named = record (new_rule (codes "name")) { long = Some (codes "name"); value_names = 1 } in
+-- an option `--ID TEXT`, which is required
+abbrev pub text_rule : Text → Rule
+text_rule id =
+    let named = record (new_rule id) { long = Some id; value_names = 1 } in
     record named { required = true; action = Some Set }
 
 abbrev pub answer_app : App
-answer_app = with_rule (new_app (codes "answer")) name_rule
+answer_app = with_rule (new_app (codes "answer")) (text_rule (codes "name"))
+
+abbrev pub order_app : App
+order_app = with_rule (with_rule (new_app (codes "order")) (text_rule (codes "names"))) (text_rule (codes "words"))
 
 -- an option `--ID N`, a number between two others, which count
 abbrev pub number_rule : Text → ℕ → ℕ → Rule
@@ -58,15 +61,15 @@ timeouts_app =
     let numbers = with_rule (with_rule (new_app (codes "timeouts")) members_rule) confirmations_rule in
     with_rule (with_rule (with_rule numbers alpha_rule) beta_rule) interval_rule
 
--- the program has the commands `answer` and `timeouts`, and one of its commands has to be named
+-- the program has the commands `answer`, `order` and `timeouts`, and one of its commands has to be named
 abbrev pub lg_app : App
-lg_app = with_subcommand
-    (with_subcommand (on_top (λ s. record s { subcommand_required = true }) (new_app (codes "lg"))) answer_app.top)
-    timeouts_app.top
+lg_app =
+    let lg = on_top (λ s. record s { subcommand_required = true }) (new_app (codes "lg")) in
+    with_subcommand (with_subcommand (with_subcommand lg answer_app.top) order_app.top) timeouts_app.top
 
--- the value of the option `--name` of the command that was met, or an empty text where there is none
-abbrev pub name_of_rows : Option (Text × List Row) → Text
-name_of_rows met = unwrap_or (option_and_then (λ p. first_of (codes "name") p.1) met) []
+-- the text of an option, or an empty one where it has none
+abbrev pub text_in : List Row → Text → Text
+text_in rows id = unwrap_or (first_of id rows) []
 
 -- the number that a text spells, or 0 where it spells none of 64 bits
 abbrev pub number_of : Text → ℕ
@@ -89,15 +92,24 @@ numbers_in rows = record {
 -- what a command line asks for: a command with its options
 pub data Request : Type 0 where
   answer : Text → Request
+  order : Text → Text → Request
   timeouts : Numbers → Request
 
-abbrev pub is_timeouts : Option (Text × List Row) → Bool
-is_timeouts met = option_map_or (λ p. bytes_eq p.0 (codes "timeouts")) met false
+-- whether the command of this name was met
+abbrev pub is_met : Text → Option (Text × List Row) → Bool
+is_met name met = option_map_or (λ p. bytes_eq p.0 name) met false
+
+-- the options of the command that was met
+abbrev pub rows_met : Option (Text × List Row) → List Row
+rows_met met = option_map_or (λ p. p.1) met []
 
 -- the command that was met, with its options
 abbrev pub request_of_rows : Option (Text × List Row) → Request
 request_of_rows met =
-    if is_timeouts met then timeouts (numbers_in (option_map_or (λ p. p.1) met [])) else answer (name_of_rows met)
+    let rows = rows_met met in
+    if is_met (codes "timeouts") met then timeouts (numbers_in rows)
+    else if is_met (codes "order") met then order (text_in rows (codes "names")) (text_in rows (codes "words"))
+    else answer (text_in rows (codes "name"))
 
 -- what a command line that is taken asks for
 unfoldable pub asked : List Text → Request
@@ -106,6 +118,7 @@ asked words = request_of_rows (subcommand_of lg_app words)
 -- numbers that aren't good are refused
 abbrev pub request_faults : Request → Kinds
 request_faults (answer text) = []
+request_faults (order names words) = []
 request_faults (timeouts numbers) = if are_good numbers then [] else ValueValidation ∷ []
 
 -- why a command line is refused, or that it asks for help; empty where it is taken
@@ -115,11 +128,19 @@ line_faults words = or_else (fault_of lg_app words) (request_faults (asked words
 -- a fact about the text of `--name` of `answer`
 abbrev pub IfAnswer : Request → (Text → Type 0) → Type 0
 IfAnswer (answer text) P = P text
+IfAnswer (order names words) P = Unit {0}
 IfAnswer (timeouts numbers) P = Unit {0}
+
+-- a fact about the two texts of `order`, of its names and of its words
+abbrev pub IfOrder : Request → (Text → Text → Type 0) → Type 0
+IfOrder (answer text) P = Unit {0}
+IfOrder (order names words) P = P names words
+IfOrder (timeouts numbers) P = Unit {0}
 
 -- a fact about the numbers of `timeouts`
 abbrev pub IfTimeouts : Request → (Numbers → Type 0) → Type 0
 IfTimeouts (answer text) P = Unit {0}
+IfTimeouts (order names words) P = Unit {0}
 IfTimeouts (timeouts numbers) P = P numbers
 
 -- the status of a command line that isn't run: 0 where it asks for help

@@ -1,5 +1,5 @@
 -- Worked inputs and command lines.
-use Rattle.std.specs.Prelude.{◌≡◌, ℕ, List, [], ◌∷◌, ◌++◌, Ok, codes, refl}
+use Rattle.std.specs.Prelude.{◌≡◌, ℕ, List, [], ◌∷◌, ◌++◌, Ok, Err, codes, refl}
 use Rattle.std.specs.Fmt.{digits}
 use Rattle.std.specs.List.{flat_map}
 use Rattle.hex.proofs.OnLiterals.{hex_on_literals}
@@ -16,11 +16,13 @@ use Rattle.lg_timing.specs.Meaning.Tables.{log10_of, ratio_of}
 use Rattle.lg_timing.specs.Meaning.Timeouts.{range_of, timeout_of}
 use Rattle.lg_cli.specs.Meaning.Answering.{answer_end, answer_text, events_of, heard, local, newline, opening}
 use Rattle.lg_cli.specs.Meaning.Answering.{sent_text}
-use Rattle.lg_cli.specs.Meaning.Commands.{answer, timeouts, asked, line_faults}
+use Rattle.lg_cli.specs.Meaning.Choosing.{comma_parts, names_in, order_text, words_in}
+use Rattle.lg_cli.specs.Meaning.Commands.{answer, order, timeouts, asked, line_faults}
 use Rattle.lg_cli.specs.Meaning.Lines.{lines_of}
 use Rattle.lg_cli.specs.Meaning.Spelled.{packet_in}
 use Rattle.lg_cli.specs.Meaning.Timeouts.{timeouts_text}
 use Rattle.lg_cli.specs.declared.answer.End.TheVariants.{Done}
+use Rattle.lg_cli.specs.declared.order.BadList.TheVariants.{Names, Words}
 
 two-lines : lines_of (codes "ab" ++ 10 ∷ 10 ∷ codes "c") ≡ codes "ab" ∷ [] ∷ codes "c" ∷ []
 two-lines = refl
@@ -157,3 +159,85 @@ two-alphas : line_faults (codes "lg" ∷ codes "timeouts" ∷ codes "--members=4
     ≡ kind.ArgumentConflict ∷ []
 unfolding line_faults asked clap_on_literals
 two-alphas = refl
+
+three-parts : comma_parts (codes "a,,b") ≡ codes "a" ∷ [] ∷ codes "b" ∷ []
+three-parts = refl
+
+empty-parts : comma_parts (codes ",") ≡ [] ∷ [] ∷ []
+empty-parts = refl
+
+-- the two choices of a are three apart
+two-to-choose : order_text (codes "a,b") (codes "0,0,1,0")
+    ≡ Ok (lines (codes "a" ∷ codes "b" ∷ codes "b" ∷ codes "a" ∷ []))
+unfolding order_text names_in words_in
+two-to-choose = refl
+
+three-to-choose : order_text (codes "b,c,d") (codes "4,0,5") ≡ Ok (lines (codes "c" ∷ codes "b" ∷ codes "d" ∷ []))
+unfolding order_text names_in words_in
+three-to-choose = refl
+
+-- in whatever order the names stand
+in-any-order : order_text (codes "d,b,c") (codes "4,0,5") ≡ Ok (lines (codes "c" ∷ codes "b" ∷ codes "d" ∷ []))
+unfolding order_text names_in words_in
+in-any-order = refl
+
+one-to-choose : order_text (codes "a") (codes "9,9") ≡ Ok (lines (codes "a" ∷ codes "a" ∷ []))
+unfolding order_text names_in words_in
+one-to-choose = refl
+
+no-words : order_text (codes "a,b") [] ≡ Ok []
+unfolding order_text names_in words_in
+no-words = refl
+
+name-twice : order_text (codes "a,a") (codes "0") ≡ Err Names
+unfolding order_text names_in words_in
+name-twice = refl
+
+no-names : order_text [] (codes "0") ≡ Err Names
+unfolding order_text names_in words_in
+no-names = refl
+
+greatest-word : order_text (codes "a") (codes "4294967295") ≡ Ok (lines (codes "a" ∷ []))
+unfolding order_text names_in words_in
+greatest-word = refl
+
+past-greatest-word : order_text (codes "a") (codes "4294967296") ≡ Err Words
+unfolding order_text names_in words_in
+past-greatest-word = refl
+
+-- leading zeros count as digits
+seventeen-digits : order_text (codes "a") (codes "0000000000000001,00000000000000001") ≡ Err Words
+unfolding order_text names_in words_in
+seventeen-digits = refl
+
+signed-word : order_text (codes "a") (codes "+1") ≡ Err Words
+unfolding order_text names_in words_in
+signed-word = refl
+
+two-empty-words : order_text (codes "a") (codes ",") ≡ Err Words
+unfolding order_text names_in words_in
+two-empty-words = refl
+
+-- the names are judged first
+both-bad : order_text (codes "a,a") (codes "x") ≡ Err Names
+unfolding order_text names_in words_in
+both-bad = refl
+
+listed : asked (codes "lg" ∷ codes "order" ∷ codes "--names" ∷ codes "a,b" ∷ codes "--words=0,0,1,0" ∷ [])
+    ≡ order (codes "a,b") (codes "0,0,1,0")
+unfolding asked clap_on_literals
+listed = refl
+
+-- lists are judged once the command line is taken
+any-lists : line_faults (codes "lg" ∷ codes "order" ∷ codes "--words=" ∷ codes "--names=a,a" ∷ []) ≡ []
+unfolding line_faults asked clap_on_literals
+any-lists = refl
+
+missing-words : line_faults (codes "lg" ∷ codes "order" ∷ codes "--names=a" ∷ []) ≡ kind.MissingRequiredArgument ∷ []
+unfolding line_faults asked clap_on_literals
+missing-words = refl
+
+names-twice : line_faults (codes "lg" ∷ codes "order" ∷ codes "--names=a" ∷ codes "--names=a" ∷ codes "--words=1" ∷ [])
+    ≡ kind.ArgumentConflict ∷ []
+unfolding line_faults asked clap_on_literals
+names-twice = refl

@@ -1,14 +1,17 @@
 -- How the runs of the commands end.
-use Rattle.std.specs.Prelude.{◌≡◌, ◌≢◌, ℕ, ◌≤◌, List, ◌++◌, length, Option}
+use Rattle.std.specs.Prelude.{◌≡◌, ◌≢◌, ⊤, true, ℕ, ◌≤◌, List, [], ◌++◌, length, is_ok, Option, Result, Ok, Err}
 use Rattle.std.specs.Io.KnownBytes.{Appends, Consumes, IsAtEnd}
 use Rattle.lg_cli.specs.Meaning.Answering.{answer_end, answer_text}
-use Rattle.lg_cli.specs.Meaning.Faults.{run_fault_text}
+use Rattle.lg_cli.specs.Meaning.Faults.{bad_list_text, run_fault_text}
 use Rattle.lg_cli.specs.Meaning.Ranges.{most_input}
 use Rattle.lg_cli.specs.Meaning.Timeouts.{timeouts_text}
 use Rattle.lg_cli.specs.declared.answer.End.{End}
 use Rattle.lg_cli.specs.declared.answer.End.TheVariants.{Done, Faulty}
 use Rattle.lg_cli.specs.declared.fault.RunFault.{RunFault}
-use Rattle.lg_cli.specs.declared.fault.RunFault.TheVariants.{Write}
+use Rattle.lg_cli.specs.declared.fault.RunFault.TheVariants.{Memory, Read, Write}
+use Rattle.lg_cli.specs.declared.order.BadList.{BadList}
+use Rattle.lg_cli.specs.declared.order.OrderFault.{OrderFault}
+use Rattle.lg_cli.specs.declared.order.OrderFault.TheVariants.{Bad, Run}
 use Rattle.lg_cli.specs.declared.timeouts.Numbers.{Numbers}
 
 -- Known bytes lose no more than this many of their first.
@@ -61,3 +64,28 @@ pub record RunsAnswer (left rest held holds : Option (List ℕ)) (name : List �
 pub record RunsTimeouts (held holds : Option (List ℕ)) (numbers : Numbers) (status : ℕ) : Type 0 where
   pub is : status ≡ 0
   pub written : Appends held holds (timeouts_text numbers)
+
+-- The choices are written, nothing is reported, and the status is 0.
+pub record WritesChoices (held holds reported reports : Option (List ℕ)) (text : List ℕ) (status : ℕ) : Type 0 where
+  pub is : status ≡ 0
+  pub written : Appends held holds text
+  pub silent : Appends reported reports []
+
+-- That a list is bad is reported, as far as the report is taken; nothing is written, and the status is 3.
+pub record TellsBadList (held holds reported reports : Option (List ℕ)) (list : BadList) (status : ℕ) : Type 0 where
+  pub is : status ≡ 3
+  pub unwritten : Appends held holds []
+  pub told : AppendsFront reported reports (bad_list_text list)
+
+-- `order` runs: the choices are written, or a list is bad.
+abbrev pub RunsOrder :
+    (held holds reported reports : Option (List ℕ)) → Result (List ℕ) BadList → ℕ → Type 0
+RunsOrder held holds reported reports (Ok text) status = WritesChoices held holds reported reports text status
+RunsOrder held holds reported reports (Err list) status = TellsBadList held holds reported reports list status
+
+-- A fault of `order`: the list that is bad, or of memory, or of writing, which comes only where both lists are good.
+abbrev pub IsFaultOf : Result (List ℕ) BadList → OrderFault → Type 0
+IsFaultOf said (Bad list) = said ≡ Err list
+IsFaultOf said (Run Memory) = ⊤
+IsFaultOf said (Run Read) = ⊥
+IsFaultOf said (Run Write) = is_ok said ≡ true

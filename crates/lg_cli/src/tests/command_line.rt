@@ -24,7 +24,7 @@ fn runs_and_refuses_commands(rt: HostRuntime) -> Result<(), Fail> {
         ("lg answer --name b --names b", 2, false, true),
         ("lg answer --name -b", 2, false, true),
         ("lg answer --name=-b", 0, false, false),
-        ("lg order --names a --words 1", 2, false, true),
+        ("lg sim", 2, false, true),
         ("lg node", 2, false, true),
         ("lg --version", 2, false, true),
         ("lg answer --name=", 3, false, true),

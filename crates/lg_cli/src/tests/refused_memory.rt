@@ -2,8 +2,9 @@
 use super::scripted::Room;
 use crate::answer::End;
 use crate::fault::RunFault;
+use crate::order::OrderFault;
 use crate::program::run_words;
-use crate::run::{answer_run, timeouts_run};
+use crate::run::{answer_run, order_run, timeouts_run};
 use crate::timeouts::Numbers;
 use lg_rules::Name;
 
@@ -109,4 +110,51 @@ fn writes_no_timeouts_where_memory_is_refused(rt: HostRuntime) {
         }
     }
     assert!(rt; answered);
+}
+
+#[test]
+fn tells_refused_memory_of_order(rt: HostRuntime) {
+    let words = ["lg", "order", "--names", "a,b", "--words", "0,0,1,0"];
+    let mut chosen = false;
+    for _ in 0..2 {
+        let mut reader = b"".as_slice();
+        let mut writer = Room::failing(0);
+        let mut faults = Room::failing(0);
+        let status = run_words(
+            rt.alloc(),
+            words.as_slice(),
+            &mut reader,
+            &mut writer,
+            &mut faults,
+        );
+        if status == 0 {
+            chosen = true;
+            assert_eq!(rt; writer.text(), b"a\nb\nb\na\n".as_slice());
+            assert_eq!(rt; faults.calls, 0);
+        } else {
+            assert_eq!(rt; status, 1);
+            assert_eq!(rt; writer.calls, 0);
+            assert_eq!(rt; faults.text(), b"lg: memory\n".as_slice());
+        }
+    }
+    assert!(rt; chosen);
+}
+
+#[test]
+fn writes_no_choices_where_memory_is_refused(rt: HostRuntime) {
+    let mut chosen = false;
+    for _ in 0..2 {
+        let mut writer = Room::failing(0);
+        match order_run(rt.alloc(), &mut writer, "a,b", "0,0,1,0") {
+            Ok(()) => {
+                chosen = true;
+                assert_eq!(rt; writer.text(), b"a\nb\nb\na\n".as_slice());
+            }
+            Err(fault) => {
+                assert_eq!(rt; fault, OrderFault::Run(RunFault::Memory));
+                assert_eq!(rt; writer.calls, 0);
+            }
+        }
+    }
+    assert!(rt; chosen);
 }

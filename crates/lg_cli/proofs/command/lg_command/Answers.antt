@@ -11,4 +11,6 @@ returns c =
     let top : app_of c.subcommand_required.result ≡ requiring (app_of c.about.result) = ap app_of_fields c.subcommand_required.ensures in
     let answers = c.in_ok-subcommand.ensures.shape c.in_ok-answer.ensures.local
     ∙ ap₂ with_subcommand (top ∙ ap requiring (named ∙ c.new.ensures.app)) (ap (λ (a : App). a.top) c.in_ok-answer.ensures.app) in
-    c.in_ok-lg.ensures.shape c.in_ok-timeouts.ensures.local ∙ ap₂ with_subcommand answers (ap (λ (a : App). a.top) c.in_ok-timeouts.ensures.app)
+    let orders = c.in_ok-subcommand-2.ensures.shape c.in_ok-order.ensures.local
+    ∙ ap₂ with_subcommand answers (ap (λ (a : App). a.top) c.in_ok-order.ensures.app) in
+    c.in_ok-lg.ensures.shape c.in_ok-timeouts.ensures.local ∙ ap₂ with_subcommand orders (ap (λ (a : App). a.top) c.in_ok-timeouts.ensures.app)
