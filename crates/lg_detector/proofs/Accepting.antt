@@ -4,7 +4,10 @@ use Rattle.std.specs.List.{list_any}
 use Rattle.std.specs.Prelude.{Result, Ok, Err, is_ok}
 use Rattle.std.proofs.lemmas.List.{length-reverse}
 use Rattle.std.proofs.lemmas.List.Folds.{list_any-append}
+use Rattle.lg_rules.specs.declared.addr.Addr.{Addr}
 use Rattle.lg_rules.specs.declared.claim.Claim.{Claim}
+use Rattle.lg_packet.specs.declared.packet.Body.{Body}
+use Rattle.lg_packet.specs.declared.packet.Body.TheVariants.{Ping, PingReq, Ack, Nack}
 use Rattle.lg_timing.specs.declared.config.Config.{Config}
 use Rattle.lg_timing.specs.declared.config.ConfigFault.{ConfigFault}
 use Rattle.lg_timing.specs.Meaning.Config.{check_of, IsChecked}
@@ -14,12 +17,15 @@ use Rattle.lg_membership.specs.declared.origin.Origin.TheVariants.{Seed, Group}
 use Rattle.lg_membership.specs.Meaning.Log as group
 use Rattle.lg_detector.specs.declared.event.Event.{Event}
 use Rattle.lg_detector.specs.declared.event.Event.TheVariants.{Open, Tick, Heard, Ask, Health}
-use Rattle.lg_detector.specs.Meaning.Log.{Log, Came, Fired, OfGroup, events, group_log}
+use Rattle.lg_detector.specs.declared.message.Message.{Message}
+use Rattle.lg_detector.specs.Meaning.Log.{Log, Came, Fired, Relayed, OfGroup, events, group_log}
+use Rattle.lg_detector.specs.Meaning.Relaying.{relays}
+use Rattle.lg_detector.specs.Meaning.Send.{send, send_all}
 use Rattle.lg_detector.specs.Meaning.Timing.{due}
 use Rattle.lg_detector.specs.Meaning.Apply.{apply, apply_all}
 use Rattle.lg_detector.specs.Meaning.Open.{seed_claims}
-use Rattle.lg_detector.specs.Meaning.Hear.{hear_claims, ack, asked_in}
-use Rattle.lg_detector.specs.Meaning.Tick.{expire, fired_claims}
+use Rattle.lg_detector.specs.Meaning.Hear.{hear_claims, response, note, is_relayed}
+use Rattle.lg_detector.specs.Meaning.Tick.{expire, claims_said, messages}
 use Rattle.lg_detector.specs.Meaning.Step.{log_of, is_open, opens_well, is_accepted, most_events}
 use Rattle.lg_detector.specs.Support.State.{State}
 use Rattle.lg_detector.specs.Support.Step.{state_after, accepts_of}
@@ -28,13 +34,31 @@ events-apply_all : (origin : Origin) (cs : List Claim) (log : Log) → events (a
 events-apply_all origin [] log = refl
 events-apply_all origin (c ∷ cs) log = events-apply_all origin cs (apply origin c log)
 
-events-ack : (o : Option ℕ) (log : Log) → events (ack o log) ≡ events log
-events-ack None log = refl
-events-ack (Some number) log = refl
+events-send : (body : Body) (log : Log) → events (send body log) ≡ events log
+events-send (Ping number target) log = refl
+events-send (PingReq number target addr) log = refl
+events-send (Ack number) log = refl
+events-send (Nack number) log = refl
 
-events-expire : (o : Option Timer) (log : Log) → events (expire o log) ≡ events log
-events-expire None log = refl
-events-expire (Some timer) log = events-apply_all Group (fired_claims timer.id (group.view (group_log log))) (Fired timer ∷ log)
+events-send_all : (ms : List Message) (log : Log) → events (send_all ms log) ≡ events log
+events-send_all [] log = refl
+events-send_all (m ∷ ms) log = events-send_all ms (send m.body log) ∙ events-send m.body log
+
+events-relayed : (b : Bool) (target : List ℕ) (source : Addr) (k : ℕ) (log : Log) → events (cond b (Relayed target source k ∷ log) log) ≡ events log
+events-relayed true target source k log = refl
+events-relayed false target source k log = refl
+
+events-note : (source : Addr) (sender : List ℕ) (body : Body) (log : Log) → events (note source sender body log) ≡ events log
+events-note source sender (Ping k target) log = refl
+events-note source sender (PingReq k target addr) log = events-relayed (is_relayed (group.me (group_log log)) (relays log) target) target source k log
+events-note source sender (Ack k) log = refl
+events-note source sender (Nack k) log = refl
+
+events-expire : (o : Option Timer) (words : List ℕ) (log : Log) → events (expire o words log) ≡ events log
+events-expire None words log = refl
+events-expire (Some timer) words log =
+    events-send_all (messages timer.id words log) (apply_all Group (claims_said timer.id log) (Fired timer words ∷ log))
+    ∙ events-apply_all Group (claims_said timer.id log) (Fired timer words ∷ log)
 
 one_more : (n m : ℕ) → n ≡ m → n + 1 ≡ suc m
 one_more n m e = omega arith
@@ -45,9 +69,10 @@ events-log_of (Open now opening ∷ past) =
     events-apply_all Seed (seed_claims opening) (OfGroup (group.Opened opening) ∷ Came now ∷ log_of past) ∙ one_more _ _ (events-log_of past)
 events-log_of (Heard now source packet ∷ past) =
     let heard = hear_claims now packet (log_of past) in
-    events-ack (asked_in (group.config (group_log heard)) packet.body) heard
+    events-send_all (response source packet.sender packet.body heard) (note source packet.sender packet.body heard)
+    ∙ events-note source packet.sender packet.body heard
     ∙ events-apply_all Group packet.claims.items (Came now ∷ log_of past) ∙ one_more _ _ (events-log_of past)
-events-log_of (Tick now words ∷ past) = events-expire (due (Came now ∷ log_of past)) (Came now ∷ log_of past) ∙ one_more _ _ (events-log_of past)
+events-log_of (Tick now words ∷ past) = events-expire (due (Came now ∷ log_of past)) words (Came now ∷ log_of past) ∙ one_more _ _ (events-log_of past)
 events-log_of (Ask now name ∷ past) = one_more _ _ (events-log_of past)
 events-log_of (Health now ∷ past) = one_more _ _ (events-log_of past)
 

@@ -1,7 +1,7 @@
--- Each fact changes the state as its definitions do.
-use Rattle.std.proofs.Common.{◌≡◌, ◌≢◌, ℕ, ◌+◌, true, false, cond, List, ◌∷◌, Some, inl, inr, refl, sym, ◌∙◌, ap}
+-- Each fact of the group changes the state as its definitions do, and so does an event that comes. Those of probing are
+-- in ProbeLaws.
+use Rattle.std.proofs.Common.{◌≡◌, ◌≢◌, ℕ, ◌+◌, not, List, [], ◌∷◌, map, filter, None, inl, inr, refl, sym, ◌∙◌, ap}
 use Rattle.std.specs.Prelude.{ℤ}
-use Rattle.std.proofs.lemmas.Bool.{cases_Bool}
 use Rattle.lg_rules.specs.declared.claim.Claim.{Claim}
 use Rattle.lg_rules.specs.declared.own.OwnHeard.{OwnHeard}
 use Rattle.lg_rules.specs.declared.own.OwnHeard.TheVariants.{Refuted, Raised, Ousted, Ignored}
@@ -11,8 +11,10 @@ use Rattle.lg_rules.proofs.KeyOrder.{names_order, cases_key, same_key, other_key
 use Rattle.lg_timing.specs.declared.config.Config.{Config}
 use Rattle.lg_timing.specs.Meaning.Score.{ScoreValue, score_of}
 use Rattle.lg_timers.specs.declared.timer.Timer.{Timer}
+use Rattle.lg_timers.proofs.Pending.{NoSuspicion}
 use Rattle.lg_membership.specs.declared.applied.Applied.{Applied}
 use Rattle.lg_membership.specs.declared.origin.Origin.{Origin}
+use Rattle.lg_membership.specs.declared.suspected.Suspected.{Suspected}
 use Rattle.lg_membership.specs.Meaning.Log as group
 use Rattle.lg_membership.specs.Meaning.Applied.{is_refuted}
 use Rattle.lg_membership.specs.Meaning.Suspicions.{suspicions}
@@ -22,11 +24,15 @@ use Rattle.lg_membership.proofs.FactLaws.{open-state as member-open, apply-state
 use Rattle.lg_membership.proofs.Reaching.{apply-own, apply-other}
 use Rattle.lg_membership.proofs.SuspicionLaws.{rises-suspicions, suspicions-opened}
 use Rattle.lg_membership.proofs.Hearings.{change_about}
-use Rattle.lg_detector.specs.Meaning.Log.{Log, Came, Fired, OfGroup, events, moment, group_log}
-use Rattle.lg_detector.specs.Meaning.Timing.{mark_of, earned, max_in, score, round_start, pending_of, pending, scaled_interval, is_round_start}
+use Rattle.lg_membership.proofs.LiveOthers.{live-opened}
+use Rattle.lg_detector.specs.Meaning.Log.{Log, Came, OfGroup, events, moment, group_log}
+use Rattle.lg_detector.specs.Meaning.Probing.{number, round, probe, since_start}
+use Rattle.lg_detector.specs.Meaning.Relaying.{relays, has_nacked, opened_at}
+use Rattle.lg_detector.specs.Meaning.Timing.{mark_of, earned, max_in, score, round_start, round_timers, nack_timers, relay_timers, pending, nack_time, relay_time, end_at, direct_at, start_timer, suspicion_timer}
 use Rattle.lg_detector.specs.Meaning.Apply as log_of_it
-use Rattle.lg_detector.specs.Support.State.{state_of, come, begin, marked_if, follow, apply, send, start_round, fire}
-use Rattle.lg_detector.proofs.TimerLaws.{pending-after, pending-restart, pending-alone}
+use Rattle.lg_detector.specs.Support.State.{state_of, order_of, come, begin, marked_if, follow, apply, send_taken}
+use Rattle.lg_detector.proofs.OrderLaws.{order-said}
+use Rattle.lg_detector.proofs.TimerLaws.{turned, pending-after, pending-alone, are_round, no_suspicion-nacks, no_suspicion-ends}
 
 pub come-state : (now : ℕ) (log : Log) → come now (state_of log) ≡ state_of (Came now ∷ log)
 come-state now log = refl
@@ -36,7 +42,11 @@ begin-state opening log = λ i. record {
   events = events log;
   moment = moment log;
   score = record { value = 0; max = opening.max_score };
-  timers = (pending-alone (moment log) ∙ ap (pending_of (Some (moment log))) (sym (suspicions-opened opening (group_log log)))) i;
+  timers = (pending-alone (moment log) ∙ ap (λ rows. turned (start_timer (moment log) ∷ []) [] [] (map suspicion_timer rows)) (sym (suspicions-opened opening (group_log log)))) i;
+  order = record { names = sym (live-opened opening (group_log log)) i; chosen = [] };
+  number = 1;
+  round = None;
+  relays = [];
   membership = member-open opening (group_log log) i;
 }
 
@@ -58,6 +68,23 @@ applied-other : (now : ℕ) (c : Claim) (s : known.State) → c.name ≢ s.own.n
 unfolding known.applied
 applied-other now c s other = rw (other_key names_order c.name s.own.name other) refl
 
+-- the timers of a log, by its suspicions
+abbrev parts : Log → List Suspected → List Timer
+parts log rows = turned (round_timers log) (nack_timers log) (relay_timers log) (map suspicion_timer rows)
+
+rounds_apart : (log : Log) → NoSuspicion (round_timers log)
+rounds_apart log = (are_round (end_at log) (direct_at log) (probe log) (since_start log) (round_start log)).apart
+
+nacks_apart : (log : Log) → NoSuspicion (nack_timers log)
+nacks_apart log =
+    let later = nack_time (group.config (group_log log)) in
+    no_suspicion-nacks (λ k. opened_at log k + later) (filter (λ r. not (has_nacked log r.number)) (relays log))
+
+ends_apart : (log : Log) → NoSuspicion (relay_timers log)
+ends_apart log =
+    let later = relay_time (group.config (group_log log)) in
+    no_suspicion-ends (λ k. opened_at log k + later) (relays log)
+
 abbrev said : Origin → Claim → Log → Log
 said origin c log = log_of_it.apply origin c log
 
@@ -72,12 +99,16 @@ own-said origin c log same =
     sym (ap (λ (s : known.State). s.suspicions) (apply-own (moment log) origin c (known.state_of g) (same ∙ sym (own_name g)))) ∙ ap (λ (s : known.State). s.suspicions) member in
     let marks = ap (λ (a : Applied). marked_if a.refuted (score log)) to_own
     ∙ marked-by max (own_hearing (group.own g) c) (earned log) in
-    let times = ap (λ (a : Applied). follow c.name a.deadline (pending log)) to_own ∙ ap (pending_of (round_start log)) rows in
+    let times = ap (λ (a : Applied). follow c.name a.deadline (pending log)) to_own ∙ ap (parts log) rows in
     λ i. record {
       events = events log;
       moment = moment log;
       score = marks i;
       timers = times i;
+      order = order-said origin c log i;
+      number = number log;
+      round = round log;
+      relays = relays log;
       membership = member i;
     }
 
@@ -96,13 +127,17 @@ other-said origin c log other =
     let marks = ap (λ (a : Applied). marked_if a.refuted (score log)) to_other
     ∙ ap (λ (h : OwnHeard). with_marks max (mark_of h (earned log))) (sym (own_hearing-other (group.own g) c apart)) in
     let times = ap (λ (a : Applied). follow c.name a.deadline (pending log)) to_other
-    ∙ pending-after (round_start log) c.name change (suspicions g) (change_about (moment log) c s) (rises-suspicions g)
-    ∙ ap (pending_of (round_start log)) rows in
+    ∙ pending-after (round_timers log) (nack_timers log) (relay_timers log) c.name change (suspicions g) (rounds_apart log) (nacks_apart log) (ends_apart log) (change_about (moment log) c s) (rises-suspicions g)
+    ∙ ap (parts log) rows in
     λ i. record {
       events = events log;
       moment = moment log;
       score = marks i;
       timers = times i;
+      order = order-said origin c log i;
+      number = number log;
+      round = round log;
+      relays = relays log;
       membership = member i;
     }
 
@@ -112,48 +147,17 @@ apply-state origin c log = elim (cases_key names_order c.name (group.me (group_l
   | inr other ↦ other-said origin c log other
 ]
 
-pub send-state : (log : Log) → send (state_of log) ≡ state_of (log_of_it.send log)
-send-state log =
-    let taken = log_of_it.taken log in
+pub send-state : (taken : List Claim) (log : Log) → send_taken taken (state_of log) ≡ state_of (OfGroup (group.Sent taken) ∷ log)
+send-state taken log =
     let member = member-send taken (group_log log) in
     λ i. record {
       events = events log;
       moment = moment log;
       score = score log;
-      timers = pending_of (round_start log) (member i).suspicions;
+      timers = parts log (member i).suspicions;
+      order = order_of log;
+      number = number log;
+      round = round log;
+      relays = relays log;
       membership = member i;
     }
-
--- a timer that fires, and is the start of a round or isn't
-left-state : (timer : Timer) (log : Log) → is_round_start timer.id ≡ false → state_of log ≡ state_of (Fired timer ∷ log)
-left-state timer log other = λ i. record {
-  events = events log;
-  moment = moment log;
-  score = score log;
-  timers = ap (λ b. pending_of (cond b (Some (later log)) (round_start log)) (suspicions (group_log log))) (sym other) i;
-  membership = known.state_of (group_log log);
-}
-  where
-    later : Log → ℕ
-    later log = moment log + scaled_interval (group.config (group_log log)) (score log)
-
-restart-state : (timer : Timer) (log : Log) → is_round_start timer.id ≡ true → start_round (state_of log) ≡ state_of (Fired timer ∷ log)
-restart-state timer log starts = λ i. record {
-  events = events log;
-  moment = moment log;
-  score = score log;
-  timers = (
-      pending-restart (round_start log) (later log) (suspicions (group_log log))
-      ∙ ap (λ b. pending_of (cond b (Some (later log)) (round_start log)) (suspicions (group_log log))) (sym starts)) i;
-  membership = known.state_of (group_log log);
-}
-  where
-    later : Log → ℕ
-    later log = moment log + scaled_interval (group.config (group_log log)) (score log)
-
-pub fire-state : (timer : Timer) (log : Log) → fire timer (state_of log) ≡ state_of (Fired timer ∷ log)
-unfolding fire
-fire-state timer log = elim (cases_Bool (is_round_start timer.id)) [
-  | inl t ↦ ap (λ b. cond b (start_round (state_of log)) (state_of log)) t ∙ restart-state timer log t
-  | inr f ↦ ap (λ b. cond b (start_round (state_of log)) (state_of log)) f ∙ left-state timer log f
-]

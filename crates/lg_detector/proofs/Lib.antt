@@ -1,7 +1,13 @@
 pub mod TimerLaws
+pub mod EndedRelays
+pub mod RelayLaws
+pub mod RelayTimes
+pub mod OrderLaws
 pub mod FactLaws
+pub mod ProbeLaws
 pub mod Reaching
 pub mod Applying
+pub mod Ticking
+pub mod Sending
 pub mod StepLaws
 pub mod Accepting
-pub mod Ticking

@@ -1,97 +1,169 @@
 -- What each fact makes of a state that some log has is such a state again; and few timers are set in it.
-use Rattle.std.proofs.Common.{◌≡◌, ℕ, ◌<◌, Bool, true, false, cond, ◌∷◌, length, refl, sym, ◌∙◌, ap, subst, arith}
+use Rattle.std.proofs.Common.{◌≡◌, ℕ, ◌+◌, ◌<◌, ◌≤◌, Bool, not, List, [], ◌∷◌, length, Option, Some, None, refl, sym, ◌∙◌, ap, subst, arith, length-append}
+use Rattle.std.specs.Prelude.{filter}
+use Rattle.lg_rules.specs.declared.addr.Addr.{Addr}
 use Rattle.lg_rules.specs.declared.claim.Claim.{Claim}
 use Rattle.lg_timing.specs.declared.config.Config.{Config}
 use Rattle.lg_timing.specs.Meaning.Config.{IsChecked}
 use Rattle.lg_timers.specs.declared.timer.Timer.{Timer}
-use Rattle.lg_timers.specs.declared.timer.TimerId.TheVariants.{RoundStart}
+use Rattle.lg_timers.specs.declared.timer.TimerId.{TimerId}
+use Rattle.lg_timers.specs.declared.timer.TimerId.TheVariants.{RoundEnd, Suspicion, Direct}
+use Rattle.lg_timers.specs.declared.timer.TimerId.TheVariants.{RelayNack, RelayEnd, RoundStart}
 use Rattle.lg_timers.specs.declared.timers.TheConstants.{MAX_TIMERS}
+use Rattle.lg_probe.specs.declared.relays.Relay.{Relay}
+use Rattle.lg_probe.specs.declared.relays.TheConstants.{MAX_RELAYS}
+use Rattle.lg_probe.specs.Meaning.Relays.{asker_at, has_number, is_ended}
 use Rattle.lg_membership.specs.declared.origin.Origin.{Origin}
 use Rattle.lg_membership.specs.Meaning.Log as group
 use Rattle.lg_membership.specs.Meaning.Suspicions.{suspicions}
 use Rattle.lg_membership.specs.Support.Reached as member
-use Rattle.lg_membership.specs.Support.State as known
 use Rattle.lg_membership.proofs.Reaching.{config-apply}
 use Rattle.lg_membership.proofs.SuspicionLaws.{length-suspicions}
-use Rattle.lg_detector.specs.Meaning.Log.{Log, Came, Fired, OfGroup, group_log}
-use Rattle.lg_detector.specs.Meaning.Timing.{round_start, pending, is_round_start}
+use Rattle.lg_detector.specs.declared.detector.TheConstants.{MAX_EVENTS}
+use Rattle.lg_detector.specs.Meaning.Log.{Log, Came, Fired, AckHeard, NackHeard, Relayed, OfGroup, group_log}
+use Rattle.lg_detector.specs.Meaning.Probing.{probe, since_start}
+use Rattle.lg_detector.specs.Meaning.Relaying.{relays, has_nacked, opened_at, new_relay}
+use Rattle.lg_detector.specs.Meaning.Timing.{round_start, round_timers, pending, nack_time, relay_time, end_at, direct_at}
 use Rattle.lg_detector.specs.Meaning.Apply as to_log
-use Rattle.lg_detector.specs.Support.State.{State, come, begin, apply, send, start_round, fire}
+use Rattle.lg_detector.specs.Support.State.{State, come, begin, apply, apply_all, send_taken, fire, fire_id, start_round, chosen, number_after, state_of, ask_helpers, end_round, nack_relay, close_relay, hear_ack, hear_nack, open_relay}
 use Rattle.lg_detector.specs.Support.Reached.{IsReached}
-use Rattle.lg_detector.proofs.FactLaws.{come-state, begin-state, apply-state, send-state, fire-state}
-use Rattle.lg_detector.proofs.TimerLaws.{length-pending}
+use Rattle.lg_detector.proofs.FactLaws.{come-state, begin-state, apply-state, send-state}
+use Rattle.lg_detector.proofs.ProbeLaws.{fire-state, ack-state, nack-heard, relayed-state}
+use Rattle.lg_detector.proofs.RelayLaws.{numbered, none_at}
+use Rattle.lg_detector.proofs.TimerLaws.{length-turned, length-round, length-filter}
 
-few : (log : Log) → length (pending log) < MAX_TIMERS
-few log = omega (arith, length-pending (round_start log) (suspicions (group_log log)), length-suspicions (group_log log))
+-- at most 386: three of the round, two a relay, and one for each suspicion
+few : (log : Log) → length (relays log) ≤ MAX_RELAYS → length (pending log) + 2 < MAX_TIMERS
+few log le =
+    let g = group_log log in
+    omega (
+      arith,
+      le,
+      length-turned (round_timers log) (λ k. opened_at log k + nack_time (group.config g)) (λ k. opened_at log k + relay_time (group.config g)) (λ r. not (has_nacked log r.number)) (relays log) (suspicions g),
+      length-round (end_at log) (direct_at log) (probe log) (since_start log) (round_start log),
+      length-suspicions g,
+    )
 
-pub few_timers : (s : State) → IsReached s → length s.timers < MAX_TIMERS
-few_timers s r = subst (λ (t : State). length t.timers < MAX_TIMERS) (sym r.is) (few r.log)
+pub few_timers : (s : State) → IsReached s → length s.timers + 2 < MAX_TIMERS
+few_timers s r = subst (λ (t : State). length t.timers + 2 < MAX_TIMERS) (sym r.is) (few r.log (subst (λ (t : State). length t.relays ≤ MAX_RELAYS) r.is r.few_relays))
+
+-- no relay that is open has the next number
+pub none_numbered : (s : State) → IsReached s → asker_at s.number s.relays ≡ None
+none_numbered s r = subst (λ (t : State). asker_at t.number t.relays ≡ None) (sym r.is) (none_at _ (relays r.log) (numbered r.log).below)
 
 -- what it knows of the group is reached, too
 pub reached-member : (s : State) → IsReached s → member.IsReached s.membership
 reached-member s r = record { log = group_log r.log; is = ap (λ (t : State). t.membership) r.is; good = r.good }
 
-good_still : (s after : State) → after.membership.config ≡ s.membership.config → member.IsGood s.membership.config → member.IsGood after.membership.config
-good_still s after e good = subst member.IsGood (sym e) good
+-- A state that a fact leads to: its configuration is the same, and the bounds hold of it.
+leads : (s after : State) (log : Log) → after ≡ s → s ≡ state_of log → member.IsGood s.membership.config → s.events ≤ MAX_EVENTS → s.number ≤ s.events + 1 → length s.relays ≤ MAX_RELAYS → IsReached after
+leads s after log e is good most n few = subst IsReached (sym e) (record { log = log; is = is; good = good; few_events = most; numbered = n; few_relays = few })
 
-config_of : (s after : State) → after ≡ s → after.membership.config ≡ s.membership.config
-config_of s after e = ap (λ (t : State). t.membership.config) e
-
-pub reached-come : (s after : State) (now : ℕ) → after ≡ come now s → IsReached s → IsReached after
-reached-come s after now e r = record {
-  log = Came now ∷ r.log;
-  is = e ∙ ap (come now) r.is ∙ come-state now r.log;
-  good = good_still s after (config_of (come now s) after e) r.good;
-}
+pub reached-come : (s after : State) (now : ℕ) → after ≡ come now s → s.events < MAX_EVENTS → IsReached s → IsReached after
+reached-come s after now e room r = leads (come now s) after (Came now ∷ r.log) e (ap (come now) r.is ∙ come-state now r.log) r.good (omega (arith, room)) (omega (arith, r.numbered)) r.few_relays
 
 pub reached-begin : (s after : State) (opening : Config) → after ≡ begin opening s → IsChecked opening → IsReached s → IsReached after
-reached-begin s after opening e checked r = record {
-  log = OfGroup (group.Opened opening) ∷ r.log;
-  is = e ∙ ap (begin opening) r.is ∙ begin-state opening r.log;
-  good = subst (λ (t : State). member.IsGood t.membership.config) (sym e) checked;
-}
+reached-begin s after opening e checked r =
+    leads (begin opening s) after (OfGroup (group.Opened opening) ∷ r.log) e (ap (begin opening) r.is ∙ begin-state opening r.log) checked r.few_events (omega arith) (omega arith)
 
+-- a claim leaves the configuration, the numbers and the relays
 pub config-apply-in : (origin : Origin) (c : Claim) (s : State) → (apply origin c s).membership.config ≡ s.membership.config
 unfolding apply
 config-apply-in origin c s = config-apply s.moment origin c s.membership
 
+pub number-apply : (origin : Origin) (c : Claim) (s : State) → (apply origin c s).number ≡ s.number
+unfolding apply
+number-apply origin c s = refl
+
+pub events-apply : (origin : Origin) (c : Claim) (s : State) → (apply origin c s).events ≡ s.events
+unfolding apply
+events-apply origin c s = refl
+
+pub number-apply_all : (origin : Origin) (cs : List Claim) (s : State) → (apply_all origin cs s).number ≡ s.number
+number-apply_all origin [] s = refl
+number-apply_all origin (c ∷ cs) s = number-apply_all origin cs (apply origin c s) ∙ number-apply origin c s
+
+pub events-apply_all : (origin : Origin) (cs : List Claim) (s : State) → (apply_all origin cs s).events ≡ s.events
+events-apply_all origin [] s = refl
+events-apply_all origin (c ∷ cs) s = events-apply_all origin cs (apply origin c s) ∙ events-apply origin c s
+
+relays-apply : (origin : Origin) (c : Claim) (s : State) → (apply origin c s).relays ≡ s.relays
+unfolding apply
+relays-apply origin c s = refl
+
 pub reached-apply : (s after : State) (origin : Origin) (c : Claim) → after ≡ apply origin c s → IsReached s → IsReached after
-reached-apply s after origin c e r = record {
-  log = to_log.apply origin c r.log;
-  is = e ∙ ap (apply origin c) r.is ∙ apply-state origin c r.log;
-  good = good_still s after (config_of (apply origin c s) after e ∙ config-apply-in origin c s) r.good;
-}
+reached-apply s after origin c e r =
+    leads (apply origin c s) after (to_log.apply origin c r.log) e (ap (apply origin c) r.is ∙ apply-state origin c r.log) (subst member.IsGood (sym (config-apply-in origin c s)) r.good) (omega (arith, r.few_events, events-apply origin c s))
+    (omega (arith, r.numbered, number-apply origin c s, events-apply origin c s))
+    (subst (λ (rs : List Relay). length rs ≤ MAX_RELAYS) (sym (relays-apply origin c s)) r.few_relays)
 
-pub reached-send : (s after : State) → after ≡ send s → IsReached s → IsReached after
-reached-send s after e r = record {
-  log = to_log.send r.log;
-  is = e ∙ ap send r.is ∙ send-state r.log;
-  good = good_still s after (config_of (send s) after e) r.good;
-}
+pub reached-send : (s after : State) (taken : List Claim) → after ≡ send_taken taken s → IsReached s → IsReached after
+reached-send s after taken e r =
+    leads (send_taken taken s) after (OfGroup (group.Sent taken) ∷ r.log) e (ap (send_taken taken) r.is ∙ send-state taken r.log) r.good r.few_events r.numbered r.few_relays
 
-config-fire : (timer : Timer) (s : State) → (fire timer s).membership ≡ s.membership
+-- What a timer that fires leaves: what is known of the group, and how many events came.
+length-fewer : (p : Relay → Bool) (rs : List Relay) (m : ℕ) → length rs ≤ m → length (filter p rs) ≤ m
+length-fewer p rs m le = omega (arith, le, length-filter p rs)
+
+start-numbered : (o : Option (List ℕ)) (k n : ℕ) → k ≤ n → number_after k o ≤ n + 1
+start-numbered None k n le = omega (arith, le)
+start-numbered (Some m) k n le = omega (arith, le)
+
+pub membership-fire_id : (id : TimerId) (words : List ℕ) (s : State) → (fire_id id words s).membership ≡ s.membership
+membership-fire_id RoundEnd words s = refl
+membership-fire_id (Suspicion m) words s = refl
+membership-fire_id Direct words s = refl
+membership-fire_id (RelayNack k) words s = refl
+membership-fire_id (RelayEnd k) words s = refl
+membership-fire_id RoundStart words s = refl
+
+pub membership-fire : (timer : Timer) (words : List ℕ) (s : State) → (fire timer words s).membership ≡ s.membership
 unfolding fire
-config-fire timer s = either (is_round_start timer.id)
-  where
-    either : (b : Bool) → (cond b (start_round s) s).membership ≡ s.membership
-    either true = refl
-    either false = refl
+membership-fire timer words s = membership-fire_id timer.id words s
 
--- a timer that fires leaves what is known of the group
-pub membership-fire : (timer : Timer) (s : State) → (fire timer s).membership ≡ s.membership
-membership-fire timer s = config-fire timer s
-
-pub reached-fire : (s after : State) (timer : Timer) → after ≡ fire timer s → IsReached s → IsReached after
-reached-fire s after timer e r = record {
-  log = Fired timer ∷ r.log;
-  is = e ∙ ap (fire timer) r.is ∙ fire-state timer r.log;
-  good = good_still s after (config_of (fire timer s) after e ∙ ap (λ (m : known.State). m.config) (config-fire timer s)) r.good;
-}
-
--- a round starts
-round_fires : (s : State) → fire (record { deadline = 0; id = RoundStart }) s ≡ start_round s
+-- a timer, by its id
+fires : (id : TimerId) (words : List ℕ) (s : State) → fire (record { deadline = 0; id = id }) words s ≡ fire_id id words s
 unfolding fire
-round_fires s = refl
+fires id words s = refl
 
-pub reached-round : (s after : State) → after ≡ start_round s → IsReached s → IsReached after
-reached-round s after e r = reached-fire s after (record { deadline = 0; id = RoundStart }) (e ∙ sym (round_fires s)) r
+fired-state : (id : TimerId) (words : List ℕ) (s : State) (r : IsReached s) → fire_id id words s ≡ state_of (Fired (record { deadline = 0; id = id }) words ∷ r.log)
+fired-state id words s r = sym (fires id words s) ∙ ap (fire (record { deadline = 0; id = id }) words) r.is ∙ fire-state (record { deadline = 0; id = id }) words r.log
+
+pub reached-start : (s after : State) (words : List ℕ) → after ≡ start_round words s → s.number ≤ s.events → IsReached s → IsReached after
+reached-start s after words e le r =
+    leads (start_round words s) after (Fired (record { deadline = 0; id = RoundStart }) words ∷ r.log) e (fired-state RoundStart words s r) r.good r.few_events
+    (start-numbered (chosen words s) s.number s.events le) r.few_relays
+
+pub reached-direct : (s after : State) (words : List ℕ) → after ≡ ask_helpers words s → IsReached s → IsReached after
+reached-direct s after words e r =
+    leads (ask_helpers words s) after (Fired (record { deadline = 0; id = Direct }) words ∷ r.log) e (fired-state Direct words s r) r.good r.few_events r.numbered r.few_relays
+
+pub reached-end : (s after : State) → after ≡ end_round s → IsReached s → IsReached after
+reached-end s after e r =
+    leads (end_round s) after (Fired (record { deadline = 0; id = RoundEnd }) [] ∷ r.log) e (fired-state RoundEnd [] s r) r.good r.few_events r.numbered r.few_relays
+
+pub reached-nack_relay : (s after : State) (k : ℕ) → after ≡ nack_relay k s → IsReached s → IsReached after
+reached-nack_relay s after k e r =
+    leads (nack_relay k s) after (Fired (record { deadline = 0; id = RelayNack k }) [] ∷ r.log) e (fired-state (RelayNack k) [] s r) r.good r.few_events r.numbered r.few_relays
+
+pub reached-close : (s after : State) (k : ℕ) → after ≡ close_relay k s → IsReached s → IsReached after
+reached-close s after k e r =
+    leads (close_relay k s) after (Fired (record { deadline = 0; id = RelayEnd k }) [] ∷ r.log) e (fired-state (RelayEnd k) [] s r) r.good r.few_events r.numbered
+    (length-fewer (λ r. not (has_number k r)) s.relays MAX_RELAYS r.few_relays)
+
+pub reached-ack : (s after : State) (k : ℕ) (sender : List ℕ) → after ≡ hear_ack k sender s → IsReached s → IsReached after
+unfolding hear_ack
+reached-ack s after k sender e r =
+    leads (hear_ack k sender s) after (AckHeard k sender ∷ r.log) e (ap (hear_ack k sender) r.is ∙ ack-state k sender r.log) r.good r.few_events r.numbered
+    (length-fewer (λ r. not (is_ended k sender r)) s.relays MAX_RELAYS r.few_relays)
+
+pub reached-nack : (s after : State) (k : ℕ) (sender : List ℕ) → after ≡ hear_nack k sender s → IsReached s → IsReached after
+unfolding hear_nack
+reached-nack s after k sender e r =
+    leads (hear_nack k sender s) after (NackHeard k sender ∷ r.log) e (ap (hear_nack k sender) r.is ∙ nack-heard k sender r.log) r.good r.few_events r.numbered r.few_relays
+
+pub reached-open : (s after : State) (target : List ℕ) (asker : Addr) (asked : ℕ) → after ≡ open_relay target asker asked s → s.number ≤ s.events → length s.relays < MAX_RELAYS → IsReached s → IsReached after
+unfolding open_relay
+reached-open s after target asker asked e le room r =
+    leads (open_relay target asker asked s) after (Relayed target asker asked ∷ r.log) e (ap (open_relay target asker asked) r.is ∙ relayed-state target asker asked r.log) r.good r.few_events (omega (arith, le))
+    (omega (arith, room, length-append s.relays (new_relay s.number target asker asked ∷ [])))

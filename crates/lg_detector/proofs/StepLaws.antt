@@ -1,35 +1,43 @@
 -- The states lead on as the events do, and give the replies to them.
-use Rattle.std.proofs.Common.{◌≡◌, ℕ, List, [], ◌∷◌, ◌++◌, reverse, Option, Some, None, IsTrue, refl, sym, ◌∙◌, ap}
+use Rattle.std.proofs.Common.{◌≡◌, ℕ, Bool, true, false, cond, List, [], ◌∷◌, ◌++◌, reverse, Option, Some, None, IsTrue, refl, sym, ◌∙◌, ap}
 use Rattle.std.proofs.lemmas.List.{reverse-append}
 use Rattle.lg_rules.specs.declared.addr.Addr.{Addr}
 use Rattle.lg_rules.specs.declared.claim.Claim.{Claim}
 use Rattle.lg_rules.specs.Meaning.View.{changed}
-use Rattle.lg_gossip.specs.Meaning.Queue.{fill_of}
-use Rattle.lg_packet.specs.declared.packet.Body.TheVariants.{Ack}
+use Rattle.lg_packet.specs.declared.packet.Body.{Body}
+use Rattle.lg_packet.specs.declared.packet.Body.TheVariants.{Ping, PingReq, Ack, Nack}
 use Rattle.lg_packet.specs.declared.packet.Packet.{Packet}
 use Rattle.lg_timing.specs.declared.config.Config.{Config}
 use Rattle.lg_timers.specs.declared.timer.Timer.{Timer}
+use Rattle.lg_timers.specs.declared.timer.TimerId.{TimerId}
+use Rattle.lg_timers.specs.declared.timer.TimerId.TheVariants.{RoundEnd, Suspicion, Direct}
+use Rattle.lg_timers.specs.declared.timer.TimerId.TheVariants.{RelayNack, RelayEnd, RoundStart}
 use Rattle.lg_membership.specs.declared.origin.Origin.{Origin}
 use Rattle.lg_membership.specs.declared.origin.Origin.TheVariants.{Seed, Group}
-use Rattle.lg_membership.specs.Meaning.Gossip.{queue}
 use Rattle.lg_membership.specs.Meaning.Log as group
 use Rattle.lg_membership.proofs.FactLaws.{own_name}
 use Rattle.lg_detector.specs.declared.event.Event.{Event}
 use Rattle.lg_detector.specs.declared.event.Event.TheVariants.{Open, Tick, Heard, Ask, Health}
-use Rattle.lg_detector.specs.declared.reply.Outgoing.{Outgoing}
-use Rattle.lg_detector.specs.Meaning.Log.{Log, Came, Fired, OfGroup, group_log}
+use Rattle.lg_detector.specs.declared.message.Message.{Message}
+use Rattle.lg_detector.specs.Meaning.Log.{Log, Came, Fired, Relayed, OfGroup, group_log}
+use Rattle.lg_detector.specs.Meaning.Probing.{number, round}
+use Rattle.lg_detector.specs.Meaning.Relaying.{relays}
 use Rattle.lg_detector.specs.Meaning.Timing.{due, or_zero}
 use Rattle.lg_detector.specs.Meaning.Apply as to_log
 use Rattle.lg_detector.specs.Meaning.Open as open_log
 use Rattle.lg_detector.specs.Meaning.Hear as hear_log
 use Rattle.lg_detector.specs.Meaning.Tick as tick_log
+use Rattle.lg_detector.specs.Meaning.Send as send_log
 use Rattle.lg_detector.specs.Meaning.Step as step_log
-use Rattle.lg_detector.specs.Support.State.{State, state_of, begin, apply_all}
+use Rattle.lg_detector.specs.Support.State.{State, state_of, begin, apply_all, open_relay}
+use Rattle.lg_detector.specs.Support.Send as send_state
 use Rattle.lg_detector.specs.Support.Open as open_state
 use Rattle.lg_detector.specs.Support.Hear as hear_state
 use Rattle.lg_detector.specs.Support.Tick as tick_state
 use Rattle.lg_detector.specs.Support.Step.{state_after, accepts_of, view_in, advance, step, deadline_of, reply}
-use Rattle.lg_detector.proofs.FactLaws.{come-state, begin-state, apply-state, send-state, fire-state}
+use Rattle.lg_detector.proofs.FactLaws.{come-state, begin-state, apply-state, send-state}
+use Rattle.lg_detector.proofs.OrderLaws.{chosen-is}
+use Rattle.lg_detector.proofs.ProbeLaws.{fire-state, ack-state, nack-heard, relayed-state, helpers-is}
 
 pub apply_all-state : (origin : Origin) (cs : List Claim) (log : Log) → apply_all origin cs (state_of log) ≡ state_of (to_log.apply_all origin cs log)
 apply_all-state origin [] log = refl
@@ -45,40 +53,105 @@ open-state now opening log =
 claims-state : (now : ℕ) (packet : Packet) (log : Log) → hear_state.hear_claims now packet (state_of log) ≡ state_of (hear_log.hear_claims now packet log)
 claims-state now packet log = ap (apply_all Group packet.claims.items) (come-state now log) ∙ apply_all-state Group packet.claims.items (Came now ∷ log)
 
-ack-state : (o : Option ℕ) (log : Log) → hear_state.ack o (state_of log) ≡ state_of (hear_log.ack o log)
-ack-state None log = refl
-ack-state (Some number) log = send-state log
+-- the packets that are sent
+send-body : (body : Body) (log : Log) → send_state.send body (state_of log) ≡ state_of (send_log.send body log)
+send-body (Ping number target) log = send-state _ log
+send-body (PingReq number target addr) log = send-state _ log
+send-body (Ack number) log = send-state _ log
+send-body (Nack number) log = refl
 
-hear-state : (now : ℕ) (packet : Packet) (log : Log) → hear_state.hear now packet (state_of log) ≡ state_of (hear_log.hear now packet log)
-hear-state now packet log =
-    let heard = hear_log.hear_claims now packet log in
-    ap (hear_state.respond packet.body) (claims-state now packet log) ∙ ack-state (hear_log.asked_in (group.config (group_log heard)) packet.body) heard
+pub send_all-state : (ms : List Message) (log : Log) → send_state.send_all ms (state_of log) ≡ state_of (send_log.send_all ms log)
+send_all-state [] log = refl
+send_all-state (m ∷ ms) log = ap (send_state.send_all ms) (send-body m.body log) ∙ send_all-state ms (send_log.send m.body log)
+
+claims_of-log : (body : Body) (log : Log) → send_state.claims_of body (state_of log) ≡ send_log.claims_of body log
+claims_of-log (Ping number target) log = refl
+claims_of-log (PingReq number target addr) log = refl
+claims_of-log (Ack number) log = refl
+claims_of-log (Nack number) log = refl
+
+outgoing-log : (m : Message) (log : Log) → send_state.outgoing m (state_of log) ≡ send_log.outgoing m log
+outgoing-log m log = λ i. record {
+  to = m.to;
+  packet = record { sender = own_name (group_log log) i; body = m.body; claims = record { items = claims_of-log m.body log i } };
+}
+
+packets-log : (ms : List Message) (log : Log) → send_state.packets ms (state_of log) ≡ send_log.packets ms log
+packets-log [] log = refl
+packets-log (m ∷ ms) log =
+    let rest = ap (send_state.packets ms) (send-body m.body log) ∙ packets-log ms (send_log.send m.body log) in
+    λ i. outgoing-log m log i ∷ rest i
+
+-- the response to a body
+response-log : (source : Addr) (sender : List ℕ) (body : Body) (log : Log) → hear_state.response source sender body (state_of log) ≡ hear_log.response source sender body log
+response-log source sender body log = ap (λ me. hear_log.response_by me (number log) (relays log) source sender body) (own_name (group_log log))
+
+note-request : (b : Bool) (target : List ℕ) (source : Addr) (k : ℕ) (log : Log)
+    → cond b (open_relay target source k (state_of log)) (state_of log) ≡ state_of (cond b (Relayed target source k ∷ log) log)
+note-request true target source k log = relayed-state target source k log
+note-request false target source k log = refl
+
+note-state : (source : Addr) (sender : List ℕ) (body : Body) (log : Log) → hear_state.note source sender body (state_of log) ≡ state_of (hear_log.note source sender body log)
+note-state source sender (Ping k target) log = refl
+note-state source sender (PingReq k target addr) log =
+    ap (λ me. cond (hear_log.is_relayed me (relays log) target) (open_relay target source k (state_of log)) (state_of log)) (own_name (group_log log))
+    ∙ note-request (hear_log.is_relayed (group.me (group_log log)) (relays log) target) target source k log
+note-state source sender (Ack k) log = ack-state k sender log
+note-state source sender (Nack k) log = nack-heard k sender log
+
+respond-state : (source : Addr) (sender : List ℕ) (body : Body) (log : Log) → hear_state.respond source sender body (state_of log) ≡ state_of (hear_log.respond source sender body log)
+respond-state source sender body log =
+    (λ i. send_state.send_all (response-log source sender body log i) (note-state source sender body log i))
+    ∙ send_all-state (hear_log.response source sender body log) (hear_log.note source sender body log)
+
+hear-state : (now : ℕ) (source : Addr) (packet : Packet) (log : Log) → hear_state.hear now source packet (state_of log) ≡ state_of (hear_log.hear now source packet log)
+hear-state now source packet log =
+    ap (hear_state.respond source packet.sender packet.body) (claims-state now packet log) ∙ respond-state source packet.sender packet.body (hear_log.hear_claims now packet log)
+
+sends_to-log : (source : Addr) (sender : List ℕ) (body : Body) (log : Log) → hear_state.sends_to source sender body (state_of log) ≡ hear_log.sends_to source sender body log
+sends_to-log source sender body log =
+    (λ i. send_state.packets (response-log source sender body log i) (note-state source sender body log i))
+    ∙ packets-log (hear_log.response source sender body log) (hear_log.note source sender body log)
 
 -- a timer fires, if one is due
-expire-state : (o : Option Timer) (log : Log) → tick_state.expire o (state_of log) ≡ state_of (tick_log.expire o log)
-expire-state None log = refl
-expire-state (Some timer) log =
-    let claims = tick_log.fired_claims timer.id (group.view (group_log log)) in
-    ap (apply_all Group claims) (fire-state timer log) ∙ apply_all-state Group claims (Fired timer ∷ log)
+said-log : (id : TimerId) (log : Log) → tick_state.claims_said id (state_of log) ≡ tick_log.claims_said id log
+said-log id log = ap (λ me. tick_log.fired_claims id me (round log) (group.view (group_log log))) (own_name (group_log log))
 
-tick-state : (now : ℕ) (log : Log) → tick_state.tick now (state_of log) ≡ state_of (tick_log.tick now log)
-tick-state now log = expire-state (due (Came now ∷ log)) (Came now ∷ log)
+messages-log : (id : TimerId) (words : List ℕ) (log : Log) → tick_state.messages id words (state_of log) ≡ tick_log.messages id words log
+messages-log RoundEnd words log = refl
+messages-log (Suspicion m) words log = refl
+messages-log Direct words log = ap (tick_log.requests (round log) (group.view (group_log log))) (helpers-is words log)
+messages-log (RelayNack k) words log = refl
+messages-log (RelayEnd k) words log = refl
+messages-log RoundStart words log = ap (tick_log.ping_to (number log) (group.view (group_log log))) (chosen-is words log)
+
+fired-log : (timer : Timer) (words : List ℕ) (log : Log)
+    → tick_state.said_by (Some timer) words (state_of log) ≡ state_of (to_log.apply_all Group (tick_log.claims_said timer.id log) (Fired timer words ∷ log))
+fired-log timer words log =
+    (λ i. apply_all Group (said-log timer.id log i) (fire-state timer words log i)) ∙ apply_all-state Group (tick_log.claims_said timer.id log) (Fired timer words ∷ log)
+
+expire-state : (o : Option Timer) (words : List ℕ) (log : Log) → tick_state.expire o words (state_of log) ≡ state_of (tick_log.expire o words log)
+expire-state None words log = refl
+expire-state (Some timer) words log =
+    (λ i. send_state.send_all (messages-log timer.id words log i) (fired-log timer words log i))
+    ∙ send_all-state (tick_log.messages timer.id words log) (to_log.apply_all Group (tick_log.claims_said timer.id log) (Fired timer words ∷ log))
+
+expire_sends-log : (o : Option Timer) (words : List ℕ) (log : Log) → tick_state.expire_sends o words (state_of log) ≡ tick_log.expire_sends o words log
+expire_sends-log None words log = refl
+expire_sends-log (Some timer) words log =
+    (λ i. send_state.packets (messages-log timer.id words log i) (fired-log timer words log i))
+    ∙ packets-log (tick_log.messages timer.id words log) (to_log.apply_all Group (tick_log.claims_said timer.id log) (Fired timer words ∷ log))
+
+tick-state : (now : ℕ) (words : List ℕ) (log : Log) → tick_state.tick now words (state_of log) ≡ state_of (tick_log.tick now words log)
+tick-state now words log = expire-state (due (Came now ∷ log)) words (Came now ∷ log)
 
 pub advance-state : (log : Log) (e : Event) → advance (state_of log) e ≡ state_of (step_log.step e log)
 unfolding advance
 advance-state log (Open now opening) = open-state now opening log
-advance-state log (Heard now source packet) = hear-state now packet log
-advance-state log (Tick now words) = tick-state now log
+advance-state log (Heard now source packet) = hear-state now source packet log
+advance-state log (Tick now words) = tick-state now words log
 advance-state log (Ask now name) = come-state now log
 advance-state log (Health now) = come-state now log
-
-ack_sent-log : (source : Addr) (o : Option ℕ) (log : Log) → hear_state.ack_sent source o (state_of log) ≡ hear_log.ack_sent source o log
-ack_sent-log source None log = refl
-ack_sent-log source (Some number) log =
-    let claims = fill_of (queue (group_log log)) None (group.live (group_log log)) in
-    let sent : List ℕ → List Outgoing =
-    λ name. record { to = source; packet = record { sender = name; body = Ack number; claims = record { items = claims } } } ∷ [] in
-    ap sent (own_name (group_log log))
 
 pub reply-state : (log : Log) (e : Event) → reply (state_of log) e ≡ step_log.reply e log
 unfolding reply
@@ -93,8 +166,7 @@ reply-state log (Open now opening) = λ i. record {
 reply-state log (Heard now source packet) =
     let heard = hear_log.hear_claims now packet log in
     let heard-is = claims-state now packet log in
-    let sends-is = ap (hear_state.sends_to source packet.body) heard-is
-    ∙ ack_sent-log source (hear_log.asked_in (group.config (group_log heard)) packet.body) heard in
+    let sends-is = ap (hear_state.sends_to source packet.sender packet.body) heard-is ∙ sends_to-log source packet.sender packet.body heard in
     λ i. record {
       fired = None;
       sends = record { items = sends-is i };
@@ -121,8 +193,8 @@ reply-state log (Health now) = λ i. record {
 }
 reply-state log (Tick now words) = λ i. record {
   fired = tick_state.due (come-state now log i);
-  sends = record { items = [] };
-  changed = record { items = changed (step_log.view log) (view_in (tick-state now log i)) };
+  sends = record { items = expire_sends-log (due (Came now ∷ log)) words (Came now ∷ log) i };
+  changed = record { items = changed (step_log.view log) (view_in (tick-state now words log i)) };
   answer = None;
   ousted = (advance-state log (Tick now words) i).membership.own.ousted;
   next = or_zero (deadline_of (advance-state log (Tick now words) i));

@@ -3,10 +3,14 @@
 
 -- the log of what happened
 pub mod Log
+-- the rounds of probing and the relays, read off the log
+pub mod Probing
+pub mod Relaying
 -- the score and the timers that are set, read off the log
 pub mod Timing
--- what is added to a log
+-- what is added to a log, and what is sent
 pub mod Apply
+pub mod Send
 -- the kinds of event; Hear is Heard, and Ask is Ask and Health
 pub mod Open
 pub mod Hear

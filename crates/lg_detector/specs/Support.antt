@@ -1,6 +1,7 @@
 -- What only carries the proofs.
 pub mod Bounds
 pub mod State
+pub mod Send
 pub mod Open
 pub mod Hear
 pub mod Tick

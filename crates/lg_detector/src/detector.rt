@@ -9,6 +9,7 @@ ghost use Rattle.lg_detector.specs.Support.Step.{accepts_at, accepts_of, state_a
 use crate::event::Event;
 use crate::reply::Reply;
 use lg_membership::Membership;
+use lg_probe::{Order, Relays, Round};
 use lg_timers::Timers;
 use lg_timing::{Moment, Score};
 use std::alloc::{AllocError, Global};
@@ -19,6 +20,9 @@ mod facts;
 mod hear;
 mod open;
 mod readers;
+mod relay;
+mod round;
+mod send;
 mod tick;
 
 /// No memory could be had. The call that fails with it has changed nothing.
@@ -27,7 +31,7 @@ pub type NoMemory = AllocError;
 /// The most events that a detector accepts: 4,000,000,000 (this project's choice).
 pub const MAX_EVENTS: u64 = 4_000_000_000;
 
-/// The failure detector of one member (SWIM, sections 3 and 4; Lifeguard). So far it doesn't probe.
+/// The failure detector of one member (SWIM, sections 3 and 4; Lifeguard).
 ///
 /// A contract sees it as its state, which is a function of the list of the events that it accepted.
 #[derive(Drop)]
@@ -44,8 +48,16 @@ struct Parts {
     moment: Moment,
     /// The health score.
     score: Score,
-    /// The timers that are set: the start of the next round, and one for each suspicion.
+    /// The timers that are set: those of the round, one for each suspicion, and two at most for each relay.
     timers: Timers,
+    /// Whom rounds choose: the others that haven't failed, and who was chosen in the current round.
+    order: Order,
+    /// The next sequence number, of a probe or a relay.
+    number: u32,
+    /// The probe that runs.
+    round: Option<Round>,
+    /// The relays that are open.
+    relays: Relays,
     /// What it knows of its group.
     membership: Membership,
 }
@@ -75,6 +87,10 @@ impl Detector {
                 moment: Moment::default(),
                 score: Score::new(0),
                 timers: Timers::new(),
+                order: Order::new(),
+                number: 1,
+                round: None,
+                relays: Relays::new(),
                 membership: Membership::blank(),
             },
         )?;
@@ -143,7 +159,7 @@ impl Detector {
     {
         match event {
             Event::Open { now, config } => self.open_with(*now, config, reply),
-            Event::Tick { now, .. } => self.tick(*now, reply),
+            Event::Tick { now, words } => self.tick(*now, words, reply),
             Event::Heard {
                 now,
                 source,

@@ -19,7 +19,7 @@ pub enum Event {
     Tick {
         /// When.
         now: Moment,
-        /// Random words, by which members will be chosen. So far nobody is chosen.
+        /// Random words: the first chooses whom a round probes, and each in turn picks a helper.
         words: [u32; 8],
     },
     /// A packet is heard.

@@ -3,7 +3,8 @@
 //! Where to read on:
 //! - what an event does: `detector/open.rt`, `hear.rt`, `tick.rt` and `ask.rt`, one for each kind of event, and by the
 //!   log of what happened the files of the same names in `specs/Meaning`;
-//! - what they are made of, so what an opening or a claim does to the score and the timers: `detector/facts.rt`;
+//! - what an opening or a claim does to the score, the timers and the order of probing: `detector/facts.rt`;
+//! - the rounds of probing and the relays: `detector/round.rt` and `relay.rt`, and how packets are filled: `send.rt`;
 //! - what a claim changes of the group's records, suspicions and queued claims: `lg_membership`;
 //! - when a suspicion runs out, and how its accusers bring that nearer: `lg_suspicion`;
 //! - which of the queued claims a packet takes: `lg_gossip`.
@@ -11,6 +12,7 @@
 
 mod detector;
 mod event;
+mod message;
 mod reply;
 
 pub use detector::{Detector, MAX_EVENTS, NoMemory, states_lead_on};

@@ -7,7 +7,7 @@ use lg_packet::Packet;
 use lg_rules::{Addr, Incarnation, MAX_CLAIMS, Record};
 use lg_timers::Timer;
 
-/// The most packets that a reply has room for (this project's choice). So far an event sends one at the most.
+/// The most packets that one event sends: the requests to 8 helpers (this project's choice).
 pub const MAX_SENDS: usize = 8;
 
 /// The most records that one event changes: those of the 6 claims of a packet (this project's choice).

@@ -7,7 +7,9 @@ mod hear;
 mod many;
 mod open;
 mod playing;
+mod probing;
 mod refused_memory;
+mod relaying;
 mod tick;
 
 use crate::{Detector, Event, MAX_MEMBERS, Reply};
@@ -18,7 +20,7 @@ use lg_packet::{Body, Packet};
 use lg_rules::{Claim, Name, Record};
 use lg_timers::{Timer, TimerId};
 use lg_timing::{Config, Moment};
-use playing::{Step, opened, play, play_blank, play_on, said, takes};
+use playing::{Step, opened, play, play_blank, play_on, said, sent, takes};
 use std::alloc::Global;
 use std::process::Abort;
 
@@ -67,7 +69,20 @@ fn ask_for(now: u64, member: u8) -> Event {
     }
 }
 
-/// A tick. Its words choose nobody.
+/// A packet without claims that a member sends from a port.
+fn from(now: u64, sender: u8, port: u16, body: Body) -> Event {
+    Event::Heard {
+        now: at(now),
+        source: local(port),
+        packet: Packet {
+            sender: letter(sender),
+            body,
+            claims: said(&[]),
+        },
+    }
+}
+
+/// A tick with the words 0 to 7.
 fn tick_at(now: u64) -> Event {
     Event::Tick {
         now: at(now),
@@ -85,6 +100,22 @@ fn round_start(deadline: u64) -> Timer {
     Timer {
         deadline,
         id: TimerId::RoundStart,
+    }
+}
+
+/// The timer of the end of a round.
+fn round_end(deadline: u64) -> Timer {
+    Timer {
+        deadline,
+        id: TimerId::RoundEnd,
+    }
+}
+
+/// The timer by which helpers are asked.
+fn direct(deadline: u64) -> Timer {
+    Timer {
+        deadline,
+        id: TimerId::Direct,
     }
 }
 

@@ -14,9 +14,10 @@ use Rattle.lg_timing.specs.Meaning.Timeouts.{range_of, timeout_of}
 use Rattle.lg_suspicion.specs.Meaning.Accusers.{counted_accusers}
 use Rattle.lg_gossip.specs.Meaning.Queue.{taken_of}
 use Rattle.lg_packet.specs.declared.packet.Body.{Body}
-use Rattle.lg_packet.specs.declared.packet.Body.TheVariants.{Ping, Ack}
+use Rattle.lg_packet.specs.declared.packet.Body.TheVariants.{Ping, PingReq, Ack, Nack}
 use Rattle.lg_timers.specs.declared.timer.Timer.{Timer}
-use Rattle.lg_timers.specs.declared.timer.TimerId.TheVariants.{Suspicion, RoundStart}
+use Rattle.lg_timers.specs.declared.timer.TimerId.{TimerId}
+use Rattle.lg_timers.specs.declared.timer.TimerId.TheVariants.{RoundEnd, Suspicion, Direct, RelayNack, RoundStart}
 use Rattle.lg_timers.specs.Meaning.Timers.{in_turn}
 use Rattle.lg_membership.specs.Meaning.Log.{own}
 use Rattle.lg_membership.specs.Meaning.Suspicions.{suspicions, suspected}
@@ -249,29 +250,109 @@ no_deadline_before_the_opening = refl
 abbrev suspecting : List Event
 suspecting = opening 0 ∷ accusing 2000 d ∷ []
 
+-- what b sends to an address
+abbrev sent : ℕ → Body → List Claim → List Outgoing
+sent port body claims =
+    record { to = at port; packet = record { sender = b ∷ []; body = body; claims = record { items = claims } } } ∷ []
+
+abbrev timer_of : ℕ → TimerId → Timer
+timer_of deadline id = record { deadline = deadline; id = id }
+
+-- c is pinged, with its record, which says that it is suspected. Nobody can help.
 the_round_starts :
-    reply_after suspecting (ticks 2000) ≡ record (nothing 3000) { fired = Some (round 0) }
+    reply_after suspecting (ticks 2000)
+    ≡ record (nothing 2500) {
+      fired = Some (round 0);
+      sends = record { items = sent 7000 (Ping 1 (c ∷ [])) (suspect c 0 d ∷ []) };
+    }
 unfolding by_computing
 the_round_starts = refl
 
-one_of_two_that_are_due_fires :
-    reply_after (opening 0 ∷ accusing 2000 d ∷ ticks 2000 ∷ []) (ticks 7000)
-    ≡ record (nothing 7000) { fired = Some (round 3000) }
-unfolding by_computing
-one_of_two_that_are_due_fires = refl
+abbrev probing : List Event
+probing = opening 0 ∷ accusing 2000 d ∷ ticks 2000 ∷ []
 
-a_suspicion_runs_out :
+nobody_helps :
+    reply_after probing (ticks 7000) ≡ record (nothing 3000) { fired = Some (timer_of 2500 Direct) }
+unfolding by_computing
+nobody_helps = refl
+
+-- c is suspected already, and one accuser counts among two. The next round is set to start at 7000.
+the_round_ends :
     reply_after (opening 0 ∷ accusing 2000 d ∷ ticks 2000 ∷ ticks 7000 ∷ []) (ticks 7000)
-    ≡ record (nothing 8000) { fired = Some (end_of_c 7000); changed = record { items = failed c 0 ∷ [] } }
+    ≡ record (nothing 7000) { fired = Some (timer_of 3000 RoundEnd) }
+unfolding by_computing
+the_round_ends = refl
+
+abbrev ended : List Event
+ended = opening 0 ∷ accusing 2000 d ∷ ticks 2000 ∷ ticks 7000 ∷ ticks 7000 ∷ []
+
+a_failed_round_marks : (reply_after ended (Health 7000)).answer ≡ Some (OfHealth 1 0 2)
+unfolding by_computing
+a_failed_round_marks = refl
+
+-- The suspicion runs out before a round starts that is due at the same moment.
+a_suspicion_runs_out :
+    reply_after ended (ticks 7000)
+    ≡ record (nothing 7000) { fired = Some (end_of_c 7000); changed = record { items = failed c 0 ∷ [] } }
 unfolding by_computing
 a_suspicion_runs_out = refl
 
--- It runs out before a round starts that is due at the same moment.
-a_suspicion_comes_before_a_round :
-    reply_after (opening 0 ∷ ticks 0 ∷ accusing 0 d ∷ ticks 4000 ∷ []) (ticks 5000)
-    ≡ record (nothing 5000) { fired = Some (end_of_c 5000); changed = record { items = failed c 0 ∷ [] } }
+-- Nobody can be chosen then, and the next round starts two intervals later, by the score.
+nobody_is_chosen :
+    reply_after (opening 0 ∷ accusing 2000 d ∷ ticks 2000 ∷ ticks 7000 ∷ ticks 7000 ∷ ticks 7000 ∷ []) (ticks 7000)
+    ≡ record (nothing 9000) { fired = Some (round 7000) }
 unfolding by_computing
-a_suspicion_comes_before_a_round = refl
+nobody_is_chosen = refl
+
+-- An Ack of c that counts lowers the score again, and no helper is asked. One from a stranger, or with another number,
+-- doesn't count.
+abbrev acked_by : ℕ → ℕ → Event
+acked_by sender number =
+    Heard 2100 (at 1) (record { sender = sender ∷ []; body = Ack number; claims = record { items = [] } })
+
+an_ack_counts : (reply_after probing (acked_by c 1)).next ≡ 3000
+unfolding by_computing
+an_ack_counts = refl
+
+an_ack_of_a_stranger_does_not_count : (reply_after probing (acked_by z 1)).next ≡ 2500
+unfolding by_computing
+an_ack_of_a_stranger_does_not_count = refl
+
+an_ack_of_another_number_does_not_count : (reply_after probing (acked_by c 2)).next ≡ 2500
+unfolding by_computing
+an_ack_of_another_number_does_not_count = refl
+
+-- b is asked to ping c for a, by the number 1 of a. It takes the number 1 too, as its first. The Nack goes to a 400 ms
+-- later, and the relay is closed after 1000.
+abbrev requested : List Event
+requested = opening 0 ∷ says 510 (PingReq 1 (c ∷ []) (at 7003)) [] ∷ []
+
+a_request_is_relayed :
+    reply_after (opening 0 ∷ []) (says 510 (PingReq 1 (c ∷ []) (at 7003)) [])
+    ≡ record (nothing 0) { sends = record { items = sent 7003 (Ping 1 (c ∷ [])) [] } }
+unfolding by_computing
+a_request_is_relayed = refl
+
+a_request_for_oneself_is_acked :
+    (reply_after (opening 0 ∷ []) (says 510 (PingReq 9 (b ∷ []) (at 7003)) [])).sends.items ≡ acks 9 []
+unfolding by_computing
+a_request_for_oneself_is_acked = refl
+
+a_relay_sends_its_nack :
+    reply_after (opening 0 ∷ says 510 (PingReq 1 (c ∷ []) (at 7003)) [] ∷ ticks 910 ∷ []) (ticks 910)
+    ≡ record (nothing 1510) {
+      fired = Some (timer_of 910 (RelayNack 1));
+      sends = record { items = sent 1 (Nack 1) [] };
+    }
+unfolding by_computing
+a_relay_sends_its_nack = refl
+
+an_ack_of_the_target_is_passed_on :
+    (reply_after requested
+    (Heard 600 (at 7003) (record { sender = c ∷ []; body = Ack 1; claims = record { items = [] } }))).sends.items
+    ≡ acks 1 []
+unfolding by_computing
+an_ack_of_the_target_is_passed_on = refl
 
 nothing_is_due : reply_after (opening 0 ∷ ticks 0 ∷ []) (ticks 999) ≡ nothing 1000
 unfolding by_computing
@@ -291,7 +372,7 @@ a_round_counts_by_the_score = refl
 
 -- A claim that overrides ends the suspicion, and its deadline with it.
 an_ended_suspicion_has_no_deadline :
-    (reply_after (opening 0 ∷ accusing 2000 d ∷ pings 3000 2 b (alive c 1 ∷ []) ∷ []) (ticks 6500)).next ≡ 7500
+    (reply_after (opening 0 ∷ accusing 2000 d ∷ pings 3000 2 b (alive c 1 ∷ []) ∷ []) (ticks 6500)).next ≡ 7000
 unfolding by_computing
 an_ended_suspicion_has_no_deadline = refl
 

@@ -1,53 +1,72 @@
--- The event Heard: the claims of a packet are said in their order, and then a Ping for oneself is acked (SWIM, section
--- 3.1).
-use Rattle.std.specs.Prelude.{ℕ, List, [], ◌∷◌, Option, Some, None, if◌then◌else◌}
+-- The event Heard: the claims of a packet are said in their order, and then its body is responded to (SWIM, section
+-- 3.1; Lifeguard, local health aware probe).
+use Rattle.std.specs.Prelude.{ℕ, Bool, ◌||◌, not, List, [], ◌∷◌, Option, Some, None, if◌then◌else◌}
 use Rattle.lg_rules.specs.declared.addr.Addr.{Addr}
 use Rattle.lg_rules.specs.Meaning.Rows.{name_cmp, is_same}
-use Rattle.lg_gossip.specs.Meaning.Queue.{fill_of}
 use Rattle.lg_packet.specs.declared.packet.Body.{Body}
-use Rattle.lg_packet.specs.declared.packet.Body.TheVariants.{Ping, Ack}
+use Rattle.lg_packet.specs.declared.packet.Body.TheVariants.{Ping, PingReq, Ack, Nack}
 use Rattle.lg_packet.specs.declared.packet.Packet.{Packet}
-use Rattle.lg_timing.specs.declared.config.Config.{Config}
+use Rattle.lg_probe.specs.declared.relays.Relay.{Relay}
+use Rattle.lg_probe.specs.Meaning.Relays.{ended_asker}
 use Rattle.lg_membership.specs.declared.origin.Origin.TheVariants.{Group}
-use Rattle.lg_membership.specs.Meaning.Gossip.{queue}
 use Rattle.lg_membership.specs.Meaning.Log as group
+use Rattle.lg_detector.specs.declared.message.Message.{Message}
 use Rattle.lg_detector.specs.declared.reply.Outgoing.{Outgoing}
-use Rattle.lg_detector.specs.Meaning.Log.{Log, group_log}
-use Rattle.lg_detector.specs.Meaning.Apply.{come, apply_all, send}
+use Rattle.lg_detector.specs.Meaning.Log.{Log, AckHeard, NackHeard, Relayed, group_log}
+use Rattle.lg_detector.specs.Meaning.Apply.{come, apply_all}
+use Rattle.lg_detector.specs.Meaning.Probing.{number}
+use Rattle.lg_detector.specs.Meaning.Relaying.{relays, is_full}
+use Rattle.lg_detector.specs.Meaning.Send.{send_all, packets}
 
--- the number of the Ack that a body asks of a member: a Ping for it does
-abbrev pub pinged_number : List ℕ → Body → Option ℕ
-pinged_number name (Ping number target) = if is_same name_cmp target name then Some number else None
-pinged_number name _ = None
+-- The packet by which a body is responded to, where one is. A Ping or a PingReq for oneself is acked, by its number. A
+-- PingReq for another is relayed as a Ping with the next sequence number to the address in it, or, where as many relays
+-- are open as may be, answered by a Nack at once. The Ack of a relay's target is passed on to its asker, by the asker's
+-- number.
+abbrev pub ack_to : Addr → ℕ → List Message
+ack_to to k = record { to = to; body = Ack k } ∷ []
 
-abbrev pub asked_in : Option Config → Body → Option ℕ
-asked_in None body = None
-asked_in (Some opening) body = pinged_number opening.name body
+abbrev pub pass_on : Option (Addr × ℕ) → List Message
+pass_on None = []
+pass_on (Some asker) = ack_to asker.0 asker.1
 
--- an Ack is sent, where one is asked for
-abbrev pub ack : Option ℕ → Log → Log
-ack None log = log
-ack (Some number) log = send log
+abbrev pub relay_or_refuse : Bool → Addr → ℕ → Message → List Message
+relay_or_refuse full source k ping = if full then record { to = source; body = Nack k } ∷ [] else ping ∷ []
 
-abbrev pub respond : Body → Log → Log
-respond body log = ack (asked_in (group.config (group_log log)) body) log
+-- the same, of what is asked of: one's own name, the next sequence number, and the relays that are open
+abbrev pub response_by : List ℕ → ℕ → List Relay → Addr → List ℕ → Body → List Message
+response_by me next open_ones source sender (Ping k target) =
+    if is_same name_cmp target me then ack_to source k else []
+response_by me next open_ones source sender (PingReq k target addr) =
+    if is_same name_cmp target me
+    then ack_to source k
+    else relay_or_refuse (is_full open_ones) source k (record { to = addr; body = Ping next target })
+response_by me next open_ones source sender (Ack k) = pass_on (ended_asker k sender open_ones)
+response_by me next open_ones source sender (Nack k) = []
+
+abbrev pub response : Addr → List ℕ → Body → Log → List Message
+response source sender body log =
+    response_by (group.me (group_log log)) (number log) (relays log) source sender body
+
+-- what is noted of a body: an Ack or a Nack came, or a relay is opened
+abbrev pub is_relayed : List ℕ → List Relay → List ℕ → Bool
+is_relayed me open_ones target = not (is_same name_cmp target me || is_full open_ones)
+
+abbrev pub note : Addr → List ℕ → Body → Log → Log
+note source sender (Ping k target) log = log
+note source sender (PingReq k target addr) log =
+    if is_relayed (group.me (group_log log)) (relays log) target then Relayed target source k ∷ log else log
+note source sender (Ack k) log = AckHeard k sender ∷ log
+note source sender (Nack k) log = NackHeard k sender ∷ log
+
+abbrev pub respond : Addr → List ℕ → Body → Log → Log
+respond source sender body log = send_all (response source sender body log) (note source sender body log)
 
 -- the claims of a packet are said
 abbrev pub hear_claims : ℕ → Packet → Log → Log
 hear_claims now packet log = apply_all Group packet.claims.items (come now log)
 
-abbrev pub hear : ℕ → Packet → Log → Log
-hear now packet log = respond packet.body (hear_claims now packet log)
+abbrev pub hear : ℕ → Addr → Packet → Log → Log
+hear now source packet log = respond source packet.sender packet.body (hear_claims now packet log)
 
--- The Ack goes to where the packet came from, with claims of the queue (SWIM, section 4.1).
-abbrev pub ack_sent : Addr → Option ℕ → Log → List Outgoing
-ack_sent source None log = []
-ack_sent source (Some number) log =
-    let claims = fill_of (queue (group_log log)) None (group.live (group_log log)) in
-    record {
-      to = source;
-      packet = record { sender = group.me (group_log log); body = Ack number; claims = record { items = claims } };
-    } ∷ []
-
-abbrev pub sends_to : Addr → Body → Log → List Outgoing
-sends_to source body log = ack_sent source (asked_in (group.config (group_log log)) body) log
+abbrev pub sends_to : Addr → List ℕ → Body → Log → List Outgoing
+sends_to source sender body log = packets (response source sender body log) (note source sender body log)

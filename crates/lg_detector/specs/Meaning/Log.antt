@@ -1,13 +1,19 @@
 -- What happens to a detector, as facts, and what is read off them.
 use Rattle.std.specs.Prelude.{ℕ, ◌+◌, max, List, [], ◌∷◌}
+use Rattle.lg_rules.specs.declared.addr.Addr.{Addr}
 use Rattle.lg_membership.specs.Meaning.Log as group
 use Rattle.lg_timers.specs.declared.timer.Timer.{Timer}
 
--- A log lists what happened as facts, the latest first: an event came at a moment; a timer fired; or something that
--- concerns the group: the member was opened, a claim was said, a packet was sent that took claims of the queue.
+-- A log lists what happened as facts, the latest first: an event came at a moment; a timer fired at a tick with these
+-- random words; an Ack or a Nack with a number came from a member; a relay to a target was opened for an asker, which
+-- is reached at an address and asked by a number; or something that concerns the group: the member was opened, a claim
+-- was said, a packet was sent that took claims of the queue.
 pub data Fact : Type 0 where
   Came : ℕ → Fact
-  Fired : Timer → Fact
+  Fired : Timer → List ℕ → Fact
+  AckHeard : ℕ → List ℕ → Fact
+  NackHeard : ℕ → List ℕ → Fact
+  Relayed : List ℕ → Addr → ℕ → Fact
   OfGroup : group.Fact → Fact
 
 abbrev pub Log : Type 0

@@ -34,14 +34,14 @@ use Rattle.lg_detector.specs.Meaning.Timing.{due, pending, deadline_in, or_zero}
 use Rattle.lg_detector.specs.Meaning.Apply.{come}
 use Rattle.lg_detector.specs.Meaning.Open.{open_with}
 use Rattle.lg_detector.specs.Meaning.Hear.{hear_claims, hear, sends_to}
-use Rattle.lg_detector.specs.Meaning.Tick.{tick}
+use Rattle.lg_detector.specs.Meaning.Tick.{tick, sends_at}
 use Rattle.lg_detector.specs.Meaning.Ask.{ask, status, health}
 
 -- the log once an event came
 abbrev pub step : Event → Log → Log
 step (Open now opening) log = open_with now opening log
-step (Heard now source packet) log = hear now packet log
-step (Tick now words) log = tick now log
+step (Heard now source packet) log = hear now source packet log
+step (Tick now words) log = tick now words log
 step (Ask now name) log = ask now log
 step (Health now) log = ask now log
 
@@ -57,7 +57,8 @@ fired_by _ log = None
 
 -- the packets to be sent;
 abbrev pub sends_by : Event → Log → List Outgoing
-sends_by (Heard now source packet) log = sends_to source packet.body (hear_claims now packet log)
+sends_by (Heard now source packet) log = sends_to source packet.sender packet.body (hear_claims now packet log)
+sends_by (Tick now words) log = sends_at now words log
 sends_by _ log = []
 
 -- the records of the member table that weren't in it before, but for the opening;
@@ -66,7 +67,7 @@ view log = group.view (group_log log)
 
 abbrev pub changed_by : Event → Log → List Claim
 changed_by (Heard now source packet) log = changed (view log) (view (hear_claims now packet log))
-changed_by (Tick now words) log = changed (view log) (view (tick now log))
+changed_by (Tick now words) log = changed (view log) (view (tick now words log))
 changed_by _ log = []
 
 -- the answer to a question;

@@ -1,24 +1,7 @@
 -- The health score and the timers that are set (Lifeguard, local health aware probe; SWIM, section 3.1).
-use Rattle.std.specs.Prelude.{
-  ℕ,
-  ◌+◌,
-  ◌*◌,
-  ℤ,
-  pos,
-  Bool,
-  true,
-  false,
-  List,
-  [],
-  ◌∷◌,
-  ◌++◌,
-  map,
-  Option,
-  Some,
-  None,
-  option_map,
-  if◌then◌else◌,
-}
+use Rattle.std.specs.Prelude.{ℕ, ◌+◌, ◌*◌, ◌/◌, ℤ, pos, negsuc, Bool, true, false, ◌&&◌, not}
+use Rattle.std.specs.Prelude.{List, [], ◌∷◌, ◌++◌, map, filter, Option, Some, None, option_map, if◌then◌else◌}
+use Rattle.std.specs.List.{list_any}
 use Rattle.lg_rules.specs.declared.own.OwnHeard.{OwnHeard}
 use Rattle.lg_rules.specs.declared.own.OwnHeard.TheVariants.{Refuted}
 use Rattle.lg_rules.specs.Meaning.Own.{own_hearing}
@@ -27,22 +10,44 @@ use Rattle.lg_timing.specs.Meaning.Score.{ScoreValue, score_of}
 use Rattle.lg_suspicion.specs.Meaning.Accusers.{deadline_of}
 use Rattle.lg_timers.specs.declared.timer.Timer.{Timer}
 use Rattle.lg_timers.specs.declared.timer.TimerId.{TimerId}
-use Rattle.lg_timers.specs.declared.timer.TimerId.TheVariants.{Suspicion, RoundStart}
+use Rattle.lg_timers.specs.declared.timer.TimerId.TheVariants.{RoundEnd, Suspicion, Direct}
+use Rattle.lg_timers.specs.declared.timer.TimerId.TheVariants.{RelayNack, RelayEnd, RoundStart}
 use Rattle.lg_timers.specs.Meaning.Timers.{in_turn, least_of, due_of}
+use Rattle.lg_probe.specs.Meaning.Round.{RoundFact, RoundValue, Asked, is_acked, is_first_ack, mark_of as mark_of_round}
 use Rattle.lg_membership.specs.declared.suspected.Suspected.{Suspected}
 use Rattle.lg_membership.specs.Meaning.Log as group
 use Rattle.lg_membership.specs.Meaning.Suspicions.{suspicions}
-use Rattle.lg_detector.specs.Meaning.Log.{Log, Fired, OfGroup, moment, group_log}
+use Rattle.lg_detector.specs.Meaning.Log.{Log, Fired, AckHeard, OfGroup, moment, group_log}
+use Rattle.lg_detector.specs.Meaning.Probing.{Probe, is_round_start, chosen, probe, since_start, round}
+use Rattle.lg_detector.specs.Meaning.Relaying.{relays, opened_at, has_nacked}
 
--- The marks that were earned since the opening, the latest first: 1 for each suspicion of oneself that was refuted.
+-- The marks that were earned since the opening, the latest first: 1 for each suspicion of oneself that was refuted; -1
+-- for the first Ack that counts for a probe; and at the end of a round without one 1, or 2 where a helper that was
+-- asked sent no Nack.
 abbrev pub mark_of : OwnHeard → List ℤ → List ℤ
 mark_of Refuted past = pos 1 ∷ past
 mark_of _ past = past
+
+abbrev pub mark_of_end : RoundValue → List ℤ → List ℤ
+mark_of_end r past = if r.acked then past else mark_of_round false r.silent ∷ past
+
+abbrev pub mark_of_fired : TimerId → Option RoundValue → List ℤ → List ℤ
+mark_of_fired RoundEnd (Some r) past = mark_of_end r past
+mark_of_fired _ r past = past
+
+abbrev pub is_first : ℕ → List ℕ → Option RoundValue → Bool
+is_first k sender None = false
+is_first k sender (Some r) = is_first_ack r k sender
+
+abbrev pub mark_of_ack : Bool → List ℤ → List ℤ
+mark_of_ack first past = if first then negsuc 0 ∷ past else past
 
 abbrev pub earned : Log → List ℤ
 earned [] = []
 earned (OfGroup (group.Opened opening) ∷ log) = []
 earned (OfGroup (group.Said now origin c) ∷ log) = mark_of (own_hearing (group.own (group_log log)) c) (earned log)
+earned (Fired timer words ∷ log) = mark_of_fired timer.id (round log) (earned log)
+earned (AckHeard k sender ∷ log) = mark_of_ack (is_first k sender (round log)) (earned log)
 earned (_ ∷ log) = earned log
 
 -- the score: their sum, held between 0 and the greatest score at every mark
@@ -55,43 +60,118 @@ score log =
     let max = max_in (group.config (group_log log)) in
     record { value = score_of max (earned log); max = max }
 
--- the interval, scaled by the score
+-- the interval and the timeout, scaled by the score
 abbrev pub scaled_interval : Option Config → ScoreValue → ℕ
 scaled_interval None s = 0
 scaled_interval (Some opening) s = opening.interval_ms * (s.value + 1)
 
-abbrev pub is_round_start : TimerId → Bool
-is_round_start RoundStart = true
-is_round_start _ = false
+abbrev pub scaled_timeout : Option Config → ScoreValue → ℕ
+scaled_timeout None s = 0
+scaled_timeout (Some opening) s = opening.timeout_ms * (s.value + 1)
 
--- When the next round starts: at the moment of the opening, and one scaled interval after a round that chose nobody was
--- started. So far nobody is chosen.
+-- the moment one scaled interval, or timeout, after a log
+abbrev pub interval_later : Log → ℕ
+interval_later log = moment log + scaled_interval (group.config (group_log log)) (score log)
+
+abbrev pub timeout_later : Log → ℕ
+timeout_later log = moment log + scaled_timeout (group.config (group_log log)) (score log)
+
+-- When the round that started last ends, and when its helpers are asked: by the score at its start.
+abbrev pub end_at : Log → ℕ
+end_at [] = 0
+end_at (Fired timer words ∷ log) = if is_round_start timer.id then interval_later log else end_at log
+end_at (_ ∷ log) = end_at log
+
+abbrev pub direct_at : Log → ℕ
+direct_at [] = 0
+direct_at (Fired timer words ∷ log) = if is_round_start timer.id then timeout_later log else direct_at log
+direct_at (_ ∷ log) = direct_at log
+
+-- When the next round starts: at the moment of the opening; at the moment at which a round ended; and one scaled
+-- interval after a start that chose nobody. While a probe runs, none is set.
+abbrev pub start_unless : ℕ → Option (List ℕ) → Option ℕ
+start_unless later None = Some later
+start_unless later (Some target) = None
+
+abbrev pub start_by : TimerId → List ℕ → Log → Option ℕ → Option ℕ
+start_by RoundStart words log before = start_unless (interval_later log) (chosen words log)
+start_by RoundEnd words log before = Some (moment log)
+start_by _ words log before = before
+
 abbrev pub round_start : Log → Option ℕ
 round_start [] = None
 round_start (OfGroup (group.Opened opening) ∷ log) = Some (moment log)
-round_start (Fired timer ∷ log) =
-    if is_round_start timer.id
-    then Some (moment log + scaled_interval (group.config (group_log log)) (score log))
-    else round_start log
+round_start (Fired timer words ∷ log) = start_by timer.id words log (round_start log)
 round_start (_ ∷ log) = round_start log
 
--- The timers that are set, in the order in which they fire: the start of the next round, and the deadline of each
--- suspicion. Each accuser that counts brings that nearer, as lg_suspicion says.
+-- The timers of the round. Its helpers are to be asked until an Ack counted, or they were asked.
 abbrev pub start_timer : ℕ → Timer
 start_timer deadline = record { deadline = deadline; id = RoundStart }
 
-abbrev pub suspicion_timer : Suspected → Timer
-suspicion_timer r = record { deadline = deadline_of r.suspicion; id = Suspicion r.name }
+abbrev pub end_timer : ℕ → Timer
+end_timer deadline = record { deadline = deadline; id = RoundEnd }
+
+abbrev pub direct_timer : ℕ → Timer
+direct_timer deadline = record { deadline = deadline; id = Direct }
 
 abbrev pub start_timers : Option ℕ → List Timer
 start_timers None = []
 start_timers (Some deadline) = start_timer deadline ∷ []
 
-abbrev pub pending_of : Option ℕ → List Suspected → List Timer
-pending_of start rows = in_turn (start_timers start ++ map suspicion_timer rows)
+abbrev pub is_asking : RoundFact → Bool
+is_asking (Asked names) = true
+is_asking _ = false
+
+abbrev pub is_waiting : Probe → List RoundFact → Bool
+is_waiting p past = not (is_acked p.number p.target past) && not (list_any is_asking past)
+
+abbrev pub direct_timers : ℕ → Probe → List RoundFact → List Timer
+direct_timers deadline p past = if is_waiting p past then direct_timer deadline ∷ [] else []
+
+abbrev pub probe_timers : ℕ → ℕ → Option Probe → List RoundFact → List Timer
+probe_timers end direct None past = []
+probe_timers end direct (Some p) past = end_timer end ∷ direct_timers direct p past
+
+abbrev pub round_timers : Log → List Timer
+round_timers log =
+    probe_timers (end_at log) (direct_at log) (probe log) (since_start log) ++ start_timers (round_start log)
+
+-- The timers of the relays, not scaled: when the Nack of each is sent, unless it was, and when it is closed.
+abbrev pub nack_time : Option Config → ℕ
+nack_time None = 0
+nack_time (Some opening) = opening.timeout_ms * opening.nack_thousandths / 1000
+
+abbrev pub relay_time : Option Config → ℕ
+relay_time None = 0
+relay_time (Some opening) = opening.interval_ms
+
+abbrev pub nack_timer : ℕ → ℕ → Timer
+nack_timer deadline k = record { deadline = deadline; id = RelayNack k }
+
+abbrev pub relay_timer : ℕ → ℕ → Timer
+relay_timer deadline k = record { deadline = deadline; id = RelayEnd k }
+
+abbrev pub nack_timers : Log → List Timer
+nack_timers log =
+    let later = nack_time (group.config (group_log log)) in
+    let silent = filter (λ r. not (has_nacked log r.number)) (relays log) in
+    map (λ r. nack_timer (opened_at log r.number + later) r.number) silent
+
+abbrev pub relay_timers : Log → List Timer
+relay_timers log =
+    let later = relay_time (group.config (group_log log)) in
+    map (λ r. relay_timer (opened_at log r.number + later) r.number) (relays log)
+
+-- The timers that are set, in the order in which they fire: those of the round, those of the relays, and the deadline
+-- of each suspicion. Each accuser that counts brings that nearer, as lg_suspicion says.
+abbrev pub suspicion_timer : Suspected → Timer
+suspicion_timer r = record { deadline = deadline_of r.suspicion; id = Suspicion r.name }
+
+abbrev pub suspicion_timers : Log → List Timer
+suspicion_timers log = map suspicion_timer (suspicions (group_log log))
 
 abbrev pub pending : Log → List Timer
-pending log = pending_of (round_start log) (suspicions (group_log log))
+pending log = in_turn (round_timers log ++ (nack_timers log ++ (relay_timers log ++ suspicion_timers log)))
 
 -- the first of the timers that are due
 abbrev pub due : Log → Option Timer

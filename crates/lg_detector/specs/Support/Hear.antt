@@ -1,37 +1,34 @@
 -- The event Heard, by the state.
-use Rattle.std.specs.Prelude.{ℕ, List, [], ◌∷◌, Option, Some, None}
+use Rattle.std.specs.Prelude.{ℕ, List, if◌then◌else◌}
 use Rattle.lg_rules.specs.declared.addr.Addr.{Addr}
-use Rattle.lg_rules.specs.Meaning.Table.{live_in}
-use Rattle.lg_gossip.specs.Meaning.Queue.{fill_of}
 use Rattle.lg_packet.specs.declared.packet.Body.{Body}
-use Rattle.lg_packet.specs.declared.packet.Body.TheVariants.{Ack}
+use Rattle.lg_packet.specs.declared.packet.Body.TheVariants.{Ping, PingReq, Ack, Nack}
 use Rattle.lg_packet.specs.declared.packet.Packet.{Packet}
 use Rattle.lg_membership.specs.declared.origin.Origin.TheVariants.{Group}
 use Rattle.lg_detector.specs.declared.reply.Outgoing.{Outgoing}
-use Rattle.lg_detector.specs.Meaning.Hear.{asked_in}
-use Rattle.lg_detector.specs.Support.State.{State, come, apply_all, send}
+use Rattle.lg_detector.specs.Meaning.Hear.{response_by, is_relayed}
+use Rattle.lg_detector.specs.declared.message.Message.{Message}
+use Rattle.lg_detector.specs.Support.State.{State, come, apply_all, hear_ack, hear_nack, open_relay}
+use Rattle.lg_detector.specs.Support.Send.{send_all, packets}
 
-abbrev pub ack : Option ℕ → State → State
-ack None s = s
-ack (Some number) s = send s
+abbrev pub response : Addr → List ℕ → Body → State → List Message
+response source sender body s = response_by s.membership.own.name s.number s.relays source sender body
 
-abbrev pub respond : Body → State → State
-respond body s = ack (asked_in s.membership.config body) s
+abbrev pub note : Addr → List ℕ → Body → State → State
+note source sender (Ping k target) s = s
+note source sender (PingReq k target addr) s =
+    if is_relayed s.membership.own.name s.relays target then open_relay target source k s else s
+note source sender (Ack k) s = hear_ack k sender s
+note source sender (Nack k) s = hear_nack k sender s
+
+abbrev pub respond : Addr → List ℕ → Body → State → State
+respond source sender body s = send_all (response source sender body s) (note source sender body s)
 
 abbrev pub hear_claims : ℕ → Packet → State → State
 hear_claims now packet s = apply_all Group packet.claims.items (come now s)
 
-abbrev pub hear : ℕ → Packet → State → State
-hear now packet s = respond packet.body (hear_claims now packet s)
+abbrev pub hear : ℕ → Addr → Packet → State → State
+hear now source packet s = respond source packet.sender packet.body (hear_claims now packet s)
 
-abbrev pub ack_sent : Addr → Option ℕ → State → List Outgoing
-ack_sent source None s = []
-ack_sent source (Some number) s =
-    let claims = fill_of s.membership.queue None (live_in s.membership.members.table) in
-    record {
-      to = source;
-      packet = record { sender = s.membership.own.name; body = Ack number; claims = record { items = claims } };
-    } ∷ []
-
-abbrev pub sends_to : Addr → Body → State → List Outgoing
-sends_to source body s = ack_sent source (asked_in s.membership.config body) s
+abbrev pub sends_to : Addr → List ℕ → Body → State → List Outgoing
+sends_to source sender body s = packets (response source sender body s) (note source sender body s)

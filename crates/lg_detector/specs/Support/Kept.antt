@@ -8,5 +8,9 @@ state_in parts = record {
   moment = parts.moment;
   score = parts.score;
   timers = parts.timers;
+  order = parts.order;
+  number = parts.number;
+  round = parts.round;
+  relays = parts.relays;
   membership = parts.membership;
 }

@@ -1,6 +1,9 @@
--- A state that some log has, where the detector was opened with a good configuration, if it was opened.
-use Rattle.std.specs.Prelude.{◌≡◌}
+-- A state that some log has, where the detector was opened with a good configuration, if it was opened; and bounds that
+-- hold between the facts of an accepted event.
+use Rattle.std.specs.Prelude.{◌≡◌, ◌≤◌, ◌+◌, length}
 use Rattle.lg_membership.specs.Support.Reached.{IsGood}
+use Rattle.lg_probe.specs.declared.relays.TheConstants.{MAX_RELAYS}
+use Rattle.lg_detector.specs.declared.detector.TheConstants.{MAX_EVENTS}
 use Rattle.lg_detector.specs.Meaning.Log.{Log}
 use Rattle.lg_detector.specs.Support.State.{State, state_of}
 
@@ -8,3 +11,6 @@ pub record IsReached (s : State) : Type 0 where
   pub log : Log
   pub is : s ≡ state_of log
   pub good : IsGood s.membership.config
+  pub few_events : s.events ≤ MAX_EVENTS
+  pub numbered : s.number ≤ s.events + 1
+  pub few_relays : length s.relays ≤ MAX_RELAYS

@@ -1,34 +1,59 @@
 -- The state of a detector as plain data, and what each fact does to it.
-use Rattle.std.specs.Prelude.{ℕ, ◌+◌, max, pos, Bool, true, false, List, [], ◌∷◌, None, if◌then◌else◌}
+use Rattle.std.specs.Prelude.{ℕ, ◌+◌, max, pos, negsuc, Bool, true, false, List, [], ◌∷◌}
+use Rattle.std.specs.Prelude.{Option, Some, None, option_map, is_some, if◌then◌else◌}
+use Rattle.lg_rules.specs.declared.addr.Addr.{Addr}
 use Rattle.lg_rules.specs.declared.claim.Claim.{Claim}
-use Rattle.lg_rules.specs.Meaning.Table.{live_in}
+use Rattle.lg_rules.specs.Meaning.Rows.{name_cmp, in_order}
 use Rattle.lg_timing.specs.declared.config.Config.{Config}
 use Rattle.lg_timing.specs.Meaning.Score.{ScoreValue, marked}
-use Rattle.lg_gossip.specs.Meaning.Queue.{taken_of}
 use Rattle.lg_timers.specs.declared.timer.Timer.{Timer}
-use Rattle.lg_timers.specs.declared.timer.TimerId.TheVariants.{Suspicion, RoundStart}
+use Rattle.lg_timers.specs.declared.timer.TimerId.{TimerId}
+use Rattle.lg_timers.specs.declared.timer.TimerId.TheVariants.{RoundEnd, Suspicion, Direct}
+use Rattle.lg_timers.specs.declared.timer.TimerId.TheVariants.{RelayNack, RelayEnd, RoundStart}
 use Rattle.lg_timers.specs.Meaning.Timers.{with_timer, without_timer}
+use Rattle.lg_probe.specs.declared.relays.Relay.{Relay}
+use Rattle.lg_probe.specs.Meaning.Order.{OrderValue, Joined, Left, Chose, choice, order_with}
+use Rattle.lg_probe.specs.Meaning.Relays.{Opened, TargetAcked, Closed, relays_with, ended_asker}
+use Rattle.lg_probe.specs.Meaning.Round.{RoundValue, Asked, Acked, Nacked, mark_of, round_of, round_with}
 use Rattle.lg_membership.specs.declared.applied.Deadline.{Deadline}
 use Rattle.lg_membership.specs.declared.applied.Deadline.TheVariants.{Stays, Ends, Stands}
+use Rattle.lg_membership.specs.declared.applied.Presence.{Presence}
+use Rattle.lg_membership.specs.declared.applied.Presence.TheVariants as presence
 use Rattle.lg_membership.specs.declared.origin.Origin.{Origin}
 use Rattle.lg_membership.specs.Support.State as group
 use Rattle.lg_detector.specs.Meaning.Log.{Log, events, moment, group_log}
-use Rattle.lg_detector.specs.Meaning.Timing.{score, pending, scaled_interval, start_timer, is_round_start}
+use Rattle.lg_detector.specs.Meaning.Probing as probing
+use Rattle.lg_detector.specs.Meaning.Probing.{first_word, indirect_in, helpers_of}
+use Rattle.lg_detector.specs.Meaning.Relaying as relaying
+use Rattle.lg_detector.specs.Meaning.Relaying.{new_relay}
+use Rattle.lg_detector.specs.Meaning.Timing.{score, pending, scaled_interval, scaled_timeout, nack_time, relay_time}
+use Rattle.lg_detector.specs.Meaning.Timing.{is_first, start_timer, end_timer, direct_timer, nack_timer, relay_timer}
 
 pub record State : Type 0 where
   pub events : ℕ
   pub moment : ℕ
   pub score : ScoreValue
   pub timers : List Timer
+  pub order : OrderValue
+  pub number : ℕ
+  pub round : Option RoundValue
+  pub relays : List Relay
   pub membership : group.State
 
 -- each part by its definition
+abbrev pub order_of : Log → OrderValue
+order_of log = record { names = probing.others log; chosen = in_order name_cmp (probing.round_names log) }
+
 abbrev pub state_of : Log → State
 state_of log = record {
   events = events log;
   moment = moment log;
   score = score log;
   timers = pending log;
+  order = order_of log;
+  number = probing.number log;
+  round = probing.round log;
+  relays = relaying.relays log;
   membership = group.state_of (group_log log);
 }
 
@@ -41,10 +66,15 @@ abbrev pub begin : Config → State → State
 begin opening s = record s {
   score = record { value = 0; max = opening.max_score };
   timers = start_timer s.moment ∷ [];
+  order = record { names = []; chosen = [] };
+  number = 1;
+  round = None;
+  relays = [];
   membership = group.open_with opening s.membership;
 }
 
--- the score once a claim is applied, and the timers once the deadline of a member did so
+-- once a claim is applied: the score, the timers by what became of the deadline of a member, and the order by its
+-- presence
 abbrev pub marked_if : Bool → ScoreValue → ScoreValue
 marked_if true s = marked s (pos 1)
 marked_if false s = s
@@ -55,6 +85,11 @@ follow m Ends timers = without_timer (Suspicion m) timers
 follow m (Stands deadline) timers =
     with_timer (record { deadline = deadline; id = Suspicion m }) (without_timer (Suspicion m) timers)
 
+abbrev pub reorder : List ℕ → Presence → OrderValue → OrderValue
+reorder m presence.Stays order = order
+reorder m presence.Joins order = order_with order (Joined m)
+reorder m presence.Leaves order = order_with order (Left m)
+
 -- a claim is said
 unfoldable pub apply : Origin → Claim → State → State
 apply origin c s =
@@ -62,6 +97,7 @@ apply origin c s =
     record s {
       score = marked_if applied.refuted s.score;
       timers = follow c.name applied.deadline s.timers;
+      order = reorder c.name applied.presence s.order;
       membership = group.apply s.moment origin c s.membership;
     }
 
@@ -69,18 +105,142 @@ abbrev pub apply_all : Origin → List Claim → State → State
 apply_all origin [] s = s
 apply_all origin (c ∷ cs) s = apply_all origin cs (apply origin c s)
 
--- a timer fires: a round that starts chooses nobody so far, and the next one starts a scaled interval later
-abbrev pub start_round : State → State
-start_round s =
-    let deadline = s.moment + scaled_interval s.membership.config s.score in
-    record s { timers = with_timer (start_timer deadline) (without_timer RoundStart s.timers) }
+-- A round starts: the order chooses, and the timers of the round are set anew.
+abbrev pub chosen : List ℕ → State → Option (List ℕ)
+chosen words s = choice s.order.names s.order.chosen (first_word words)
 
-unfoldable pub fire : Timer → State → State
-fire timer s = if is_round_start timer.id then start_round s else s
+abbrev pub with_start : ℕ → List Timer → List Timer
+with_start deadline timers =
+    with_timer (start_timer deadline) (
+    without_timer RoundStart (without_timer Direct (without_timer RoundEnd timers)))
 
--- a packet is sent that is no Ping
-abbrev pub taken : State → List Claim
-taken s = taken_of s.membership.queue None (live_in s.membership.members.table)
+abbrev pub with_probe : ℕ → ℕ → List Timer → List Timer
+with_probe end direct timers =
+    with_timer (end_timer end) (
+    without_timer RoundEnd (
+    with_timer (direct_timer direct) (without_timer Direct (without_timer RoundStart timers))))
 
-abbrev pub send : State → State
-send s = record s { membership = group.send (taken s) s.membership }
+abbrev pub interval_later : State → ℕ
+interval_later s = s.moment + scaled_interval s.membership.config s.score
+
+abbrev pub timeout_later : State → ℕ
+timeout_later s = s.moment + scaled_timeout s.membership.config s.score
+
+abbrev pub with_round : Option (List ℕ) → ℕ → ℕ → List Timer → List Timer
+with_round None end direct timers = with_start end timers
+with_round (Some target) end direct timers = with_probe end direct timers
+
+abbrev pub round_of_choice : ℕ → Option (List ℕ) → Option RoundValue
+round_of_choice k target = option_map (λ m. round_of k m []) target
+
+abbrev pub number_after : ℕ → Option (List ℕ) → ℕ
+number_after k target = if is_some target then k + 1 else k
+
+abbrev pub start_probe : Option (List ℕ) → State → State
+start_probe target s = record s {
+  round = round_of_choice s.number target;
+  number = number_after s.number target;
+  timers = with_round target (interval_later s) (timeout_later s) s.timers;
+}
+
+abbrev pub start_round : List ℕ → State → State
+start_round words s = start_probe (chosen words s) (record s { order = order_with s.order (Chose (first_word words)) })
+
+-- helpers are asked
+abbrev pub helpers : List ℕ → State → List (List ℕ)
+helpers words s =
+    helpers_of (indirect_in s.membership.config) words s.order.names (option_map (λ r. r.target) s.round)
+
+abbrev pub ask_helpers : List ℕ → State → State
+ask_helpers words s = record s {
+  round = option_map (λ r. round_with r (Asked (helpers words s))) s.round;
+  timers = without_timer Direct s.timers;
+}
+
+-- a round ends, and the next one starts at once
+abbrev pub marked_end : Option RoundValue → ScoreValue → ScoreValue
+marked_end None s = s
+marked_end (Some r) s = if r.acked then s else marked s (mark_of false r.silent)
+
+abbrev pub end_round : State → State
+end_round s = record s {
+  score = marked_end s.round s.score;
+  round = None;
+  timers = with_start s.moment s.timers;
+}
+
+-- a relay sends its Nack, and stays open; or it is closed
+abbrev pub nack_relay : ℕ → State → State
+nack_relay k s = record s { timers = without_timer (RelayNack k) s.timers }
+
+abbrev pub without_relay : ℕ → List Timer → List Timer
+without_relay k timers = without_timer (RelayNack k) (without_timer (RelayEnd k) timers)
+
+abbrev pub close_relay : ℕ → State → State
+close_relay k s = record s { relays = relays_with s.relays (Closed k); timers = without_relay k s.timers }
+
+-- a timer fires
+abbrev pub fire_id : TimerId → List ℕ → State → State
+fire_id RoundEnd words s = end_round s
+fire_id (Suspicion m) words s = s
+fire_id Direct words s = ask_helpers words s
+fire_id (RelayNack k) words s = nack_relay k s
+fire_id (RelayEnd k) words s = close_relay k s
+fire_id RoundStart words s = start_round words s
+
+unfoldable pub fire : Timer → List ℕ → State → State
+fire timer words s = fire_id timer.id words s
+
+-- an Ack or a Nack comes
+abbrev pub marked_ack : Bool → ScoreValue → ScoreValue
+marked_ack first s = if first then marked s (negsuc 0) else s
+
+abbrev pub without_direct : Bool → List Timer → List Timer
+without_direct first timers = if first then without_timer Direct timers else timers
+
+abbrev pub ack_round : ℕ → List ℕ → State → State
+ack_round k sender s =
+    let first = is_first k sender s.round in
+    record s {
+      score = marked_ack first s.score;
+      round = option_map (λ r. round_with r (Acked k sender)) s.round;
+      timers = without_direct first s.timers;
+    }
+
+abbrev pub without_ended : Bool → ℕ → List Timer → List Timer
+without_ended ended k timers = if ended then without_relay k timers else timers
+
+abbrev pub ack_relay : ℕ → List ℕ → State → State
+ack_relay k sender s = record s {
+  relays = relays_with s.relays (TargetAcked k sender);
+  timers = without_ended (is_some (ended_asker k sender s.relays)) k s.timers;
+}
+
+unfoldable pub hear_ack : ℕ → List ℕ → State → State
+hear_ack k sender s = ack_relay k sender (ack_round k sender s)
+
+unfoldable pub hear_nack : ℕ → List ℕ → State → State
+hear_nack k sender s = record s { round = option_map (λ r. round_with r (Nacked k sender)) s.round }
+
+-- a relay is opened
+abbrev pub nack_later : State → ℕ
+nack_later s = s.moment + nack_time s.membership.config
+
+abbrev pub relay_later : State → ℕ
+relay_later s = s.moment + relay_time s.membership.config
+
+abbrev pub with_relay : ℕ → ℕ → ℕ → List Timer → List Timer
+with_relay nack end k timers =
+    with_timer (nack_timer nack k) (
+    without_timer (RelayNack k) (with_timer (relay_timer end k) (without_timer (RelayEnd k) timers)))
+
+unfoldable pub open_relay : List ℕ → Addr → ℕ → State → State
+open_relay target asker asked s = record s {
+  relays = relays_with s.relays (Opened (new_relay s.number target asker asked));
+  number = s.number + 1;
+  timers = with_relay (nack_later s) (relay_later s) s.number s.timers;
+}
+
+-- a packet is sent that took these claims of the queue
+abbrev pub send_taken : List Claim → State → State
+send_taken taken s = record s { membership = group.send taken s.membership }

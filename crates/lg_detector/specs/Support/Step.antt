@@ -14,7 +14,7 @@ use Rattle.lg_detector.specs.Meaning.Step.{log_of, is_open, opens_well, most_eve
 use Rattle.lg_detector.specs.Support.State.{State, state_of, come}
 use Rattle.lg_detector.specs.Support.Open.{open_with}
 use Rattle.lg_detector.specs.Support.Hear.{hear_claims, hear, sends_to}
-use Rattle.lg_detector.specs.Support.Tick.{due, tick}
+use Rattle.lg_detector.specs.Support.Tick.{due, tick, sends_at}
 use Rattle.lg_detector.specs.Support.Ask.{ask, status, health}
 
 -- the state after a list of events, the earliest first
@@ -35,8 +35,8 @@ view_in s = group.shown s.membership
 -- the state after an event that is accepted
 unfoldable pub advance : State → Event → State
 advance s (Open now opening) = open_with now opening s
-advance s (Heard now source packet) = hear now packet s
-advance s (Tick now words) = tick now s
+advance s (Heard now source packet) = hear now source packet s
+advance s (Tick now words) = tick now words s
 advance s (Ask now name) = ask now s
 advance s (Health now) = ask now s
 
@@ -50,12 +50,13 @@ fired_by s (Tick now words) = due (come now s)
 fired_by s _ = None
 
 abbrev pub sends_by : State → Event → List Outgoing
-sends_by s (Heard now source packet) = sends_to source packet.body (hear_claims now packet s)
+sends_by s (Heard now source packet) = sends_to source packet.sender packet.body (hear_claims now packet s)
+sends_by s (Tick now words) = sends_at now words s
 sends_by s _ = []
 
 abbrev pub changed_by : State → Event → List Claim
 changed_by s (Heard now source packet) = changed (view_in s) (view_in (hear_claims now packet s))
-changed_by s (Tick now words) = changed (view_in s) (view_in (tick now s))
+changed_by s (Tick now words) = changed (view_in s) (view_in (tick now words s))
 changed_by s _ = []
 
 abbrev pub answer_by : State → Event → Option Answer

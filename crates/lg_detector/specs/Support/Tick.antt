@@ -2,27 +2,56 @@
 use Rattle.std.specs.Prelude.{ℕ, List, [], Option, Some, None}
 use Rattle.lg_rules.specs.declared.claim.Claim.{Claim}
 use Rattle.lg_timers.specs.declared.timer.Timer.{Timer}
+use Rattle.lg_timers.specs.declared.timer.TimerId.{TimerId}
+use Rattle.lg_timers.specs.declared.timer.TimerId.TheVariants.{RelayNack, Direct, RoundStart}
 use Rattle.lg_timers.specs.Meaning.Timers.{due_of}
+use Rattle.lg_probe.specs.Meaning.Relays.{asker_at}
 use Rattle.lg_membership.specs.declared.origin.Origin.TheVariants.{Group}
 use Rattle.lg_membership.specs.Support.State.{shown}
-use Rattle.lg_detector.specs.Meaning.Tick.{fired_claims}
-use Rattle.lg_detector.specs.Support.State.{State, come, apply_all, fire}
+use Rattle.lg_detector.specs.declared.reply.Outgoing.{Outgoing}
+use Rattle.lg_detector.specs.declared.message.Message.{Message}
+use Rattle.lg_detector.specs.Meaning.Tick.{fired_claims, ping_to, requests, nack_to}
+use Rattle.lg_detector.specs.Support.State.{State, come, apply_all, fire, chosen, helpers}
+use Rattle.lg_detector.specs.Support.Send.{send_all, packets}
 
 -- the first of the timers that are due
 abbrev pub due : State → Option Timer
 due s = due_of s.moment s.timers
 
--- it fires, if there is one, and says these claims
-abbrev pub fire_due : Option Timer → State → State
-fire_due None s = s
-fire_due (Some timer) s = fire timer s
+-- what it says, and what it sends
+abbrev pub claims_said : TimerId → State → List Claim
+claims_said id s = fired_claims id s.membership.own.name s.round (shown s.membership)
 
-abbrev pub claims_by : Option Timer → List Claim → List Claim
-claims_by None rows = []
-claims_by (Some timer) rows = fired_claims timer.id rows
+abbrev pub messages : TimerId → List ℕ → State → List Message
+messages RoundStart words s = ping_to s.number (shown s.membership) (chosen words s)
+messages Direct words s = requests s.round (shown s.membership) (helpers words s)
+messages (RelayNack k) words s = nack_to (asker_at k s.relays)
+messages _ words s = []
 
-abbrev pub expire : Option Timer → State → State
-expire timer s = apply_all Group (claims_by timer (shown s.membership)) (fire_due timer s)
+-- it fires, if there is one
+abbrev pub fire_due : Option Timer → List ℕ → State → State
+fire_due None words s = s
+fire_due (Some timer) words s = fire timer words s
 
-abbrev pub tick : ℕ → State → State
-tick now s = expire (due (come now s)) (come now s)
+abbrev pub claims_by : Option Timer → State → List Claim
+claims_by None s = []
+claims_by (Some timer) s = claims_said timer.id s
+
+abbrev pub messages_by : Option Timer → List ℕ → State → List Message
+messages_by None words s = []
+messages_by (Some timer) words s = messages timer.id words s
+
+abbrev pub said_by : Option Timer → List ℕ → State → State
+said_by timer words s = apply_all Group (claims_by timer s) (fire_due timer words s)
+
+abbrev pub expire : Option Timer → List ℕ → State → State
+expire timer words s = send_all (messages_by timer words s) (said_by timer words s)
+
+abbrev pub tick : ℕ → List ℕ → State → State
+tick now words s = expire (due (come now s)) words (come now s)
+
+abbrev pub expire_sends : Option Timer → List ℕ → State → List Outgoing
+expire_sends timer words s = packets (messages_by timer words s) (said_by timer words s)
+
+abbrev pub sends_at : ℕ → List ℕ → State → List Outgoing
+sends_at now words s = expire_sends (due (come now s)) words (come now s)

@@ -1,18 +1,22 @@
 //! The facts that events are made of: an event comes, the member is opened, a claim is said. Each says what becomes of
 //! the score and of the timers; what becomes of the group lg_membership says. A timer that fires is in `tick.rt`.
 ghost use Rattle.std.specs.Prelude.{◌≡◌, ◌<◌, ◌≤◌, length};
+ghost use Rattle.lg_rules.specs.Meaning.Rows.{name_cmp, put_key};
 ghost use Rattle.lg_rules.specs.Meaning.View.{changed_names};
 ghost use Rattle.lg_timing.specs.Meaning.Config.{IsChecked};
 ghost use Rattle.lg_timers.specs.Meaning.Timers.{is_set, with_timer, without_timer};
+ghost use Rattle.lg_probe.specs.Meaning.Order.{known_names};
+ghost use Rattle.lg_membership.specs.declared.applied.Presence.TheVariants.{Joins};
 ghost use Rattle.lg_membership.specs.declared.origin.Origin.TheVariants.{Group};
 ghost use Rattle.lg_membership.specs.Support.State.{applied, standing};
 ghost use Rattle.lg_detector.specs.Meaning.Timing.{start_timer};
-ghost use Rattle.lg_detector.specs.Support.State.{come, begin, marked_if, follow, apply, apply_all};
+ghost use Rattle.lg_detector.specs.Support.State.{come, begin, marked_if, follow, reorder, apply, apply_all};
 
 use super::{Detector, MAX_EVENTS};
 use arrayvec::ArrayVec;
-use lg_membership::{Deadline, Origin};
-use lg_rules::{Claim, MAX_CLAIMS, Name};
+use lg_membership::{Deadline, Origin, Presence};
+use lg_probe::{Order, Relays};
+use lg_rules::{Claim, MAX_CLAIMS, MAX_OTHERS, Name};
 use lg_timers::{MAX_TIMERS, Timer, TimerId, Timers};
 use lg_timing::{Config, Moment, Score};
 
@@ -41,18 +45,32 @@ fn mark_if(score: &mut Score, refuted: bool)
     }
 }
 
+/// Follows what became of the presence of a member among those that haven't failed: it joins the order of probing, or
+/// leaves it.
+fn reorder(order: &mut Order, member: &Name, presence: Presence)
+    requires { (presence ≡ Joins) → length (put_key name_cmp member.now (known_names order.old)) ≤ MAX_OTHERS }
+    ensures { order.new ≡ reorder member.now presence order.old }
+{
+    match presence {
+        Presence::Stays => {}
+        Presence::Joins => order.join(member),
+        Presence::Leaves => order.leave(member),
+    }
+}
+
 impl Detector {
     /// An event comes.
     pub(super) fn come(&mut self, now: Moment)
         requires { self.old.events < MAX_EVENTS }
-        ensures { self.new ≡ come now self.old }
+        ensures state { self.new ≡ come now self.old }
+        ensures numbered { self.new.number ≤ self.new.events }
     {
         let parts = &mut *self.parts;
         parts.events += 1;
         parts.moment = parts.moment.later(now);
     }
 
-    /// The member is opened: its score is 0, and the first round starts at once.
+    /// The member is opened: its score is 0, nobody is probed, and the first round starts at once.
     pub(super) fn begin(&mut self, config: &Config)
         requires { IsChecked config.now }
         ensures { self.new ≡ begin config.now self.old }
@@ -65,6 +83,10 @@ impl Detector {
             deadline,
             id: TimerId::RoundStart,
         });
+        parts.order = Order::new();
+        parts.number = 1;
+        parts.round = None;
+        parts.relays = Relays::new();
         parts.membership.open_with(config);
     }
 
@@ -79,6 +101,7 @@ impl Detector {
         let applied = parts.membership.apply(now, origin, claim);
         mark_if(&mut parts.score, applied.refuted);
         follow(&mut parts.timers, &claim.name, applied.deadline);
+        reorder(&mut parts.order, &claim.name, applied.presence);
         applied.changed
     }
 

@@ -1,41 +1,49 @@
-//! The event Heard: the claims of a packet are said in their order, and then a Ping for oneself is acked. The Ack goes
-//! to where the Ping came from, with those of the queued claims that lg_gossip chooses.
-ghost use Rattle.std.specs.Prelude.{◌≡◌, ◌<◌, ◌≤◌, [], ◌∷◌, None, Some, length, option_copied};
+//! The event Heard: the claims of a packet are said in their order, and then its body is responded to. So an Ack or a
+//! relayed Ping carries what the claims have just put into the queue.
+//!
+//! - A Ping or a PingReq for oneself is acked, to where it came from, by its number. A Ping for another does nothing.
+//! - A PingReq for another opens a relay, unless 64 are open: the next sequence number, and a Ping for the target to
+//!   the address in the PingReq. Else a Nack is sent at once, to where it came from, by its number.
+//! - An Ack counts for the probe that runs by its number and its sender, and for a relay likewise: the relay is closed,
+//!   and its asker gets an Ack by its own number.
+//! - A Nack counts for the probe that runs, once for each helper that was asked.
+ghost use Rattle.std.specs.Prelude.{◌≡◌, ◌<◌, ◌≤◌, [], ◌∷◌, ◌==◌, None, Some, length, option_map};
+ghost use Rattle.lg_rules.specs.Meaning.Rows.{name_cmp, is_same};
 ghost use Rattle.lg_rules.specs.Meaning.View.{changed};
 ghost use Rattle.lg_membership.specs.declared.origin.Origin.TheVariants.{Group};
-ghost use Rattle.lg_detector.specs.Meaning.Hear.{asked_in};
-ghost use Rattle.lg_detector.specs.Support.Hear.{ack_sent, hear, hear_claims, respond, sends_to};
-ghost use Rattle.lg_detector.specs.Support.State.{apply_all, send};
+ghost use Rattle.lg_packet.specs.declared.packet.Body.TheVariants.{Ping, PingReq};
+ghost use Rattle.lg_probe.specs.Meaning.Relays.{ended_asker};
+ghost use Rattle.lg_detector.specs.Meaning.Hear.{pass_on};
+ghost use Rattle.lg_detector.specs.Support.Hear.{hear, hear_claims, note, response, sends_to};
+ghost use Rattle.lg_detector.specs.Support.State.{apply_all, hear_ack, hear_nack};
 ghost use Rattle.lg_detector.specs.Support.Step.{view_in};
 
-use super::{Detector, MAX_EVENTS};
-use crate::reply::{MAX_CHANGED, MAX_SENDS, Outgoing, Reply};
+use super::{Detector, MAX_EVENTS, relay, round};
+use crate::message::Message;
+use crate::reply::{MAX_CHANGED, MAX_SENDS, Reply};
 use arrayvec::ArrayVec;
 use lg_packet::{Body, Packet};
-use lg_rules::{Addr, Claim, MAX_CLAIMS, Record};
-use lg_timing::{Config, Moment};
+use lg_probe::MAX_RELAYS;
+use lg_rules::{Addr, Claim, MAX_CLAIMS, Name, Record};
+use lg_timing::Moment;
 
-/// The number of the Ack that a body asks of a member: a Ping for it does (SWIM, section 3.1).
-#[tactic(auto, using(lg_rules::proofs::KeyOrder::names_eq))]
-fn asked_of(config: Option<&Config>, body: &Body) -> Option<u32>
-    ensures { result ≡ asked_in (option_copied config.entry) body.now }
+/// One packet with this body.
+fn one(to: Addr, body: Body) -> ArrayVec<Message, MAX_SENDS>
+    ensures { result.items ≡ record { to = to; body = body } ∷ [] }
 {
-    let Some(opening) = config else {
-        return None;
-    };
-    match body {
-        Body::Ping { number, target } if *target == opening.name => Some(*number),
-        Body::Ping { .. } | Body::Ack { .. } => None,
-    }
+    let mut messages = ArrayVec::new();
+    messages.push(Message { to, body });
+    messages
 }
 
 impl Detector {
-    /// A packet is heard from a source: its claims are said, and a Ping for oneself is acked.
+    /// A packet is heard from a source: its claims are said, and its body is responded to.
     pub(super) fn hear(&mut self, now: Moment, source: Addr, packet: &Packet, reply: &mut Reply)
         requires { self.old.events < MAX_EVENTS }
-        ensures state { self.new ≡ hear now packet.now self.old }
+        ensures state { self.new ≡ hear now source packet.now self.old }
         ensures fired { reply.new.fired ≡ None }
-        ensures sends { reply.new.sends.items ≡ sends_to source packet.now.body (hear_claims now packet.now self.old) }
+        ensures sends { reply.new.sends.items
+            ≡ sends_to source packet.now.sender packet.now.body (hear_claims now packet.now self.old) }
         ensures differing { reply.new.changed.items
             ≡ changed (view_in self.old) (view_in (hear_claims now packet.now self.old)) }
         ensures answer { reply.new.answer ≡ None }
@@ -45,7 +53,8 @@ impl Detector {
         reply.answer = None;
         self.come(now);
         self.say(packet.claims.as_slice(), &mut reply.changed);
-        self.respond(source, &packet.body, &mut reply.sends);
+        let messages = self.respond(source, &packet.sender, &packet.body);
+        self.send_all(messages.as_slice(), &mut reply.sends);
     }
 
     /// Claims are said one after another. Writes the records that differ then, in the place of what the row held.
@@ -61,39 +70,99 @@ impl Detector {
         self.put_records(names.as_slice(), differing);
     }
 
-    /// Responds to the body of a packet, in the place of what `sends` held.
-    fn respond(&mut self, source: Addr, body: &Body, sends: &mut ArrayVec<Outgoing, MAX_SENDS>)
-        ensures state { self.new ≡ respond body.now self.old }
-        ensures sends { sends.new.items ≡ sends_to source body.now self.old }
+    /// Notes what a body means for the probe that runs and for the relays. Returns the packet that responds to it,
+    /// where one does.
+    fn respond(&mut self, source: Addr, sender: &Name, body: &Body) -> ArrayVec<Message, MAX_SENDS>
+        requires { self.old.number ≤ self.old.events }
+        ensures state { self.new ≡ note source sender.now body.now self.old }
+        ensures messages { result.items ≡ response source sender.now body.now self.old }
     {
-        match self.asked(body) {
-            Some(number) => {
-                // A packet is large: the one of the reply before is written over.
-                sends.truncate(1);
-                if sends.is_empty() {
-                    sends.push(Outgoing::default());
-                }
-                self.put_ack(source, number, &mut sends[0]);
+        match body {
+            Body::Ping { number, target } => self.hear_ping(source, *number, target),
+            Body::PingReq {
+                number,
+                target,
+                addr,
+            } => self.hear_request(source, *number, target, *addr),
+            Body::Ack { number } => self.hear_ack(*number, sender),
+            Body::Nack { number } => {
+                self.hear_nack(*number, sender);
+                ArrayVec::new()
             }
-            None => sends.clear(),
         }
     }
 
-    /// The number of the Ack that a body asks of oneself.
-    fn asked(&self, body: &Body) -> Option<u32>
-        ensures { result ≡ asked_in self.now.membership.config body.now }
+    /// Whether a name is one's own.
+    fn is_own(&self, name: &Name) -> bool
+        ensures { result ≡ is_same name_cmp name.now self.now.membership.own.name }
     {
-        asked_of(self.parts.membership.config(), body)
+        name.cmp(&self.name()).is_eq()
     }
 
-    /// Writes an Ack with claims of the queue, which are counted as sent, over another packet.
-    fn put_ack(&mut self, source: Addr, number: u32, ack: &mut Outgoing)
-        ensures state { self.new ≡ send self.old }
-        ensures sent { ack.new ∷ [] ≡ ack_sent source (Some number) self.old }
+    /// A Ping for oneself is acked.
+    fn hear_ping(&self, source: Addr, number: u32, target: &Name) -> ArrayVec<Message, MAX_SENDS>
+        ensures { result.items ≡ response source [] (Ping number target.now) self.now }
     {
-        ack.to = source;
-        ack.packet.sender = self.name();
-        ack.packet.body = Body::Ack { number };
-        self.parts.membership.fill_into(&mut ack.packet.claims);
+        if self.is_own(target) {
+            one(source, Body::Ack { number })
+        } else {
+            ArrayVec::new()
+        }
+    }
+
+    /// A PingReq for oneself is acked, and one for another is relayed, or refused where as many relays are open as may
+    /// be.
+    fn hear_request(
+        &mut self,
+        source: Addr,
+        number: u32,
+        target: &Name,
+        addr: Addr,
+    ) -> ArrayVec<Message, MAX_SENDS>
+        requires { self.old.number ≤ self.old.events }
+        ensures state { self.new ≡ note source [] (PingReq number target.now addr) self.old }
+        ensures messages { result.items ≡ response source [] (PingReq number target.now addr) self.old }
+    {
+        if self.is_own(target) {
+            one(source, Body::Ack { number })
+        } else if self.parts.relays.len() == MAX_RELAYS {
+            one(source, Body::Nack { number })
+        } else {
+            let relayed = self.parts.number;
+            self.open_relay(target, source, number);
+            one(
+                addr,
+                Body::Ping {
+                    number: relayed,
+                    target: *target,
+                },
+            )
+        }
+    }
+
+    /// An Ack comes: for the probe that runs, or for a relay, whose asker is told.
+    #[tactic(auto, unfolding(crate::specs::Support::State::hear_ack))]
+    fn hear_ack(&mut self, number: u32, sender: &Name) -> ArrayVec<Message, MAX_SENDS>
+        ensures state { self.new ≡ hear_ack number sender.now self.old }
+        ensures messages { result.items ≡ pass_on (ended_asker number sender.now self.old.relays) }
+    {
+        let parts = &mut *self.parts;
+        round::take_ack(
+            &mut parts.round,
+            &mut parts.score,
+            &mut parts.timers,
+            number,
+            sender,
+        );
+        relay::pass_on(relay::take_ack(&mut parts.relays, &mut parts.timers, number, sender))
+    }
+
+    /// A Nack comes, for the probe that runs.
+    #[tactic(auto, unfolding(crate::specs::Support::State::hear_nack))]
+    fn hear_nack(&mut self, number: u32, sender: &Name)
+        ensures { self.new ≡ hear_nack number sender.now self.old }
+    {
+        let parts = &mut *self.parts;
+        round::take_nack(&mut parts.round, number, sender);
     }
 }

@@ -1,33 +1,32 @@
 //! The event Tick. It is counted, and the detector's moment becomes that of the tick, where this is later. Of the
 //! timers that are due, set for that moment or before it, the first one fires and no other: the one with the least
-//! deadline, and of those with one deadline a suspicion before the start of a round, and a lesser name before a
-//! greater. It is one alone so that the reply always has room; the next tick fires the next one. Where none is due,
-//! nothing fires.
+//! deadline, and of those with one deadline the end of a round before a suspicion, then Direct, the Nack of a relay,
+//! its end, and the start of a round; of one kind the lesser name or number. It is one alone so that the reply always
+//! has room; the next tick fires the next one. Where none is due, nothing fires. What it sets counts from the
+//! detector's moment, however long it was due.
 //!
-//! - A suspicion: its member has failed, at the incarnation and the address of its record. That claim is applied as
-//!   one that a packet says, so the suspicion ends, its timer is cancelled, and the claim is queued.
-//! - The start of a round: nobody is chosen so far. The next round starts one interval, scaled by the score, after the
-//!   detector's moment, however long the timer was due.
+//! - A round starts, its helpers are asked, or it ends: `round.rt`.
+//! - A suspicion runs out: its member has failed, at the incarnation and the address of its record.
+//! - A relay sends its Nack, or is closed: `relay.rt`.
 //!
-//! The reply has the timer that fired and the records that changed, and as each reply whether this member is ousted
-//! and the least deadline after the event. Nothing is sent. The random words of the tick aren't used so far.
-ghost use Rattle.std.specs.Prelude.{◌≡◌, ◌<◌, ◌≤◌, [], None, option_copied};
+//! A claim that it says is applied as one that a packet says, so it ends or raises a suspicion, sets its timer, and is
+//! queued. The reply has the timer that fired, the packets that are sent, the records that changed, and as each reply
+//! whether this member is ousted and the least deadline after the event.
+ghost use Rattle.std.specs.Prelude.{◌≡◌, ◌<◌, ◌≤◌, [], None};
 ghost use Rattle.lg_rules.specs.Meaning.View.{changed};
-ghost use Rattle.lg_timers.specs.declared.timer.TimerId.TheVariants.{RoundStart};
-ghost use Rattle.lg_timers.specs.Meaning.Timers.{with_timer, without_timer};
-ghost use Rattle.lg_membership.specs.Support.Reached.{IsGood};
 ghost use Rattle.lg_detector.specs.Meaning.Tick.{failed_of};
-ghost use Rattle.lg_detector.specs.Meaning.Timing.{scaled_interval, start_timer, is_round_start};
-ghost use Rattle.lg_detector.specs.Support.State.{come, start_round, fire};
+ghost use Rattle.lg_detector.specs.Support.State.{come, fire};
 ghost use Rattle.lg_detector.specs.Support.Step.{view_in};
-ghost use Rattle.lg_detector.specs.Support.Tick.{due, fire_due, claims_by, tick};
+ghost use Rattle.lg_detector.specs.Support.Tick.{due, fire_due, claims_by, claims_said, messages, messages_by};
+ghost use Rattle.lg_detector.specs.Support.Tick.{tick, sends_at};
 
 use super::{Detector, MAX_EVENTS};
-use crate::reply::Reply;
+use crate::message::Message;
+use crate::reply::{MAX_SENDS, Reply};
 use arrayvec::ArrayVec;
 use lg_rules::{Claim, MAX_CLAIMS, Record, Status};
 use lg_timers::{Timer, TimerId};
-use lg_timing::{Config, MAX_SCALED_MS, Moment, Score};
+use lg_timing::Moment;
 
 /// The claim that a member has failed, where it has a record.
 fn failed_claims(current: &Option<Record>) -> ArrayVec<Claim, MAX_CLAIMS>
@@ -43,33 +42,24 @@ fn failed_claims(current: &Option<Record>) -> ArrayVec<Claim, MAX_CLAIMS>
     claims
 }
 
-/// The interval, scaled by the score, in milliseconds.
-fn scaled_interval(score: &Score, config: Option<&Config>) -> u64
-    requires { IsGood (option_copied config) }
-    ensures interval { result ≡ scaled_interval (option_copied config.entry) score.now }
-    ensures within { result ≤ MAX_SCALED_MS }
-{
-    match config {
-        Some(config) => score.interval(config),
-        None => 0,
-    }
-}
-
 impl Detector {
     /// Time has passed: the first of the timers that are due fires.
-    pub(super) fn tick(&mut self, now: Moment, reply: &mut Reply)
+    pub(super) fn tick(&mut self, now: Moment, words: &[u32; 8], reply: &mut Reply)
         requires { self.old.events < MAX_EVENTS }
-        ensures state { self.new ≡ tick now self.old }
+        ensures state { self.new ≡ tick now words.now self.old }
         ensures fired { reply.new.fired ≡ due (come now self.old) }
-        ensures sends { reply.new.sends.items ≡ [] }
-        ensures differing { reply.new.changed.items ≡ changed (view_in self.old) (view_in (tick now self.old)) }
+        ensures sends { reply.new.sends.items ≡ sends_at now words.now self.old }
+        ensures differing { reply.new.changed.items
+            ≡ changed (view_in self.old) (view_in (tick now words.now self.old)) }
         ensures answer { reply.new.answer ≡ None }
     {
-        reply.say_nothing();
+        reply.answer = None;
         self.come(now);
         reply.fired = self.due();
-        let claims = self.fire_due(&reply.fired);
+        let claims = self.claims_by(&reply.fired);
+        let messages = self.fire_due(&reply.fired, words);
         self.say(claims.as_slice(), &mut reply.changed);
+        self.send_all(messages.as_slice(), &mut reply.sends);
     }
 
     /// The first of the timers that are due, if one is.
@@ -79,53 +69,60 @@ impl Detector {
         self.parts.timers.due(self.parts.moment)
     }
 
-    /// A timer fires, if one is due. Returns the claims that it says.
-    fn fire_due(&mut self, fired: &Option<Timer>) -> ArrayVec<Claim, MAX_CLAIMS>
-        ensures state { self.new ≡ fire_due fired.now self.old }
-        ensures claims { result.items ≡ claims_by fired.now (view_in self.old) }
-    {
-        let claims = self.claims_by(fired);
-        if let Some(timer) = fired {
-            self.fire(timer);
-        }
-        claims
-    }
-
-    /// The claims that a timer says when it fires: a member whose suspicion runs out has failed (SWIM, section 4.2).
+    /// The claims that a timer says, if one is due: a member whose suspicion runs out has failed (SWIM, section 4.2),
+    /// and the target of a round that fails is suspected.
     fn claims_by(&self, fired: &Option<Timer>) -> ArrayVec<Claim, MAX_CLAIMS>
-        ensures { result.items ≡ claims_by fired.now (view_in self.now) }
+        ensures { result.items ≡ claims_by fired.now self.now }
     {
         match fired {
-            Some(
-                Timer {
-                    id: TimerId::Suspicion(member),
-                    ..
-                },
-            ) => failed_claims(&self.record_of(member)),
+            Some(timer) => self.claims_said(&timer.id),
+            None => ArrayVec::new(),
+        }
+    }
+
+    /// The claims that a timer says when it fires.
+    fn claims_said(&self, id: &TimerId) -> ArrayVec<Claim, MAX_CLAIMS>
+        ensures { result.items ≡ claims_said id.now self.now }
+    {
+        match id {
+            TimerId::RoundEnd => self.failure(),
+            TimerId::Suspicion(member) => failed_claims(&self.record_of(member)),
             _ => ArrayVec::new(),
         }
     }
 
-    /// A timer fires. The claims that it says are said by the caller.
-    #[tactic(auto, unfolding(crate::specs::Support::State::fire))]
-    pub(super) fn fire(&mut self, timer: &Timer)
-        ensures { self.new ≡ fire timer.now self.old }
+    /// A timer fires, if one is due. Returns the packets that it sends. The claims that it says are said by the caller.
+    fn fire_due(&mut self, fired: &Option<Timer>, words: &[u32; 8]) -> ArrayVec<Message, MAX_SENDS>
+        requires { self.old.number ≤ self.old.events }
+        ensures state { self.new ≡ fire_due fired.now words.now self.old }
+        ensures messages { result.items ≡ messages_by fired.now words.now self.old }
     {
-        if matches!(timer.id, TimerId::RoundStart) {
-            self.start_round();
+        match fired {
+            Some(timer) => self.fire(timer, words),
+            None => ArrayVec::new(),
         }
     }
 
-    /// A round starts and chooses nobody, and the next one starts a scaled interval later.
-    fn start_round(&mut self)
-        ensures { self.new ≡ start_round self.old }
+    /// A timer fires. Returns the packets that it sends.
+    #[tactic(auto, unfolding(crate::specs::Support::State::fire))]
+    fn fire(&mut self, timer: &Timer, words: &[u32; 8]) -> ArrayVec<Message, MAX_SENDS>
+        requires { self.old.number ≤ self.old.events }
+        ensures state { self.new ≡ fire timer.now words.now self.old }
+        ensures messages { result.items ≡ messages timer.now.id words.now self.old }
     {
-        let parts = &mut *self.parts;
-        let interval = scaled_interval(&parts.score, parts.membership.config());
-        let deadline = parts.moment.milliseconds() + interval;
-        parts.timers.reset(Timer {
-            deadline,
-            id: TimerId::RoundStart,
-        });
+        match &timer.id {
+            TimerId::RoundEnd => {
+                self.end_round();
+                ArrayVec::new()
+            }
+            TimerId::Suspicion(_) => ArrayVec::new(),
+            TimerId::Direct => self.ask_helpers(words),
+            TimerId::RelayNack(number) => self.nack_relay(*number),
+            TimerId::RelayEnd(number) => {
+                self.close_relay(*number);
+                ArrayVec::new()
+            }
+            TimerId::RoundStart => self.start_round(words),
+        }
     }
 }

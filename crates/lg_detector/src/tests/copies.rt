@@ -6,7 +6,7 @@ use super::{
 use crate::{Event, Reply};
 use lg_packet::Body;
 
-/// An opening, claims, Acks, questions, and ticks that fire a round-start and a suspicion.
+/// An opening, claims, Acks, questions, and ticks that fire the start of a round, the asking of helpers, and its end.
 fn events() -> [Event; 10] {
     [
         opening(50),
@@ -53,8 +53,8 @@ fn absorbs_as_it_steps(rt: HostRuntime) {
     let last = ping(0, 5, b'b', &[]);
     let accepted = takes(&mut detector, &last, &mut reply)
         && takes(&mut absorbing, &last, &mut again);
-    // The score was 1 when the last round-start fired, at 6000.
-    let wanted = reply.sends.len() == 1 && reply.next == 8000 && reply.ousted;
+    // The suspicion of d, raised at 60 among three, is still to fire.
+    let wanted = reply.sends.len() == 1 && reply.next == 5060 && reply.ousted;
     assert!(rt;
         accepted && is_same_reply(&reply, &again) && wanted,
         "{reply:?}"

@@ -29,6 +29,10 @@ pub(super) enum Step {
     Sends(usize),
     /// One packet is sent: an Ack of b to port 1, with this number and these claims.
     Acks(u32, Claims),
+    /// The packet at an index goes to a port, and has this body and these claims.
+    Sent(usize, u16, Body, Claims),
+    /// The first packet is a Ping of the member of a letter, with this number.
+    Pings(u32, u8),
     /// The claim about the member of a letter that the first packet sends.
     Tells(u8, Option<Claim>),
     /// The records that changed.
@@ -73,6 +77,33 @@ fn acks(reply: &Reply, number: u32, claims: &[Claim]) -> bool {
             && sent.packet.claims.as_slice() == claims
     };
     reply.sends.len() == 1 && reply.sends.iter().all(is_it)
+}
+
+/// Whether the packet at an index is one of b to a port, with this body and these claims.
+fn sends(reply: &Reply, index: usize, port: u16, body: &Body, claims: &[Claim]) -> bool {
+    match reply.sends.get(index) {
+        Some(sent) => {
+            sent.to == local(port)
+                && sent.packet.sender == letter(b'b')
+                && sent.packet.body == *body
+                && sent.packet.claims.as_slice() == claims
+        }
+        None => false,
+    }
+}
+
+/// Whether the first packet is a Ping of the member of a letter, with this number.
+fn pings(reply: &Reply, number: u32, member: u8) -> bool {
+    let target = letter(member);
+    match reply.sends.first() {
+        Some(sent) => sent.packet.body == Body::Ping { number, target },
+        None => false,
+    }
+}
+
+/// A packet at an index that goes to a port, and has no claims.
+pub(super) fn sent(index: usize, port: u16, body: Body) -> Step {
+    Step::Sent(index, port, body, said(&[]))
 }
 
 /// The claim about a member that the first packet of a reply sends.
@@ -136,6 +167,10 @@ impl Step {
             Step::Fired(timer) => reply.fired == *timer,
             Step::Sends(count) => reply.sends.len() == *count,
             Step::Acks(number, claims) => acks(reply, *number, claims.as_slice()),
+            Step::Sent(index, port, body, claims) => {
+                sends(reply, *index, *port, body, claims.as_slice())
+            }
+            Step::Pings(number, member) => pings(reply, *number, *member),
             Step::Tells(member, claim) => told_of(reply, *member) == *claim,
             Step::Changed(records) => reply.changed.as_slice() == records.as_slice(),
             Step::Changes(count) => reply.changed.len() == *count,

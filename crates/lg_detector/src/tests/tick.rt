@@ -1,8 +1,8 @@
 //! Ticks, and the timers that they fire.
-use super::Step::{Acks, Events, Fired, Hears, Known, Next, Table, Takes, Ticks};
+use super::Step::{Events, Fired, Hears, Known, Next, Sends, Table, Takes, Ticks};
 use super::{
-    Step, alive, ask_for, ask_health, claim, failed, letter, opening, others, ping, play,
-    play_blank, round_start, said, suspect, suspicion, tick_at,
+    Step, alive, ask_for, ask_health, claim, direct, failed, letter, opening, others, ping, play,
+    play_blank, round_end, round_start, said, suspect, suspicion, tick_at,
 };
 use lg_rules::{Claim, Name, Status};
 
@@ -38,36 +38,16 @@ fn failed_member(member: Name) -> Claim {
 }
 
 #[test]
-fn takes_a_suspect_as_failed(rt: HostRuntime) {
-    let steps = [
-        Takes(ping(2000, 1, b'b', &[suspect(b'c', 0, b'd')])),
-        Acks(1, said(&[suspect(b'c', 0, b'd')])),
-        Fired(None),
-        Next(0),
-        starts(2000, 0, 3000),
-        starts(7000, 3000, 7000),
-        fails(7000, 7000, failed(b'c', 0), 8000),
-        idles(7000, 8000),
-        starts(8000, 8000, 9000),
-        // What failed is gossiped, too.
-        Takes(ping(8000, 2, b'b', &[])),
-        Acks(2, said(&[failed(b'c', 0)])),
-    ];
-    play(&rt, rt.alloc(), "c is suspected", &steps);
-}
-
-#[test]
 fn is_idle_before_the_deadline(rt: HostRuntime) {
     let steps = [
         Takes(ping(0, 1, b'b', &[suspect(b'c', 0, b'd')])),
         Table(said(&[alive(b'b', 0), suspect(b'c', 0, b'd')])),
-        starts(0, 0, 1000),
-        idles(0, 1000),
-        idles(999, 1000),
-        starts(1000, 1000, 2000),
-        idles(1999, 2000),
+        Takes(tick_at(0)),
+        Fired(Some(round_start(0))),
+        Next(500),
+        idles(499, 500),
         Table(said(&[alive(b'b', 0), suspect(b'c', 0, b'd')])),
-        Events(7),
+        Events(4),
     ];
     play(&rt, rt.alloc(), "c is suspected", &steps);
 }
@@ -77,28 +57,38 @@ fn fires_one_timer_a_tick(rt: HostRuntime) {
     let claims = [suspect(b'd', 2, b'a'), suspect(b'c', 1, b'a')];
     let steps = [
         Takes(ping(0, 1, b'b', &claims)),
-        starts(20_000, 0, 5000),
+        Takes(tick_at(20_000)),
+        Fired(Some(round_start(0))),
+        Next(5000),
         fails(20_000, 5000, failed(b'c', 1), 5000),
-        fails(20_000, 5000, failed(b'd', 2), 21_000),
-        idles(20_000, 21_000),
+        fails(20_000, 5000, failed(b'd', 2), 20_500),
+        idles(20_000, 20_500),
     ];
     play(&rt, rt.alloc(), "three timers are due", &steps);
 }
 
-/// Suspicions fire before the start of a round, and among them a name before those that it begins.
+/// The end of a round fires before suspicions, these before the start of a round, and among them a name before those
+/// that it begins.
 #[test]
 fn fires_ties_in_order(rt: HostRuntime) {
     let (long, short, capital) = (named(b"ca"), named(b"c"), named(b"Z"));
     let claims = [suspected(long), suspected(short), suspected(capital)];
     let steps = [
         Takes(ping(0, 1, b'b', &claims)),
-        starts(4000, 0, 5000),
+        Takes(tick_at(4000)),
+        Fired(Some(round_start(0))),
+        Next(4500),
+        Takes(tick_at(5000)),
+        Fired(Some(direct(4500))),
+        Sends(2),
+        Ticks(5000, Some(round_end(5000)), said(&[]), 5000),
         fails(5000, 5000, failed_member(capital), 5000),
         fails(5000, 5000, failed_member(short), 5000),
         fails(5000, 5000, failed_member(long), 5000),
-        starts(5000, 5000, 6000),
+        // Two helpers sent no Nack, so the score is 2.
+        starts(5000, 5000, 8000),
     ];
-    play(&rt, rt.alloc(), "four timers at 5000", &steps);
+    play(&rt, rt.alloc(), "five timers at 5000", &steps);
 }
 
 #[test]
@@ -110,10 +100,14 @@ fn counts_from_the_greatest_moment(rt: HostRuntime) {
         idles(1000, 10_000),
         Takes(ping(2000, 1, b'b', &[suspect(b'c', 0, b'd')])),
         Takes(ask_for(13_000, b'c')),
-        starts(9500, 10_000, 14_000),
+        Takes(tick_at(9500)),
+        Fired(Some(round_start(10_000))),
+        Next(13_500),
         Takes(ask_health(14_000)),
+        Ticks(0, Some(direct(13_500)), said(&[]), 14_000),
+        Ticks(0, Some(round_end(14_000)), said(&[]), 14_000),
         fails(0, 14_000, failed(b'c', 0), 14_000),
-        starts(0, 14_000, 15_000),
+        starts(0, 14_000, 16_000),
     ];
     play_blank(&rt, rt.alloc(), "moments out of order", &steps);
 }
@@ -191,9 +185,9 @@ fn accusers_bring_the_deadline_nearer(rt: HostRuntime) {
 }
 
 /// c is suspected among five by d and e at 2000, and then more is said. Once the first round-start has fired, the next
-/// deadline is that of the suspicion, or 41,000, the next round-start, where there is none.
+/// deadline is that of the suspicion, or 40,500, when helpers are asked, where there is none.
 fn said_then(claims: &[Claim], deadline: u64) -> [Step; 7] {
-    let fired = if deadline == 41_000 {
+    let fired = if deadline == 40_500 {
         None
     } else {
         Some(suspicion(deadline, letter(b'c')))
@@ -233,17 +227,17 @@ fn claims_renew_or_end_a_suspicion(rt: HostRuntime) {
         ),
         ("and its confirmation", confirmed, 20_500),
         ("and an old accusation", old, 33_000),
-        ("alive", said(&[alive(b'c', 2)]), 41_000),
+        ("alive", said(&[alive(b'c', 2)]), 40_500),
         (
             "alive, and suspected again",
             said(&[alive(b'c', 2), suspect(b'c', 2, b'd')]),
             33_000,
         ),
-        ("failed", said(&[failed(b'c', 0)]), 41_000),
+        ("failed", said(&[failed(b'c', 0)]), 40_500),
         (
             "failed, and suspected",
             said(&[failed(b'c', 0), suspect(b'c', 2, b'd')]),
-            41_000,
+            40_500,
         ),
     ];
     for (case, claims, deadline) in &rows {
@@ -256,20 +250,20 @@ fn claims_renew_or_end_a_suspicion(rt: HostRuntime) {
     }
 }
 
-/// No tick fires a suspicion that was ended by this claim.
-fn ended_by(claim: &Claim) -> [Step; 6] {
+/// No tick fires a suspicion that was ended by this claim: the next deadline is that of the round.
+fn ended_by(claim: &Claim, next: u64) -> [Step; 6] {
     [
         Takes(ping(2000, 1, b'z', &[suspect(b'c', 0, b'd')])),
         Takes(ping(3000, 1, b'z', &[*claim])),
-        starts(6500, 0, 7500),
-        starts(7500, 7500, 8500),
-        starts(8500, 8500, 9500),
+        Takes(tick_at(6500)),
+        Fired(Some(round_start(0))),
+        Next(next),
         Known(b'c', Some(*claim)),
     ]
 }
 
 #[test]
 fn an_ended_suspicion_never_fires(rt: HostRuntime) {
-    play(&rt, rt.alloc(), "alive", &ended_by(&alive(b'c', 1)));
-    play(&rt, rt.alloc(), "failed", &ended_by(&failed(b'c', 0)));
+    play(&rt, rt.alloc(), "alive", &ended_by(&alive(b'c', 1), 7000));
+    play(&rt, rt.alloc(), "failed", &ended_by(&failed(b'c', 0), 7500));
 }

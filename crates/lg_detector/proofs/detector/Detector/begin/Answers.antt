@@ -1,4 +1,4 @@
-use Rattle.std.proofs.Common.{ap, sym, subst, ◌∙◌}
+use Rattle.std.proofs.Common.{None, ap, sym, subst, ◌∙◌}
 use Rattle.lg_timers.specs.Meaning.Timers.{with_timer}
 use Rattle.lg_detector.specs.Meaning.Timing.{start_timer}
 use Rattle.lg_detector.specs.Support.Kept.{state_in}
@@ -21,6 +21,10 @@ invariant_of-self c =
       moment = parts.moment;
       score = c.new-parts.ensures i;
       timers = timers i;
+      order = c.new-parts-2.ensures i;
+      number = 1;
+      round = None;
+      relays = c.new-parts-3.ensures i;
       membership = c.open_with.ensures.state i;
     })
     c.requires before

@@ -1,0 +1,147 @@
+-- The order of probing: its names are the others that haven't failed, and those chosen in the current round.
+use Rattle.std.proofs.Common.{◌≡◌, ℕ, ◌≤◌, Bool, true, false, cond, ◌||◌, List, [], ◌∷◌, ◌++◌, length, Option, Some, None, inl, inr, refl, sym, ◌∙◌, ap, subst, arith}
+use Rattle.std.specs.Option.{option_to_list}
+use Rattle.std.proofs.lemmas.Bool.{cases_Bool}
+use Rattle.lg_rules.specs.declared.claim.Claim.{Claim}
+use Rattle.lg_rules.specs.declared.members.TheConstants.{MAX_OTHERS}
+use Rattle.lg_rules.specs.Meaning.Rows.{name_cmp, is_same, is_among, put_key, in_order}
+use Rattle.lg_rules.specs.Meaning.Table.{roster}
+use Rattle.lg_rules.proofs.KeyOrder.{names_order, cases_key, key_is}
+use Rattle.lg_rules.proofs.Rises.{rises-put, rises-in_order, among-put, among-in_order}
+use Rattle.lg_rules.proofs.Roster.{roster-own, length-roster}
+use Rattle.lg_rules.proofs.Tables.{Taken, Unbeaten, Out, heard_cases}
+use Rattle.lg_probe.specs.Meaning.Order.{OrderValue, Chose, choice, current_round, known_names, next_round, order_with, put_choice}
+use Rattle.lg_probe.proofs.NameRows.{names_few, among-append}
+use Rattle.lg_probe.proofs.OrderLaws.{choice-in_order, current-in_order, put_choice-in_order, candidate_is, in_current, InEither, First, Second, in_either}
+use Rattle.lg_membership.specs.declared.applied.Presence.{Presence}
+use Rattle.lg_membership.specs.declared.applied.Presence.TheVariants.{Stays, Joins, Leaves}
+use Rattle.lg_membership.specs.declared.origin.Origin.TheVariants.{Group}
+use Rattle.lg_membership.specs.Meaning.Applied.{is_live, presence_of}
+use Rattle.lg_membership.specs.Meaning.Log as group
+use Rattle.lg_membership.specs.Support.Changes.{live_after}
+use Rattle.lg_membership.proofs.AppliedLaws.{applied-log, live-applied}
+use Rattle.lg_membership.proofs.LiveOthers.{live_known}
+use Rattle.lg_membership.specs.declared.origin.Origin.{Origin}
+use Rattle.lg_membership.specs.Support.State as known
+use Rattle.lg_detector.specs.Meaning.Log.{Log, Came, Fired, AckHeard, NackHeard, Relayed, OfGroup, moment, group_log}
+use Rattle.lg_detector.specs.Meaning.Apply as to_log
+use Rattle.lg_detector.specs.Meaning.Probing as probing
+use Rattle.lg_detector.specs.Meaning.Probing.{others, round_names, first_word}
+use Rattle.lg_detector.specs.Support.State as state
+use Rattle.lg_detector.specs.Support.State.{State, state_of, order_of, reorder}
+
+pub chosen-is : (words : List ℕ) (log : Log) → state.chosen words (state_of log) ≡ probing.chosen words log
+chosen-is words log = choice-in_order (others log) (round_names log) (first_word words)
+
+pub order-chose : (words : List ℕ) (log : Log)
+    → order_with (order_of log) (Chose (first_word words)) ≡ record { names = others log; chosen = in_order name_cmp (next_round (others log) (round_names log) (first_word words)) }
+order-chose words log =
+    let names = others log in
+    let round = round_names log in
+    let word = first_word words in
+    let chosen : put_choice (choice names (in_order name_cmp round) word) (current_round names (in_order name_cmp round)) ≡ in_order name_cmp (next_round names round word) =
+    (λ i. put_choice (choice-in_order names round word i) (current-in_order names round i)) ∙ put_choice-in_order (choice names round word) (current_round names round) in
+    λ i. record { names = names; chosen = chosen i }
+
+-- a claim is said: its member joins, or leaves, or neither
+reorder-is : (m : List ℕ) (p : Presence) (o : OrderValue) → reorder m p o ≡ record { names = live_after p m o.names; chosen = o.chosen }
+reorder-is m Stays o = refl
+reorder-is m Joins o = refl
+reorder-is m Leaves o = refl
+
+pub order-said : (origin : Origin) (c : Claim) (log : Log)
+    → reorder c.name (known.applied (moment log) c (known.state_of (group_log log))).presence (order_of log) ≡ order_of (to_log.apply origin c log)
+order-said origin c log =
+    let g = group_log log in
+    let applied = known.applied (moment log) c (known.state_of g) in
+    reorder-is c.name applied.presence (order_of log)
+    ∙ ap (λ names. record { names = names; chosen = in_order name_cmp (round_names log) })
+    (sym (live-applied (moment log) origin c g applied (applied-log (moment log) origin c g)))
+
+-- Who is chosen in a round is known, and stays so.
+abbrev roster_in : Log → List (List ℕ)
+roster_in log =
+    let g = group_log log in
+    roster (group.me g) (group.said g)
+
+or_right : (a : Bool) {b : Bool} → b ≡ true → (a || b) ≡ true
+or_right true e = refl
+or_right false e = e
+
+roster-grows : (own : List ℕ) (c : Claim) (past : List Claim) (m : List ℕ) → is_among name_cmp m (roster own past) ≡ true → is_among name_cmp m (roster own (c ∷ past)) ≡ true
+roster-grows own c past m among = elim (cases_key names_order c.name own) [
+  | inl same ↦ ap (is_among name_cmp m) (roster-own own c past same) ∙ among
+  | inr other ↦ elim (heard_cases own c past other) [
+    | Taken t ↦ ap (is_among name_cmp m) t.names ∙ among-put names_order m c.name (roster own past) ∙ or_right (is_same name_cmp c.name m) among
+    | Unbeaten k ↦ ap (is_among name_cmp m) k.names ∙ among
+    | Out o ↦ ap (is_among name_cmp m) o.names ∙ among
+  ]
+]
+
+chosen_known : (log : Log) (w : ℕ) (k : List ℕ) → (is_among name_cmp k (round_names log) ≡ true → is_among name_cmp k (roster_in log) ≡ true)
+    → (o : Option (List ℕ)) → ((n : List ℕ) → o ≡ Some n → is_among name_cmp n (others log) ≡ true)
+    → is_among name_cmp k (option_to_list o ++ current_round (others log) (round_names log)) ≡ true → is_among name_cmp k (roster_in log) ≡ true
+chosen_known log w k before None is a = before (in_current (others log) (round_names log) k a)
+chosen_known log w k before (Some n) is a = elim (in_either _ _ a) [
+  | First s ↦ live_known (group_log log) k (ap (λ j. is_among name_cmp j (others log)) (sym (key_is names_order n k s)) ∙ is n refl)
+  | Second r ↦ before (in_current (others log) (round_names log) k r)
+]
+
+pub round-known : (log : Log) (k : List ℕ) → is_among name_cmp k (round_names log) ≡ true → is_among name_cmp k (roster_in log) ≡ true
+round-known [] k a = absurd cc
+round-known (Came now ∷ log) k a = round-known log k a
+round-known (Fired timer words ∷ log) k a = elim (cases_Bool (probing.is_round_start timer.id)) [
+  | inl t ↦ (
+      let names = others log in
+      let round = round_names log in
+      let chose : is_among name_cmp k (next_round names round (first_word words)) ≡ true = sym (ap (λ b. is_among name_cmp k (cond b (next_round names round (first_word words)) round)) t) ∙ a in
+      chosen_known log (first_word words) k (round-known log k) (choice names round (first_word words)) (λ n e. (candidate_is names (current_round names round) (first_word words) n e).named) chose)
+  | inr f ↦ (
+      let names = others log in
+      let round = round_names log in
+      round-known log k (sym (ap (λ b. is_among name_cmp k (cond b (next_round names round (first_word words)) round)) f) ∙ a))
+]
+round-known (AckHeard j sender ∷ log) k a = round-known log k a
+round-known (NackHeard j sender ∷ log) k a = round-known log k a
+round-known (Relayed target asker asked ∷ log) k a = round-known log k a
+round-known (OfGroup (group.Opened opening) ∷ log) k a = absurd cc
+round-known (OfGroup (group.Said now origin c) ∷ log) k a = roster-grows (group.me (group_log log)) c (group.said (group_log log)) k (round-known log k a)
+round-known (OfGroup (group.Sent taken) ∷ log) k a = round-known log k a
+
+-- So there is room for a member that joins.
+joined_live : (before after : Bool) → presence_of before after ≡ Joins → after ≡ true
+joined_live true true e = absurd cc
+joined_live false false e = absurd cc
+joined_live false true e = refl
+joined_live true false e = absurd cc
+
+room : (log : Log) (origin : Origin) (c : Claim) → is_among name_cmp c.name (others (to_log.apply origin c log)) ≡ true → length (put_key name_cmp c.name (known_names (order_of log))) ≤ 255
+room log origin c live =
+    let g = group_log log in
+    let after = roster (group.me g) (c ∷ group.said g) in
+    let order = order_of log in
+    omega (
+      arith,
+      length-roster (group.me g) (c ∷ group.said g),
+      names_few (put_key name_cmp c.name (known_names order)) after (rises-put names_order c.name (known_names order) (rises-in_order names_order (order.chosen ++ order.names)))
+          (λ k a. each k (in_either _ _ (sym (among-put names_order k c.name (known_names order)) ∙ a))),
+    )
+  where
+    known_one : (k : List ℕ) → InEither (is_among name_cmp k (order_of log).chosen) (is_among name_cmp k (others log)) → is_among name_cmp k (roster_in log) ≡ true
+    known_one k (First a) = round-known log k (sym (among-in_order names_order k (round_names log)) ∙ a)
+    known_one k (Second b) = live_known (group_log log) k b
+
+    each : (k : List ℕ) → InEither (is_same name_cmp c.name k) (is_among name_cmp k (known_names (order_of log))) → is_among name_cmp k (roster_in (to_log.apply origin c log)) ≡ true
+    each k (First s) = live_known (group_log (to_log.apply origin c log)) k (ap (λ j. is_among name_cmp j (others (to_log.apply origin c log))) (sym (key_is names_order c.name k s)) ∙ live)
+    each k (Second a) =
+        let order = order_of log in
+        roster-grows (group.me (group_log log)) c (group.said (group_log log)) k
+        (known_one k (in_either _ _ (sym (among-append k order.chosen order.names) ∙ sym (among-in_order names_order k (order.chosen ++ order.names)) ∙ a)))
+
+pub room_joined : (s : State) (log : Log) (c : Claim) → s ≡ state_of log → (known.applied s.moment c s.membership).presence ≡ Joins → length (put_key name_cmp c.name (known_names s.order)) ≤ MAX_OTHERS
+room_joined s log c is joins =
+    let g = group_log log in
+    let at_log : (known.applied (moment log) c (known.state_of g)).presence ≡ Joins =
+    sym (ap (λ (t : State). (known.applied t.moment c t.membership).presence) is) ∙ joins in
+    let live = joined_live (is_live g c.name) (is_live (group_log (to_log.apply Group c log)) c.name) (sym (applied-log (moment log) Group c g).presence ∙ at_log) in
+    subst (λ (t : State). length (put_key name_cmp c.name (known_names t.order)) ≤ MAX_OTHERS) (sym is) (room log Group c live)

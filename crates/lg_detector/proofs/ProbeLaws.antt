@@ -1,0 +1,291 @@
+-- The facts of probing change the state as their definitions do: a timer fires, an Ack or a Nack comes, a relay is
+-- opened.
+use Rattle.std.proofs.Common.{◌≡◌, ℕ, ◌+◌, Bool, true, false, not, cond, ◌||◌, ◌&&◌, List, [], ◌∷◌, ◌++◌, Option, Some, None, option_map, inl, inr, refl, ◌∙◌, ap}
+use Rattle.std.specs.Prelude.{ℤ, filter, is_some, ◌==◌}
+use Rattle.std.proofs.lemmas.Bool.{cases_Bool}
+use Rattle.lg_rules.specs.declared.addr.Addr.{Addr}
+use Rattle.lg_timing.specs.Meaning.Score.{ScoreValue, score_of}
+use Rattle.lg_timers.specs.declared.timer.Timer.{Timer}
+use Rattle.lg_timers.specs.declared.timer.TimerId.{TimerId}
+use Rattle.lg_timers.specs.declared.timer.TimerId.TheVariants.{RoundEnd, Suspicion, Direct}
+use Rattle.lg_timers.specs.declared.timer.TimerId.TheVariants.{RelayNack, RelayEnd, RoundStart}
+use Rattle.lg_probe.specs.declared.relays.Relay.{Relay}
+use Rattle.lg_probe.specs.Meaning.Order.{OrderValue, Chose, order_with}
+use Rattle.lg_probe.specs.Meaning.Relays.{has_number, is_ended, ended_asker}
+use Rattle.lg_probe.specs.Meaning.Round.{RoundFact, RoundValue, Asked, Acked, Nacked, asked_in, is_acked, ack_counts, round_of, round_with}
+use Rattle.lg_probe.proofs.RoundLaws.{asked_after, nacked_after}
+use Rattle.lg_membership.specs.declared.suspected.Suspected.{Suspected}
+use Rattle.lg_membership.specs.Meaning.Log as group
+use Rattle.lg_membership.specs.Meaning.Suspicions.{suspicions}
+use Rattle.lg_membership.specs.Support.State as known
+use Rattle.lg_detector.specs.Meaning.Log.{Log, Fired, AckHeard, NackHeard, Relayed, events, moment, group_log}
+use Rattle.lg_detector.specs.Meaning.Probing as probing
+use Rattle.lg_detector.specs.Meaning.Probing.{Probe, number, probe, since_start, round, round_at, new_probe, first_word, target, helpers_of}
+use Rattle.lg_detector.specs.Meaning.Relaying.{relays, has_nacked, opened_at, new_relay}
+use Rattle.lg_detector.specs.Meaning.Timing as timing
+use Rattle.lg_detector.specs.Meaning.Timing.{earned, max_in, score, round_start, round_timers, nack_timers, relay_timers, pending, nack_time, relay_time, end_at, direct_at, is_first, mark_of_end, mark_of_ack}
+use Rattle.lg_detector.specs.Support.State as state
+use Rattle.lg_detector.specs.Support.State.{State, state_of, order_of, fire, fire_id, start_probe, marked_end, marked_ack, hear_ack, hear_nack, open_relay}
+use Rattle.lg_detector.proofs.OrderLaws.{order-chose, chosen-is}
+use Rattle.lg_detector.proofs.RelayLaws.{numbered, nacked-timers, closed-timers, ended-timers, opened-timers, nacks-opened, ends-opened}
+use Rattle.lg_detector.proofs.TimerLaws.{turned, runs, AreRound, are_round, start-set, probe-set, without-direct, first-direct, asked-timers, acked-timers}
+
+-- what gives the deadlines of the relays of a log, and which of them sent no Nack
+abbrev nack_at : Log → ℕ → ℕ
+nack_at log k = opened_at log k + nack_time (group.config (group_log log))
+
+abbrev relay_at : Log → ℕ → ℕ
+relay_at log k = opened_at log k + relay_time (group.config (group_log log))
+
+abbrev is_silent : Log → Relay → Bool
+is_silent log r = not (has_nacked log r.number)
+
+abbrev rows : Log → List Suspected
+rows log = suspicions (group_log log)
+
+are : (log : Log) → AreRound (round_timers log)
+are log = are_round (end_at log) (direct_at log) (probe log) (since_start log) (round_start log)
+
+-- A probe runs, or none does, by the last start of a round.
+target-is : (p : Option Probe) (past : List RoundFact) → option_map (λ r. r.target) (round_at past p) ≡ option_map (λ p. p.target) p
+target-is None past = refl
+target-is (Some p) past = refl
+
+-- A round starts: the state after it, by whom it chooses.
+abbrev after_start : Log → Option (List ℕ) → OrderValue → State
+after_start log o order =
+    let later = timing.interval_later log in
+    record {
+      events = events log;
+      moment = moment log;
+      score = score log;
+      timers = turned (timing.probe_timers later (timing.timeout_later log) (new_probe (number log) o) [] ++ timing.start_timers (timing.start_unless later o)) (nack_timers log) (relay_timers log) (runs (rows log));
+      order = order;
+      number = cond (is_some o) (number log + 1) (number log);
+      round = round_at [] (new_probe (number log) o);
+      relays = relays log;
+      membership = known.state_of (group_log log);
+    }
+
+start-by : (log : Log) (o : Option (List ℕ)) (order : OrderValue) → start_probe o (record (state_of log) { order = order }) ≡ after_start log o order
+start-by log None order = λ i. record {
+  events = events log;
+  moment = moment log;
+  score = score log;
+  timers = start-set (nack_at log) (relay_at log) (filter (is_silent log) (relays log)) (relays log) (rows log) (timing.interval_later log) (round_timers log) (are log) i;
+  order = order;
+  number = number log;
+  round = None;
+  relays = relays log;
+  membership = known.state_of (group_log log);
+}
+start-by log (Some m) order = λ i. record {
+  events = events log;
+  moment = moment log;
+  score = score log;
+  timers = probe-set (nack_at log) (relay_at log) (filter (is_silent log) (relays log)) (relays log) (rows log) (timing.interval_later log) (timing.timeout_later log) (round_timers log) (are log) i;
+  order = order;
+  number = number log + 1;
+  round = Some (round_of (number log) m []);
+  relays = relays log;
+  membership = known.state_of (group_log log);
+}
+
+start-state : (d : ℕ) (words : List ℕ) (log : Log) → state.start_round words (state_of log) ≡ state_of (Fired (record { deadline = d; id = RoundStart }) words ∷ log)
+start-state d words log =
+    let order = order_with (order_of log) (Chose (first_word words)) in
+    ap (λ o. start_probe o (record (state_of log) { order = order })) (chosen-is words log)
+    ∙ start-by log (probing.chosen words log) order
+    ∙ ap (after_start log (probing.chosen words log)) (order-chose words log)
+
+-- helpers are asked
+pub helpers-is : (words : List ℕ) (log : Log) → state.helpers words (state_of log) ≡ probing.helpers words log
+helpers-is words log =
+    ap (helpers_of (probing.indirect_in (group.config (group_log log))) words (probing.others log)) (target-is (probe log) (since_start log))
+
+asked-round : (p : Option Probe) (past : List RoundFact) (helpers : List (List ℕ)) → option_map (λ r. round_with r (Asked helpers)) (round_at past p) ≡ round_at (Asked helpers ∷ past) p
+asked-round None past helpers = refl
+asked-round (Some p) past helpers = ap Some (asked_after p.number p.target past helpers)
+
+direct-state : (d : ℕ) (words : List ℕ) (log : Log) → state.ask_helpers words (state_of log) ≡ state_of (Fired (record { deadline = d; id = Direct }) words ∷ log)
+direct-state d words log =
+    let silent = filter (is_silent log) (relays log) in
+    let timers = without-direct (nack_at log) (relay_at log) silent (relays log) (rows log) (round_timers log)
+    ∙ ap (λ ts. turned ts (nack_timers log) (relay_timers log) (runs (rows log)))
+    (asked-timers (end_at log) (direct_at log) (probe log) (since_start log) (probing.helpers words log) (round_start log)) in
+    let asked = ap (λ h. option_map (λ r. round_with r (Asked h)) (round log)) (helpers-is words log)
+    ∙ asked-round (probe log) (since_start log) (probing.helpers words log) in
+    λ i. record {
+      events = events log;
+      moment = moment log;
+      score = score log;
+      timers = timers i;
+      order = order_of log;
+      number = number log;
+      round = asked i;
+      relays = relays log;
+      membership = known.state_of (group_log log);
+    }
+
+-- a round ends
+abbrev with_marks : ℕ → List ℤ → ScoreValue
+with_marks max past = record { value = score_of max past; max = max }
+
+end-mark : (r : Option RoundValue) (max : ℕ) (past : List ℤ) → marked_end r (with_marks max past) ≡ with_marks max (timing.mark_of_fired RoundEnd r past)
+end-mark None max past = refl
+end-mark (Some r) max past = elim (cases_Bool r.acked) [ inl t ↦ rw t refl | inr f ↦ rw f refl ]
+
+end-state : (d : ℕ) (words : List ℕ) (log : Log) → state.end_round (state_of log) ≡ state_of (Fired (record { deadline = d; id = RoundEnd }) words ∷ log)
+end-state d words log =
+    let silent = filter (is_silent log) (relays log) in
+    let score = end-mark (round log) (max_in (group.config (group_log log))) (earned log) in
+    let timers = start-set (nack_at log) (relay_at log) silent (relays log) (rows log) (moment log) (round_timers log) (are log) in
+    λ i. record {
+      events = events log;
+      moment = moment log;
+      score = score i;
+      timers = timers i;
+      order = order_of log;
+      number = number log;
+      round = None;
+      relays = relays log;
+      membership = known.state_of (group_log log);
+    }
+
+-- the timers of relays
+neither : (a b : Bool) → not (a || b) ≡ (not a && not b)
+neither true b = refl
+neither false b = refl
+
+nack-state : (d k : ℕ) (words : List ℕ) (log : Log) → state.nack_relay k (state_of log) ≡ state_of (Fired (record { deadline = d; id = RelayNack k }) words ∷ log)
+nack-state d k words log =
+    let timers = nacked-timers (round_timers log) (are log) (nack_at log) (relay_at log) (rows log) k (is_silent log)
+    (λ r. not ((r.number == k) || has_nacked log r.number)) (relays log) (λ r. neither (r.number == k) (has_nacked log r.number)) in
+    λ i. record {
+      events = events log;
+      moment = moment log;
+      score = score log;
+      timers = timers i;
+      order = order_of log;
+      number = number log;
+      round = round log;
+      relays = relays log;
+      membership = known.state_of (group_log log);
+    }
+
+close-state : (d k : ℕ) (words : List ℕ) (log : Log) → state.close_relay k (state_of log) ≡ state_of (Fired (record { deadline = d; id = RelayEnd k }) words ∷ log)
+close-state d k words log =
+    let timers = closed-timers (round_timers log) (are log) (nack_at log) (relay_at log) (rows log) k (is_silent log) (relays log) in
+    λ i. record {
+      events = events log;
+      moment = moment log;
+      score = score log;
+      timers = timers i;
+      order = order_of log;
+      number = number log;
+      round = round log;
+      relays = filter (λ r. not (has_number k r)) (relays log);
+      membership = known.state_of (group_log log);
+    }
+
+fired : (d : ℕ) (id : TimerId) (words : List ℕ) (log : Log) → fire_id id words (state_of log) ≡ state_of (Fired (record { deadline = d; id = id }) words ∷ log)
+fired d RoundEnd words log = end-state d words log
+fired d (Suspicion m) words log = refl
+fired d Direct words log = direct-state d words log
+fired d (RelayNack k) words log = nack-state d k words log
+fired d (RelayEnd k) words log = close-state d k words log
+fired d RoundStart words log = start-state d words log
+
+pub fire-state : (timer : Timer) (words : List ℕ) (log : Log) → fire timer words (state_of log) ≡ state_of (Fired timer words ∷ log)
+unfolding fire
+fire-state timer words log = fired timer.deadline timer.id words log
+
+-- an Ack comes
+or_first : (a c : Bool) → (a || (not a && c)) ≡ (c || a)
+or_first true true = refl
+or_first true false = refl
+or_first false true = refl
+or_first false false = refl
+
+acked-round : (p : Option Probe) (past : List RoundFact) (k : ℕ) (sender : List ℕ) → option_map (λ r. round_with r (Acked k sender)) (round_at past p) ≡ round_at (Acked k sender ∷ past) p
+acked-round None past k sender = refl
+acked-round (Some p) past k sender =
+    let a = is_acked p.number p.target past in
+    let c = ack_counts p.number p.target (asked_in past) k sender in
+    ap (λ b. Some (record (round_of p.number p.target past) { acked = b })) (or_first a c)
+
+ack-mark : (first : Bool) (max : ℕ) (past : List ℤ) → marked_ack first (with_marks max past) ≡ with_marks max (mark_of_ack first past)
+ack-mark true max past = refl
+ack-mark false max past = refl
+
+pub ack-state : (k : ℕ) (sender : List ℕ) (log : Log) → hear_ack k sender (state_of log) ≡ state_of (AckHeard k sender ∷ log)
+unfolding hear_ack
+ack-state k sender log =
+    let silent = filter (is_silent log) (relays log) in
+    let first = is_first k sender (round log) in
+    let A = timing.probe_timers (end_at log) (direct_at log) (probe log) (Acked k sender ∷ since_start log) ++ timing.start_timers (round_start log) in
+    let score = ack-mark first (max_in (group.config (group_log log))) (earned log) in
+    let direct : state.without_direct first (pending log) ≡ turned A (nack_timers log) (relay_timers log) (runs (rows log)) =
+    first-direct (nack_at log) (relay_at log) silent (relays log) (rows log) first (round_timers log)
+    ∙ ap (λ ts. turned ts (nack_timers log) (relay_timers log) (runs (rows log)))
+    (acked-timers (end_at log) (direct_at log) (probe log) (since_start log) k sender (round_start log)) in
+    let timers = ap (state.without_ended (is_some (ended_asker k sender (relays log))) k) direct
+    ∙ ended-timers A (are_round (end_at log) (direct_at log) (probe log) (Acked k sender ∷ since_start log) (round_start log)) (nack_at log) (relay_at log) (rows log) k sender (is_silent log) (relays log)
+    (numbered log).apart in
+    λ i. record {
+      events = events log;
+      moment = moment log;
+      score = score i;
+      timers = timers i;
+      order = order_of log;
+      number = number log;
+      round = acked-round (probe log) (since_start log) k sender i;
+      relays = filter (λ r. not (is_ended k sender r)) (relays log);
+      membership = known.state_of (group_log log);
+    }
+
+-- a Nack comes
+nacked-round : (p : Option Probe) (past : List RoundFact) (k : ℕ) (sender : List ℕ) → option_map (λ r. round_with r (Nacked k sender)) (round_at past p) ≡ round_at (Nacked k sender ∷ past) p
+nacked-round None past k sender = refl
+nacked-round (Some p) past k sender = ap Some (nacked_after p.number p.target past k sender)
+
+nack-timers : (e d : ℕ) (p : Option Probe) (past : List RoundFact) (k : ℕ) (sender : List ℕ) (start : Option ℕ)
+    → timing.probe_timers e d p past ++ timing.start_timers start ≡ timing.probe_timers e d p (Nacked k sender ∷ past) ++ timing.start_timers start
+nack-timers e d None past k sender start = refl
+nack-timers e d (Some p) past k sender start = refl
+
+pub nack-heard : (k : ℕ) (sender : List ℕ) (log : Log) → hear_nack k sender (state_of log) ≡ state_of (NackHeard k sender ∷ log)
+unfolding hear_nack
+nack-heard k sender log =
+    let timers = ap (λ ts. turned ts (nack_timers log) (relay_timers log) (runs (rows log))) (nack-timers (end_at log) (direct_at log) (probe log) (since_start log) k sender (round_start log)) in
+    λ i. record {
+      events = events log;
+      moment = moment log;
+      score = score log;
+      timers = timers i;
+      order = order_of log;
+      number = number log;
+      round = nacked-round (probe log) (since_start log) k sender i;
+      relays = relays log;
+      membership = known.state_of (group_log log);
+    }
+
+-- a relay is opened
+pub relayed-state : (target : List ℕ) (asker : Addr) (asked : ℕ) (log : Log) → open_relay target asker asked (state_of log) ≡ state_of (Relayed target asker asked ∷ log)
+unfolding open_relay
+relayed-state target asker asked log =
+    let r = new_relay (number log) target asker asked in
+    let timers = opened-timers (round_timers log) (are log) (nack_at log) (relay_at log) (rows log) (number log) (state.nack_later (state_of log)) (state.relay_later (state_of log)) (is_silent log) (relays log)
+    (numbered log).below
+    ∙ (λ i. turned (round_timers log) (nacks-opened target asker asked log i) (ends-opened target asker asked log i) (runs (rows log))) in
+    λ i. record {
+      events = events log;
+      moment = moment log;
+      score = score log;
+      timers = timers i;
+      order = order_of log;
+      number = number log + 1;
+      round = round log;
+      relays = relays log ++ r ∷ [];
+      membership = known.state_of (group_log log);
+    }

@@ -1,0 +1,106 @@
+-- The rounds of probing: who is chosen, the probe that runs, who helps, and what came of it (SWIM, sections 3.1 and
+-- 4.3; Lifeguard, local health aware probe).
+use Rattle.std.specs.Prelude.{ℕ, ◌+◌, Bool, true, false, ◌&&◌, List, [], ◌∷◌, Option, Some, None, option_map}
+use Rattle.std.specs.Prelude.{is_some, slice_index, if◌then◌else◌}
+use Rattle.lg_timing.specs.declared.config.Config.{Config}
+use Rattle.lg_timers.specs.declared.timer.TimerId.{TimerId}
+use Rattle.lg_timers.specs.declared.timer.TimerId.TheVariants.{RoundEnd, Direct, RoundStart}
+use Rattle.lg_probe.specs.Meaning.Helpers.{picked}
+use Rattle.lg_probe.specs.Meaning.Order.{choice, next_round, without}
+use Rattle.lg_probe.specs.Meaning.Round.{RoundFact, RoundValue, Asked, Acked, Nacked, round_of}
+use Rattle.lg_membership.specs.Meaning.Log as group
+use Rattle.lg_detector.specs.Meaning.Log.{Log, Fired, AckHeard, NackHeard, Relayed, OfGroup, group_log}
+
+abbrev pub is_round_start : TimerId → Bool
+is_round_start RoundStart = true
+is_round_start _ = false
+
+-- the members that may be probed, or help: the others that haven't failed, in the order of names
+abbrev pub others : Log → List (List ℕ)
+others log = group.live_others (group_log log)
+
+-- The names chosen in the current round, the latest first: those chosen since the last start of a round that found no
+-- candidate, its own choice included. Candidates are the others that aren't among these names.
+abbrev pub first_word : List ℕ → ℕ
+first_word words = slice_index words 0
+
+abbrev pub round_names : Log → List (List ℕ)
+round_names [] = []
+round_names (OfGroup (group.Opened opening) ∷ log) = []
+round_names (Fired timer words ∷ log) =
+    if is_round_start timer.id
+    then next_round (others log) (round_names log) (first_word words)
+    else round_names log
+round_names (_ ∷ log) = round_names log
+
+-- whom a start of a round with these words chooses: the candidate at the first word modulo their number
+abbrev pub chosen : List ℕ → Log → Option (List ℕ)
+chosen words log = choice (others log) (round_names log) (first_word words)
+
+-- Whether a start of a round with these words starts a probe.
+abbrev pub starts : TimerId → List ℕ → Log → Bool
+starts id words log = is_round_start id && is_some (chosen words log)
+
+-- the next sequence number: one more than the probes and the relays that were started
+abbrev pub number : Log → ℕ
+number [] = 1
+number (OfGroup (group.Opened opening) ∷ log) = 1
+number (Fired timer words ∷ log) = if starts timer.id words log then number log + 1 else number log
+number (Relayed target asker asked ∷ log) = number log + 1
+number (_ ∷ log) = number log
+
+-- The probe that runs: that of the last start of a round that chose a target, unless a round ended since.
+pub record Probe : Type 0 where
+  pub number : ℕ
+  pub target : List ℕ
+
+abbrev pub new_probe : ℕ → Option (List ℕ) → Option Probe
+new_probe k target = option_map (λ m. record { number = k; target = m }) target
+
+abbrev pub probe_by : TimerId → List ℕ → Log → Option Probe → Option Probe
+probe_by RoundStart words log before = new_probe (number log) (chosen words log)
+probe_by RoundEnd words log before = None
+probe_by _ words log before = before
+
+abbrev pub probe : Log → Option Probe
+probe [] = None
+probe (OfGroup (group.Opened opening) ∷ log) = None
+probe (Fired timer words ∷ log) = probe_by timer.id words log (probe log)
+probe (_ ∷ log) = probe log
+
+-- The helpers that are picked by these words, where a probe runs: others than its target, as many as the configuration
+-- says, in the order in which they are picked.
+abbrev pub indirect_in : Option Config → ℕ
+indirect_in None = 0
+indirect_in (Some opening) = opening.indirect
+
+abbrev pub helpers_of : ℕ → List ℕ → List (List ℕ) → Option (List ℕ) → List (List ℕ)
+helpers_of k words names None = []
+helpers_of k words names (Some target) = picked k words (without target names)
+
+abbrev pub target : Log → Option (List ℕ)
+target log = option_map (λ p. p.target) (probe log)
+
+abbrev pub helpers : List ℕ → Log → List (List ℕ)
+helpers words log = helpers_of (indirect_in (group.config (group_log log))) words (others log) (target log)
+
+-- what happened since a round started, the latest first: helpers were asked, Acks and Nacks came
+abbrev pub asked_by : TimerId → List ℕ → Log → List RoundFact → List RoundFact
+asked_by RoundStart words log past = []
+asked_by Direct words log past = Asked (helpers words log) ∷ past
+asked_by _ words log past = past
+
+abbrev pub since_start : Log → List RoundFact
+since_start [] = []
+since_start (OfGroup (group.Opened opening) ∷ log) = []
+since_start (Fired timer words ∷ log) = asked_by timer.id words log (since_start log)
+since_start (AckHeard k sender ∷ log) = Acked k sender ∷ since_start log
+since_start (NackHeard k sender ∷ log) = Nacked k sender ∷ since_start log
+since_start (_ ∷ log) = since_start log
+
+-- the round of the probe that runs: who was asked, who of these sent no Nack, and whether an Ack counted
+abbrev pub round_at : List RoundFact → Option Probe → Option RoundValue
+round_at past p = option_map (λ p. round_of p.number p.target past) p
+
+abbrev pub round : Log → Option RoundValue
+round log = round_at (since_start log) (probe log)

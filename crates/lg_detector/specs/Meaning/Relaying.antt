@@ -1,0 +1,57 @@
+-- The relays: probes of a target for another member, which is told of its Ack (SWIM, section 3.1), or that none came
+-- yet (Lifeguard, local health aware probe).
+use Rattle.std.specs.Prelude.{ℕ, Bool, false, ◌||◌, ◌==◌, List, [], ◌∷◌, length, if◌then◌else◌}
+use Rattle.lg_rules.specs.declared.addr.Addr.{Addr}
+use Rattle.lg_timers.specs.declared.timer.TimerId.{TimerId}
+use Rattle.lg_timers.specs.declared.timer.TimerId.TheVariants.{RelayNack, RelayEnd}
+use Rattle.lg_probe.specs.declared.relays.Relay.{Relay}
+use Rattle.lg_probe.specs.Meaning.Relays.{RelayFact, Opened, TargetAcked, Closed, relays_after}
+use Rattle.lg_membership.specs.Meaning.Log as group
+use Rattle.lg_detector.specs.Meaning.Log.{Log, Fired, AckHeard, Relayed, OfGroup, moment}
+use Rattle.lg_detector.specs.Meaning.Probing.{number}
+
+-- at most so many are open (this project's choice)
+abbrev pub most_relays : ℕ
+most_relays = 64
+
+-- a relay that takes the next sequence number
+abbrev pub new_relay : ℕ → List ℕ → Addr → ℕ → Relay
+new_relay k target asker asked = record { number = k; target = target; asker = asker; asked = asked }
+
+-- what happened to relays since the opening, the latest first: one was opened, an Ack came, the time of one ran out
+abbrev pub closed_by : TimerId → List RelayFact → List RelayFact
+closed_by (RelayEnd k) past = Closed k ∷ past
+closed_by _ past = past
+
+abbrev pub relay_past : Log → List RelayFact
+relay_past [] = []
+relay_past (OfGroup (group.Opened opening) ∷ log) = []
+relay_past (Fired timer words ∷ log) = closed_by timer.id (relay_past log)
+relay_past (AckHeard k sender ∷ log) = TargetAcked k sender ∷ relay_past log
+relay_past (Relayed target asker asked ∷ log) = Opened (new_relay (number log) target asker asked) ∷ relay_past log
+relay_past (_ ∷ log) = relay_past log
+
+-- the relays that are open, in the order in which they were opened
+abbrev pub relays : Log → List Relay
+relays log = relays_after (relay_past log)
+
+-- the moment at which the relay of a number was opened
+abbrev pub opened_at : Log → ℕ → ℕ
+opened_at [] k = 0
+opened_at (Relayed target asker asked ∷ log) k = if number log == k then moment log else opened_at log k
+opened_at (_ ∷ log) k = opened_at log k
+
+-- whether it sent its Nack
+abbrev pub is_nack_of : ℕ → TimerId → Bool
+is_nack_of k (RelayNack j) = k == j
+is_nack_of k _ = false
+
+abbrev pub has_nacked : Log → ℕ → Bool
+has_nacked [] k = false
+has_nacked (Fired timer words ∷ log) k = is_nack_of k timer.id || has_nacked log k
+has_nacked (Relayed target asker asked ∷ log) k = if number log == k then false else has_nacked log k
+has_nacked (_ ∷ log) k = has_nacked log k
+
+-- whether a PingReq for a target opens a relay: it isn't for oneself, and there is room
+abbrev pub is_full : List Relay → Bool
+is_full open_ones = length open_ones == most_relays

@@ -1,0 +1,154 @@
+//! The relays: a PingReq for another has its target pinged, and what comes of it is told to the asker (SWIM, section
+//! 3.1; Lifeguard, local health aware probe).
+ghost use Rattle.std.specs.Prelude.{◌≡◌, ◌<◌, ◌≤◌, ◌+◌, [], ◌∷◌, length, option_copied, is_some};
+ghost use Rattle.lg_timers.specs.Meaning.Timers.{with_timer, without_timer};
+ghost use Rattle.lg_probe.specs.Meaning.Relays.{asker_at, ended_asker, relays_with, TargetAcked};
+ghost use Rattle.lg_membership.specs.Support.Reached.{IsGood};
+ghost use Rattle.lg_detector.specs.Meaning.Timing.{nack_time, relay_time};
+ghost use Rattle.lg_detector.specs.Meaning.Tick.{nack_to};
+ghost use Rattle.lg_detector.specs.Meaning.Hear.{pass_on};
+ghost use Rattle.lg_detector.specs.Support.State.{close_relay, open_relay, with_relay, without_relay, without_ended};
+ghost use Rattle.lg_detector.specs.Support.State.{nack_relay};
+
+use super::Detector;
+use crate::message::Message;
+use crate::reply::MAX_SENDS;
+use arrayvec::ArrayVec;
+use lg_packet::Body;
+use lg_probe::{MAX_RELAYS, Relays};
+use lg_rules::{Addr, Name};
+use lg_timers::{MAX_TIMERS, Timer, TimerId, Timers};
+use lg_timing::{Config, MAX_INTERVAL_MS};
+
+/// How long after its opening a relay sends its Nack, in milliseconds. It isn't scaled by the score.
+fn nack_time(config: Option<&Config>) -> u64
+    requires { IsGood (option_copied config) }
+    ensures time { result ≡ nack_time (option_copied config.entry) }
+    ensures within { result ≤ MAX_INTERVAL_MS }
+{
+    match config {
+        Some(config) => config.timeout_ms * config.nack_thousandths / 1000,
+        None => 0,
+    }
+}
+
+/// How long after its opening a relay is closed, in milliseconds. It isn't scaled by the score.
+fn relay_time(config: Option<&Config>) -> u64
+    requires { IsGood (option_copied config) }
+    ensures time { result ≡ relay_time (option_copied config.entry) }
+    ensures within { result ≤ MAX_INTERVAL_MS }
+{
+    match config {
+        Some(config) => config.interval_ms,
+        None => 0,
+    }
+}
+
+/// The timers of a relay that is opened: when its Nack is sent, and when it is closed.
+fn set_relay(timers: &mut Timers, nack: u64, end: u64, number: u32)
+    requires { length timers.old + 1 < MAX_TIMERS }
+    ensures { timers.new ≡ with_relay nack end number timers.old }
+{
+    timers.reset(Timer {
+        deadline: end,
+        id: TimerId::RelayEnd(number),
+    });
+    timers.reset(Timer {
+        deadline: nack,
+        id: TimerId::RelayNack(number),
+    });
+}
+
+/// The timers of a relay are cancelled.
+fn cancel_relay(timers: &mut Timers, number: u32)
+    ensures { timers.new ≡ without_relay number timers.old }
+{
+    timers.cancel(&TimerId::RelayEnd(number));
+    timers.cancel(&TimerId::RelayNack(number));
+}
+
+/// Takes an Ack for the relays: that of the target of one closes it. Returns the asker, and the number by which it
+/// asked.
+pub(super) fn take_ack(
+    relays: &mut Relays,
+    timers: &mut Timers,
+    number: u32,
+    sender: &Name,
+) -> Option<(Addr, u32)>
+    ensures asker { result ≡ ended_asker number sender.now relays.old }
+    ensures relays { relays.new ≡ relays_with relays.old (TargetAcked number sender.now) }
+    ensures timers { timers.new
+        ≡ without_ended (is_some (ended_asker number sender.now relays.old)) number timers.old }
+{
+    let asker = relays.ack(number, sender);
+    if asker.is_some() {
+        cancel_relay(timers, number);
+    }
+    asker
+}
+
+/// The packet that tells an asker, by its number, that its target acked.
+pub(super) fn pass_on(asker: Option<(Addr, u32)>) -> ArrayVec<Message, MAX_SENDS>
+    ensures { result.items ≡ pass_on asker }
+{
+    let mut messages = ArrayVec::new();
+    if let Some((to, number)) = asker {
+        messages.push(Message {
+            to,
+            body: Body::Ack { number },
+        });
+    }
+    messages
+}
+
+/// The packet that tells an asker, by its number, that no Ack came so far.
+fn nack_to(asker: Option<(Addr, u32)>) -> ArrayVec<Message, MAX_SENDS>
+    ensures { result.items ≡ nack_to asker }
+{
+    let mut messages = ArrayVec::new();
+    if let Some((to, number)) = asker {
+        messages.push(Message {
+            to,
+            body: Body::Nack { number },
+        });
+    }
+    messages
+}
+
+impl Detector {
+    /// A relay to a target is opened, for an asker that asks by a number.
+    #[tactic(auto, unfolding(crate::specs::Support::State::open_relay))]
+    pub(super) fn open_relay(&mut self, target: &Name, asker: Addr, asked: u32)
+        requires numbered { self.old.number ≤ self.old.events }
+        requires room { length self.old.relays < MAX_RELAYS }
+        ensures { self.new ≡ open_relay target.now asker asked self.old }
+    {
+        let parts = &mut *self.parts;
+        let now = parts.moment.milliseconds();
+        let config = parts.membership.config();
+        let nack = now + nack_time(config);
+        let end = now + relay_time(config);
+        parts.relays.add(parts.number, target, asker, asked);
+        set_relay(&mut parts.timers, nack, end, parts.number);
+        parts.number += 1;
+    }
+
+    /// The asker of a relay is told that no Ack came so far. The relay stays open.
+    pub(super) fn nack_relay(&mut self, number: u32) -> ArrayVec<Message, MAX_SENDS>
+        ensures state { self.new ≡ nack_relay number self.old }
+        ensures messages { result.items ≡ nack_to (asker_at number self.old.relays) }
+    {
+        let parts = &mut *self.parts;
+        parts.timers.cancel(&TimerId::RelayNack(number));
+        nack_to(parts.relays.get(number))
+    }
+
+    /// A relay is closed.
+    pub(super) fn close_relay(&mut self, number: u32)
+        ensures { self.new ≡ close_relay number self.old }
+    {
+        let parts = &mut *self.parts;
+        parts.relays.close(number);
+        cancel_relay(&mut parts.timers, number);
+    }
+}

@@ -1,0 +1,345 @@
+//! The rounds of probing, and the timers of a round (SWIM, sections 3.1 and 4.3; Lifeguard, local health aware probe).
+//!
+//! - A round starts: the order chooses a member by the first random word. It is pinged with the next sequence number at
+//!   the address of its record; `Direct` is set one scaled timeout later and `RoundEnd` one scaled interval later, by
+//!   the score at the start. Where nobody can be chosen, the next round starts one scaled interval later.
+//! - Direct, where no Ack counted by then: helpers are picked by the words and asked to ping the target.
+//! - The round ends: where no Ack counted, the score is marked, and the target is suspected by oneself, unless its
+//!   record is Failed. The next round starts at once.
+ghost use Rattle.std.specs.Prelude.{◌≡◌, ◌<◌, ◌≤◌, ◌+◌, [], ◌∷◌, length, option_copied, option_map};
+ghost use Rattle.std.specs.List.{filter_map};
+ghost use Rattle.lg_probe.specs.Meaning.Round.{Asked, Acked, Nacked, round_with};
+ghost use Rattle.lg_membership.specs.Support.Reached.{IsGood};
+ghost use Rattle.lg_detector.specs.Meaning.Timing.{scaled_interval, scaled_timeout, is_first};
+ghost use Rattle.lg_detector.specs.Meaning.Probing.{indirect_in};
+ghost use Rattle.lg_detector.specs.Meaning.Tick.{ping_at, ping_to, requests, requests_of};
+ghost use Rattle.lg_detector.specs.Meaning.Tick.{failure_of, suspect_of, accusation, found};
+ghost use Rattle.lg_detector.specs.Support.State.{start_round, ask_helpers, end_round, chosen, helpers, with_start};
+ghost use Rattle.lg_detector.specs.Support.State.{with_round, round_of_choice, number_after};
+ghost use Rattle.lg_detector.specs.Support.State.{with_probe, marked_end, marked_ack, without_direct};
+ghost use Rattle.lg_detector.specs.Support.Step.{view_in};
+
+use super::{Detector, MAX_EVENTS};
+use crate::message::Message;
+use crate::reply::MAX_SENDS;
+use arrayvec::ArrayVec;
+use lg_packet::Body;
+use lg_probe::{Helpers, MAX_HELPERS, Round};
+use lg_rules::{Claim, MAX_CLAIMS, Name, Record, Status};
+use lg_timers::{MAX_TIMERS, Timer, TimerId, Timers};
+use lg_timing::{Config, MAX_SCALED_MS, Score};
+
+/// The interval, scaled by the score, in milliseconds.
+fn scaled_interval(score: &Score, config: Option<&Config>) -> u64
+    requires { IsGood (option_copied config) }
+    ensures interval { result ≡ scaled_interval (option_copied config.entry) score.now }
+    ensures within { result ≤ MAX_SCALED_MS }
+{
+    match config {
+        Some(config) => score.interval(config),
+        None => 0,
+    }
+}
+
+/// The timeout of a probe, scaled by the score, in milliseconds.
+fn scaled_timeout(score: &Score, config: Option<&Config>) -> u64
+    requires { IsGood (option_copied config) }
+    ensures timeout { result ≡ scaled_timeout (option_copied config.entry) score.now }
+    ensures within { result ≤ MAX_SCALED_MS }
+{
+    match config {
+        Some(config) => score.timeout(config),
+        None => 0,
+    }
+}
+
+/// How many helpers are asked.
+fn indirect(config: Option<&Config>) -> usize
+    requires { IsGood (option_copied config) }
+    ensures indirect { result ≡ indirect_in (option_copied config.entry) }
+    ensures few { result ≤ MAX_HELPERS }
+{
+    match config {
+        Some(config) => config.indirect as usize,
+        None => 0,
+    }
+}
+
+/// The timers where nobody is probed: the next round starts at this moment.
+fn set_start(timers: &mut Timers, deadline: u64)
+    requires { length timers.old < MAX_TIMERS }
+    ensures { timers.new ≡ with_start deadline timers.old }
+{
+    timers.cancel(&TimerId::RoundEnd);
+    timers.cancel(&TimerId::Direct);
+    timers.reset(Timer {
+        deadline,
+        id: TimerId::RoundStart,
+    });
+}
+
+/// The timers where a probe runs: when the round ends, and when helpers are asked.
+fn set_probe(timers: &mut Timers, end: u64, direct: u64)
+    requires { length timers.old + 1 < MAX_TIMERS }
+    ensures { timers.new ≡ with_probe end direct timers.old }
+{
+    timers.cancel(&TimerId::RoundStart);
+    timers.reset(Timer {
+        deadline: direct,
+        id: TimerId::Direct,
+    });
+    timers.reset(Timer {
+        deadline: end,
+        id: TimerId::RoundEnd,
+    });
+}
+
+/// The timers of a round that chose a member, or nobody.
+fn set_round(timers: &mut Timers, chosen: &Option<Name>, end: u64, direct: u64)
+    requires { length timers.old + 1 < MAX_TIMERS }
+    ensures { timers.new ≡ with_round chosen.now end direct timers.old }
+{
+    match chosen {
+        Some(_) => set_probe(timers, end, direct),
+        None => set_start(timers, end),
+    }
+}
+
+/// The round of a member that is chosen, by a number.
+fn new_round(number: u32, chosen: &Option<Name>) -> Option<Round>
+    ensures { result ≡ round_of_choice number chosen.now }
+{
+    match chosen {
+        Some(target) => Some(Round::new(number, target)),
+        None => None,
+    }
+}
+
+/// The next sequence number, once a member is chosen, or nobody.
+fn number_after(number: u32, chosen: &Option<Name>) -> u32
+    requires { number ≤ MAX_EVENTS }
+    ensures { result ≡ number_after number chosen.now }
+{
+    match chosen {
+        Some(_) => number + 1,
+        None => number,
+    }
+}
+
+/// Marks the score where the round that runs ends without an Ack that counts.
+fn mark_end(score: &mut Score, round: Option<Round>)
+    ensures { score.new ≡ marked_end round score.old }
+{
+    if let Some(round) = round {
+        let mark = round.end();
+        if mark != 0 {
+            score.mark(mark);
+        }
+    }
+}
+
+/// Takes an Ack for the round that runs: the first that counts marks the score, and no helpers are asked then.
+pub(super) fn take_ack(
+    round: &mut Option<Round>,
+    score: &mut Score,
+    timers: &mut Timers,
+    number: u32,
+    sender: &Name,
+)
+    ensures round { round.new ≡ option_map (λ r. round_with r (Acked number sender.now)) round.old }
+    ensures score { score.new ≡ marked_ack (is_first number sender.now round.old) score.old }
+    ensures timers { timers.new ≡ without_direct (is_first number sender.now round.old) timers.old }
+{
+    let is_first = match round {
+        Some(round) => round.ack(number, sender),
+        None => false,
+    };
+    if is_first {
+        score.mark(-1);
+        timers.cancel(&TimerId::Direct);
+    }
+}
+
+/// Takes a Nack for the round that runs.
+pub(super) fn take_nack(round: &mut Option<Round>, number: u32, sender: &Name)
+    ensures { round.new ≡ option_map (λ r. round_with r (Nacked number sender.now)) round.old }
+{
+    if let Some(round) = round {
+        round.nack(number, sender);
+    }
+}
+
+/// The helpers are asked, where a probe runs.
+fn ask(round: &mut Option<Round>, helpers: &Helpers)
+    ensures { round.new ≡ option_map (λ r. round_with r (Asked helpers.now)) round.old }
+{
+    if let Some(round) = round {
+        round.ask(helpers);
+    }
+}
+
+/// The Ping of a member at the address of its record, by a number.
+fn ping(number: u32, current: &Option<Record>) -> ArrayVec<Message, MAX_SENDS>
+    ensures { result.items ≡ ping_at number current.now }
+{
+    let mut messages = ArrayVec::new();
+    if let Some(current) = current {
+        messages.push(Message {
+            to: current.addr,
+            body: Body::Ping {
+                number,
+                target: current.name,
+            },
+        });
+    }
+    messages
+}
+
+/// The claim that a member is suspected, by oneself, unless it has failed.
+fn accusation(me: &Name, current: &Record) -> ArrayVec<Claim, MAX_CLAIMS>
+    ensures { result.items ≡ accusation me.now current.now.status current.now }
+{
+    let mut claims = ArrayVec::new();
+    if !matches!(current.status, Status::Failed) {
+        claims.push(Claim {
+            status: Status::Suspect(*me),
+            ..*current
+        });
+    }
+    claims
+}
+
+impl Detector {
+    /// The claim that the end of the round says, where no Ack counted: its target is suspected.
+    pub(super) fn failure(&self) -> ArrayVec<Claim, MAX_CLAIMS>
+        ensures { result.items ≡ failure_of self.now.membership.own.name self.now.round (view_in self.now) }
+    {
+        match &self.parts.round {
+            Some(round) if !round.is_acked() => self.suspicion_of(&round.target()),
+            _ => ArrayVec::new(),
+        }
+    }
+
+    /// The claim that a member is suspected, where it has a record that isn't Failed.
+    fn suspicion_of(&self, member: &Name) -> ArrayVec<Claim, MAX_CLAIMS>
+        ensures { result.items ≡ suspect_of self.now.membership.own.name (found member.now (view_in self.now)) }
+    {
+        match self.record_of(member) {
+            Some(record) => accusation(&self.name(), &record),
+            None => ArrayVec::new(),
+        }
+    }
+
+    /// A round starts. Returns the Ping of whom it chooses.
+    pub(super) fn start_round(&mut self, words: &[u32; 8]) -> ArrayVec<Message, MAX_SENDS>
+        requires { self.old.number ≤ self.old.events }
+        ensures state { self.new ≡ start_round words.now self.old }
+        ensures messages { result.items ≡ ping_to self.old.number (view_in self.old) (chosen words.now self.old) }
+    {
+        let number = self.parts.number;
+        match self.choose(words) {
+            Some(target) => ping(number, &self.record_of(&target)),
+            None => ArrayVec::new(),
+        }
+    }
+
+    /// The order chooses, and the timers of the round are set anew.
+    fn choose(&mut self, words: &[u32; 8]) -> Option<Name>
+        requires { self.old.number ≤ self.old.events }
+        ensures state { self.new ≡ start_round words.now self.old }
+        ensures chosen { result ≡ chosen words.now self.old }
+    {
+        let parts = &mut *self.parts;
+        let now = parts.moment.milliseconds();
+        let config = parts.membership.config();
+        let end = now + scaled_interval(&parts.score, config);
+        let direct = now + scaled_timeout(&parts.score, config);
+        let chosen = parts.order.choose(words[0]);
+        parts.round = new_round(parts.number, &chosen);
+        parts.number = number_after(parts.number, &chosen);
+        set_round(&mut parts.timers, &chosen, end, direct);
+        chosen
+    }
+
+    /// Helpers are picked and asked, and no more are. Returns the PingReqs for them, in the order in which they were
+    /// picked.
+    pub(super) fn ask_helpers(&mut self, words: &[u32; 8]) -> ArrayVec<Message, MAX_SENDS>
+        ensures state { self.new ≡ ask_helpers words.now self.old }
+        ensures messages { result.items
+            ≡ requests self.old.round (view_in self.old) (helpers words.now self.old) }
+    {
+        let helpers = self.pick(words);
+        let messages = self.requests(&helpers);
+        let parts = &mut *self.parts;
+        parts.timers.cancel(&TimerId::Direct);
+        ask(&mut parts.round, &helpers);
+        messages
+    }
+
+    /// The helpers that words pick.
+    fn pick(&self, words: &[u32; 8]) -> Helpers
+        ensures { result ≡ helpers words.now self.now }
+    {
+        let mut helpers = Helpers::new();
+        if let Some(round) = &self.parts.round {
+            let count = indirect(self.parts.membership.config());
+            helpers.pick(&self.parts.order, &round.target(), count, words);
+        }
+        helpers
+    }
+
+    /// The PingReqs for helpers: each is asked to ping the target at the address of its record.
+    fn requests(&self, helpers: &Helpers) -> ArrayVec<Message, MAX_SENDS>
+        ensures { result.items ≡ requests self.now.round (view_in self.now) helpers.now }
+    {
+        match &self.parts.round {
+            Some(round) => {
+                self.requests_for(
+                    round.number(),
+                    &self.record_of(&round.target()),
+                    helpers.names(),
+                )
+            }
+            None => ArrayVec::new(),
+        }
+    }
+
+    /// The PingReqs for a target, by a number.
+    fn requests_for(
+        &self,
+        number: u32,
+        target: &Option<Record>,
+        names: &[Name],
+    ) -> ArrayVec<Message, MAX_SENDS>
+        requires { length names.now ≤ MAX_SENDS }
+        ensures { result.items ≡ requests_of number target.now (view_in self.now) names.now }
+    {
+        let mut messages = ArrayVec::new();
+        let Some(target) = target else {
+            return messages;
+        };
+        for name in names {
+            match self.record_of(name) {
+                Some(helper) => messages.push(Message {
+                    to: helper.addr,
+                    body: Body::PingReq {
+                        number,
+                        target: target.name,
+                        addr: target.addr,
+                    },
+                }),
+                None => {}
+            }
+        }
+        messages
+    }
+
+    /// A round ends. The claim that its target is suspected is said by the caller.
+    pub(super) fn end_round(&mut self)
+        ensures { self.new ≡ end_round self.old }
+    {
+        let parts = &mut *self.parts;
+        mark_end(&mut parts.score, parts.round.take());
+        set_start(&mut parts.timers, parts.moment.milliseconds());
+    }
+}

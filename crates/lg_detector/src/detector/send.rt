@@ -1,0 +1,60 @@
+//! The packets that are sent. They are filled one after another, each over the packet that stood in its place in the
+//! reply before, since a packet is large. A Ping for a member whose record is Suspect begins with that record
+//! (Lifeguard's buddy system); a Nack takes no claims (this project's choice).
+ghost use Rattle.std.specs.Prelude.{◌≡◌, ◌≤◌, [], length};
+ghost use Rattle.arrayvec.specs.ArrayVec.{array_vec_len};
+ghost use Rattle.lg_detector.specs.Support.Send.{outgoing, packets, send, send_all};
+
+use super::Detector;
+use crate::message::Message;
+use crate::reply::{MAX_SENDS, Outgoing};
+use arrayvec::ArrayVec;
+use lg_packet::Body;
+
+/// Gives a row so many packets: those that it has, and further ones behind them.
+fn make_places(sends: &mut ArrayVec<Outgoing, MAX_SENDS>, count: usize)
+    requires { count ≤ MAX_SENDS }
+    ensures { array_vec_len sends.new ≡ count }
+{
+    sends.truncate(count);
+    while sends.len() < count {
+        sends.push(Outgoing::default());
+    }
+}
+
+impl Detector {
+    /// Sends packets one after another, each filled after those before it, in the place of what `sends` held.
+    pub(super) fn send_all(
+        &mut self,
+        messages: &[Message],
+        sends: &mut ArrayVec<Outgoing, MAX_SENDS>,
+    )
+        requires { length messages.now ≤ MAX_SENDS }
+        ensures state { self.new ≡ send_all messages.now self.old }
+        ensures sends { sends.new.items ≡ packets messages.now self.old }
+    {
+        make_places(sends, messages.len());
+        for (index, message) in messages.iter().enumerate() {
+            self.put_packet(message, &mut sends[index]);
+        }
+    }
+
+    /// Writes a packet over another. The claims that it takes of the queue count as sent.
+    fn put_packet(&mut self, message: &Message, place: &mut Outgoing)
+        ensures state { self.new ≡ send message.now.body self.old }
+        ensures sent { place.new ≡ outgoing message.now self.old }
+    {
+        place.to = message.to;
+        place.packet.sender = self.name();
+        place.packet.body = message.body;
+        let claims = &mut place.packet.claims;
+        match &message.body {
+            Body::Ping { target, .. } => self.parts.membership.fill_into(Some(target), claims),
+            Body::PingReq { .. } | Body::Ack { .. } => self
+                .parts
+                .membership
+                .fill_into(None, claims),
+            Body::Nack { .. } => claims.clear(),
+        }
+    }
+}

@@ -1,0 +1,28 @@
+//! A packet that is to be sent, before its sender and its claims are written.
+use lg_packet::Body;
+use lg_rules::Addr;
+
+/// Where a packet goes, and what it asks for or responds.
+#[derive(Clone, Copy, Debug, PartialEq, Eq)]
+pub(crate) struct Message {
+    /// Where it goes.
+    pub(crate) to: Addr,
+    /// What it asks for or responds.
+    pub(crate) body: Body,
+}
+
+/// An Ack numbered 0 to no address, which fills those places of a row of fixed capacity that hold no message.
+impl Default for Message {
+    ghost use Rattle.std.specs.Prelude.{◌≡◌, [], ◌∷◌};
+    ghost use Rattle.lg_packet.specs.declared.packet.Body.TheVariants.{Ack};
+
+    ghost is_default = { λ m. m
+        ≡ record { to = record { octets = 0 ∷ 0 ∷ 0 ∷ 0 ∷ []; port = 0 }; body = Ack 0 } };
+
+    fn default() -> Self {
+        Message {
+            to: Addr::default(),
+            body: Body::Ack { number: 0 },
+        }
+    }
+}

@@ -1,0 +1,143 @@
+//! Relays. b is opened at 0, and its first round starts at 0 with nobody to choose.
+use super::Step::{Fired, Next, Sends, Takes};
+use super::{Step, at, from, letter, local, opened, play, play_on, said, sent, suspect, tick_at};
+use crate::Event;
+use lg_packet::{Body, Packet};
+use lg_timers::{Timer, TimerId};
+
+/// A request of a, from port 7001, to ping the member of a letter at port 7003.
+fn requested(now: u64, number: u32, target: u8) -> Step {
+    Takes(from(
+        now,
+        b'a',
+        7001,
+        Body::PingReq {
+            number,
+            target: letter(target),
+            addr: local(7003),
+        },
+    ))
+}
+
+/// A Ping of c by a number.
+fn pinged(number: u32) -> Body {
+    Body::Ping {
+        number,
+        target: letter(b'c'),
+    }
+}
+
+/// The timer of the Nack of a relay, or of its end.
+fn nack(deadline: u64, number: u32) -> Step {
+    Fired(Some(Timer {
+        deadline,
+        id: TimerId::RelayNack(number),
+    }))
+}
+
+fn end(deadline: u64, number: u32) -> Step {
+    Fired(Some(Timer {
+        deadline,
+        id: TimerId::RelayEnd(number),
+    }))
+}
+
+#[test]
+fn relays_and_nacks(rt: HostRuntime) {
+    let steps = [
+        requested(510, 1, b'c'),
+        Sends(1),
+        sent(0, 7003, pinged(1)),
+        Next(0),
+        Takes(tick_at(910)),
+        Next(910),
+        Takes(tick_at(910)),
+        nack(910, 1),
+        Sends(1),
+        sent(0, 7001, Body::Nack { number: 1 }),
+        Next(1510),
+        // An Ack after the Nack is passed on all the same.
+        Takes(from(915, b'c', 7003, Body::Ack { number: 1 })),
+        Sends(1),
+        sent(0, 7001, Body::Ack { number: 1 }),
+        Next(1910),
+    ];
+    play(&rt, rt.alloc(), "a relay and its Nack", &steps);
+}
+
+#[test]
+fn ends_a_relay(rt: HostRuntime) {
+    let steps = [
+        Takes(tick_at(0)),
+        requested(0, 7, b'c'),
+        // Another than the target, and another number, do nothing.
+        Takes(from(10, b'd', 7003, Body::Ack { number: 1 })),
+        Sends(0),
+        Takes(from(10, b'c', 7003, Body::Ack { number: 2 })),
+        Sends(0),
+        Takes(tick_at(400)),
+        nack(400, 1),
+        sent(0, 7001, Body::Nack { number: 7 }),
+        Takes(tick_at(1000)),
+        end(1000, 1),
+        Sends(0),
+        Takes(from(1000, b'c', 7003, Body::Ack { number: 1 })),
+        Sends(0),
+    ];
+    play(&rt, rt.alloc(), "no Ack", &steps);
+}
+
+#[test]
+fn acks_a_request_for_itself(rt: HostRuntime) {
+    let steps = [
+        requested(0, 9, b'b'),
+        Sends(1),
+        sent(0, 7001, Body::Ack { number: 9 }),
+    ];
+    play(&rt, rt.alloc(), "a request for b", &steps);
+}
+
+/// One request heard twice opens two relays; 64 are open at most. One that is refused takes no number.
+#[test]
+fn refuses_beyond_64(rt: HostRuntime) {
+    let mut detector = opened(&rt, rt.alloc());
+    for number in 1..65 {
+        let steps = [requested(10, 5, b'c'), sent(0, 7003, pinged(number))];
+        play_on(&rt, &mut detector, "a relay", &steps);
+    }
+    let full = [
+        requested(10, 5, b'c'),
+        Sends(1),
+        sent(0, 7001, Body::Nack { number: 5 }),
+        requested(10, 6, b'b'),
+        sent(0, 7001, Body::Ack { number: 6 }),
+        Takes(from(20, b'c', 7003, Body::Ack { number: 64 })),
+        sent(0, 7001, Body::Ack { number: 5 }),
+        requested(20, 8, b'c'),
+        sent(0, 7003, pinged(65)),
+    ];
+    play_on(&rt, &mut detector, "64 relays", &full);
+}
+
+/// The claims of a request are said before its target is pinged, so its target's record goes with the Ping.
+#[test]
+fn a_request_that_suspects_its_target(rt: HostRuntime) {
+    let request = Event::Heard {
+        now: at(0),
+        source: local(7001),
+        packet: Packet {
+            sender: letter(b'a'),
+            body: Body::PingReq {
+                number: 1,
+                target: letter(b'c'),
+                addr: local(7003),
+            },
+            claims: said(&[suspect(b'c', 0, b'a')]),
+        },
+    };
+    let steps = [
+        Takes(request),
+        Step::Sent(0, 7003, pinged(1), said(&[suspect(b'c', 0, b'a')])),
+    ];
+    play(&rt, rt.alloc(), "c is suspected", &steps);
+}
