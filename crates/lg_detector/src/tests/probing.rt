@@ -163,36 +163,32 @@ fn asks_helpers(rt: HostRuntime) {
     play_on(&rt, &mut other, "three helpers", &steps);
 }
 
-/// What an Ack or a Nack does once d, e and f were asked: whether it ends the probe well, and the score after the
-/// round.
+/// An Ack by a number, at 600.
+fn ack(sender: u8, number: u32) -> Step {
+    Takes(from(600, sender, 7000, Body::Ack { number }))
+}
+
+/// A Nack by the number 1, at 600.
+fn nack(sender: u8) -> Step {
+    Takes(from(600, sender, 7000, Body::Nack { number: 1 }))
+}
+
+/// Nothing of the round.
+fn idle() -> Step {
+    Takes(ask_health(600))
+}
+
+/// What Acks and Nacks do once d, e and f were asked: the score after the round.
 #[test]
 fn counts_acks_and_nacks(rt: HostRuntime) {
-    let ack = |sender, number| from(600, sender, 7000, Body::Ack { number });
-    let nack = |sender| from(600, sender, 7000, Body::Nack { number: 1 });
     let rows = [
-        (
-            "nothing",
-            [ask_health(600), ask_health(600), ask_health(600)],
-            2,
-        ),
-        (
-            "an ack of the target",
-            [ack(b'c', 1), ask_health(600), ask_health(600)],
-            0,
-        ),
-        (
-            "an ack of a helper",
-            [ack(b'e', 1), ask_health(600), ask_health(600)],
-            0,
-        ),
-        (
-            "an ack of a stranger",
-            [ack(b'z', 1), ask_health(600), ask_health(600)],
-            2,
-        ),
+        ("nothing", [idle(), idle(), idle()], 2),
+        ("an ack of the target", [ack(b'c', 1), idle(), idle()], 0),
+        ("an ack of a helper", [ack(b'e', 1), idle(), idle()], 0),
+        ("an ack of a stranger", [ack(b'z', 1), idle(), idle()], 2),
         (
             "an ack of another number",
-            [ack(b'c', 2), ask_health(600), ask_health(600)],
+            [ack(b'c', 2), idle(), idle()],
             2,
         ),
         (
@@ -200,31 +196,24 @@ fn counts_acks_and_nacks(rt: HostRuntime) {
             [nack(b'd'), nack(b'e'), nack(b'f')],
             1,
         ),
-        (
-            "two nacks of one helper",
-            [nack(b'd'), nack(b'd'), nack(b'f')],
-            2,
-        ),
+        ("two nacks of one", [nack(b'd'), nack(b'd'), nack(b'f')], 2),
         (
             "a nack of the target",
             [nack(b'c'), nack(b'e'), nack(b'f')],
             2,
         ),
     ];
-    for (case, events, score) in rows {
+    for (case, steps, score) in &rows {
         let mut detector = opened(&rt, rt.alloc());
         play_on(&rt, &mut detector, case, &asked());
-        let [one, two, three] = events;
-        let steps = [
-            Takes(one),
-            Takes(two),
-            Takes(three),
+        play_on(&rt, &mut detector, case, steps);
+        let after = [
             first(1000),
             Fired(Some(round_end(1000))),
             Takes(ask_health(1000)),
-            health(score, 5),
+            health(*score, 5),
         ];
-        play_on(&rt, &mut detector, case, &steps);
+        play_on(&rt, &mut detector, case, &after);
     }
 }
 
