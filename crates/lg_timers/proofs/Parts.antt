@@ -103,17 +103,17 @@ without-ends number at k rows =
     without-found (RelayEnd k) (λ r. record { deadline = at (number r); id = RelayEnd (number r) }) (λ r. number r == k) rows (λ r. has_end (at (number r)) (number r) k)
 
 -- timers in four parts, where one id is cancelled: each part without it
-pub without-parts : (id : TimerId) (A B C D A2 B2 C2 D2 : List Timer) → without_timer id A ≡ A2 → without_timer id B ≡ B2 → without_timer id C ≡ C2 → without_timer id D ≡ D2
-    → without_timer id (in_turn (A ++ (B ++ (C ++ D)))) ≡ in_turn (A2 ++ (B2 ++ (C2 ++ D2)))
-without-parts id A B C D A2 B2 C2 D2 a b c d = without-in_turn id (A ++ (B ++ (C ++ D))) ∙ ap in_turn all
+pub without-parts : (id : TimerId) (A B C D E F G H : List Timer) → without_timer id A ≡ E → without_timer id B ≡ F → without_timer id C ≡ G → without_timer id D ≡ H
+    → without_timer id (in_turn (A ++ (B ++ (C ++ D)))) ≡ in_turn (E ++ (F ++ (G ++ H)))
+without-parts id A B C D E F G H a b c d = without-in_turn id (A ++ (B ++ (C ++ D))) ∙ ap in_turn all
   where
-    last : without_timer id (C ++ D) ≡ C2 ++ D2
+    last : without_timer id (C ++ D) ≡ G ++ H
     last = filter-append (λ t. not (has_id id t)) C D ∙ (λ i. c i ++ d i)
 
-    later : without_timer id (B ++ (C ++ D)) ≡ B2 ++ (C2 ++ D2)
+    later : without_timer id (B ++ (C ++ D)) ≡ F ++ (G ++ H)
     later = filter-append (λ t. not (has_id id t)) B (C ++ D) ∙ (λ i. b i ++ last i)
 
-    all : without_timer id (A ++ (B ++ (C ++ D))) ≡ A2 ++ (B2 ++ (C2 ++ D2))
+    all : without_timer id (A ++ (B ++ (C ++ D))) ≡ E ++ (F ++ (G ++ H))
     all = filter-append (λ t. not (has_id id t)) A (B ++ (C ++ D)) ∙ (λ i. a i ++ later i)
 
 -- a timer that stands behind some others in no order

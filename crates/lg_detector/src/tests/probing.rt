@@ -1,8 +1,8 @@
 //! Rounds of probing. b is opened at 0.
 use super::Step::{Answers, Changed, Fired, Known, Next, Pings, Sends, Sent, Takes, Ticks};
 use super::{
-    Step, alive, ask_health, at, direct, failed, from, letter, local, opened, opening, ping, play,
-    play_blank, play_on, round_end, round_start, said, suspect, suspicion,
+    Step, alive, ask_health, at, config, direct, failed, from, letter, local, opened, opening,
+    ping, play, play_blank, play_on, round_end, round_start, said, suspect, suspicion,
 };
 use crate::{Answer, Event};
 use lg_packet::{Body, Packet};
@@ -120,47 +120,126 @@ fn suspects_who_does_not_ack(rt: HostRuntime) {
     play(&rt, rt.alloc(), "c", &steps);
 }
 
-/// Among c, d, e and f, c is probed: d, f and e are asked, in this order, one word for each.
-fn asked() -> [Step; 8] {
-    let known = [
-        alive(b'c', 0),
-        alive(b'd', 0),
-        alive(b'e', 0),
-        alive(b'f', 0),
-    ];
+/// The claim that a member is alive at a port.
+fn at_port(member: u8, port: u16) -> Claim {
+    Claim {
+        addr: local(port),
+        ..alive(member, 0)
+    }
+}
+
+/// c, d, e and f are known, each at a port of its own.
+fn four() -> [Claim; 4] {
     [
-        Takes(ping(0, 1, b'z', &known)),
-        first(0),
-        Next(500),
-        ticks(500, [3, 4, 9, 7, 0, 0, 0, 0]),
-        Fired(Some(direct(500))),
-        Sends(3),
-        Next(1000),
-        Known(b'c', Some(alive(b'c', 0))),
+        at_port(b'c', 7003),
+        at_port(b'd', 7004),
+        at_port(b'e', 7005),
+        at_port(b'f', 7006),
     ]
 }
 
+/// c is probed, and d, e and f are asked to help.
+fn asked() -> [Step; 5] {
+    [
+        Takes(ping(0, 1, b'z', &four())),
+        first(0),
+        first(500),
+        Fired(Some(direct(500))),
+        Sends(3),
+    ]
+}
+
+/// A request to ping c at port 7003 goes to a port, and has the claims on all four.
+fn asks(index: usize, port: u16) -> Step {
+    let body = Body::PingReq {
+        number: 1,
+        target: letter(b'c'),
+        addr: local(7003),
+    };
+    Sent(index, port, body, said(&four()))
+}
+
+/// Each word picks one of the helpers that are left, in the order of names: f, d and then e.
 #[test]
 fn asks_helpers(rt: HostRuntime) {
-    let mut detector = opened(&rt, rt.alloc());
-    play_on(&rt, &mut detector, "asked", &asked());
-    let known = [
-        alive(b'c', 0),
-        alive(b'd', 0),
-        alive(b'e', 0),
-        alive(b'f', 0),
-    ];
-    let mut other = opened(&rt, rt.alloc());
     let steps = [
+        Takes(ping(0, 1, b'z', &four())),
+        first(0),
+        ticks(500, [5, 0, 9, 7, 0, 0, 0, 0]),
+        Sends(3),
+        asks(0, 7006),
+        asks(1, 7004),
+        asks(2, 7005),
+        Next(1000),
+    ];
+    play(&rt, rt.alloc(), "three helpers", &steps);
+}
+
+/// The opening of b with a configuration that asks no helpers.
+fn opening_without_helpers() -> Event {
+    let mut config = config();
+    config.indirect = 0;
+    Event::Open { now: at(0), config }
+}
+
+#[test]
+fn asks_who_can_help(rt: HostRuntime) {
+    let known = [alive(b'c', 0), suspect(b'd', 0, b'a'), failed(b'e', 0)];
+    let suspected = [
         Takes(ping(0, 1, b'z', &known)),
         first(0),
-        ticks(500, [3, 4, 9, 7, 0, 0, 0, 0]),
-        Sent(0, 7000, request(1, b'c'), said(&known)),
-        Sent(1, 7000, request(1, b'c'), said(&known)),
-        Sent(2, 7000, request(1, b'c'), said(&known)),
-        Sends(3),
+        Pings(1, b'c'),
+        first(500),
+        Sends(1),
     ];
-    play_on(&rt, &mut other, "three helpers", &steps);
+    play(
+        &rt,
+        rt.alloc(),
+        "a suspect helps, who failed doesn't",
+        &suspected,
+    );
+    let none = [
+        Takes(opening_without_helpers()),
+        Takes(ping(0, 1, b'z', &four())),
+        first(0),
+        first(500),
+        Fired(Some(direct(500))),
+        Sends(0),
+        first(1000),
+        Fired(Some(round_end(1000))),
+        Takes(ask_health(1000)),
+        health(1, 5),
+    ];
+    play_blank(&rt, rt.alloc(), "no helper is asked", &none);
+}
+
+/// A target that has failed meanwhile: its Ack counts, and where none comes, the round marks and nobody is suspected.
+#[test]
+fn a_target_that_failed(rt: HostRuntime) {
+    let acked = [
+        Takes(ping(0, 1, b'z', &[alive(b'c', 0)])),
+        first(0),
+        Takes(ping(100, 2, b'z', &[failed(b'c', 0)])),
+        Takes(from(200, b'c', 7000, Body::Ack { number: 1 })),
+        Next(1000),
+        first(1000),
+        Fired(Some(round_end(1000))),
+        Takes(ask_health(1000)),
+        health(0, 1),
+    ];
+    play(&rt, rt.alloc(), "an Ack", &acked);
+    let silent = [
+        Takes(ping(0, 1, b'z', &[alive(b'c', 0)])),
+        first(0),
+        Takes(ping(100, 2, b'z', &[failed(b'c', 0)])),
+        first(500),
+        Fired(Some(direct(500))),
+        Ticks(1000, Some(round_end(1000)), said(&[]), 1000),
+        Known(b'c', Some(failed(b'c', 0))),
+        Takes(ask_health(1000)),
+        health(1, 1),
+    ];
+    play(&rt, rt.alloc(), "no Ack", &silent);
 }
 
 /// An Ack by a number, at 600.
@@ -280,21 +359,13 @@ fn counts_a_round_from_its_start(rt: HostRuntime) {
     play_blank(&rt, rt.alloc(), "the greatest moment", &steps);
 }
 
-/// The claim that a member is alive at port 7003.
-fn moved(member: u8) -> Claim {
-    Claim {
-        addr: local(7003),
-        ..alive(member, 0)
-    }
-}
-
 /// A Ping goes to the address of the record.
 #[test]
 fn pings_the_recorded_address(rt: HostRuntime) {
     let steps = [
-        Takes(ping(0, 1, b'z', &[moved(b'c')])),
+        Takes(ping(0, 1, b'z', &[at_port(b'c', 7003)])),
         first(0),
-        Sent(0, 7003, ping_of(1, b'c'), said(&[moved(b'c')])),
+        Sent(0, 7003, ping_of(1, b'c'), said(&[at_port(b'c', 7003)])),
     ];
     play(&rt, rt.alloc(), "at 7003", &steps);
 }
