@@ -1,5 +1,6 @@
 //! Worked events of the detector b at 127.0.0.1:7000, which hears from port 1.
 mod ask;
+mod between;
 mod claims;
 mod comparing;
 mod copies;

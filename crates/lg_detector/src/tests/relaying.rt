@@ -1,6 +1,8 @@
 //! Relays. b is opened at 0, and its first round starts at 0 with nobody to choose.
 use super::Step::{Fired, Next, Sends, Takes};
-use super::{Step, at, from, letter, local, opened, play, play_on, said, sent, suspect, tick_at};
+use super::{
+    Step, at, from, letter, local, opened, ping, play, play_on, said, sent, suspect, tick_at,
+};
 use crate::Event;
 use lg_packet::{Body, Packet};
 use lg_timers::{Timer, TimerId};
@@ -117,6 +119,36 @@ fn refuses_beyond_64(rt: HostRuntime) {
         sent(0, 7003, pinged(65)),
     ];
     play_on(&rt, &mut detector, "64 relays", &full);
+}
+
+/// A relay is opened at the latest moment that was handed in, where that of its request is earlier. Its target's Ack is
+/// passed on at any moment.
+#[test]
+fn counts_from_the_latest_moment(rt: HostRuntime) {
+    let steps = [
+        Takes(tick_at(0)),
+        Takes(ping(700, 1, b'b', &[])),
+        requested(510, 1, b'c'),
+        requested(600, 2, b'c'),
+        Next(1000),
+        Takes(tick_at(1000)),
+        Next(1100),
+        Takes(tick_at(1050)),
+        Fired(None),
+        Takes(tick_at(1100)),
+        nack(1100, 1),
+        Takes(tick_at(300)),
+        nack(1100, 2),
+        Next(1700),
+        Takes(from(20, b'c', 7003, Body::Ack { number: 2 })),
+        sent(0, 7001, Body::Ack { number: 2 }),
+        Takes(tick_at(1699)),
+        Fired(None),
+        Takes(tick_at(1700)),
+        end(1700, 1),
+        Next(2000),
+    ];
+    play(&rt, rt.alloc(), "moments out of order", &steps);
 }
 
 /// The claims of a request are said before its target is pinged, so its target's record goes with the Ping.
