@@ -17,12 +17,12 @@ fn ticks(now: u64, words: [u32; 8]) -> Step {
 }
 
 /// A tick whose words choose the first candidates.
-fn first(now: u64) -> Step {
+pub(super) fn first(now: u64) -> Step {
     ticks(now, [0; 8])
 }
 
-/// The answer to the question for the health.
-fn health(score: u64, members: u64) -> Step {
+/// The answer to the question for the health, where the own number is 0.
+pub(super) fn health(score: u64, members: u64) -> Step {
     Answers(Some(Answer::Health {
         score,
         number: Incarnation::default(),
@@ -39,7 +39,7 @@ fn ping_of(number: u32, member: u8) -> Body {
 }
 
 /// A request to ping the member of a letter at port 7000.
-fn request(number: u32, member: u8) -> Body {
+pub(super) fn request(number: u32, member: u8) -> Body {
     Body::PingReq {
         number,
         target: letter(member),
@@ -47,7 +47,7 @@ fn request(number: u32, member: u8) -> Body {
     }
 }
 
-/// The seed c, which is suspected by d at 2000, is probed at 2000. Nobody can help.
+/// c, which is suspected by d at 2000, is probed at 2000. Nobody can help.
 #[test]
 fn probes_a_suspect(rt: HostRuntime) {
     let record = said(&[suspect(b'c', 0, b'd')]);
@@ -74,6 +74,7 @@ fn probes_a_suspect(rt: HostRuntime) {
     let later = [
         Takes(ping(4000, 1, b'b', &[suspect(b'c', 0, b'd')])),
         first(8000),
+        Fired(Some(round_start(0))),
         Next(8500),
         Ticks(8500, Some(direct(8500)), said(&[]), 9000),
         Ticks(9500, Some(round_end(9000)), said(&[]), 9000),
@@ -129,7 +130,7 @@ fn at_port(member: u8, port: u16) -> Claim {
 }
 
 /// c, d, e and f are known, each at a port of its own.
-fn four() -> [Claim; 4] {
+pub(super) fn four() -> [Claim; 4] {
     [
         at_port(b'c', 7003),
         at_port(b'd', 7004),
@@ -139,7 +140,7 @@ fn four() -> [Claim; 4] {
 }
 
 /// c is probed, and d, e and f are asked to help.
-fn asked() -> [Step; 5] {
+pub(super) fn asked() -> [Step; 5] {
     [
         Takes(ping(0, 1, b'z', &four())),
         first(0),
@@ -182,23 +183,44 @@ fn opening_without_helpers() -> Event {
     Event::Open { now: at(0), config }
 }
 
+/// c is probed. d, which is suspected, helps; e, which has failed, doesn't.
 #[test]
 fn asks_who_can_help(rt: HostRuntime) {
-    let known = [alive(b'c', 0), suspect(b'd', 0, b'a'), failed(b'e', 0)];
-    let suspected = [
-        Takes(ping(0, 1, b'z', &known)),
+    let three = [
+        at_port(b'c', 7000),
+        at_port(b'd', 7004),
+        at_port(b'e', 7005),
+    ];
+    let then = [
+        Claim {
+            addr: local(7004),
+            ..suspect(b'd', 0, b'a')
+        },
+        Claim {
+            addr: local(7005),
+            ..failed(b'e', 0)
+        },
+    ];
+    let steps = [
+        Takes(ping(0, 1, b'z', &three)),
+        Takes(ping(0, 2, b'z', &then)),
         first(0),
         Pings(1, b'c'),
         first(500),
         Sends(1),
+        Sent(
+            0,
+            7004,
+            request(1, b'c'),
+            said(&[three[0], then[0], then[1]]),
+        ),
     ];
-    play(
-        &rt,
-        rt.alloc(),
-        "a suspect helps, who failed doesn't",
-        &suspected,
-    );
-    let none = [
+    play(&rt, rt.alloc(), "one helper", &steps);
+}
+
+#[test]
+fn asks_no_helpers(rt: HostRuntime) {
+    let steps = [
         Takes(opening_without_helpers()),
         Takes(ping(0, 1, b'z', &four())),
         first(0),
@@ -210,7 +232,82 @@ fn asks_who_can_help(rt: HostRuntime) {
         Takes(ask_health(1000)),
         health(1, 5),
     ];
-    play_blank(&rt, rt.alloc(), "no helper is asked", &none);
+    play_blank(&rt, rt.alloc(), "no helper is asked", &steps);
+}
+
+/// The claims that the members of these letters are alive.
+fn six(members: [u8; 6]) -> [Claim; 6] {
+    members.map(|member| alive(member, 0))
+}
+
+/// Each packet of a reply takes those claims that were sent least, by the packets before it too.
+#[test]
+fn fills_one_after_another(rt: HostRuntime) {
+    let steps = [
+        Takes(ping(0, 1, b'z', &six(*b"cdefgh"))),
+        Takes(ping(0, 1, b'z', &[alive(b'i', 0), alive(b'j', 0)])),
+        first(0),
+        Sent(0, 7000, ping_of(1, b'c'), said(&six(*b"cdefgh"))),
+        first(500),
+        Sends(3),
+        Sent(0, 7000, request(1, b'c'), said(&six(*b"ijcdef"))),
+        Sent(1, 7000, request(1, b'c'), said(&six(*b"ghijcd"))),
+        Sent(2, 7000, request(1, b'c'), said(&six(*b"efghij"))),
+    ];
+    play(&rt, rt.alloc(), "eight claims", &steps);
+}
+
+/// The timers of a round stand as they were set at its start, whatever becomes of the score meanwhile.
+#[test]
+fn takes_the_score_at_the_start(rt: HostRuntime) {
+    let steps = [
+        Takes(ping(0, 1, b'z', &[alive(b'c', 0)])),
+        first(0),
+        Takes(ping(100, 2, b'z', &[suspect(b'b', 0, b'a')])),
+        Next(500),
+        first(500),
+        Fired(Some(direct(500))),
+        Next(1000),
+        Takes(ping(600, 3, b'z', &[suspect(b'b', 1, b'a')])),
+        Next(1000),
+        first(1000),
+        Fired(Some(round_end(1000))),
+        // The two refutations and the probe that failed make 3.
+        first(1000),
+        Fired(Some(round_start(1000))),
+        Next(3000),
+    ];
+    play(&rt, rt.alloc(), "two refutations", &steps);
+}
+
+/// The greatest score stays what it is, where a probe fails and a helper sends no Nack.
+#[test]
+fn a_score_of_eight(rt: HostRuntime) {
+    let six = [0, 1, 2, 3, 4, 5].map(|incarnation| suspect(b'b', incarnation, b'a'));
+    let two = [suspect(b'b', 6, b'a'), suspect(b'b', 7, b'a')];
+    let eight = Answer::Health {
+        score: 8,
+        number: Incarnation::new(8).unwrap_or_default(),
+        members: 3,
+    };
+    let steps = [
+        Takes(ping(0, 1, b'z', &[alive(b'c', 0), alive(b'd', 0)])),
+        Takes(ping(0, 2, b'z', &six)),
+        Takes(ping(0, 3, b'z', &two)),
+        first(0),
+        Next(4500),
+        first(4500),
+        Sends(1),
+        Next(9000),
+        first(9000),
+        Fired(Some(round_end(9000))),
+        Changed(said(&[suspect(b'c', 0, b'b')])),
+        Takes(ask_health(9000)),
+        Answers(Some(eight)),
+        first(9000),
+        Next(13_500),
+    ];
+    play(&rt, rt.alloc(), "eight refutations", &steps);
 }
 
 /// A target that has failed meanwhile: its Ack counts, and where none comes, the round marks and nobody is suspected.
@@ -240,89 +337,24 @@ fn a_target_that_failed(rt: HostRuntime) {
         health(1, 1),
     ];
     play(&rt, rt.alloc(), "no Ack", &silent);
-}
-
-/// An Ack by a number, at 600.
-fn ack(sender: u8, number: u32) -> Step {
-    Takes(from(600, sender, 7000, Body::Ack { number }))
-}
-
-/// A Nack by the number 1, at 600.
-fn nack(sender: u8) -> Step {
-    Takes(from(600, sender, 7000, Body::Nack { number: 1 }))
-}
-
-/// Nothing of the round.
-fn idle() -> Step {
-    Takes(ask_health(600))
-}
-
-/// What Acks and Nacks do once d, e and f were asked: the score after the round.
-#[test]
-fn counts_acks_and_nacks(rt: HostRuntime) {
-    let rows = [
-        ("nothing", [idle(), idle(), idle()], 2),
-        ("an ack of the target", [ack(b'c', 1), idle(), idle()], 0),
-        ("an ack of a helper", [ack(b'e', 1), idle(), idle()], 0),
-        ("an ack of a stranger", [ack(b'z', 1), idle(), idle()], 2),
-        (
-            "an ack of another number",
-            [ack(b'c', 2), idle(), idle()],
-            2,
-        ),
-        (
-            "each helper's nack",
-            [nack(b'd'), nack(b'e'), nack(b'f')],
-            1,
-        ),
-        ("two nacks of one", [nack(b'd'), nack(b'd'), nack(b'f')], 2),
-        (
-            "a nack of the target",
-            [nack(b'c'), nack(b'e'), nack(b'f')],
-            2,
-        ),
-    ];
-    for (case, steps, score) in &rows {
-        let mut detector = opened(&rt, rt.alloc());
-        play_on(&rt, &mut detector, case, &asked());
-        play_on(&rt, &mut detector, case, steps);
-        let after = [
-            first(1000),
-            Fired(Some(round_end(1000))),
-            Takes(ask_health(1000)),
-            health(*score, 5),
-        ];
-        play_on(&rt, &mut detector, case, &after);
-    }
-}
-
-/// An Ack that came before its sender was asked doesn't count, and one that counts cancels the asking.
-#[test]
-fn an_ack_counts_from_the_asking_on(rt: HostRuntime) {
-    let known = [alive(b'c', 0), alive(b'd', 0)];
-    let early = [
-        Takes(ping(0, 1, b'z', &known)),
+    let helped = [
+        Takes(ping(0, 1, b'z', &four())),
         first(0),
-        Takes(from(100, b'd', 7000, Body::Ack { number: 1 })),
-        Next(500),
+        Takes(ping(100, 2, b'z', &[failed(b'c', 0)])),
         first(500),
         Fired(Some(direct(500))),
-        Sends(1),
-        Sent(0, 7000, request(1, b'c'), said(&known)),
-        Takes(from(600, b'c', 7000, Body::Ack { number: 1 })),
-        Takes(from(600, b'c', 7000, Body::Ack { number: 1 })),
+        Sends(3),
+        // A helper that has failed meanwhile: its Ack counts.
+        Takes(ping(550, 3, b'z', &[failed(b'e', 0)])),
+        Takes(from(600, b'e', 7005, Body::Ack { number: 1 })),
         first(1000),
         Fired(Some(round_end(1000))),
-        Changed(said(&[])),
+        Takes(ask_health(1000)),
+        health(0, 3),
+        first(1000),
+        Pings(2, b'd'),
     ];
-    play(&rt, rt.alloc(), "early", &early);
-    let timely = [
-        Takes(ping(0, 1, b'z', &known)),
-        first(0),
-        Takes(from(100, b'c', 7000, Body::Ack { number: 1 })),
-        Next(1000),
-    ];
-    play(&rt, rt.alloc(), "timely", &timely);
+    play(&rt, rt.alloc(), "an Ack of a helper", &helped);
 }
 
 /// A member that joins in the middle of a round is a candidate at once, and one that failed is none.
@@ -347,7 +379,7 @@ fn chooses_each_in_turn(rt: HostRuntime) {
     play(&rt, rt.alloc(), "c, e and then d", &steps);
 }
 
-/// A tick of a detector that was just opened.
+/// A round counts from the greatest moment that was handed in.
 #[test]
 fn counts_a_round_from_its_start(rt: HostRuntime) {
     let steps = [

@@ -1,7 +1,8 @@
 //! Relays. b is opened at 0, and its first round starts at 0 with nobody to choose.
-use super::Step::{Fired, Next, Sends, Takes};
+use super::Step::{Fired, Next, Pings, Sends, Takes};
 use super::{
-    Step, at, from, letter, local, opened, ping, play, play_on, said, sent, suspect, tick_at,
+    Step, alive, at, from, letter, local, opened, ping, play, play_on, round_end, said, sent,
+    suspect, tick_at,
 };
 use crate::Event;
 use lg_packet::{Body, Packet};
@@ -87,6 +88,62 @@ fn ends_a_relay(rt: HostRuntime) {
         Sends(0),
     ];
     play(&rt, rt.alloc(), "no Ack", &steps);
+}
+
+/// An Ack in time cancels both timers of the relay, from whatever port it comes. A second one isn't passed on.
+#[test]
+fn acks_in_time(rt: HostRuntime) {
+    let steps = [
+        Takes(tick_at(0)),
+        requested(10, 7, b'c'),
+        Next(410),
+        Takes(from(100, b'c', 9999, Body::Ack { number: 1 })),
+        sent(0, 7001, Body::Ack { number: 7 }),
+        Next(1000),
+        Takes(from(110, b'c', 7003, Body::Ack { number: 1 })),
+        Sends(0),
+    ];
+    play(&rt, rt.alloc(), "an Ack in time", &steps);
+}
+
+/// The timers of a relay aren't scaled by the score, which two refutations have raised to 2.
+#[test]
+fn scales_no_relay(rt: HostRuntime) {
+    let refuted = [suspect(b'b', 0, b'a'), suspect(b'b', 1, b'a')];
+    let steps = [
+        Takes(ping(0, 1, b'z', &refuted)),
+        Takes(tick_at(0)),
+        Next(3000),
+        requested(10, 7, b'c'),
+        Next(410),
+        Takes(tick_at(410)),
+        nack(410, 1),
+        Next(1010),
+        Takes(tick_at(1010)),
+        end(1010, 1),
+        Next(3000),
+    ];
+    play(&rt, rt.alloc(), "a score of 2", &steps);
+}
+
+/// Probes and relays are numbered together.
+#[test]
+fn numbers_probes_and_relays_together(rt: HostRuntime) {
+    let steps = [
+        Takes(ping(0, 1, b'z', &[alive(b'c', 0)])),
+        Takes(tick_at(0)),
+        Pings(1, b'c'),
+        requested(10, 7, b'd'),
+        Pings(2, b'd'),
+        Takes(from(20, b'c', 7000, Body::Ack { number: 1 })),
+        Takes(tick_at(1000)),
+        nack(410, 2),
+        Takes(tick_at(1000)),
+        Fired(Some(round_end(1000))),
+        Takes(tick_at(1000)),
+        Pings(3, b'c'),
+    ];
+    play(&rt, rt.alloc(), "two probes and a relay", &steps);
 }
 
 #[test]
