@@ -1,6 +1,6 @@
 -- The facts of probing change the state as their definitions do: a timer fires, an Ack or a Nack comes, a relay is
 -- opened.
-use Rattle.std.proofs.Common.{◌≡◌, ℕ, ◌+◌, Bool, true, false, not, cond, ◌||◌, ◌&&◌, List, [], ◌∷◌, ◌++◌, Option, Some, None, option_map, inl, inr, refl, ◌∙◌, ap}
+use Rattle.std.proofs.Common.{◌≡◌, ℕ, ◌+◌, Bool, true, false, not, cond, ◌||◌, ◌&&◌, List, [], ◌∷◌, ◌++◌, Option, Some, None, option_map, inl, inr, refl, sym, ◌∙◌, ap}
 use Rattle.std.specs.Prelude.{ℤ, filter, is_some, ◌==◌}
 use Rattle.std.proofs.lemmas.Bool.{cases_Bool}
 use Rattle.lg_rules.specs.declared.addr.Addr.{Addr}
@@ -27,8 +27,8 @@ use Rattle.lg_detector.specs.Meaning.Timing.{earned, max_in, score, round_start,
 use Rattle.lg_detector.specs.Support.State as state
 use Rattle.lg_detector.specs.Support.State.{State, state_of, order_of, fire, fire_id, start_probe, marked_end, marked_ack, hear_ack, hear_nack, open_relay}
 use Rattle.lg_detector.proofs.OrderLaws.{order-chose, chosen-is}
-use Rattle.lg_detector.proofs.RelayLaws.{numbered, nacked-timers, closed-timers, ended-timers, opened-timers, nacks-opened, ends-opened}
-use Rattle.lg_detector.proofs.TimerLaws.{turned, runs, AreRound, are_round, start-set, probe-set, without-direct, first-direct, asked-timers, acked-timers}
+use Rattle.lg_detector.proofs.RelayLaws.{numbered, nacked-timers, closed-timers, ended-timers, opened-timers, nacks-opened, ends-opened, relays-opened, relays-acked, relays-closed}
+use Rattle.lg_detector.proofs.TimerLaws.{turned, nacks, ends, runs, AreRound, are_round, start-set, probe-set, without-direct, first-direct, asked-timers, acked-timers}
 
 -- what gives the deadlines of the relays of a log, and which of them sent no Nack
 abbrev nack_at : Log → ℕ → ℕ
@@ -175,7 +175,9 @@ nack-state d k words log =
 
 close-state : (d k : ℕ) (words : List ℕ) (log : Log) → state.close_relay k (state_of log) ≡ state_of (Fired (record { deadline = d; id = RelayEnd k }) words ∷ log)
 close-state d k words log =
-    let timers = closed-timers (round_timers log) (are log) (nack_at log) (relay_at log) (rows log) k (is_silent log) (relays log) in
+    let open_then = sym (relays-closed d k words log) in
+    let timers = closed-timers (round_timers log) (are log) (nack_at log) (relay_at log) (rows log) k (is_silent log) (relays log)
+    ∙ ap (λ rs. turned (round_timers log) (nacks (nack_at log) (filter (is_silent log) rs)) (ends (relay_at log) rs) (runs (rows log))) open_then in
     λ i. record {
       events = events log;
       moment = moment log;
@@ -184,7 +186,7 @@ close-state d k words log =
       order = order_of log;
       number = number log;
       round = round log;
-      relays = filter (λ r. not (has_number k r)) (relays log);
+      relays = open_then i;
       membership = known.state_of (group_log log);
     }
 
@@ -225,13 +227,15 @@ ack-state k sender log =
     let first = is_first k sender (round log) in
     let A = timing.probe_timers (end_at log) (direct_at log) (probe log) (Acked k sender ∷ since_start log) ++ timing.start_timers (round_start log) in
     let score = ack-mark first (max_in (group.config (group_log log))) (earned log) in
+    let open_then = sym (relays-acked k sender log) in
     let direct : state.without_direct first (pending log) ≡ turned A (nack_timers log) (relay_timers log) (runs (rows log)) =
     first-direct (nack_at log) (relay_at log) silent (relays log) (rows log) first (round_timers log)
     ∙ ap (λ ts. turned ts (nack_timers log) (relay_timers log) (runs (rows log)))
     (acked-timers (end_at log) (direct_at log) (probe log) (since_start log) k sender (round_start log)) in
     let timers = ap (state.without_ended (is_some (ended_asker k sender (relays log))) k) direct
     ∙ ended-timers A (are_round (end_at log) (direct_at log) (probe log) (Acked k sender ∷ since_start log) (round_start log)) (nack_at log) (relay_at log) (rows log) k sender (is_silent log) (relays log)
-    (numbered log).apart in
+    (numbered log).apart
+    ∙ ap (λ rs. turned A (nacks (nack_at log) (filter (is_silent log) rs)) (ends (relay_at log) rs) (runs (rows log))) open_then in
     λ i. record {
       events = events log;
       moment = moment log;
@@ -240,7 +244,7 @@ ack-state k sender log =
       order = order_of log;
       number = number log;
       round = acked-round (probe log) (since_start log) k sender i;
-      relays = filter (λ r. not (is_ended k sender r)) (relays log);
+      relays = open_then i;
       membership = known.state_of (group_log log);
     }
 
@@ -274,7 +278,7 @@ nack-heard k sender log =
 pub relayed-state : (target : List ℕ) (asker : Addr) (asked : ℕ) (log : Log) → open_relay target asker asked (state_of log) ≡ state_of (Relayed target asker asked ∷ log)
 unfolding open_relay
 relayed-state target asker asked log =
-    let r = new_relay (number log) target asker asked in
+    let open_then = sym (relays-opened target asker asked log) in
     let timers = opened-timers (round_timers log) (are log) (nack_at log) (relay_at log) (rows log) (number log) (state.nack_later (state_of log)) (state.relay_later (state_of log)) (is_silent log) (relays log)
     (numbered log).below
     ∙ (λ i. turned (round_timers log) (nacks-opened target asker asked log i) (ends-opened target asker asked log i) (runs (rows log))) in
@@ -286,6 +290,6 @@ relayed-state target asker asked log =
       order = order_of log;
       number = number log + 1;
       round = round log;
-      relays = relays log ++ r ∷ [];
+      relays = open_then i;
       membership = known.state_of (group_log log);
     }

@@ -1,5 +1,5 @@
 -- The relays of a log: their numbers, and what becomes of their timers.
-use Rattle.std.proofs.Common.{◌≡◌, ◌≢◌, ℕ, ◌+◌, ◌<◌, ◌≤◌, Bool, true, false, not, ◌&&◌, eqb, cond, List, [], ◌∷◌, ◌++◌, map, None, inl, inr, refl, sym, ◌∙◌, ap, arith}
+use Rattle.std.proofs.Common.{◌≡◌, ◌≢◌, ℕ, ◌+◌, ◌<◌, ◌≤◌, Bool, true, false, not, ◌&&◌, eqb, cond, List, [], ◌∷◌, ◌++◌, map, None, inl, inr, refl, sym, ◌∙◌, ap, subst, arith}
 use Rattle.std.specs.Prelude.{filter, is_some, ◌==◌}
 use Rattle.std.specs.List.{list_any}
 use Rattle.std.proofs.lemmas.Bool.{cases_Bool, eq-eqb}
@@ -14,17 +14,28 @@ use Rattle.lg_timers.specs.declared.timer.TimerId.TheVariants.{RelayNack, RelayE
 use Rattle.lg_timers.specs.Meaning.Timers.{has_id, with_timer, without_timer}
 use Rattle.lg_timers.proofs.Parts.{without-parts, with-second, with-third, without-map, without-nacks, without-ends, filter-swap, filter-both}
 use Rattle.lg_probe.specs.declared.relays.Relay.{Relay}
-use Rattle.lg_probe.specs.Meaning.Relays.{AreApart, has_number, is_ended, is_open, asker_at, ended_asker}
+use Rattle.lg_probe.specs.Meaning.Relays.{Opened, TargetAcked, Closed, AreApart, has_number, is_ended, is_open, asker_at, ended_asker}
+use Rattle.lg_probe.proofs.OpenRelays.{relays_after-push}
 use Rattle.lg_probe.proofs.RelayLaws.{apart-opened, apart-fewer}
 use Rattle.lg_membership.specs.declared.suspected.Suspected.{Suspected}
 use Rattle.lg_membership.specs.Meaning.Log as group
 use Rattle.lg_detector.specs.Meaning.Log.{Log, Came, Fired, AckHeard, NackHeard, Relayed, OfGroup, moment, group_log}
 use Rattle.lg_detector.specs.Meaning.Probing.{number, starts}
-use Rattle.lg_detector.specs.Meaning.Relaying.{relays, new_relay, opened_at, has_nacked}
+use Rattle.lg_detector.specs.Meaning.Relaying.{relay_past, relays, new_relay, opened_at, has_nacked}
 use Rattle.lg_detector.specs.Meaning.Timing.{nack_timer, relay_timer, suspicion_timer, nack_timers, relay_timers, nack_time, relay_time}
 use Rattle.lg_detector.specs.Support.State.{without_relay, without_ended, with_relay}
 use Rattle.lg_detector.proofs.EndedRelays.{found, missed, ended-none, ended-number}
 use Rattle.lg_detector.proofs.TimerLaws.{turned, nacks, ends, runs, AreRound}
+
+-- the relays that are open after one is opened, after an Ack, and after the end of one
+pub relays-opened : (target : List ℕ) (asker : Addr) (asked : ℕ) (log : Log) → relays (Relayed target asker asked ∷ log) ≡ relays log ++ new_relay (number log) target asker asked ∷ []
+relays-opened target asker asked log = relays_after-push (Opened (new_relay (number log) target asker asked)) (relay_past log)
+
+pub relays-acked : (k : ℕ) (sender : List ℕ) (log : Log) → relays (AckHeard k sender ∷ log) ≡ filter (λ r. not (is_ended k sender r)) (relays log)
+relays-acked k sender log = relays_after-push (TargetAcked k sender) (relay_past log)
+
+pub relays-closed : (d k : ℕ) (words : List ℕ) (log : Log) → relays (Fired (record { deadline = d; id = RelayEnd k }) words ∷ log) ≡ filter (λ r. not (has_number k r)) (relays log)
+relays-closed d k words log = relays_after-push (Closed k) (relay_past log)
 
 other_number : (a b : ℕ) → a ≢ b → eqb a b ≡ false
 other_number a b other = elim (eqb_tells a b) [ inl same ↦ (let bad = other same.1 in absurd bad) | inr apart ↦ apart.0 ]
@@ -77,7 +88,12 @@ fired-numbered d Direct words log n = record { below = fired-below Direct words 
 fired-numbered d (RelayNack k) words log n = record { below = fired-below (RelayNack k) words log (relays log) n.below; apart = n.apart }
 fired-numbered d (RelayEnd k) words log n =
     let p : Relay → Bool = λ r. not (has_number k r) in
-    record { below = fired-below (RelayEnd k) words log (filter p (relays log)) (below-fewer _ p (relays log) n.below); apart = apart-fewer p (relays log) n.apart }
+    let after : Log = Fired (record { deadline = d; id = RelayEnd k }) words ∷ log in
+    let are = sym (relays-closed d k words log) in
+    record {
+      below = subst (Below (number after)) are (fired-below (RelayEnd k) words log (filter p (relays log)) (below-fewer _ p (relays log) n.below));
+      apart = subst AreApart are (apart-fewer p (relays log) n.apart);
+    }
 fired-numbered d RoundStart words log n = record { below = fired-below RoundStart words log (relays log) n.below; apart = n.apart }
 
 pub numbered : (log : Log) → IsNumbered log
@@ -86,13 +102,18 @@ numbered (Came now ∷ log) = record { below = (numbered log).below; apart = (nu
 numbered (Fired timer words ∷ log) = fired-numbered timer.deadline timer.id words log (numbered log)
 numbered (AckHeard k sender ∷ log) =
     let p : Relay → Bool = λ r. not (is_ended k sender r) in
-    record { below = below-fewer _ p (relays log) (numbered log).below; apart = apart-fewer p (relays log) (numbered log).apart }
+    let are = sym (relays-acked k sender log) in
+    record {
+      below = subst (Below (number log)) are (below-fewer _ p (relays log) (numbered log).below);
+      apart = subst AreApart are (apart-fewer p (relays log) (numbered log).apart);
+    }
 numbered (NackHeard k sender ∷ log) = record { below = (numbered log).below; apart = (numbered log).apart }
 numbered (Relayed target asker asked ∷ log) =
     let r = new_relay (number log) target asker asked in
+    let are = sym (relays-opened target asker asked log) in
     record {
-      below = below-opened (number log) r (relays log) refl (numbered log).below;
-      apart = apart-opened (relays log) r (not_open (number log) (relays log) (numbered log).below) (numbered log).apart;
+      below = subst (Below (number log + 1)) are (below-opened (number log) r (relays log) refl (numbered log).below);
+      apart = subst AreApart are (apart-opened (relays log) r (not_open (number log) (relays log) (numbered log).below) (numbered log).apart);
     }
 numbered (OfGroup (group.Opened opening) ∷ log) = record { below = tt; apart = tt }
 numbered (OfGroup (group.Said now origin c) ∷ log) = record { below = (numbered log).below; apart = (numbered log).apart }
@@ -220,6 +241,7 @@ nacks-opened target asker asked log =
     (λ i. (ap (map before) silent ∙ mapped) i ++ last i)
     ∙ sym (map-append now (filter (is_silent after) (relays log)) (filter (is_silent after) (r ∷ [])))
     ∙ ap (map now) (sym (filter-append (is_silent after) (relays log) (r ∷ [])))
+    ∙ ap (λ rs. map now (filter (is_silent after) rs)) (sym (relays-opened target asker asked log))
 
 pub ends-opened : (target : List ℕ) (asker : Addr) (asked : ℕ) (log : Log)
     → relay_timers log ++ relay_timer (moment log + relay_time (group.config (group_log log))) (number log) ∷ [] ≡ relay_timers (Relayed target asker asked ∷ log)
@@ -233,4 +255,4 @@ ends-opened target asker asked log =
     let mapped : map before (relays log) ≡ map now (relays log) =
     agree-map before now n (relays log) (λ r lt. ap (λ d. relay_timer (d + later) r.number) (sym (older n (moment log) (opened_at log r.number) r.number lt))) (numbered log).below in
     let last : relay_timer (moment log + later) n ∷ [] ≡ map now (r ∷ []) = ap (λ d. relay_timer (d + later) n ∷ []) (sym (itself n (moment log) (opened_at log n))) in
-    (λ i. mapped i ++ last i) ∙ sym (map-append now (relays log) (r ∷ []))
+    (λ i. mapped i ++ last i) ∙ sym (map-append now (relays log) (r ∷ [])) ∙ ap (map now) (sym (relays-opened target asker asked log))

@@ -4,5 +4,6 @@ pub mod Candidates
 pub mod Joining
 pub mod RoundLaws
 pub mod Picking
+pub mod OpenRelays
 pub mod RelayLaws
 pub mod WindowLaws

@@ -1,3 +1,4 @@
 -- What only carries the proofs.
 pub mod Helpers
 pub mod Order
+pub mod Relays

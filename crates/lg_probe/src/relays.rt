@@ -1,7 +1,8 @@
 //! Relays.
 ghost use Rattle.std.specs.Prelude.{◌≡◌, ◌<◌, ◌≤◌, List, [], ◌∷◌, length, None, position};
-ghost use Rattle.lg_probe.specs.Meaning.Relays.{RelayFact, Opened, TargetAcked, Closed, relays_with, relays_after};
+ghost use Rattle.lg_probe.specs.Meaning.Relays.{RelayFact, Opened, TargetAcked, Closed, relays_after};
 ghost use Rattle.lg_probe.specs.Meaning.Relays.{AreApart, asker_at, ended_asker, has_number, is_ended, is_open};
+ghost use Rattle.lg_probe.specs.Support.Relays.{relays_with};
 
 use arrayvec::ArrayVec;
 use lg_rules::{Addr, Name};

@@ -13,7 +13,8 @@ use Rattle.lg_timers.specs.declared.timer.TimerId.TheVariants.{RelayNack, RelayE
 use Rattle.lg_timers.specs.Meaning.Timers.{with_timer, without_timer}
 use Rattle.lg_probe.specs.declared.relays.Relay.{Relay}
 use Rattle.lg_probe.specs.Meaning.Order.{OrderValue, Joined, Left, Chose, choice, order_with}
-use Rattle.lg_probe.specs.Meaning.Relays.{Opened, TargetAcked, Closed, relays_with, ended_asker}
+use Rattle.lg_probe.specs.Meaning.Relays.{Opened, TargetAcked, Closed, ended_asker}
+use Rattle.lg_probe.specs.Support.Relays.{relays_with}
 use Rattle.lg_probe.specs.Meaning.Round.{RoundValue, Asked, Acked, Nacked, mark_of, round_of, round_with}
 use Rattle.lg_membership.specs.declared.applied.Deadline.{Deadline}
 use Rattle.lg_membership.specs.declared.applied.Deadline.TheVariants.{Stays, Ends, Stands}

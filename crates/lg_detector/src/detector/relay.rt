@@ -2,7 +2,8 @@
 //! 3.1; Lifeguard, local health aware probe).
 ghost use Rattle.std.specs.Prelude.{◌≡◌, ◌<◌, ◌≤◌, ◌+◌, [], ◌∷◌, length, option_copied, is_some};
 ghost use Rattle.lg_timers.specs.Meaning.Timers.{with_timer, without_timer};
-ghost use Rattle.lg_probe.specs.Meaning.Relays.{asker_at, ended_asker, relays_with, TargetAcked};
+ghost use Rattle.lg_probe.specs.Meaning.Relays.{asker_at, ended_asker, TargetAcked};
+ghost use Rattle.lg_probe.specs.Support.Relays.{relays_with};
 ghost use Rattle.lg_membership.specs.Support.Reached.{IsGood};
 ghost use Rattle.lg_detector.specs.Meaning.Timing.{nack_time, relay_time};
 ghost use Rattle.lg_detector.specs.Meaning.Tick.{nack_to};

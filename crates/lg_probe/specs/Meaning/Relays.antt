@@ -1,15 +1,17 @@
--- The relays that are open: probes of a target for another member, which is told of its ack (SWIM, section 3.1).
-use Rattle.std.specs.Prelude.{ℕ, ⊤, ◌≡◌, Bool, false, ◌&&◌, not, ◌==◌, List, [], ◌∷◌, ◌++◌, filter, find, Option}
+-- The relays that are open: probes of a target for another member, which is told of the target's ack (SWIM, section
+-- 3.1).
+use Rattle.std.specs.Prelude.{ℕ, ⊤, ◌≡◌, Bool, false, ◌&&◌, ◌==◌, List, [], ◌∷◌, ◌++◌, find, Option, if◌then◌else◌}
 use Rattle.std.specs.List.{AllByRecursion, list_any}
 use Rattle.std.specs.Option.{option_map}
 use Rattle.lg_rules.specs.declared.addr.Addr.{Addr}
 use Rattle.lg_rules.specs.Meaning.Rows.{name_cmp, is_same}
 use Rattle.lg_probe.specs.declared.relays.Relay.{Relay}
 
--- whom an ack is told, and by which number
+-- the asker of a relay, and the number by which it asked
 abbrev pub asker_of : Relay → Addr × ℕ
 asker_of r = (r.asker, r.asked)
 
+-- whether a relay has a number
 abbrev pub has_number : ℕ → Relay → Bool
 has_number number r = r.number == number
 
@@ -17,9 +19,11 @@ has_number number r = r.number == number
 abbrev pub is_ended : ℕ → List ℕ → Relay → Bool
 is_ended number sender r = r.number == number && is_same name_cmp r.target sender
 
+-- the open relay of a number
 abbrev pub relay_at : ℕ → List Relay → Option Relay
 relay_at number relays = find (has_number number) relays
 
+-- its asker, and the number by which that asked
 abbrev pub asker_at : ℕ → List Relay → Option (Addr × ℕ)
 asker_at number relays = option_map asker_of (relay_at number relays)
 
@@ -28,10 +32,11 @@ abbrev pub AreApart : List Relay → Type 0
 AreApart [] = ⊤
 AreApart (r ∷ rs) = AllByRecursion (λ s. (r.number == s.number) ≡ false) rs × AreApart rs
 
+-- whether the relay of a number is open
 abbrev pub is_open : ℕ → List Relay → Bool
 is_open number relays = list_any (has_number number) relays
 
--- whom an ack is told that comes to these relays
+-- the asker of the open relay that an ack of a number from a sender ends, and the number by which that asked
 abbrev pub ended_asker : ℕ → List ℕ → List Relay → Option (Addr × ℕ)
 ended_asker number sender relays = option_map asker_of (find (is_ended number sender) relays)
 
@@ -41,14 +46,20 @@ pub data RelayFact : Type 0 where
   TargetAcked : ℕ → List ℕ → RelayFact
   Closed : ℕ → RelayFact
 
--- these relays after one more fact
-abbrev pub relays_with : List Relay → RelayFact → List Relay
-relays_with relays (Opened r) = relays ++ r ∷ []
-relays_with relays (TargetAcked number sender) = filter (λ r. not (is_ended number sender r)) relays
-relays_with relays (Closed number) = filter (λ r. not (has_number number r)) relays
+-- whether a fact ends a relay: an ack of its number from its target, or its closing
+abbrev pub ends : Relay → RelayFact → Bool
+ends r (Opened other) = false
+ends r (TargetAcked number sender) = is_ended number sender r
+ends r (Closed number) = has_number number r
 
--- The relays that were opened, and since then neither closed nor ended by their target's ack, in the order in which
--- they were opened. A past has the latest fact first.
+-- A past has the latest fact first. The relays that were opened in a past, each unless a fact after its opening ended
+-- it, in that past or later; in the order in which they were opened.
+abbrev pub relays_since : List RelayFact → List RelayFact → List Relay
+relays_since later [] = []
+relays_since later (Opened r ∷ past) =
+    relays_since (Opened r ∷ later) past ++ (if list_any (ends r) later then [] else r ∷ [])
+relays_since later (fact ∷ past) = relays_since (fact ∷ later) past
+
+-- the relays that are open after a past: those that were opened, and that no fact since their opening ended
 abbrev pub relays_after : List RelayFact → List Relay
-relays_after [] = []
-relays_after (fact ∷ past) = relays_with (relays_after past) fact
+relays_after past = relays_since [] past

@@ -3,7 +3,8 @@ use Rattle.std.specs.Prelude.{filter, position}
 use Rattle.std.specs.Option.{option_map}
 use Rattle.std.proofs.lemmas.Option.{slice_get_read}
 use Rattle.lg_probe.specs.declared.relays.Relay.{Relay}
-use Rattle.lg_probe.specs.Meaning.Relays.{AreApart, asker_of, is_ended, ended_asker}
+use Rattle.lg_probe.specs.Meaning.Relays.{AreApart, TargetAcked, asker_of, is_ended, ended_asker}
+use Rattle.lg_probe.proofs.OpenRelays.{relays_after-push}
 use Rattle.lg_probe.proofs.RelayLaws.{apart-fewer, ended_number, HasOne, has_one, HasNone, has_none}
 use Rattle.lg_probe.proofs.relays.Relays.ack.Goals as goal
 
@@ -19,7 +20,7 @@ pub returns-in_err-place-clause-relays : goal.returns-in_err-place-clause-relays
 returns-in_err-place-clause-relays c = sym (none c).others
 
 pub returns-in_err-place-clause-past : goal.returns-in_err-place-clause-past
-returns-in_err-place-clause-past c = λ past e. sym (none c).others ∙ ap (filter (λ (r : Relay). not (is_ended c.args.number c.args.sender.now r))) e
+returns-in_err-place-clause-past c = λ past e. sym (none c).others ∙ ap (filter (λ (r : Relay). not (is_ended c.args.number c.args.sender.now r))) e ∙ sym (relays_after-push (TargetAcked c.args.number c.args.sender.now) past)
 
 one : (c : goal.After-result-1) → HasOne (is_ended c.args.number c.args.sender.now) c.self.inside.open.items c.in_ok-place.place
 one c =
@@ -40,4 +41,4 @@ pub returns-clause-relays : goal.returns-clause-relays
 returns-clause-relays c = c.remove-relay.ensures.items ∙ sym (one c).others ∙ ap (filter (λ (r : Relay). not (is_ended c.args.number c.args.sender.now r))) c.self.view_is
 
 pub returns-clause-past : goal.returns-clause-past
-returns-clause-past c = λ past e. returns-clause-relays c ∙ ap (filter (λ (r : Relay). not (is_ended c.args.number c.args.sender.now r))) e
+returns-clause-past c = λ past e. returns-clause-relays c ∙ ap (filter (λ (r : Relay). not (is_ended c.args.number c.args.sender.now r))) e ∙ sym (relays_after-push (TargetAcked c.args.number c.args.sender.now) past)

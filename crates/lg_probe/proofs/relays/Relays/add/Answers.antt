@@ -1,6 +1,7 @@
-use Rattle.std.proofs.Common.{◌≡◌, None, List, subst, sym}
+use Rattle.std.proofs.Common.{◌≡◌, None, List, [], ◌∷◌, ◌++◌, subst, sym, ap, ◌∙◌}
 use Rattle.lg_probe.specs.declared.relays.Relay.{Relay}
-use Rattle.lg_probe.specs.Meaning.Relays.{AreApart, asker_at}
+use Rattle.lg_probe.specs.Meaning.Relays.{AreApart, Opened, asker_at}
+use Rattle.lg_probe.proofs.OpenRelays.{relays_after-push}
 use Rattle.lg_probe.proofs.RelayLaws.{none_open, apart-opened}
 use Rattle.lg_probe.proofs.relays.Relays.add.Goals as goal
 
@@ -9,3 +10,8 @@ invariant_of-self c =
     let relay : Relay = record { number = c.args.number; target = c.args.target.now; asker = c.args.asker; asked = c.args.asked } in
     let free = subst (λ (rs : List Relay). asker_at c.args.number rs ≡ None) (sym c.self.view_is) c.requires.apart in
     subst AreApart (sym c.push.ensures.items) (apart-opened c.self.inside.open.items relay (none_open c.args.number c.self.inside.open.items free) c.self.invariant)
+
+pub returns-clause-past : goal.returns-clause-past
+returns-clause-past c = λ past e.
+    let relay : Relay = record { number = c.args.number; target = c.args.target.now; asker = c.args.asker; asked = c.args.asked } in
+    c.push.ensures.items ∙ ap (λ rs. rs ++ relay ∷ []) (c.self.view_is ∙ e) ∙ sym (relays_after-push (Opened relay) past)

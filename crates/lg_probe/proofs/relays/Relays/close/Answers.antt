@@ -1,7 +1,8 @@
 use Rattle.std.proofs.Common.{not, ap, ◌∙◌, subst, sym}
 use Rattle.std.specs.Prelude.{filter, position}
 use Rattle.lg_probe.specs.declared.relays.Relay.{Relay}
-use Rattle.lg_probe.specs.Meaning.Relays.{AreApart, has_number, is_open}
+use Rattle.lg_probe.specs.Meaning.Relays.{AreApart, Closed, has_number, is_open}
+use Rattle.lg_probe.proofs.OpenRelays.{relays_after-push}
 use Rattle.lg_probe.proofs.RelayLaws.{apart-fewer, HasOne, has_one, HasNone, has_none}
 use Rattle.lg_probe.proofs.relays.Relays.close.Goals as goal
 
@@ -21,7 +22,7 @@ pub returns-in-Some-clause-relays : goal.returns-in-Some-clause-relays
 returns-in-Some-clause-relays c = c.remove.ensures.items ∙ sym (one c).others ∙ ap (filter (λ (r : Relay). not (has_number c.args.number r))) c.self.view_is
 
 pub returns-in-Some-clause-past : goal.returns-in-Some-clause-past
-returns-in-Some-clause-past c = λ past e. returns-in-Some-clause-relays c ∙ ap (filter (λ (r : Relay). not (has_number c.args.number r))) e
+returns-in-Some-clause-past c = λ past e. returns-in-Some-clause-relays c ∙ ap (filter (λ (r : Relay). not (has_number c.args.number r))) e ∙ sym (relays_after-push (Closed c.args.number) past)
 
 none : (c : goal.In-None) → HasNone (has_number c.args.number) c.args.self.now
 none c =
@@ -35,4 +36,4 @@ pub returns-in-None-clause-relays : goal.returns-in-None-clause-relays
 returns-in-None-clause-relays c = sym (none c).others
 
 pub returns-in-None-clause-past : goal.returns-in-None-clause-past
-returns-in-None-clause-past c = λ past e. sym (none c).others ∙ ap (filter (λ (r : Relay). not (has_number c.args.number r))) e
+returns-in-None-clause-past c = λ past e. sym (none c).others ∙ ap (filter (λ (r : Relay). not (has_number c.args.number r))) e ∙ sym (relays_after-push (Closed c.args.number) past)
