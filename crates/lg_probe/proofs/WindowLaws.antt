@@ -218,6 +218,9 @@ window_after past words m named many = ap (is_among name_cmp m) (choices-are pas
 pub nobody_after : (past : List OrderFact) (words : List ℕ) → names_after past ≡ [] → choices_after past words ≡ []
 nobody_after past words none = choices-are past words ∙ ap (λ ns. choices ns (round_after past) words) none ∙ choices-none (round_after past) words
 
+pub nobody_picked : (names : List (List ℕ)) (words : List ℕ) → names ≡ [] → picks names words ≡ []
+nobody_picked names words none = ap (λ ns. picks ns words) none ∙ nobody_after [] words refl
+
 -- later choices, and the first of some, are choices by the words at their places
 drop-choices : (names round : List (List ℕ)) (i : ℕ) (words : List ℕ) (m : List ℕ) → is_among name_cmp m names ≡ true → (r : List (List ℕ)) × (drop i (choices names round words) ≡ choices names r (drop i words))
 unfolding choices

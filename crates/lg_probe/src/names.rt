@@ -1,4 +1,4 @@
-//! Names in their order.
+//! Rows of names: finding a name, putting one in, and taking one out.
 ghost use Rattle.std.specs.Prelude.{◌≡◌, ◌+◌, ◌≤◌, ◌<◌, false, ◌++◌, length, MatchResult};
 ghost use Rattle.std.specs.List.{prefix_len};
 ghost use Rattle.std.specs.Ordering.{is_lt};

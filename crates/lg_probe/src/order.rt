@@ -101,7 +101,7 @@ impl Order {
         }
     }
 
-    /// The names that have joined and not left, in their order.
+    /// The names that have joined and not left, at most 255, in the order of names (SWIM, section 4.3).
     pub fn names(&self) -> &[Name]
         ensures names { result.now ≡ self.now.names }
         ensures few { length result.now ≤ MAX_OTHERS }
@@ -110,7 +110,7 @@ impl Order {
         self.names.as_slice()
     }
 
-    /// The names chosen in the current round, in their order.
+    /// The names chosen in the current round, at most 255, in the order of names (SWIM, section 4.3).
     pub fn chosen(&self) -> &[Name]
         ensures chosen { result.now ≡ self.now.chosen }
         ensures few { length result.now ≤ MAX_OTHERS }
@@ -185,13 +185,15 @@ fn push_chosen(chosen: &mut Vec<Name>, name: Option<Name>) -> Result<(), AllocEr
     Ok(())
 }
 
-/// Whom words choose one after another of some names, at most 255; a name that stands there twice counts once. Memory
-/// is taken for the choices, one a word, and an error says that it was refused.
+/// Whom words choose one after another of some names, at most 255, in rounds that choose each name once (SWIM, section
+/// 4.3). A name that stands there twice counts once, and with no names nobody is chosen. Memory is taken for the
+/// choices, one a word, and an error says that it was refused.
 pub fn choose_all(alloc: Global, names: &[Name], words: &[u32]) -> Result<Vec<Name>, AllocError>
     requires { length names.now ≤ MAX_OTHERS }
     ensures chosen { IfOk result (λ chosen. chosen.items ≡ picks names.now words.now) }
     // Any 2p - 1 choices in a row have each of p names.
     ensures windows { IfOk result (λ chosen. EachInWindows names.now words.now chosen.items) }
+    ensures none { IfOk result (λ chosen. names.now ≡ [] → chosen.items ≡ []) }
 {
     let mut order = order_of(names);
     let mut chosen = Vec::new(alloc);
@@ -201,14 +203,15 @@ pub fn choose_all(alloc: Global, names: &[Name], words: &[u32]) -> Result<Vec<Na
     Ok(chosen)
 }
 
-/// An order has room for a name with which at most 255 names have ever joined.
+/// An order has room for a name with which at most 255 names have ever joined (this project's choice). This is a law,
+/// and the call does nothing.
 pub fn orders_have_room()
     ensures { (past : List OrderFact) (name : List ℕ) → length (ever_joined (Joined name ∷ past)) ≤ MAX_OTHERS
         → length (put_key name_cmp name (known_names (order_after past))) ≤ MAX_OTHERS }
 {}
 
-/// While the names stay the same, any 2p - 1 choices in a row choose each of p names, from any state of a round on.
-/// With no names nobody is chosen.
+/// While the names stay the same, any 2p - 1 choices in a row choose each of p names, from any state of a round on
+/// (SWIM, section 4.3). With no names nobody is chosen. This is a law, and the call does nothing.
 pub fn windows_have_each()
     ensures each { (past : List OrderFact) (words : List ℕ) (name : List ℕ)
         → is_among name_cmp name (names_after past) ≡ true → window (names_after past) ≤ length words

@@ -11,7 +11,8 @@ use std::marker::Model;
 /// The most relays that are open at once: 64 (this project's choice).
 pub const MAX_RELAYS: usize = 64;
 
-/// A probe of a target for another member, its asker.
+/// A probe of a target for another member, its asker, which is told of the target's ack (SWIM, section 3.1), or that
+/// none came yet (Lifeguard, local health aware probe).
 #[derive(Clone, Copy, Debug, Default, PartialEq, Eq)]
 pub struct Relay {
     /// The number of the probe.

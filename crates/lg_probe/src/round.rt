@@ -1,5 +1,5 @@
 //! A round of probing.
-ghost use Rattle.std.specs.Prelude.{◌≡◌, List, [], ◌∷◌};
+ghost use Rattle.std.specs.Prelude.{◌≡◌, ◌≤◌, List, [], ◌∷◌, length};
 ghost use Rattle.lg_probe.specs.Meaning.Round.{RoundFact, Asked, Acked, Nacked, ack_counts, is_first_ack, nack_counts};
 ghost use Rattle.lg_probe.specs.Meaning.Round.{is_acked, mark_of, round_of, round_with, silent_in};
 
@@ -70,9 +70,10 @@ impl Round {
         self.acked
     }
 
-    /// The helpers that were asked.
+    /// The helpers that were asked last, at most 8, in the order in which they were picked.
     pub fn asked(&self) -> &[Name]
-        ensures { result.now ≡ self.now.asked }
+        ensures asked { result.now ≡ self.now.asked }
+        ensures few { length result.now ≤ MAX_HELPERS }
     {
         self.asked.as_slice()
     }

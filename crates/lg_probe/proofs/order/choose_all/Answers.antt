@@ -1,7 +1,7 @@
-use Rattle.std.proofs.Common.{subst, sym, refl, arith}
+use Rattle.std.proofs.Common.{subst, sym, ◌∙◌, refl, arith}
 use Rattle.lg_probe.proofs.Joining.{none_chosen, next_chosen, all_chosen}
 use Rattle.lg_probe.specs.Meaning.Order.{EachInWindows}
-use Rattle.lg_probe.proofs.WindowLaws.{window_picked}
+use Rattle.lg_probe.proofs.WindowLaws.{nobody_picked, window_picked}
 use Rattle.lg_probe.proofs.order.choose_all.Goals as goal
 
 pub loop-word-init : goal.loop-word-init
@@ -19,4 +19,5 @@ returns c =
     record {
       chosen = chosen;
       windows = subst (EachInWindows names words) (sym chosen) (λ name i named within. window_picked names words name i named within);
+      none = λ empty. chosen ∙ nobody_picked names words empty;
     }
