@@ -10,4 +10,5 @@ pub mod Applying
 pub mod Ticking
 pub mod Sending
 pub mod StepLaws
+pub mod WindowLaws
 pub mod Accepting

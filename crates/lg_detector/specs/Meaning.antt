@@ -5,6 +5,7 @@
 pub mod Log
 -- the rounds of probing and the relays, read off the log
 pub mod Probing
+pub mod Window
 pub mod Relaying
 -- the score and the timers that are set, read off the log
 pub mod Timing

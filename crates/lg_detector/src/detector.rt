@@ -1,7 +1,12 @@
 //! The detector: what it keeps, which events it accepts, and the two calls that lead it on by one, `step` and `absorb`.
 //! Each kind of event is a file of its own.
-ghost use Rattle.std.specs.Prelude.{◌≡◌, ◌++◌, [], ◌∷◌, List, IfOk, IsTrue, true, false};
+ghost use Rattle.std.specs.Prelude.{◌≡◌, ℕ, ◌≤◌, ◌++◌, [], ◌∷◌, List, length, IfOk, IsTrue, true, false};
+ghost use Rattle.lg_rules.specs.Meaning.Rows.{name_cmp, is_among};
+ghost use Rattle.lg_probe.specs.Meaning.Order.{window};
 ghost use Rattle.lg_detector.specs.declared.event.Event.{Event as Happened};
+ghost use Rattle.lg_detector.specs.Meaning.Log.{Log};
+ghost use Rattle.lg_detector.specs.Meaning.Probing.{others};
+ghost use Rattle.lg_detector.specs.Meaning.Window.{targets, AreOthers};
 ghost use Rattle.lg_detector.specs.Meaning.Step.{is_accepted, is_open, opens_well, reply_after};
 ghost use Rattle.lg_detector.specs.Support.Step as state;
 ghost use Rattle.lg_detector.specs.Support.Step.{accepts_at, accepts_of, state_after};
@@ -205,4 +210,14 @@ pub fn states_lead_on()
     ensures next { (f : List Happened) (e : Happened) → IsTrue (accepts_of (state_after f) e)
         → state.step (state_after f) e ≡ state_after (f ++ e ∷ []) }
     ensures reply { (f : List Happened) (e : Happened) → state.reply (state_after f) e ≡ reply_after f e }
+{}
+
+/// While the others that haven't failed stay the same and have p names, any 2p - 1 rounds in a row that choose a target
+/// choose each of them (SWIM, section 4.3; the p here is one less than the number of members there). With no names
+/// nobody is chosen.
+pub fn windows_have_each()
+    ensures each { (log stretch : Log) (name : List ℕ) → AreOthers (others log) stretch log
+        → is_among name_cmp name (others log) ≡ true → window (others log) ≤ length (targets stretch log)
+        → is_among name_cmp name (targets stretch log) ≡ true }
+    ensures none { (log stretch : Log) → AreOthers [] stretch log → targets stretch log ≡ [] }
 {}

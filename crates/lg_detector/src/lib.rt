@@ -15,7 +15,7 @@ mod event;
 mod message;
 mod reply;
 
-pub use detector::{Detector, MAX_EVENTS, NoMemory, states_lead_on};
+pub use detector::{Detector, MAX_EVENTS, NoMemory, states_lead_on, windows_have_each};
 pub use event::Event;
 pub use lg_rules::MAX_MEMBERS;
 pub use lg_timers::{Timer, TimerId};

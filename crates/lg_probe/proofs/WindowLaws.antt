@@ -104,7 +104,7 @@ chooses word [] l = absurd (omega arith)
 chooses word (x ∷ xs) l = (get_or (x ∷ xs) (word % length (x ∷ xs)) x, slice_get-get_or (x ∷ xs) (word % length (x ∷ xs)) x (mod-lt word l))
 
 -- the same names, and the state of the round
-choices : List (List ℕ) → List (List ℕ) → List ℕ → List (List ℕ)
+unfoldable pub choices : List (List ℕ) → List (List ℕ) → List ℕ → List (List ℕ)
 choices names round [] = []
 choices names round (word ∷ words) = option_to_list (choice names round word) ++ choices names (next_round names round word) words
 
@@ -113,7 +113,7 @@ unfolding choices
 choices-are past [] = refl
 choices-are past (word ∷ words) = ap (λ ns. option_to_list (choice_after past word) ++ ns) (choices-are (Chose word ∷ past) words)
 
-choices-none : (round : List (List ℕ)) (words : List ℕ) → choices [] round words ≡ []
+pub choices-none : (round : List (List ℕ)) (words : List ℕ) → choices [] round words ≡ []
 unfolding choices
 choices-none round [] = refl
 choices-none round (word ∷ words) = choices-none [] words
@@ -206,7 +206,7 @@ two_rounds names round (word ∷ words) m named few = elim (cases_Bool (is_over 
 ]
 
 -- from any state of the round
-in_window : (names round : List (List ℕ)) (words : List ℕ) (m : List ℕ) → is_among name_cmp m names ≡ true → 2 * length names ≤ length words + 1 → is_among name_cmp m (choices names round words) ≡ true
+pub in_window : (names round : List (List ℕ)) (words : List ℕ) (m : List ℕ) → is_among name_cmp m names ≡ true → 2 * length names ≤ length words + 1 → is_among name_cmp m (choices names round words) ≡ true
 in_window names round words m named many = elim (cases_Bool (is_among name_cmp m round)) [
   | inl chosen ↦ two_rounds names round words m named (omega (arith, many, left-less names round m named chosen))
   | inr fresh ↦ rest_of_round names round words m named fresh (omega (arith, many, left-le names round, among-some m names named))

@@ -107,15 +107,3 @@ expire_sends (Some timer) words log =
 
 abbrev pub sends_at : ℕ → List ℕ → Log → List Outgoing
 sends_at now words log = expire_sends (due (come now log)) words (come now log)
-
--- whom it chooses, where it starts a round
-abbrev pub chosen_by : TimerId → List ℕ → Log → Option (List ℕ)
-chosen_by RoundStart words log = chosen words log
-chosen_by _ words log = None
-
-abbrev pub expire_chosen : Option Timer → List ℕ → Log → Option (List ℕ)
-expire_chosen None words log = None
-expire_chosen (Some timer) words log = chosen_by timer.id words log
-
-abbrev pub chosen_at : ℕ → List ℕ → Log → Option (List ℕ)
-chosen_at now words log = expire_chosen (due (come now log)) words (come now log)
