@@ -10,7 +10,7 @@ use Rattle.lg_detector.specs.Meaning.Log.{Log, Came, Fired, OfGroup, moment}
 abbrev pub come : ℕ → Log → Log
 come now log = Came now ∷ log
 
--- a claim is said at the moment that it is
+-- a claim is said, at the moment of the log
 abbrev pub apply : Origin → Claim → Log → Log
 apply origin c log = OfGroup (group.Said (moment log) origin c) ∷ log
 

@@ -1,4 +1,4 @@
--- The events Ask and Health: questions, which change nothing but the moment.
+-- The events Ask and Health: questions, which change nothing but the moment and the number of events.
 use Rattle.std.specs.Prelude.{ℕ, List}
 use Rattle.lg_rules.specs.Meaning.Claim.{name_of}
 use Rattle.lg_rules.specs.Meaning.Rows.{name_cmp, row_at}

@@ -6,7 +6,8 @@ use Rattle.lg_timing.specs.declared.config.Config.{Config}
 use Rattle.lg_timers.specs.declared.timer.TimerId.{TimerId}
 use Rattle.lg_timers.specs.declared.timer.TimerId.TheVariants.{RoundEnd, Direct, RoundStart}
 use Rattle.lg_probe.specs.Meaning.Helpers.{picked}
-use Rattle.lg_probe.specs.Meaning.Order.{choice, next_round, without}
+use Rattle.lg_probe.specs.Meaning.Order as order
+use Rattle.lg_probe.specs.Meaning.Order.{candidate, next_round, without}
 use Rattle.lg_probe.specs.Meaning.Round.{RoundFact, RoundValue, Asked, Acked, Nacked, round_of}
 use Rattle.lg_membership.specs.Meaning.Log as group
 use Rattle.lg_detector.specs.Meaning.Log.{Log, Fired, AckHeard, NackHeard, Relayed, OfGroup, group_log}
@@ -20,7 +21,7 @@ abbrev pub others : Log → List (List ℕ)
 others log = group.live_others (group_log log)
 
 -- The names chosen in the current round, the latest first: those chosen since the last start of a round that found no
--- candidate, its own choice included. Candidates are the others that aren't among these names.
+-- candidate, its own choice included.
 abbrev pub first_word : List ℕ → ℕ
 first_word words = slice_index words 0
 
@@ -33,9 +34,13 @@ round_names (Fired timer words ∷ log) =
     else round_names log
 round_names (_ ∷ log) = round_names log
 
+-- The candidates of the next start of a round: the others that aren't among these names; all of them, where each is.
+abbrev pub candidates : Log → List (List ℕ)
+candidates log = order.candidates (others log) (order.current_round (others log) (round_names log))
+
 -- whom a start of a round with these words chooses: the candidate at the first word modulo their number
 abbrev pub chosen : List ℕ → Log → Option (List ℕ)
-chosen words log = choice (others log) (round_names log) (first_word words)
+chosen words log = candidate (first_word words) (candidates log)
 
 -- Whether a start of a round with these words starts a probe.
 abbrev pub starts : TimerId → List ℕ → Log → Bool

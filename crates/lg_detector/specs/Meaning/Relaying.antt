@@ -52,6 +52,6 @@ has_nacked (Fired timer words ∷ log) k = is_nack_of k timer.id || has_nacked l
 has_nacked (Relayed target asker asked ∷ log) k = if number log == k then false else has_nacked log k
 has_nacked (_ ∷ log) k = has_nacked log k
 
--- whether a PingReq for a target opens a relay: it isn't for oneself, and there is room
+-- whether as many relays are open as may be
 abbrev pub is_full : List Relay → Bool
 is_full open_ones = length open_ones == most_relays
