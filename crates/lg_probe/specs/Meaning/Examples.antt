@@ -1,11 +1,13 @@
 -- The definitions at worked values.
-use Rattle.std.specs.Prelude.{◌≡◌, ℕ, ℤ, pos, List, [], ◌∷◌, Some, None, refl}
+use Rattle.std.specs.Prelude.{◌≡◌, ◌≤◌, ℕ, ℤ, pos, true, false, List, [], ◌∷◌, Some, None, refl}
 use Rattle.lg_rules.specs.declared.addr.Addr.{Addr}
 use Rattle.lg_probe.specs.declared.relays.Relay.{Relay}
 use Rattle.lg_probe.specs.Meaning.Helpers.{picked}
-use Rattle.lg_probe.specs.Meaning.Relays.{Opened, TargetAcked, Closed, ended_asker, relays_after}
-use Rattle.lg_probe.specs.Meaning.Round.{RoundFact, Asked, Acked, Nacked, is_acked, mark_of, silent_in}
-use Rattle.lg_probe.specs.Meaning.Order.{OrderFact, Joined, Left, Chose}
+use Rattle.lg_probe.specs.Meaning.Relays.{Opened, TargetAcked, Closed, asker_at, ended_asker, ends, is_open, relay_at}
+use Rattle.lg_probe.specs.Meaning.Relays.{relays_after}
+use Rattle.lg_probe.specs.Meaning.Round.{RoundFact, Asked, Acked, Nacked, RoundValue, is_acked, is_first_ack, mark_of}
+use Rattle.lg_probe.specs.Meaning.Round.{nack_counts, round_of, silent_in}
+use Rattle.lg_probe.specs.Meaning.Order.{OrderFact, Joined, Left, Chose, EachInWindows, ever_joined, known_names, window}
 use Rattle.lg_probe.specs.Meaning.Order.{picks, choices_after, choice_after, order_after}
 
 abbrev a : List ℕ
@@ -70,6 +72,37 @@ stays_over = refl
 comes_back : choice_after (Joined d ∷ Left d ∷ chose_c) 1 ≡ Some b
 comes_back = refl
 
+-- who has left has joined all the same, and counts once
+ever : ever_joined (Joined b ∷ Left b ∷ Chose 1 ∷ Joined c ∷ Left d ∷ Joined b ∷ Joined d ∷ []) ≡ b ∷ c ∷ d ∷ []
+ever = refl
+
+nobody_joined : ever_joined (Left d ∷ Chose 1 ∷ []) ≡ []
+nobody_joined = refl
+
+-- of b, c and d, of which c and d were chosen, d has left
+known : known_names record { names = b ∷ c ∷ []; chosen = c ∷ d ∷ [] } ≡ b ∷ c ∷ d ∷ []
+known = refl
+
+known_after : known_names (order_after (Left d ∷ chose_c)) ≡ b ∷ c ∷ d ∷ []
+known_after = refl
+
+window_of_none : window [] ≡ 0
+window_of_none = refl
+
+window_of_one : window (a ∷ []) ≡ 1
+window_of_one = refl
+
+window_of_three : window (b ∷ c ∷ d ∷ []) ≡ 5
+window_of_three = refl
+
+-- where there are no names, each of them is in every window
+each_of_none : EachInWindows [] (0 ∷ 7 ∷ []) []
+each_of_none name i named within = named
+
+-- the first three of the choices a, a, a and b don't have b, so not each is in each window
+without_b : EachInWindows (a ∷ b ∷ []) (0 ∷ 0 ∷ 0 ∷ 1 ∷ []) (a ∷ a ∷ a ∷ b ∷ []) → 3 ≤ 4 → false ≡ true
+without_b each within = each b 0 refl within
+
 -- of c, d, e and f the words 5, 5 and 5 pick d, then f of c, e and f, and then e of c and e
 three_helpers : picked 3 (5 ∷ 5 ∷ 5 ∷ 0 ∷ []) (c ∷ d ∷ e ∷ f ∷ []) ≡ d ∷ f ∷ e ∷ []
 three_helpers = refl
@@ -109,6 +142,54 @@ helper_acks = refl
 acks_in_vain : mark_in (Acked 3 e ∷ Acked 2 a ∷ Asked (c ∷ d ∷ []) ∷ Acked 3 c ∷ []) ≡ pos 2
 acks_in_vain = refl
 
+-- the round, once c and d are asked
+abbrev asking : RoundValue
+asking = record { number = 3; target = a; asked = c ∷ d ∷ []; silent = c ∷ d ∷ []; acked = false }
+
+begun : round_of 3 a [] ≡ record { number = 3; target = a; asked = []; silent = []; acked = false }
+begun = refl
+
+both_asked : round_of 3 a asks ≡ asking
+both_asked = refl
+
+c_nacked : round_of 3 a (Acked 3 e ∷ Nacked 3 e ∷ Nacked 3 c ∷ asks) ≡ record asking { silent = d ∷ [] }
+c_nacked = refl
+
+d_acked : round_of 3 a (Acked 3 d ∷ Nacked 2 c ∷ asks) ≡ record asking { acked = true }
+d_acked = refl
+
+-- who was asked later is asked in the place of those before, and hasn't sent a nack yet
+asked_anew :
+    round_of 3 a (Asked (d ∷ e ∷ []) ∷ Nacked 3 d ∷ asks) ≡ record asking { asked = d ∷ e ∷ []; silent = d ∷ e ∷ [] }
+asked_anew = refl
+
+first_of_target : is_first_ack asking 3 a ≡ true
+first_of_target = refl
+
+first_of_helper : is_first_ack asking 3 d ≡ true
+first_of_helper = refl
+
+first_of_another : is_first_ack asking 3 e ≡ false
+first_of_another = refl
+
+first_of_another_number : is_first_ack asking 4 a ≡ false
+first_of_another_number = refl
+
+second_ack : is_first_ack record asking { acked = true } 3 a ≡ false
+second_ack = refl
+
+nack_of_helper : nack_counts asking 3 c ≡ true
+nack_of_helper = refl
+
+nack_of_target : nack_counts asking 3 a ≡ false
+nack_of_target = refl
+
+nack_of_another_number : nack_counts asking 2 c ≡ false
+nack_of_another_number = refl
+
+second_nack : nack_counts record asking { silent = d ∷ [] } 3 c ≡ false
+second_nack = refl
+
 -- a asks by its number 9 that c is probed, which is done by the number 4
 abbrev at_port : ℕ → Addr
 at_port port = record { octets = 127 ∷ 0 ∷ 0 ∷ 1 ∷ []; port = port }
@@ -128,5 +209,55 @@ another_sender = refl
 one_left : relays_after (TargetAcked 4 c ∷ TargetAcked 5 c ∷ Opened to_d ∷ Opened to_c ∷ []) ≡ to_d ∷ []
 one_left = refl
 
-none_left : relays_after (Closed 5 ∷ TargetAcked 4 c ∷ Opened to_d ∷ Opened to_c ∷ []) ≡ []
-none_left = refl
+-- c's relay is opened, then d's; the ack of the first comes; the time of the second runs out
+one_open : relays_after (Opened to_c ∷ []) ≡ to_c ∷ []
+one_open = refl
+
+both_open : relays_after (Opened to_d ∷ Opened to_c ∷ []) ≡ to_c ∷ to_d ∷ []
+both_open = refl
+
+first_acked : relays_after (TargetAcked 4 c ∷ Opened to_d ∷ Opened to_c ∷ []) ≡ to_d ∷ []
+first_acked = refl
+
+second_closed : relays_after (Closed 5 ∷ TargetAcked 4 c ∷ Opened to_d ∷ Opened to_c ∷ []) ≡ []
+second_closed = refl
+
+-- what came before its opening doesn't end a relay
+opened_since : relays_after (Opened to_c ∷ TargetAcked 4 c ∷ Closed 4 ∷ Opened to_c ∷ []) ≡ to_c ∷ []
+opened_since = refl
+
+ended_by_ack : ends to_c (TargetAcked 4 c) ≡ true
+ended_by_ack = refl
+
+not_by_another : ends to_c (TargetAcked 4 d) ≡ false
+not_by_another = refl
+
+not_by_another_number : ends to_c (TargetAcked 5 c) ≡ false
+not_by_another_number = refl
+
+ended_by_closing : ends to_c (Closed 4) ≡ true
+ended_by_closing = refl
+
+not_by_another_closing : ends to_c (Closed 5) ≡ false
+not_by_another_closing = refl
+
+not_by_opening : ends to_c (Opened to_d) ≡ false
+not_by_opening = refl
+
+the_second : relay_at 5 (to_c ∷ to_d ∷ []) ≡ Some to_d
+the_second = refl
+
+no_sixth : relay_at 6 (to_c ∷ to_d ∷ []) ≡ None
+no_sixth = refl
+
+asker_of_first : asker_at 4 (to_c ∷ to_d ∷ []) ≡ Some (at_port 7000, 9)
+asker_of_first = refl
+
+asker_of_none : asker_at 9 (to_c ∷ to_d ∷ []) ≡ None
+asker_of_none = refl
+
+second_is_open : is_open 5 (to_c ∷ to_d ∷ []) ≡ true
+second_is_open = refl
+
+sixth_is_open : is_open 6 (to_c ∷ to_d ∷ []) ≡ false
+sixth_is_open = refl
