@@ -52,14 +52,14 @@ ends r (Opened other) = false
 ends r (TargetAcked number sender) = is_ended number sender r
 ends r (Closed number) = has_number number r
 
--- A past has the latest fact first. The relays that were opened in a past, each unless a fact after its opening ended
--- it, in that past or later; in the order in which they were opened.
+-- A past has the latest fact first. The relays that were opened in a past, and that no fact since their opening ended,
+-- neither one of that past nor a later one; in the order in which they were opened.
 abbrev pub relays_since : List RelayFact → List RelayFact → List Relay
 relays_since later [] = []
 relays_since later (Opened r ∷ past) =
     relays_since (Opened r ∷ later) past ++ (if list_any (ends r) later then [] else r ∷ [])
 relays_since later (fact ∷ past) = relays_since (fact ∷ later) past
 
--- the relays that are open after a past: those that were opened, and that no fact since their opening ended
+-- the relays that are open after a past
 abbrev pub relays_after : List RelayFact → List Relay
 relays_after past = relays_since [] past
