@@ -1,5 +1,5 @@
 -- The definitions at worked values.
-use Rattle.std.specs.Prelude.{◌≡◌, ℕ, [], ◌∷◌, Some, None, refl}
+use Rattle.std.specs.Prelude.{◌≡◌, ℕ, true, false, List, [], ◌∷◌, Some, None, refl}
 use Rattle.lg_timers.specs.declared.timer.Timer.{Timer}
 use Rattle.lg_timers.specs.declared.timer.TimerId.{TimerId}
 use Rattle.lg_timers.specs.declared.timer.TimerId.TheVariants.{
@@ -10,7 +10,7 @@ use Rattle.lg_timers.specs.declared.timer.TimerId.TheVariants.{
   RelayEnd,
   RoundStart,
 }
-use Rattle.lg_timers.specs.Meaning.Timers.{in_turn, due_of, without_timer}
+use Rattle.lg_timers.specs.Meaning.Timers.{is_set, in_turn, due_of, without_timer, left_by}
 
 abbrev at : ℕ → TimerId → Timer
 at deadline id = record { deadline = deadline; id = id }
@@ -18,12 +18,18 @@ at deadline id = record { deadline = deadline; id = id }
 -- by deadline, then by kind, then by name or number
 in_their_order :
     in_turn
-    (at 9 RoundStart ∷ at 9 (RelayEnd 7) ∷ at 9 (RelayEnd 6) ∷ at 9 (Suspicion (98 ∷ 97 ∷ []))
+    (at 9 RoundStart ∷ at 9 (RelayEnd 7) ∷ at 9 (RelayEnd 6) ∷ at 9 (RelayNack 8) ∷ at 9 (Suspicion (98 ∷ 97 ∷ []))
     ∷ at 9 (Suspicion (98 ∷ [])) ∷ at 9 RoundEnd ∷ at 8 Direct ∷ [])
     ≡ at 8 Direct ∷ at 9 RoundEnd ∷ at 9 (Suspicion (98 ∷ [])) ∷ at 9 (Suspicion (98 ∷ 97 ∷ []))
-    ∷ at 9 (RelayEnd 6) ∷ at 9 (RelayEnd 7) ∷ at 9 RoundStart ∷ []
+    ∷ at 9 (RelayNack 8) ∷ at 9 (RelayEnd 6) ∷ at 9 (RelayEnd 7) ∷ at 9 RoundStart ∷ []
 unfolding in_turn
 in_their_order = refl
+
+direct_in_its_place :
+    in_turn (at 9 (RelayNack 1) ∷ at 9 Direct ∷ at 9 (Suspicion (98 ∷ [])) ∷ [])
+    ≡ at 9 (Suspicion (98 ∷ [])) ∷ at 9 Direct ∷ at 9 (RelayNack 1) ∷ []
+unfolding in_turn
+direct_in_its_place = refl
 
 none_due : due_of 7 (at 8 Direct ∷ at 9 RoundEnd ∷ []) ≡ None
 none_due = refl
@@ -35,3 +41,26 @@ one_cancelled :
     without_timer (RelayNack 2) (at 8 (RelayNack 1) ∷ at 9 (RelayNack 2) ∷ at 9 (RelayEnd 2) ∷ [])
     ≡ at 8 (RelayNack 1) ∷ at 9 (RelayEnd 2) ∷ []
 one_cancelled = refl
+
+-- A relay has two timers of its number.
+abbrev of_a_relay : List Timer
+of_a_relay = at 8 (RelayNack 1) ∷ at 9 (RelayEnd 1) ∷ []
+
+end_is_set : is_set (RelayEnd 1) of_a_relay ≡ true
+end_is_set = refl
+
+another_number_is_not_set : is_set (RelayNack 2) of_a_relay ≡ false
+another_number_is_not_set = refl
+
+another_kind_is_not_set : is_set Direct of_a_relay ≡ false
+another_kind_is_not_set = refl
+
+no_end_left : is_set (RelayEnd 1) (left_by (Some (at 9 (RelayEnd 1))) of_a_relay) ≡ false
+no_end_left = refl
+
+-- what is set once the first of the timers that are due was taken out, or none was due
+end_is_left : left_by (due_of 9 of_a_relay) of_a_relay ≡ at 9 (RelayEnd 1) ∷ []
+end_is_left = refl
+
+all_left : left_by (due_of 7 of_a_relay) of_a_relay ≡ of_a_relay
+all_left = refl
