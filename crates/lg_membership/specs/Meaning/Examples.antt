@@ -18,9 +18,9 @@ use Rattle.lg_membership.specs.declared.applied.Presence.{Presence}
 use Rattle.lg_membership.specs.declared.applied.Presence.TheVariants.{Stays as Remains, Joins, Leaves}
 use Rattle.lg_membership.specs.declared.origin.Origin.TheVariants.{Seed, Group}
 use Rattle.lg_membership.specs.declared.suspected.Suspected.{Suspected}
-use Rattle.lg_membership.specs.Meaning.Log.{Fact, Log, Opened, Said, Sent, own, live, live_others, view}
+use Rattle.lg_membership.specs.Meaning.Log.{Fact, Log, Opened, Said, Sent, own, table, live, live_others, view}
 use Rattle.lg_membership.specs.Meaning.Suspicions.{suspicions, suspected}
-use Rattle.lg_membership.specs.Meaning.Gossip.{put_by, queued, queue_rows, queue, taken, fill}
+use Rattle.lg_membership.specs.Meaning.Gossip.{put_by, queued, queue_rows, queue, target_record, taken, fill}
 use Rattle.lg_membership.specs.Meaning.Applied.{is_live, presence_of}
 
 -- the letters that name the members
@@ -245,6 +245,34 @@ after_that_ping : (queue (Sent (alive-d ∷ []) ∷ two_heard)).rows
     ≡ record { claim = suspected-c; sends = 0 } ∷ record { claim = alive-d; sends = 1 } ∷ []
 unfolding table_of record_of roster takes put_by queued queue_rows suspicions
 after_that_ping = refl
+
+-- A packet that is no Ping begins with no buddy: what was sent least often comes first, here the claim about d.
+abbrev sent_c : Log
+sent_c = Sent (suspected-c ∷ []) ∷ two_heard
+
+no_ping_has_a_buddy : fill None sent_c ≡ alive-d ∷ suspected-c ∷ []
+unfolding table_of record_of roster takes put_by queued queue_rows suspicions taken_of digits
+no_ping_has_a_buddy = refl
+
+ping_still_has_its_buddy : fill (Some (c ∷ [])) sent_c ≡ suspected-c ∷ alive-d ∷ []
+unfolding table_of record_of roster takes put_by queued queue_rows suspicions taken_of digits
+ping_still_has_its_buddy = refl
+
+-- Neither a name that isn't known nor oneself has a record here, so a Ping to it has no buddy.
+abbrev record_of_target : Option (List ℕ) → Option Claim
+record_of_target target = target_record target (table two_heard)
+
+target_is_known : record_of_target (Some (c ∷ [])) ≡ Some suspected-c
+unfolding table_of record_of roster
+target_is_known = refl
+
+target_is_a_stranger : record_of_target (Some (e ∷ [])) ≡ None
+unfolding table_of record_of roster
+target_is_a_stranger = refl
+
+target_is_oneself : record_of_target (Some (b ∷ [])) ≡ None
+unfolding table_of record_of roster
+target_is_oneself = refl
 
 -- An accuser that counts is queued, and one that counts already isn't.
 abbrev queued_about : ℕ → Log → Option Queued
