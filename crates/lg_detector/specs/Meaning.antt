@@ -19,4 +19,7 @@ pub mod Tick
 pub mod Ask
 -- all of them
 pub mod Step
+-- worked events: Examples has the literals that the others use
 pub mod Examples
+pub mod ProbingExamples
+pub mod RelayingExamples

@@ -1,4 +1,5 @@
--- Worked events of b, which is at 127.0.0.1:7000 and hears from port 1.
+-- Worked events of b, which is at 127.0.0.1:7000 and hears from port 1: what opens it, packets that it hears, ticks,
+-- and questions.
 use Rattle.std.specs.Prelude.{◌≡◌, ℕ, Bool, true, false, List, [], ◌∷◌, Some, None, reverse, refl}
 use Rattle.std.specs.Fmt.{digits}
 use Rattle.lg_rules.specs.declared.addr.Addr.{Addr}
@@ -14,10 +15,10 @@ use Rattle.lg_timing.specs.Meaning.Timeouts.{range_of, timeout_of}
 use Rattle.lg_suspicion.specs.Meaning.Accusers.{counted_accusers}
 use Rattle.lg_gossip.specs.Meaning.Queue.{taken_of}
 use Rattle.lg_packet.specs.declared.packet.Body.{Body}
-use Rattle.lg_packet.specs.declared.packet.Body.TheVariants.{Ping, PingReq, Ack, Nack}
+use Rattle.lg_packet.specs.declared.packet.Body.TheVariants.{Ping, Ack}
 use Rattle.lg_timers.specs.declared.timer.Timer.{Timer}
 use Rattle.lg_timers.specs.declared.timer.TimerId.{TimerId}
-use Rattle.lg_timers.specs.declared.timer.TimerId.TheVariants.{RoundEnd, Suspicion, Direct, RelayNack, RoundStart}
+use Rattle.lg_timers.specs.declared.timer.TimerId.TheVariants.{RoundStart}
 use Rattle.lg_timers.specs.Meaning.Timers.{in_turn}
 use Rattle.lg_membership.specs.Meaning.Log.{own}
 use Rattle.lg_membership.specs.Meaning.Suspicions.{suspicions, suspected}
@@ -27,84 +28,86 @@ use Rattle.lg_detector.specs.declared.event.Event.TheVariants.{Open, Tick, Heard
 use Rattle.lg_detector.specs.declared.reply.Answer.TheVariants.{Status as OfStatus, Health as OfHealth}
 use Rattle.lg_detector.specs.declared.reply.Outgoing.{Outgoing}
 use Rattle.lg_detector.specs.declared.reply.Reply.{Reply}
-use Rattle.lg_detector.specs.Meaning.Log.{moment, group_log}
+use Rattle.lg_detector.specs.Meaning.Log.{Log, moment, group_log}
 use Rattle.lg_detector.specs.Meaning.Step.{log_of, reply_after, view_after, deadline_after, is_accepted}
 
 -- What a worked event unfolds to be computed.
-unfoldable by_computing : Unit {0}
+unfoldable pub by_computing : Unit {0}
 unfolding digits own_of record_of roster table_of takes check_of log10_of ratio_of range_of timeout_of counted_accusers
     taken_of in_turn suspicions suspected put_by queued queue_rows
 by_computing = tt
 
 -- the letters that name the members
-abbrev a : ℕ
+abbrev pub a : ℕ
 a = 97
 
-abbrev b : ℕ
+abbrev pub b : ℕ
 b = 98
 
-abbrev c : ℕ
+abbrev pub c : ℕ
 c = 99
 
-abbrev d : ℕ
+abbrev pub d : ℕ
 d = 100
 
-abbrev e : ℕ
+abbrev pub e : ℕ
 e = 101
 
-abbrev z : ℕ
+abbrev pub f : ℕ
+f = 102
+
+abbrev pub z : ℕ
 z = 122
 
-abbrev at : ℕ → Addr
+abbrev pub at : ℕ → Addr
 at port = record { octets = 127 ∷ 0 ∷ 0 ∷ 1 ∷ []; port = port }
 
 -- claims about the member with a name of one letter
-abbrev on : ℕ → Status → ℕ → Claim
+abbrev pub on : ℕ → Status → ℕ → Claim
 on letter status i = record { name = letter ∷ []; addr = at 7000; status = status; incarnation = i }
 
-abbrev alive : ℕ → ℕ → Claim
+abbrev pub alive : ℕ → ℕ → Claim
 alive letter i = on letter Alive i
 
-abbrev failed : ℕ → ℕ → Claim
+abbrev pub failed : ℕ → ℕ → Claim
 failed letter i = on letter Failed i
 
-abbrev suspect : ℕ → ℕ → ℕ → Claim
+abbrev pub suspect : ℕ → ℕ → ℕ → Claim
 suspect letter i accuser = on letter (Suspect (accuser ∷ [])) i
 
 -- b is opened with the default numbers.
-abbrev opening : ℕ → Event
+abbrev pub opening : ℕ → Event
 opening now = Open now (defaults (b ∷ []) (at 7000))
 
-abbrev opening_with : ℕ → List Seed → Event
+abbrev pub opening_with : ℕ → List Seed → Event
 opening_with interval seeds =
     Open 0 (record (defaults (b ∷ []) (at 7000)) { interval_ms = interval; seeds = record { items = seeds } })
 
-abbrev seeded : Event
+abbrev pub seeded : Event
 seeded = opening_with 1000 (record { name = c ∷ []; addr = at 7000 } ∷ [])
 
 -- a packet of a, and among these a Ping for a member
-abbrev says : ℕ → Body → List Claim → Event
+abbrev pub says : ℕ → Body → List Claim → Event
 says now body claims = Heard now (at 1) (record { sender = a ∷ []; body = body; claims = record { items = claims } })
 
-abbrev pings : ℕ → ℕ → ℕ → List Claim → Event
+abbrev pub pings : ℕ → ℕ → ℕ → List Claim → Event
 pings now number target claims = says now (Ping number (target ∷ [])) claims
 
 -- c is accused in a Ping for b
-abbrev accusing : ℕ → ℕ → Event
+abbrev pub accusing : ℕ → ℕ → Event
 accusing now accuser = pings now 1 b (suspect c 0 accuser ∷ [])
 
-abbrev ticks : ℕ → Event
+abbrev pub ticks : ℕ → Event
 ticks now = Tick now (0 ∷ 1 ∷ 2 ∷ 3 ∷ 4 ∷ 5 ∷ 6 ∷ 7 ∷ [])
 
--- the timer of the next round, and that of the suspicion of c
-abbrev round : ℕ → Timer
-round deadline = record { deadline = deadline; id = RoundStart }
+abbrev pub timer_of : ℕ → TimerId → Timer
+timer_of deadline id = record { deadline = deadline; id = id }
 
-abbrev end_of_c : ℕ → Timer
-end_of_c deadline = record { deadline = deadline; id = Suspicion (c ∷ []) }
+abbrev pub start_of_round : ℕ → Timer
+start_of_round deadline = timer_of deadline RoundStart
 
--- the reply that says nothing, where this is the least deadline; and an Ack to port 1
-abbrev nothing : ℕ → Reply
+-- the reply that says nothing, where this is the least deadline
+abbrev pub nothing : ℕ → Reply
 nothing next =
     record {
       fired = None;
@@ -115,10 +118,21 @@ nothing next =
       next = next;
     }
 
-abbrev acks : ℕ → List Claim → List Outgoing
-acks number claims =
-    let body = Ack number in
-    record { to = at 1; packet = record { sender = b ∷ []; body = body; claims = record { items = claims } } } ∷ []
+-- what b sends to a port, and among this an Ack to port 1
+abbrev pub sent : ℕ → Body → List Claim → List Outgoing
+sent port body claims =
+    record { to = at port; packet = record { sender = b ∷ []; body = body; claims = record { items = claims } } } ∷ []
+
+abbrev pub acks : ℕ → List Claim → List Outgoing
+acks number claims = sent 1 (Ack number) claims
+
+-- the log of some events, the earliest first
+abbrev pub log_after : List Event → Log
+log_after events = log_of (reverse events)
+
+-- c is suspected and a is alive, by one Ack: no packet took these claims yet.
+abbrev pub suspects_c : List Event
+suspects_c = opening 0 ∷ says 2000 (Ack 7) (suspect c 0 d ∷ alive a 0 ∷ []) ∷ []
 
 -- OPEN
 -- A seed is known, and the opening changes nothing. No packet says it, but one says the claim that overrides it.
@@ -185,7 +199,7 @@ unfolding by_computing
 the_claims_of_an_ack_are_said = refl
 
 -- One packet says that a and then c suspect b, both at 0: b refutes the first alone, before it acks.
-abbrev accused_twice : Event
+abbrev pub accused_twice : Event
 accused_twice = pings 0 9 b (suspect b 0 a ∷ suspect b 0 c ∷ [])
 
 refutes_once :
@@ -199,7 +213,7 @@ refutes_once = refl
 
 -- the own number, and whether one was ousted
 abbrev oneself_after : List Event → Oneself
-oneself_after f = own (group_log (log_of (reverse f)))
+oneself_after f = own (group_log (log_after f))
 
 abbrev b_is : ℕ → Bool → Oneself
 b_is number ousted = record { name = b ∷ []; addr = at 7000; number = number; ousted = ousted }
@@ -227,7 +241,7 @@ one_that_is_ousted_keeps_its_number = refl
 
 -- Moments may go back: what comes at an earlier one leaves the moment, and none moves a deadline.
 abbrev moment_after : List Event → ℕ
-moment_after f = moment (log_of (reverse f))
+moment_after f = moment (log_after f)
 
 the_greatest_moment_counts : moment_after (opening 5000 ∷ pings 4000 1 b [] ∷ []) ≡ 5000
 the_greatest_moment_counts = refl
@@ -245,114 +259,9 @@ unfolding by_computing
 no_deadline_before_the_opening = refl
 
 -- TICK
--- c is suspected by d in a Ping at 2000. There are two members then, so the suspicion runs out at 7000. Each tick fires
--- one timer, the first of those that are due.
-abbrev suspecting : List Event
+-- c is suspected by d in a Ping at 2000. There are two members then, so the suspicion runs out at 7000.
+abbrev pub suspecting : List Event
 suspecting = opening 0 ∷ accusing 2000 d ∷ []
-
--- what b sends to an address
-abbrev sent : ℕ → Body → List Claim → List Outgoing
-sent port body claims =
-    record { to = at port; packet = record { sender = b ∷ []; body = body; claims = record { items = claims } } } ∷ []
-
-abbrev timer_of : ℕ → TimerId → Timer
-timer_of deadline id = record { deadline = deadline; id = id }
-
--- c is pinged, with its record, which says that it is suspected. Nobody can help.
-the_round_starts :
-    reply_after suspecting (ticks 2000)
-    ≡ record (nothing 2500) {
-      fired = Some (round 0);
-      sends = record { items = sent 7000 (Ping 1 (c ∷ [])) (suspect c 0 d ∷ []) };
-    }
-unfolding by_computing
-the_round_starts = refl
-
-abbrev probing : List Event
-probing = opening 0 ∷ accusing 2000 d ∷ ticks 2000 ∷ []
-
-nobody_helps :
-    reply_after probing (ticks 7000) ≡ record (nothing 3000) { fired = Some (timer_of 2500 Direct) }
-unfolding by_computing
-nobody_helps = refl
-
--- c is suspected already, and one accuser counts among two. The next round is set to start at 7000.
-the_round_ends :
-    reply_after (opening 0 ∷ accusing 2000 d ∷ ticks 2000 ∷ ticks 7000 ∷ []) (ticks 7000)
-    ≡ record (nothing 7000) { fired = Some (timer_of 3000 RoundEnd) }
-unfolding by_computing
-the_round_ends = refl
-
-abbrev ended : List Event
-ended = opening 0 ∷ accusing 2000 d ∷ ticks 2000 ∷ ticks 7000 ∷ ticks 7000 ∷ []
-
-a_failed_round_marks : (reply_after ended (Health 7000)).answer ≡ Some (OfHealth 1 0 2)
-unfolding by_computing
-a_failed_round_marks = refl
-
--- The suspicion runs out before a round starts that is due at the same moment.
-a_suspicion_runs_out :
-    reply_after ended (ticks 7000)
-    ≡ record (nothing 7000) { fired = Some (end_of_c 7000); changed = record { items = failed c 0 ∷ [] } }
-unfolding by_computing
-a_suspicion_runs_out = refl
-
--- Nobody can be chosen then, and the next round starts two intervals later, by the score.
-nobody_is_chosen :
-    reply_after (opening 0 ∷ accusing 2000 d ∷ ticks 2000 ∷ ticks 7000 ∷ ticks 7000 ∷ ticks 7000 ∷ []) (ticks 7000)
-    ≡ record (nothing 9000) { fired = Some (round 7000) }
-unfolding by_computing
-nobody_is_chosen = refl
-
--- An Ack of c that counts lowers the score again, and no helper is asked. One from a stranger, or with another number,
--- doesn't count.
-abbrev acked_by : ℕ → ℕ → Event
-acked_by sender number =
-    Heard 2100 (at 1) (record { sender = sender ∷ []; body = Ack number; claims = record { items = [] } })
-
-an_ack_counts : (reply_after probing (acked_by c 1)).next ≡ 3000
-unfolding by_computing
-an_ack_counts = refl
-
-an_ack_of_a_stranger_does_not_count : (reply_after probing (acked_by z 1)).next ≡ 2500
-unfolding by_computing
-an_ack_of_a_stranger_does_not_count = refl
-
-an_ack_of_another_number_does_not_count : (reply_after probing (acked_by c 2)).next ≡ 2500
-unfolding by_computing
-an_ack_of_another_number_does_not_count = refl
-
--- b is asked to ping c for a, by the number 1 of a. It takes the number 1 too, as its first. The Nack goes to a 400 ms
--- later, and the relay is closed after 1000.
-abbrev requested : List Event
-requested = opening 0 ∷ says 510 (PingReq 1 (c ∷ []) (at 7003)) [] ∷ []
-
-a_request_is_relayed :
-    reply_after (opening 0 ∷ []) (says 510 (PingReq 1 (c ∷ []) (at 7003)) [])
-    ≡ record (nothing 0) { sends = record { items = sent 7003 (Ping 1 (c ∷ [])) [] } }
-unfolding by_computing
-a_request_is_relayed = refl
-
-a_request_for_oneself_is_acked :
-    (reply_after (opening 0 ∷ []) (says 510 (PingReq 9 (b ∷ []) (at 7003)) [])).sends.items ≡ acks 9 []
-unfolding by_computing
-a_request_for_oneself_is_acked = refl
-
-a_relay_sends_its_nack :
-    reply_after (opening 0 ∷ says 510 (PingReq 1 (c ∷ []) (at 7003)) [] ∷ ticks 910 ∷ []) (ticks 910)
-    ≡ record (nothing 1510) {
-      fired = Some (timer_of 910 (RelayNack 1));
-      sends = record { items = sent 1 (Nack 1) [] };
-    }
-unfolding by_computing
-a_relay_sends_its_nack = refl
-
-an_ack_of_the_target_is_passed_on :
-    (reply_after requested
-    (Heard 600 (at 7003) (record { sender = c ∷ []; body = Ack 1; claims = record { items = [] } }))).sends.items
-    ≡ acks 1 []
-unfolding by_computing
-an_ack_of_the_target_is_passed_on = refl
 
 nothing_is_due : reply_after (opening 0 ∷ ticks 0 ∷ []) (ticks 999) ≡ nothing 1000
 unfolding by_computing
@@ -360,13 +269,13 @@ nothing_is_due = refl
 
 -- The next round starts an interval after the greatest moment, here that of a question.
 a_round_counts_from_the_greatest_moment :
-    reply_after (opening 0 ∷ Health 5000 ∷ []) (ticks 4000) ≡ record (nothing 6000) { fired = Some (round 0) }
+    reply_after (opening 0 ∷ Health 5000 ∷ []) (ticks 4000) ≡ record (nothing 6000) { fired = Some (start_of_round 0) }
 unfolding by_computing
 a_round_counts_from_the_greatest_moment = refl
 
 -- At a score of 1 the interval is twice as long.
 a_round_counts_by_the_score :
-    reply_after (opening 0 ∷ accused_twice ∷ []) (ticks 0) ≡ record (nothing 2000) { fired = Some (round 0) }
+    reply_after (opening 0 ∷ accused_twice ∷ []) (ticks 0) ≡ record (nothing 2000) { fired = Some (start_of_round 0) }
 unfolding by_computing
 a_round_counts_by_the_score = refl
 
