@@ -1,5 +1,5 @@
 -- Worked inputs and command lines.
-use Rattle.std.specs.Prelude.{◌≡◌, ℕ, List, [], ◌∷◌, ◌++◌, Ok, Err, codes, refl}
+use Rattle.std.specs.Prelude.{◌≡◌, ℕ, true, false, List, [], ◌∷◌, ◌++◌, map, take, Ok, Err, codes, refl}
 use Rattle.std.specs.Fmt.{digits}
 use Rattle.std.specs.List.{flat_map}
 use Rattle.hex.proofs.OnLiterals.{hex_on_literals}
@@ -16,7 +16,7 @@ use Rattle.lg_timing.specs.Meaning.Tables.{log10_of, ratio_of}
 use Rattle.lg_timing.specs.Meaning.Timeouts.{range_of, timeout_of}
 use Rattle.lg_cli.specs.Meaning.Answering.{answer_end, answer_text, events_of, heard, local, newline, opening}
 use Rattle.lg_cli.specs.Meaning.Answering.{sent_text}
-use Rattle.lg_cli.specs.Meaning.Choosing.{comma_parts, names_in, order_text, words_in}
+use Rattle.lg_cli.specs.Meaning.Choosing.{are_names, comma_parts, names_in, order_text, words_in}
 use Rattle.lg_cli.specs.Meaning.Commands.{answer, order, timeouts, asked, line_faults}
 use Rattle.lg_cli.specs.Meaning.Lines.{lines_of}
 use Rattle.lg_cli.specs.Meaning.Spelled.{packet_in}
@@ -196,6 +196,19 @@ name-twice = refl
 no-names : order_text [] (codes "0") ≡ Err Names
 unfolding order_text names_in words_in
 no-names = refl
+
+-- 256 names, each of two of sixteen letters: one more than a list may have.
+abbrev letters : List ℕ
+letters = codes "abcdefghijklmnop"
+
+abbrev two-letter-names : List (List ℕ)
+two-letter-names = flat_map (λ m. map (λ n. m ∷ n ∷ []) letters) letters
+
+most-names : are_names (take 255 two-letter-names) ≡ true
+most-names = refl
+
+too-many-names : are_names two-letter-names ≡ false
+too-many-names = refl
 
 greatest-word : order_text (codes "a") (codes "4294967295") ≡ Ok (lines (codes "a" ∷ []))
 unfolding order_text names_in words_in
