@@ -7,6 +7,7 @@ mod order;
 mod readers;
 mod refused_memory;
 mod rows;
+mod runs;
 mod scripted;
 mod timeouts;
 mod writers;

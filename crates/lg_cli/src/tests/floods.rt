@@ -1,8 +1,9 @@
 //! More names than a member table has places.
+use super::runs::{Command, Streams, check_command};
+use super::scripted::Said;
 use crate::answer::End;
-use crate::run::answer_run;
-use lg_rules::Name;
 use std::alloc::AllocError;
+use std::process::Abort;
 use std::test::Fail;
 
 /// The names of the flood are `m000` to `m299`.
@@ -14,9 +15,23 @@ fn put_alive(number: u32, text: &mut String) -> Result<(), AllocError> {
     write!(text, "01046d3{hundreds}3{tens}3{ones}7f0000011b5800000000")
 }
 
+/// Runs `answer` over an input in pieces of 1000 bytes, and checks that this text is written.
+fn check_input(rt: &(impl Abort + AllocGlobal), input: &str, text: &str) {
+    let mut streams = Streams::over(input.as_bytes());
+    streams.reader.piece = 1000;
+    let said = Said::Text(text);
+    check_command(
+        rt,
+        "a flood",
+        &Command::Answer,
+        &mut streams,
+        Ok(End::Done),
+        &said,
+    );
+}
+
 #[test]
 fn goes_on_after_a_flood_of_names(rt: HostRuntime) -> Result<(), Fail> {
-    let name = Name::new(b"b").expect(&rt, "a name");
     // Pings for another member, of which each says a further name, the last name first.
     let mut input = String::new(rt.alloc());
     for said in 1..NAMES + 1 {
@@ -36,10 +51,6 @@ fn goes_on_after_a_flood_of_names(rt: HostRuntime) -> Result<(), Fail> {
         put_alive(number, &mut expected)?;
     }
     expected.push_str("\n")?;
-    let mut reader = input.as_bytes();
-    let mut written = Vec::new(rt.alloc());
-    let ended = answer_run(rt.alloc(), &mut reader, &mut written, &name);
-    assert_eq!(rt; ended, Ok(End::Done));
-    assert_eq!(rt; written.as_slice(), expected.as_bytes());
+    check_input(&rt, &input, &expected);
     Ok(())
 }

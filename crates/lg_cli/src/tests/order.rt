@@ -1,30 +1,37 @@
 //! The command `order`, its two lists, and what it writes where.
-use super::scripted::{Pieces, Room, words_of};
-use crate::fault::RunFault;
+use super::runs::{
+    Command, Streams, Wanted, check_command, check_failing_writes, check_line, check_words,
+};
+use super::scripted::Said;
 use crate::order::{BadList, OrderFault};
-use crate::program::run_words;
-use crate::run::order_run;
 use std::alloc::{AllocError, Global};
 use std::process::Abort;
 use std::test::Fail;
 
-/// Runs a command line, and checks its status, that it reads nothing, what it writes, and what it
-/// reports.
-fn check_words(
-    rt: &(impl Abort + AllocGlobal),
-    words: &[&str],
-    status: u8,
-    text: &str,
-    reported: &str,
-) {
-    let mut reader = Pieces::bytewise(b"");
-    let mut written = Room::failing(0);
-    let mut told = Room::failing(0);
-    let ended = run_words(rt.alloc(), words, &mut reader, &mut written, &mut told);
-    assert_eq!(rt; ended, status, "{words:?}");
-    assert_eq!(rt; reader.calls, 0, "{words:?}");
-    assert_eq!(rt; written.text(), text.as_bytes(), "{words:?}");
-    assert_eq!(rt; told.text(), reported.as_bytes(), "{words:?}");
+/// The choices are written, and nothing else.
+fn chosen<'a>(text: &'a str) -> Wanted<'a> {
+    Wanted {
+        status: 0,
+        reads: false,
+        written: Said::Text(text),
+        told: Said::Uncalled,
+    }
+}
+
+/// A list is bad: that is reported, and nothing is written.
+fn told<'a>(text: &'a str) -> Wanted<'a> {
+    Wanted {
+        status: 3,
+        reads: false,
+        written: Said::Uncalled,
+        told: Said::Text(text),
+    }
+}
+
+/// Runs `order` over names and words, and checks what comes of it.
+fn check_lists(rt: &(impl Abort + AllocGlobal), names: &str, words: &str, wanted: &Wanted) {
+    let line = ["lg", "order", "--names", names, "--words", words];
+    check_words(rt, line.as_slice(), &mut Streams::over(b""), wanted);
 }
 
 #[test]
@@ -42,13 +49,18 @@ fn writes_the_choices(rt: HostRuntime) {
         ("A-z.0_,b", "0", "A-z.0_\n"),
     ];
     for (names, words, text) in rows {
-        let line = ["lg", "order", "--names", names, "--words", words];
-        check_words(&rt, line.as_slice(), 0, text, "");
+        check_lists(&rt, names, words, &chosen(text));
     }
-    let line = ["lg", "order", "--words=", "--names=a,b"];
-    check_words(&rt, line.as_slice(), 0, "", "");
-    let line = ["lg", "order", "--words=1", "--names=-a,b"];
-    check_words(&rt, line.as_slice(), 0, "b\n", "");
+}
+
+#[test]
+fn takes_lists_behind_a_sign(rt: HostRuntime) {
+    for (line, text) in [
+        ("lg order --words= --names=a,b", ""),
+        ("lg order --words=1 --names=-a,b", "b\n"),
+    ] {
+        check_line(&rt, line, &mut Streams::over(b""), &chosen(text));
+    }
 }
 
 #[test]
@@ -71,8 +83,7 @@ fn refuses_bad_names(rt: HostRuntime) {
     ] {
         // The names are judged before the words.
         for words in ["0", "", "x", ","] {
-            let line = ["lg", "order", "--names", names, "--words", words];
-            check_words(&rt, line.as_slice(), 3, "", "lg: bad names\n");
+            check_lists(&rt, names, words, &told("lg: bad names\n"));
         }
     }
 }
@@ -98,11 +109,10 @@ fn refuses_bad_words(rt: HostRuntime) {
         "0,00000000000000000",
         "٣",
     ] {
-        let line = ["lg", "order", "--names", "a", "--words", words];
-        check_words(&rt, line.as_slice(), 3, "", "lg: bad words\n");
+        check_lists(&rt, "a", words, &told("lg: bad words\n"));
     }
-    let line = ["lg", "order", "--names", "a", "--words=-0"];
-    check_words(&rt, line.as_slice(), 3, "", "lg: bad words\n");
+    let line = "lg order --names a --words=-0";
+    check_line(&rt, line, &mut Streams::over(b""), &told("lg: bad words\n"));
 }
 
 /// The names `n0`, `n1` .., so many of them, between commas.
@@ -116,17 +126,24 @@ fn many_names(alloc: Global, count: u32) -> Result<String, AllocError> {
 
 #[test]
 fn takes_at_most_255_names(rt: HostRuntime) -> Result<(), Fail> {
-    let names = many_names(rt.alloc(), 255)?;
-    let line = ["lg", "order", "--names", &names, "--words", "254,0,252"];
-    check_words(&rt, line.as_slice(), 0, "n99\nn0\nn98\n", "");
-    let names = many_names(rt.alloc(), 256)?;
-    let line = ["lg", "order", "--names", &names, "--words", "254,0,252"];
-    check_words(&rt, line.as_slice(), 3, "", "lg: bad names\n");
+    for (count, wanted) in [
+        (255, chosen("n99\nn0\nn98\n")),
+        (256, told("lg: bad names\n")),
+    ] {
+        let names = many_names(rt.alloc(), count)?;
+        check_lists(&rt, &names, "254,0,252", &wanted);
+    }
     Ok(())
 }
 
 #[test]
-fn refuses_other_command_lines(rt: HostRuntime) -> Result<(), Fail> {
+fn refuses_other_command_lines(rt: HostRuntime) {
+    let wanted = Wanted {
+        status: 2,
+        reads: false,
+        written: Said::Uncalled,
+        told: Said::Some,
+    };
     for line in [
         "lg order",
         "lg order --names a",
@@ -141,90 +158,51 @@ fn refuses_other_command_lines(rt: HostRuntime) -> Result<(), Fail> {
         "lg order --names a --words -1",
         "lg answer --name b --words 0",
     ] {
-        let words = words_of(rt.alloc(), line)?;
-        let mut reader = Pieces::bytewise(b"");
-        let mut written = Room::failing(0);
-        let mut told = Vec::new(rt.alloc());
-        let ended = run_words(
-            rt.alloc(),
-            words.as_slice(),
-            &mut reader,
-            &mut written,
-            &mut told,
-        );
-        assert_eq!(rt; ended, 2, "{line}");
-        assert_eq!(rt; reader.calls, 0, "{line}");
-        assert_eq!(rt; written.calls, 0, "{line}");
-        assert!(rt; !told.is_empty(), "{line}");
+        check_line(&rt, line, &mut Streams::over(b""), &wanted);
     }
-    Ok(())
 }
 
 #[test]
 fn fails_where_a_write_fails(rt: HostRuntime) {
-    // 8 bytes are written a byte a call, and then the writer is flushed.
-    for call in 1..10 {
-        let mut writer = Room::failing(call);
-        let ended = order_run(rt.alloc(), &mut writer, "a,b", "0,0,1,0");
-        assert_eq!(rt;
-            ended,
-            Err(OrderFault::Run(RunFault::Write)),
-            "write call {call}"
-        );
-        assert_eq!(rt; writer.calls, call, "write call {call}");
-        assert_eq!(rt; writer.len, call - 1, "write call {call}");
-    }
-    let mut writer = Room::failing(10);
-    let ended = order_run(rt.alloc(), &mut writer, "a,b", "0,0,1,0");
-    assert_eq!(rt; ended, Ok(()));
-    assert_eq!(rt; writer.text(), b"a\nb\nb\na\n".as_slice());
+    let command = Command::Order("a,b", "0,0,1,0");
+    check_failing_writes(&rt, &command, b"", "a\nb\nb\na\n");
 }
 
 #[test]
 fn tells_a_failed_write(rt: HostRuntime) {
-    let line = ["lg", "order", "--names", "a,b", "--words", "0,0,1,0"];
-    let mut reader = Pieces::bytewise(b"");
-    let mut writer = Room::failing(5);
-    let mut faults = Room::failing(0);
-    let ended = run_words(
-        rt.alloc(),
-        line.as_slice(),
-        &mut reader,
-        &mut writer,
-        &mut faults,
-    );
-    assert_eq!(rt; ended, 1);
-    assert_eq!(rt; writer.text(), b"a\nb\n".as_slice());
-    assert_eq!(rt; faults.text(), b"lg: write\n".as_slice());
-    assert_eq!(rt; reader.calls, 0);
+    let mut streams = Streams::over(b"");
+    streams.writer.fails_at = 5;
+    let wanted = Wanted {
+        status: 1,
+        reads: false,
+        written: Said::Text("a\nb\n"),
+        told: Said::Text("lg: write\n"),
+    };
+    let line = "lg order --names a,b --words 0,0,1,0";
+    check_line(&rt, line, &mut streams, &wanted);
 }
 
 #[test]
 fn makes_no_write_for_a_bad_list(rt: HostRuntime) {
-    let rows = [
+    // The names, the words, and which list is bad. The status stays where the report isn't taken.
+    for (names, words, list) in [
         ("a,a", "0", BadList::Names),
         ("a", "0,x", BadList::Words),
         ("a,a", "x", BadList::Names),
-    ];
-    for (names, words, list) in rows {
-        let mut writer = Room::failing(1);
-        let ended = order_run(rt.alloc(), &mut writer, names, words);
-        assert_eq!(rt; ended, Err(OrderFault::Bad(list)), "{names} {words}");
-        assert_eq!(rt; writer.calls, 0, "{names} {words}");
-
-        // The status stays where the report isn't taken.
-        let line = ["lg", "order", "--names", names, "--words", words];
-        let mut reader = Pieces::bytewise(b"");
-        let mut faults = Room::failing(4);
-        let ended = run_words(
-            rt.alloc(),
-            line.as_slice(),
-            &mut reader,
-            &mut writer,
-            &mut faults,
+    ] {
+        let command = Command::Order(names, words);
+        let mut streams = Streams::over(b"");
+        let fault = Err(OrderFault::Bad(list));
+        check_command(
+            &rt,
+            "a bad list",
+            &command,
+            &mut streams,
+            fault,
+            &Said::Uncalled,
         );
-        assert_eq!(rt; ended, 3, "{names} {words}");
-        assert_eq!(rt; faults.text(), b"lg:".as_slice(), "{names} {words}");
-        assert_eq!(rt; writer.calls, 0, "{names} {words}");
+        streams.faults.fails_at = 4;
+        let line = ["lg", "order", "--names", names, "--words", words];
+        check_words(&rt, line.as_slice(), &mut streams, &told("lg:"));
     }
 }

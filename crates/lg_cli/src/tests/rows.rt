@@ -1,29 +1,23 @@
 //! Inputs of the command `answer`, and what is written for them.
+use super::runs::{Command, Streams, check_command};
+use super::scripted::Said;
 use crate::answer::End;
-use crate::run::answer_run;
-use lg_rules::Name;
 use std::process::Abort;
-use std::test::Fail;
 
 /// What the input shows, the input, the text that is written, and the end.
 type Row = (&'static str, &'static str, &'static str, End);
 
 /// Runs `answer` for the name `b` over each input of a table.
-fn check(rt: &(impl Abort + AllocGlobal), rows: &[Row]) -> Result<(), Fail> {
-    let name = Name::new(b"b").expect(rt, "a name");
+fn check(rt: &(impl Abort + AllocGlobal), rows: &[Row]) {
     for (shows, input, text, end) in rows {
-        let mut reader = input.as_bytes();
-        let mut written = Vec::new(rt.alloc());
-        let ended = answer_run(rt.alloc(), &mut reader, &mut written, &name);
-        assert_eq!(rt; ended, Ok(*end), "{shows}");
-        assert_eq!(rt; written.as_slice(), text.as_bytes(), "{shows}");
-        assert_eq!(rt; reader.len(), 0, "{shows}");
+        let mut streams = Streams::over(input.as_bytes());
+        let said = Said::Text(text);
+        check_command(rt, shows, &Command::Answer, &mut streams, Ok(*end), &said);
     }
-    Ok(())
 }
 
 #[test]
-fn answers_pings(rt: HostRuntime) -> Result<(), Fail> {
+fn answers_pings(rt: HostRuntime) {
     let rows = [
         (
             "a Ping is answered by an Ack",
@@ -58,11 +52,11 @@ fn answers_pings(rt: HostRuntime) -> Result<(), Fail> {
         ("an Ack", "534c010301610000000700\n", "", End::Done),
         ("no input", "", "", End::Done),
     ];
-    check(&rt, rows.as_slice())
+    check(&rt, rows.as_slice());
 }
 
 #[test]
-fn hears_claims(rt: HostRuntime) -> Result<(), Fail> {
+fn hears_claims(rt: HostRuntime) {
     let rows = [
         (
             "a claim that a Ping for another carries is handed on",
@@ -101,11 +95,11 @@ fn hears_claims(rt: HostRuntime) -> Result<(), Fail> {
             End::Faulty,
         ),
     ];
-    check(&rt, rows.as_slice())
+    check(&rt, rows.as_slice());
 }
 
 #[test]
-fn tells_refused_packets(rt: HostRuntime) -> Result<(), Fail> {
+fn tells_refused_packets(rt: HostRuntime) {
     let rows = [
         (
             "a byte behind the packet",
@@ -137,11 +131,11 @@ fn tells_refused_packets(rt: HostRuntime) -> Result<(), Fail> {
             End::Faulty,
         ),
     ];
-    check(&rt, rows.as_slice())
+    check(&rt, rows.as_slice());
 }
 
 #[test]
-fn tells_bad_hex_and_goes_on(rt: HostRuntime) -> Result<(), Fail> {
+fn tells_bad_hex_and_goes_on(rt: HostRuntime) {
     let rows = [
         ("an odd length", "534\n", "bad hex\n", End::Faulty),
         ("a blank", "53 4c1\n", "bad hex\n", End::Faulty),
@@ -162,5 +156,5 @@ fn tells_bad_hex_and_goes_on(rt: HostRuntime) -> Result<(), Fail> {
             End::Faulty,
         ),
     ];
-    check(&rt, rows.as_slice())
+    check(&rt, rows.as_slice());
 }

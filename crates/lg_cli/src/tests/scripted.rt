@@ -1,23 +1,37 @@
-//! Readers that give their input as a test says, a writer of fixed size, and the words of a line.
-ghost use Rattle.std.specs.Prelude.{◌≤◌};
+//! A reader that gives its input as a test says, and a writer of fixed size.
+ghost use Rattle.std.specs.Prelude.{◌≤◌, length};
 
-use std::alloc::{AllocError, Global};
 use std::io;
 use std::io::{ErrorKind, Read, Write};
 
+/// Which calls of a reader are interrupted.
+#[derive(Clone, Copy, Debug)]
+pub(super) enum Interrupts {
+    /// None is.
+    Never,
+    /// Each second one, from the first on.
+    EachSecond,
+    /// Each one is.
+    Always,
+}
+
 /// A reader of pieces that counts what is asked of it.
 #[derive(Drop)]
-pub struct Pieces<'a> {
+pub(super) struct Pieces<'a> {
     /// What is left to give.
     pub left: &'a [u8],
+    /// Whether digits `0` follow without an end, in the place of what is left.
+    pub endless: bool,
     /// The most bytes of one call.
     pub piece: usize,
-    /// Whether each second call, from the first on, is interrupted.
-    pub interrupts: bool,
+    /// Which calls are interrupted.
+    pub interrupts: Interrupts,
     /// The call that fails, counted from 1, or 0 where none does.
     pub fails_at: usize,
     /// How many calls were made.
     pub calls: usize,
+    /// How many bytes were given.
+    pub given: usize,
 }
 
 impl<'a> Pieces<'a> {
@@ -25,11 +39,42 @@ impl<'a> Pieces<'a> {
     pub fn bytewise(input: &'a [u8]) -> Self {
         Pieces {
             left: input,
+            endless: false,
             piece: 1,
-            interrupts: false,
+            interrupts: Interrupts::Never,
             fails_at: 0,
             calls: 0,
+            given: 0,
         }
+    }
+
+    /// From here on these calls are interrupted.
+    pub fn interrupt(&mut self, interrupts: Interrupts) {
+        self.interrupts = interrupts;
+    }
+
+    /// Whether the call that was counted last is interrupted.
+    fn is_interrupted(&self) -> bool {
+        match self.interrupts {
+            Interrupts::Never => false,
+            Interrupts::EachSecond => self.calls % 2 == 1,
+            Interrupts::Always => true,
+        }
+    }
+
+    /// Gives a piece, and returns how many bytes it has.
+    fn give(&mut self, buf: &mut [u8]) -> usize
+        ensures { result ≤ length buf.old }
+    {
+        let most = self.piece.min(buf.len());
+        if self.endless {
+            buf[..most].fill(b'0');
+            return most;
+        }
+        let count = self.left.len().min(most);
+        buf[..count].copy_from_slice(&self.left[..count]);
+        self.left = &self.left[count..];
+        count
     }
 }
 
@@ -39,61 +84,23 @@ impl Read for Pieces<'_> {
         if self.calls == self.fails_at {
             return Err(io::Error::from(ErrorKind::ConnectionReset));
         }
-        if self.interrupts && self.calls % 2 == 1 {
+        if self.is_interrupted() {
             return Err(io::Error::from(ErrorKind::Interrupted));
         }
-        let count = self.left.len().min(self.piece).min(buf.len());
-        buf[..count].copy_from_slice(&self.left[..count]);
-        self.left = &self.left[count..];
-        Ok(count)
-    }
-}
-
-/// A reader that never ends, and counts what is asked of it.
-#[derive(Drop)]
-pub struct Endless {
-    /// The most bytes of one call.
-    pub piece: usize,
-    /// Whether each second call, from the first on, is interrupted.
-    pub interrupts: bool,
-    /// How many calls were made.
-    pub calls: usize,
-    /// How many bytes were given.
-    pub given: usize,
-}
-
-impl Read for Endless {
-    fn read(&mut self, buf: &mut [u8]) -> io::Result<usize> {
-        self.calls = self.calls.saturating_add(1);
-        if self.interrupts && self.calls % 2 == 1 {
-            return Err(io::Error::from(ErrorKind::Interrupted));
-        }
-        let count = buf.len().min(self.piece);
-        buf[..count].fill(b'0');
+        let count = self.give(buf);
         self.given = self.given.saturating_add(count);
         Ok(count)
     }
 }
 
-/// A reader of which every call is interrupted.
-#[derive(Drop)]
-pub struct Interrupted {
-    /// How many calls were made.
-    pub calls: usize,
-}
-
-impl Read for Interrupted {
-    fn read(&mut self, _buf: &mut [u8]) -> io::Result<usize> {
-        self.calls = self.calls.saturating_add(1);
-        Err(io::Error::from(ErrorKind::Interrupted))
-    }
-}
+/// The room of a writer, in bytes, enough for each text of the tests.
+pub(super) const ROOM: usize = 4096;
 
 /// A writer that takes a byte a call into room of its own, so that it takes no memory.
 #[derive(Drop)]
-pub struct Room {
+pub(super) struct Room {
     /// What was written, and zeros behind it.
-    pub bytes: [u8; 64],
+    pub bytes: [u8; ROOM],
     /// How many bytes were written.
     pub len: usize,
     /// The call that fails, counted from 1, or 0 where none does; a flush is a call too.
@@ -102,11 +109,24 @@ pub struct Room {
     pub calls: usize,
 }
 
+/// What is said on a stream.
+#[derive(Clone, Copy, Debug)]
+pub(super) enum Said<'a> {
+    /// Nothing, and no call is made.
+    Uncalled,
+    /// This text.
+    Text(&'a str),
+    /// This text, by so many calls.
+    Calls(usize, &'a str),
+    /// Some text.
+    Some,
+}
+
 impl Room {
     /// Empty room, of which this call fails.
     pub fn failing(fails_at: usize) -> Self {
         Room {
-            bytes: [0; 64],
+            bytes: [0; ROOM],
             len: 0,
             fails_at,
             calls: 0,
@@ -115,7 +135,17 @@ impl Room {
 
     /// What was written.
     pub fn text(&self) -> &[u8] {
-        &self.bytes[..self.len.min(64)]
+        &self.bytes[..self.len.min(ROOM)]
+    }
+
+    /// Whether this was said.
+    pub fn has(&self, said: &Said) -> bool {
+        match said {
+            Said::Uncalled => self.calls == 0,
+            Said::Text(text) => self.text() == text.as_bytes(),
+            Said::Calls(calls, text) => self.calls == *calls && self.text() == text.as_bytes(),
+            Said::Some => self.len > 0,
+        }
     }
 
     /// Counts a call, which may be the one that fails.
@@ -132,7 +162,7 @@ impl Room {
 impl Write for Room {
     fn write(&mut self, buf: &[u8]) -> io::Result<usize> {
         self.call()?;
-        if buf.is_empty() || self.len >= 64 {
+        if buf.is_empty() || self.len >= ROOM {
             return Ok(0);
         }
         self.bytes[self.len] = buf[0];
@@ -143,13 +173,4 @@ impl Write for Room {
     fn flush(&mut self) -> io::Result<()> {
         self.call()
     }
-}
-
-/// The words of a command line, which stand between blanks.
-pub fn words_of<'a>(alloc: Global, line: &'a str) -> Result<Vec<&'a str>, AllocError> {
-    let mut words = Vec::new(alloc);
-    for word in line.split_whitespace() {
-        words.push(word)?;
-    }
-    Ok(words)
 }
