@@ -1,4 +1,4 @@
-//! More names than a member table has places.
+//! More names than a member table has places, and more relays than may be open.
 use super::runs::{Command, Streams, check_command};
 use super::scripted::Said;
 use crate::answer::End;
@@ -51,6 +51,21 @@ fn goes_on_after_a_flood_of_names(rt: HostRuntime) -> Result<(), Fail> {
         put_alive(number, &mut expected)?;
     }
     expected.push_str("\n")?;
+    check_input(&rt, &input, &expected);
+    Ok(())
+}
+
+#[test]
+fn refuses_a_relay_too_many(rt: HostRuntime) -> Result<(), Fail> {
+    // 65 PingReqs for another, of which 64 are relayed, and the last is answered by a Nack.
+    let mut input = String::new(rt.alloc());
+    let mut expected = String::new(rt.alloc());
+    for number in 1..65_u32 {
+        input.push_str("534c010201610000000901637f0000011b5b00\n")?;
+        writeln!(expected, "534c01010162{number:08x}016300")?;
+    }
+    input.push_str("534c010201610000000701637f0000011b5b00\n")?;
+    expected.push_str("534c010401620000000700\n")?;
     check_input(&rt, &input, &expected);
     Ok(())
 }

@@ -49,8 +49,75 @@ fn answers_pings(rt: HostRuntime) {
             "",
             End::Done,
         ),
-        ("an Ack", "534c010301610000000700\n", "", End::Done),
         ("no input", "", "", End::Done),
+    ];
+    check(&rt, rows.as_slice());
+}
+
+#[test]
+fn answers_ping_reqs(rt: HostRuntime) {
+    let rows = [
+        (
+            "a PingReq for another is relayed as a Ping with the next number",
+            "534c010201610000000901637f0000011b5b00\n",
+            "534c0101016200000001016300\n",
+            End::Done,
+        ),
+        (
+            "a claim that it carries is handed on with the Ping",
+            "534c010201610000000901637f0000011b5b010101637f0000011b5b00000000\n",
+            "534c01010162000000010163010101637f0000011b5b00000000\n",
+            End::Done,
+        ),
+        (
+            "two PingReqs, whose Pings have numbers of their own",
+            "534c010201610000000901637f0000011b5b00\n534c010201610000000901647f0000011b5c00\n",
+            "534c0101016200000001016300\n534c0101016200000002016400\n",
+            End::Done,
+        ),
+        (
+            "the target's Ack is passed on by the asker's number",
+            "534c010201610000000901637f0000011b5b00\n534c010301630000000100\n",
+            "534c0101016200000001016300\n534c010301620000000900\n",
+            End::Done,
+        ),
+        (
+            "another's Ack of that number isn't passed on",
+            "534c010201610000000901637f0000011b5b00\n534c010301640000000100\n",
+            "534c0101016200000001016300\n",
+            End::Done,
+        ),
+        (
+            "a PingReq for oneself is acked at once",
+            "534c010201610000000501627f0000011b5800\n",
+            "534c010301620000000500\n",
+            End::Done,
+        ),
+    ];
+    check(&rt, rows.as_slice());
+}
+
+#[test]
+fn sends_nothing_unasked(rt: HostRuntime) {
+    let rows = [
+        (
+            "an Ack that nobody asked for",
+            "534c010301610000000700\n",
+            "",
+            End::Done,
+        ),
+        (
+            "a Nack that nobody asked for",
+            "534c010401610000000700\n",
+            "",
+            End::Done,
+        ),
+        (
+            "both, and then a Ping",
+            "534c010301610000000700\n534c010401610000000700\n534c0101016100000008016200\n",
+            "534c010301620000000800\n",
+            End::Done,
+        ),
     ];
     check(&rt, rows.as_slice());
 }
