@@ -12,6 +12,7 @@ use Rattle.lg_detector.specs.declared.event.Event.TheVariants.{Tick, Heard, Heal
 use Rattle.lg_detector.specs.declared.reply.Answer.TheVariants.{Health as OfHealth}
 use Rattle.lg_detector.specs.Meaning.Log.{Log, Fired}
 use Rattle.lg_detector.specs.Meaning.Probing.{round_names, helpers, round}
+use Rattle.lg_detector.specs.Meaning.Window.{targets, AreOthers}
 use Rattle.lg_detector.specs.Meaning.Timing.{earned, mark_of_ack, score}
 use Rattle.lg_detector.specs.Meaning.Send.{claims_of}
 use Rattle.lg_detector.specs.Meaning.Tick.{request_to, requests, suspect_of}
@@ -112,6 +113,19 @@ both_are_chosen = refl
 a_new_round_begins : round_names (started 5 started_twice) ≡ (d ∷ []) ∷ []
 unfolding by_computing
 a_new_round_begins = refl
+
+-- The stretch in which these three rounds start: its targets, of which any three are to have both names, and that both
+-- are the others that haven't failed throughout it.
+abbrev three_starts : Log
+three_starts = started 5 (started 6 (started 0 []))
+
+three_targets : targets three_starts (log_after knows_two) ≡ (c ∷ []) ∷ (d ∷ []) ∷ (d ∷ []) ∷ []
+unfolding by_computing
+three_targets = refl
+
+both_throughout : AreOthers ((c ∷ []) ∷ (d ∷ []) ∷ []) three_starts (log_after knows_two)
+unfolding by_computing
+both_throughout = (refl, (refl, (refl, refl)))
 
 -- The same by events: c acks, the round ends, and the next one pings d.
 the_other_is_pinged :
