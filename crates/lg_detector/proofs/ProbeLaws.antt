@@ -11,7 +11,7 @@ use Rattle.lg_timers.specs.declared.timer.TimerId.TheVariants.{RoundEnd, Suspici
 use Rattle.lg_timers.specs.declared.timer.TimerId.TheVariants.{RelayNack, RelayEnd, RoundStart}
 use Rattle.lg_probe.specs.declared.relays.Relay.{Relay}
 use Rattle.lg_probe.specs.Meaning.Order.{OrderValue, Chose, order_with}
-use Rattle.lg_probe.specs.Meaning.Relays.{has_number, is_ended, ended_asker}
+use Rattle.lg_probe.specs.Meaning.Relays.{ended_asker}
 use Rattle.lg_probe.specs.Meaning.Round.{RoundFact, RoundValue, Asked, Acked, Nacked, asked_in, is_acked, ack_counts, round_of, round_with}
 use Rattle.lg_probe.proofs.RoundLaws.{asked_after, nacked_after}
 use Rattle.lg_membership.specs.declared.suspected.Suspected.{Suspected}
@@ -21,7 +21,7 @@ use Rattle.lg_membership.specs.Support.State as known
 use Rattle.lg_detector.specs.Meaning.Log.{Log, Fired, AckHeard, NackHeard, Relayed, events, moment, group_log}
 use Rattle.lg_detector.specs.Meaning.Probing as probing
 use Rattle.lg_detector.specs.Meaning.Probing.{Probe, number, probe, since_start, round, round_at, new_probe, first_word, target, helpers_of}
-use Rattle.lg_detector.specs.Meaning.Relaying.{relays, has_nacked, opened_at, new_relay}
+use Rattle.lg_detector.specs.Meaning.Relaying.{relays, has_nacked, opened_at}
 use Rattle.lg_detector.specs.Meaning.Timing as timing
 use Rattle.lg_detector.specs.Meaning.Timing.{earned, max_in, score, round_start, round_timers, nack_timers, relay_timers, pending, nack_time, relay_time, end_at, direct_at, is_first, mark_of_end, mark_of_ack}
 use Rattle.lg_detector.specs.Support.State as state

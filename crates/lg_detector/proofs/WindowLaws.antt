@@ -1,12 +1,12 @@
 -- While the others that haven't failed stay the same, so many rounds in a row choose each of them.
-use Rattle.std.proofs.Common.{◌≡◌, ℕ, ◌+◌, ◌-◌, ◌*◌, ◌≤◌, Bool, true, false, cond, List, [], ◌∷◌, ◌++◌, length, Option, Some, None, refl, sym, ◌∙◌, ap, subst, append_assoc, length-append, arith}
+use Rattle.std.proofs.Common.{◌≡◌, ℕ, ◌≤◌, Bool, true, false, cond, List, [], ◌∷◌, ◌++◌, length, Option, Some, None, refl, sym, ◌∙◌, ap, append_assoc, length-append, arith}
 use Rattle.std.specs.Option.{option_to_list}
 use Rattle.std.proofs.lemmas.Bool.{false≢true}
 use Rattle.std.proofs.lemmas.List.{append-nil}
 use Rattle.lg_rules.specs.Meaning.Rows.{name_cmp, is_among}
 use Rattle.lg_timers.specs.declared.timer.Timer.{Timer}
 use Rattle.lg_probe.specs.Meaning.Order.{choice, next_round, window}
-use Rattle.lg_probe.proofs.WindowLaws.{choices, choices-none, in_window}
+use Rattle.lg_probe.proofs.WindowLaws.{choices, in_window}
 use Rattle.lg_membership.specs.Meaning.Log as group
 use Rattle.lg_membership.proofs.LiveOthers.{live-opened}
 use Rattle.lg_detector.specs.Meaning.Log.{Log, Came, Fired, AckHeard, NackHeard, Relayed, OfGroup, group_log}
