@@ -7,7 +7,8 @@ use Rattle.lg_probe.specs.Meaning.Relays.{Opened, TargetAcked, Closed, asker_at,
 use Rattle.lg_probe.specs.Meaning.Relays.{relays_after}
 use Rattle.lg_probe.specs.Meaning.Round.{RoundFact, Asked, Acked, Nacked, RoundValue, is_acked, is_first_ack, mark_of}
 use Rattle.lg_probe.specs.Meaning.Round.{nack_counts, round_of, silent_in}
-use Rattle.lg_probe.specs.Meaning.Order.{OrderFact, Joined, Left, Chose, EachInWindows, ever_joined, known_names, window}
+use Rattle.lg_probe.specs.Meaning.Order.{OrderFact, Joined, Left, Chose}
+use Rattle.lg_probe.specs.Meaning.Order.{EachInWindows, ever_joined, known_names, window}
 use Rattle.lg_probe.specs.Meaning.Order.{picks, choices_after, choice_after, order_after}
 
 abbrev a : List ℕ
