@@ -79,8 +79,8 @@ pub enum ConfigFault {
 /// numbers. The ranges and the defaults are this project's choice.
 #[derive(Debug, Drop)]
 pub struct Config {
-    /// From one probe to the next at a health score of 0, in milliseconds: 10 to 60,000 (SWIM,
-    /// section 3.1, whose protocol period it is).
+    /// From one probe to the next at a health score of 0, in milliseconds: 10 to 60,000. It is the
+    /// protocol period of SWIM, section 3.1.
     pub interval_ms: u64,
     /// How long a probe waits for its ack before helpers are asked, at a health score of 0, in
     /// milliseconds: 1 to `interval_ms - 1` (SWIM, section 3.1).
