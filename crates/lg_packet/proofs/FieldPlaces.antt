@@ -1,5 +1,5 @@
 -- The first fault of each field, by its places and as it is read.
-use Rattle.std.proofs.Common.{◌≡◌, ℕ, zero, suc, Bool, true, false, cond, eqb, ltb, leb, ◌&&◌, List, [], ◌∷◌, ◌++◌, length, take, drop, replicate, Ok, Err, refl, sym, ap, subst, ◌∙◌, arith}
+use Rattle.std.proofs.Common.{◌≡◌, ℕ, zero, suc, Bool, true, false, cond, eqb, ltb, leb, ◌&&◌, List, [], ◌∷◌, ◌++◌, length, take, drop, replicate, Option, Some, None, Ok, Err, refl, sym, ap, subst, ◌∙◌, arith}
 use Rattle.std.specs.List.{list_all}
 use Rattle.std.specs.Int.{w16, w32}
 use Rattle.std.proofs.lemmas.Bool.{le-ltb, lt-ltb, ltb-true, ltb-false, le-leb, lt-leb, leb-true, eqb-true, eqb-false}
@@ -10,8 +10,8 @@ use Rattle.lg_packet.specs.declared.fault.Fault.{Fault}
 use Rattle.lg_packet.specs.declared.fault.Fault.TheVariants as faults
 use Rattle.lg_packet.specs.declared.kind.Kind.{Kind}
 use Rattle.lg_packet.specs.Meaning.Spelling.{byte_of_kind}
-use Rattle.lg_packet.specs.Meaning.Reading.{◌>>=◌, literal_at, kind_at, name_at, number_at, octets_at, addr_at, count_at}
-use Rattle.lg_packet.specs.Meaning.Fault.{Part, KindByte, LengthByte, NameByte, NumberByte, CountByte, ClaimKindByte, is_allowed, fault_at, number_parts, addr_parts, body_parts, brought}
+use Rattle.lg_packet.specs.Meaning.Reading.{◌>>=◌, literal_at, kind_at, name_at, number_at, octets_at, addr_at, some_name_at, after_at, count_at}
+use Rattle.lg_packet.specs.Meaning.Fault.{Part, KindByte, LengthByte, AfterLengthByte, NameByte, NumberByte, CountByte, ClaimKindByte, is_allowed, fault_at, number_parts, addr_parts, body_parts, brought}
 use Rattle.lg_packet.proofs.Outcomes.{fault_or, fault_then}
 use Rattle.lg_packet.proofs.Fields.{number_there, octets_there, port_there}
 use Rattle.lg_packet.proofs.Places.{fault_from}
@@ -25,28 +25,30 @@ literal_fault due fault part parts (b ∷ bytes) test named brings = rw (test b,
     step true = refl
     step false = refl
 
--- a kind is 1 to 4
-no_kind : (b : ℕ) → eqb b 1 ≡ false → eqb b 2 ≡ false → eqb b 3 ≡ false → eqb b 4 ≡ false → (leb 1 b && leb b 4) ≡ false
-no_kind b one two three four = step (leb 1 b) refl (leb b 4) refl
+-- a kind is 1 to 6
+no_kind : (b : ℕ) → eqb b 1 ≡ false → eqb b 2 ≡ false → eqb b 3 ≡ false → eqb b 4 ≡ false → eqb b 5 ≡ false → eqb b 6 ≡ false → (leb 1 b && leb b 6) ≡ false
+no_kind b one two three four five six = step (leb 1 b) refl (leb b 6) refl
   where
-    step : (low : Bool) → leb 1 b ≡ low → (high : Bool) → leb b 4 ≡ high → (low && high) ≡ false
-    step true h true k = absurd (omega (arith, leb-true 1 b h, leb-true b 4 k, eqb-false b 1 one, eqb-false b 2 two, eqb-false b 3 three, eqb-false b 4 four))
+    step : (low : Bool) → leb 1 b ≡ low → (high : Bool) → leb b 6 ≡ high → (low && high) ≡ false
+    step true h true k = absurd (omega (arith, leb-true 1 b h, leb-true b 6 k, eqb-false b 1 one, eqb-false b 2 two, eqb-false b 3 three, eqb-false b 4 four, eqb-false b 5 five, eqb-false b 6 six))
     step true h false k = refl
     step false h high k = refl
 
 pub kind_fault : (bytes : List ℕ) → fault_from bytes (KindByte ∷ []) ≡ fault_or (λ (x : Kind × List ℕ). fault_from x.1 (LengthByte ∷ (body_parts (byte_of_kind x.0) ++ CountByte ∷ []))) (kind_at bytes)
 kind_fault [] = refl
-kind_fault (b ∷ bytes) = step (eqb b 1) refl (eqb b 2) refl (eqb b 3) refl (eqb b 4) refl
+kind_fault (b ∷ bytes) = step (eqb b 1) refl (eqb b 2) refl (eqb b 3) refl (eqb b 4) refl (eqb b 5) refl (eqb b 6) refl
   where
     Same : ℕ → Type 0
     Same n = fault_from (n ∷ bytes) (KindByte ∷ []) ≡ fault_or (λ (x : Kind × List ℕ). fault_from x.1 (LengthByte ∷ (body_parts (byte_of_kind x.0) ++ CountByte ∷ []))) (kind_at (n ∷ bytes))
 
-    step : (one : Bool) → eqb b 1 ≡ one → (two : Bool) → eqb b 2 ≡ two → (three : Bool) → eqb b 3 ≡ three → (four : Bool) → eqb b 4 ≡ four → Same b
-    step true h two i three j four k = let here : b ≡ 1 = eqb-true b 1 h in subst Same (sym here) refl
-    step false h true i three j four k = let here : b ≡ 2 = eqb-true b 2 i in subst Same (sym here) refl
-    step false h false i true j four k = let here : b ≡ 3 = eqb-true b 3 j in subst Same (sym here) refl
-    step false h false i false j true k = let here : b ≡ 4 = eqb-true b 4 k in subst Same (sym here) refl
-    step false h false i false j false k = rw (no_kind b h i j k, h, i, j, k) refl
+    step : (one : Bool) → eqb b 1 ≡ one → (two : Bool) → eqb b 2 ≡ two → (three : Bool) → eqb b 3 ≡ three → (four : Bool) → eqb b 4 ≡ four → (five : Bool) → eqb b 5 ≡ five → (six : Bool) → eqb b 6 ≡ six → Same b
+    step true h two i three j four k five l six m = let here : b ≡ 1 = eqb-true b 1 h in subst Same (sym here) refl
+    step false h true i three j four k five l six m = let here : b ≡ 2 = eqb-true b 2 i in subst Same (sym here) refl
+    step false h false i true j four k five l six m = let here : b ≡ 3 = eqb-true b 3 j in subst Same (sym here) refl
+    step false h false i false j true k five l six m = let here : b ≡ 4 = eqb-true b 4 k in subst Same (sym here) refl
+    step false h false i false j false k true l six m = let here : b ≡ 5 = eqb-true b 5 l in subst Same (sym here) refl
+    step false h false i false j false k false l true m = let here : b ≡ 6 = eqb-true b 6 m in subst Same (sym here) refl
+    step false h false i false j false k false l false m = rw (no_kind b h i j k l m, h, i, j, k, l, m) refl
 
 name_bytes_fault : (n : ℕ) (parts : List Part) (bytes : List ℕ) → fault_from bytes (replicate n NameByte ++ parts)
     ≡ cond (list_all is_name_byte (take n bytes)) (cond (ltb (length bytes) n) faults.Short (fault_from (drop n bytes) parts)) faults.Name
@@ -86,6 +88,34 @@ name_fault parts (n ∷ bytes) =
     length_tests n (fault_from bytes (replicate n NameByte ++ parts)) faults.Name
     ∙ ap (λ (f : Fault). cond (eqb n 0) faults.Name (cond (ltb 32 n) faults.Name f)) (name_bytes_fault n parts bytes)
     ∙ sym (fault_of_tests (eqb n 0) (ltb 32 n) (list_all is_name_byte (take n bytes)) (ltb (length bytes) n) (take n bytes, drop n bytes) (λ (x : List ℕ × List ℕ). fault_from x.1 parts))
+
+-- ---- the name of a Pull
+
+-- the length of a Pull's name, or 0 where it has none, tested in one way and in the other
+after_tests : (n : ℕ) (good bad : Fault) → cond (leb n 32) good bad ≡ cond (eqb n 0) good (cond (leb 1 n && leb n 32) good bad)
+after_tests n good bad = step (eqb n 0) refl
+  where
+    step : (none : Bool) → eqb n 0 ≡ none → cond (leb n 32) good bad ≡ cond none good (cond (leb 1 n && leb n 32) good bad)
+    step true h = rw (le-leb n 32 (omega (arith, eqb-true n 0 h))) refl
+    step false h = rw (le-leb 1 n (omega (arith, eqb-false n 0 h))) refl
+
+some_name_fault : (parts : List Part) (bytes : List ℕ) → fault_from bytes (LengthByte ∷ parts) ≡ fault_or (λ (x : Option (List ℕ) × List ℕ). fault_from x.1 parts) (some_name_at bytes)
+unfolding some_name_at
+some_name_fault parts bytes =
+    name_fault parts bytes
+    ∙ fault_then (name_at bytes) (λ name. Ok (Some name.0, name.1)) (λ (x : List ℕ × List ℕ). fault_from x.1 parts) (λ (x : Option (List ℕ) × List ℕ). fault_from x.1 parts) (λ name. refl)
+
+pub after_fault : (parts : List Part) (bytes : List ℕ) → fault_from bytes (AfterLengthByte ∷ parts) ≡ fault_or (λ (x : Option (List ℕ) × List ℕ). fault_from x.1 parts) (after_at bytes)
+unfolding after_at
+after_fault parts [] = refl
+after_fault parts (n ∷ bytes) =
+    after_tests n (fault_from bytes (replicate n NameByte ++ parts)) faults.Name ∙ step (eqb n 0) refl
+  where
+    step : (none : Bool) → eqb n 0 ≡ none
+        → cond none (fault_from bytes (replicate n NameByte ++ parts)) (fault_from (n ∷ bytes) (LengthByte ∷ parts))
+        ≡ fault_or (λ (x : Option (List ℕ) × List ℕ). fault_from x.1 parts) (cond none (Ok (None, bytes)) (some_name_at (n ∷ bytes)))
+    step true h = ap (λ (m : ℕ). fault_from bytes (replicate m NameByte ++ parts)) (eqb-true n 0 h)
+    step false h = some_name_fault parts (n ∷ bytes)
 
 pub number_fault : (parts : List Part) (bytes : List ℕ) → fault_from bytes (number_parts ++ parts) ≡ fault_or (λ (x : ℕ × List ℕ). fault_from x.1 parts) (number_at w32 bytes)
 number_fault parts [] = refl

@@ -1,19 +1,20 @@
 -- The fields of a packet: what is read is spelled so, and what is spelled so is read again.
-use Rattle.std.proofs.Common.{◌≡◌, ℕ, zero, suc, ◌^◌, ◌<◌, ◌≤◌, Bool, true, false, cond, eqb, ltb, List, [], ◌∷◌, ◌++◌, length, get_or, Some, None, Ok, refl, sym, ap, subst, ◌∙◌, append_assoc, arith, length-append}
+use Rattle.std.proofs.Common.{◌≡◌, ℕ, zero, suc, ◌^◌, ◌<◌, ◌≤◌, Bool, true, false, cond, eqb, ltb, List, [], ◌∷◌, ◌++◌, length, get_or, Option, Some, None, Ok, refl, sym, ap, subst, ◌∙◌, append_assoc, arith, length-append}
 use Rattle.std.specs.Int.{w16, w32, byte_at, from_be_bytes, to_be_bytes}
 use Rattle.std.specs.List.{AllByRecursion}
-use Rattle.std.proofs.lemmas.Bool.{eqb-true, le-ltb, ltb-false}
+use Rattle.std.proofs.lemmas.Bool.{eqb-true, le-ltb, ltb-false, ne_eqb}
 use Rattle.std.proofs.lemmas.List.{take_at, drop_at}
 use Rattle.std.proofs.lemmas.Nat.{be_bytes_2, be_bytes_4, from_be_bytes-to_be_bytes_2, from_be_bytes-to_be_bytes_4}
+use Rattle.lg_rules.proofs.NameLemmas.{is_named}
 use Rattle.lg_rules.specs.declared.addr.Addr.{Addr}
 use Rattle.lg_packet.specs.declared.fault.Fault.{Fault}
 use Rattle.lg_packet.specs.declared.fault.Fault.TheVariants as faults
 use Rattle.lg_packet.specs.declared.kind.Kind.{Kind}
 use Rattle.lg_packet.specs.declared.kind.Kind.TheVariants as kinds
 use Rattle.lg_packet.specs.declared.packet.Body.{Body}
-use Rattle.lg_packet.specs.declared.packet.Body.TheVariants.{Ping, PingReq, Ack, Nack}
-use Rattle.lg_packet.specs.Meaning.Spelling.{kind_of, byte_of_kind, spelled_number, spelled_name, spelled_addr, spelled_head, spelled_body, IsAddr, IsBody}
-use Rattle.lg_packet.specs.Meaning.Reading.{◌>>=◌, literal_at, kind_before, kind_at, number_at, name_at, octets_at, addr_at, head_at, body_at, count_at}
+use Rattle.lg_packet.specs.declared.packet.Body.TheVariants.{Ping, PingReq, Ack, Nack, Pull, Page}
+use Rattle.lg_packet.specs.Meaning.Spelling.{kind_of, byte_of_kind, spelled_number, spelled_name, spelled_addr, spelled_after, spelled_head, spelled_body, IsAddr, IsAfter, IsBody}
+use Rattle.lg_packet.specs.Meaning.Reading.{◌>>=◌, literal_at, kind_before, kind_at, number_at, name_at, octets_at, addr_at, some_name_at, after_at, head_at, body_at, count_at}
 use Rattle.lg_packet.proofs.Outcomes.{step_ok, passed, passed_by, same_ok}
 use Rattle.lg_packet.proofs.NameFields.{name_read, name_again}
 
@@ -39,26 +40,30 @@ literal_read due fault (b ∷ bytes) rest e =
 
 pub kind_read : (bytes : List ℕ) (x : Kind × List ℕ) → kind_at bytes ≡ Ok x → bytes ≡ byte_of_kind x.0 ∷ x.1
 kind_read [] x e = absurd cc
-kind_read (b ∷ bytes) x e = step (eqb b 1) refl (eqb b 2) refl (eqb b 3) refl (eqb b 4) refl e
+kind_read (b ∷ bytes) x e = step (eqb b 1) refl (eqb b 2) refl (eqb b 3) refl (eqb b 4) refl (eqb b 5) refl (eqb b 6) refl e
   where
     is : (n : ℕ) (kind : Kind) → byte_of_kind kind ≡ n → eqb b n ≡ true → kind_before bytes (Some kind) ≡ Ok x → b ∷ bytes ≡ byte_of_kind x.0 ∷ x.1
     is n kind byte h k =
         let here : b ≡ byte_of_kind kind = eqb-true b n h ∙ sym byte in
         subst (λ (y : Kind × List ℕ). b ∷ bytes ≡ byte_of_kind y.0 ∷ y.1) (same_ok (kind, bytes) x k) (ap (λ (m : ℕ). m ∷ bytes) here)
 
-    step : (one : Bool) → eqb b 1 ≡ one → (two : Bool) → eqb b 2 ≡ two → (three : Bool) → eqb b 3 ≡ three → (four : Bool) → eqb b 4 ≡ four
-        → kind_before bytes (cond one (Some kinds.Ping) (cond two (Some kinds.PingReq) (cond three (Some kinds.Ack) (cond four (Some kinds.Nack) None)))) ≡ Ok x → b ∷ bytes ≡ byte_of_kind x.0 ∷ x.1
-    step true h two i three j four l k = is 1 kinds.Ping refl h k
-    step false h true i three j four l k = is 2 kinds.PingReq refl i k
-    step false h false i true j four l k = is 3 kinds.Ack refl j k
-    step false h false i false j true l k = is 4 kinds.Nack refl l k
-    step false h false i false j false l k = absurd cc
+    step : (one : Bool) → eqb b 1 ≡ one → (two : Bool) → eqb b 2 ≡ two → (three : Bool) → eqb b 3 ≡ three → (four : Bool) → eqb b 4 ≡ four → (five : Bool) → eqb b 5 ≡ five → (six : Bool) → eqb b 6 ≡ six
+        → kind_before bytes (cond one (Some kinds.Ping) (cond two (Some kinds.PingReq) (cond three (Some kinds.Ack) (cond four (Some kinds.Nack) (cond five (Some kinds.Pull) (cond six (Some kinds.Page) None)))))) ≡ Ok x → b ∷ bytes ≡ byte_of_kind x.0 ∷ x.1
+    step true h two i three j four l five m six n k = is 1 kinds.Ping refl h k
+    step false h true i three j four l five m six n k = is 2 kinds.PingReq refl i k
+    step false h false i true j four l five m six n k = is 3 kinds.Ack refl j k
+    step false h false i false j true l five m six n k = is 4 kinds.Nack refl l k
+    step false h false i false j false l true m six n k = is 5 kinds.Pull refl m k
+    step false h false i false j false l false m true n k = is 6 kinds.Page refl n k
+    step false h false i false j false l false m false n k = absurd cc
 
 pub kind_again : (kind : Kind) (rest : List ℕ) → kind_at (byte_of_kind kind ∷ rest) ≡ Ok (kind, rest)
 kind_again kinds.Ping rest = refl
 kind_again kinds.PingReq rest = refl
 kind_again kinds.Ack rest = refl
 kind_again kinds.Nack rest = refl
+kind_again kinds.Pull rest = refl
+kind_again kinds.Page rest = refl
 
 -- ---- the head
 
@@ -173,6 +178,33 @@ addr_again addr rest fit =
     ap addr_at (append_assoc addr.octets (to_be_bytes w16 addr.port) rest)
     ∙ rw (octets_again addr.octets (to_be_bytes w16 addr.port ++ rest) fit.four, port_again addr.port rest fit.port) refl
 
+-- ---- the name of a Pull
+
+some_name_read : (bytes : List ℕ) (x : Option (List ℕ) × List ℕ) → some_name_at bytes ≡ Ok x → (bytes ≡ spelled_after x.0 ++ x.1) × IsAfter x.0
+unfolding some_name_at
+some_name_read bytes x e =
+    let a = step_ok (name_at bytes) (λ name. Ok (Some name.0, name.1)) x e in
+    let name = name_read bytes a.0 a.1 in
+    subst (λ (y : Option (List ℕ) × List ℕ). (bytes ≡ spelled_after y.0 ++ y.1) × IsAfter y.0) (same_ok (Some a.0.0, a.0.1) x a.2) (name.0, name.1)
+
+after_read : (bytes : List ℕ) (x : Option (List ℕ) × List ℕ) → after_at bytes ≡ Ok x → (bytes ≡ spelled_after x.0 ++ x.1) × IsAfter x.0
+unfolding after_at
+after_read [] x e = absurd cc
+after_read (n ∷ bytes) x e = step (eqb n 0) refl e
+  where
+    step : (none : Bool) → eqb n 0 ≡ none → cond none (Ok (None, bytes)) (some_name_at (n ∷ bytes)) ≡ Ok x → (n ∷ bytes ≡ spelled_after x.0 ++ x.1) × IsAfter x.0
+    step true h k =
+        let whole : n ∷ bytes ≡ spelled_after None ++ bytes = ap (λ (m : ℕ). m ∷ bytes) (eqb-true n 0 h) in
+        subst (λ (y : Option (List ℕ) × List ℕ). (n ∷ bytes ≡ spelled_after y.0 ++ y.1) × IsAfter y.0) (same_ok (None, bytes) x k) (whole, tt)
+    step false h k = some_name_read (n ∷ bytes) x k
+
+after_again : (after : Option (List ℕ)) (rest : List ℕ) → IsAfter after → after_at (spelled_after after ++ rest) ≡ Ok (after, rest)
+unfolding after_at some_name_at
+after_again None rest fit = refl
+after_again (Some name) rest fit =
+    let n = is_named name fit in
+    rw (ne_eqb (length name) 0 (omega (arith, n.some)), name_again name rest fit) refl
+
 -- ---- bodies
 
 -- a PingReq's spelling, and what stands behind it
@@ -211,6 +243,12 @@ body_read kinds.Nack bytes x fit e =
     let a = step_ok (number_at w32 bytes) (λ number. Ok (Nack number.0, number.1)) x e in
     let number = number_read bytes a.0 fit a.1 in
     subst (λ (y : Body × List ℕ). (bytes ≡ spelled_body y.0 ++ y.1) × IsBody y.0 × (kind_of y.0 ≡ kinds.Nack)) (same_ok (Nack a.0.0, a.0.1) x a.2) (number.0, number.1, refl)
+body_read kinds.Pull bytes x fit e =
+    let a = step_ok (after_at bytes) (λ after. Ok (Pull after.0, after.1)) x e in
+    let after = after_read bytes a.0 a.1 in
+    subst (λ (y : Body × List ℕ). (bytes ≡ spelled_body y.0 ++ y.1) × IsBody y.0 × (kind_of y.0 ≡ kinds.Pull)) (same_ok (Pull a.0.0, a.0.1) x a.2) (after.0, after.1, refl)
+body_read kinds.Page bytes x fit e =
+    subst (λ (y : Body × List ℕ). (bytes ≡ spelled_body y.0 ++ y.1) × IsBody y.0 × (kind_of y.0 ≡ kinds.Page)) (same_ok (Page, bytes) x e) (refl, tt, refl)
 
 pub body_again : (body : Body) (rest : List ℕ) → IsBody body → body_at (kind_of body) (spelled_body body ++ rest) ≡ Ok (body, rest)
 unfolding body_at
@@ -220,6 +258,8 @@ body_again (PingReq number target addr) rest fit =
     ∙ rw (number_again number (spelled_name target ++ (spelled_addr addr ++ rest)) fit.0, name_again target (spelled_addr addr ++ rest) fit.1, addr_again addr rest fit.2) refl
 body_again (Ack number) rest fit = rw (number_again number rest fit) refl
 body_again (Nack number) rest fit = rw (number_again number rest fit) refl
+body_again (Pull after) rest fit = rw (after_again after rest fit) refl
+body_again Page rest fit = refl
 
 -- ---- the count of claims
 

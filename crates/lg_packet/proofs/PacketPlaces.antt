@@ -1,5 +1,5 @@
 -- The fault of the first bad place is the first fault that is met.
-use Rattle.std.proofs.Common.{◌≡◌, ℕ, suc, cond, eqb, List, [], ◌∷◌, ◌++◌, length, replicate, Result, Ok, Err, refl, sym, ap, ◌∙◌, arith}
+use Rattle.std.proofs.Common.{◌≡◌, ℕ, suc, cond, eqb, List, [], ◌∷◌, ◌++◌, length, replicate, Option, Result, Ok, Err, refl, sym, ap, ◌∙◌, arith}
 use Rattle.std.specs.Prelude.{IfErr}
 use Rattle.std.specs.Int.{w32}
 use Rattle.std.proofs.lemmas.Bool.{ne_eqb}
@@ -10,14 +10,14 @@ use Rattle.lg_packet.specs.declared.fault.Fault.TheVariants as faults
 use Rattle.lg_packet.specs.declared.kind.Kind.{Kind}
 use Rattle.lg_packet.specs.declared.kind.Kind.TheVariants as kinds
 use Rattle.lg_packet.specs.declared.packet.Body.{Body}
-use Rattle.lg_packet.specs.declared.packet.Body.TheVariants.{Ping, PingReq, Ack, Nack}
+use Rattle.lg_packet.specs.declared.packet.Body.TheVariants.{Ping, PingReq, Ack, Nack, Pull}
 use Rattle.lg_packet.specs.declared.packet.Packet.{Packet}
 use Rattle.lg_packet.specs.Meaning.Spelling.{byte_of_kind}
-use Rattle.lg_packet.specs.Meaning.Reading.{◌>>=◌, literal_at, kind_at, name_at, number_at, addr_at, head_at, body_at, count_at, claims_at, packet_at, packet_of}
+use Rattle.lg_packet.specs.Meaning.Reading.{◌>>=◌, literal_at, kind_at, name_at, number_at, addr_at, after_at, head_at, body_at, count_at, claims_at, packet_at, packet_of}
 use Rattle.lg_packet.specs.Meaning.Fault.{Part, MagicByte, VersionByte, KindByte, LengthByte, CountByte, ClaimKindByte, addr_parts, body_parts, packet_parts, fault_of}
 use Rattle.lg_packet.proofs.Outcomes.{fault_or, fault_then}
 use Rattle.lg_packet.proofs.Places.{fault_from, by_places}
-use Rattle.lg_packet.proofs.FieldPlaces.{literal_fault, kind_fault, name_fault, number_fault, addr_fault, count_fault}
+use Rattle.lg_packet.proofs.FieldPlaces.{literal_fault, kind_fault, name_fault, number_fault, addr_fault, after_fault, count_fault}
 use Rattle.lg_packet.proofs.ClaimPlaces.{claims_fault}
 
 head_fault : (bytes : List ℕ) → fault_from bytes packet_parts ≡ fault_or (λ (x : Kind × List ℕ). fault_from x.1 (LengthByte ∷ (body_parts (byte_of_kind x.0) ++ CountByte ∷ []))) (head_at bytes)
@@ -57,6 +57,11 @@ body_fault kinds.Nack parts bytes =
     let on = λ (x : Body × List ℕ). fault_from x.1 parts in
     number_fault parts bytes
     ∙ fault_then (number_at w32 bytes) (λ number. Ok (Nack number.0, number.1)) (λ (x : ℕ × List ℕ). fault_from x.1 parts) on (λ number. refl)
+body_fault kinds.Pull parts bytes =
+    let on = λ (x : Body × List ℕ). fault_from x.1 parts in
+    after_fault parts bytes
+    ∙ fault_then (after_at bytes) (λ after. Ok (Pull after.0, after.1)) (λ (x : Option (List ℕ) × List ℕ). fault_from x.1 parts) on (λ after. refl)
+body_fault kinds.Page parts bytes = refl
 
 packet_fault : (bytes : List ℕ) → fault_from bytes packet_parts ≡ fault_or (λ (x : Packet × List ℕ). fault_from x.1 []) (packet_at bytes)
 unfolding packet_at

@@ -10,7 +10,7 @@ pub enum Fault {
     Magic = 2,
     /// The version isn't `01`.
     Version = 3,
-    /// The kind isn't 1 to 4: a Ping, a PingReq, an Ack or a Nack.
+    /// The kind isn't 1 to 6: a Ping, a PingReq, an Ack, a Nack, a Pull or a Page.
     Kind = 4,
     /// The length of a name is out of its range, or a byte of a name may not stand in one.
     Name = 5,

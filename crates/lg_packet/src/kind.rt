@@ -17,6 +17,10 @@ pub(crate) enum Kind {
     Ack = 3,
     /// A Nack.
     Nack = 4,
+    /// A Pull.
+    Pull = 5,
+    /// A Page.
+    Page = 6,
 }
 
 /// The kind that a byte stands for.
@@ -28,6 +32,8 @@ pub(crate) fn kind_of_byte(byte: u8) -> Option<Kind>
         2 => Some(Kind::PingReq),
         3 => Some(Kind::Ack),
         4 => Some(Kind::Nack),
+        5 => Some(Kind::Pull),
+        6 => Some(Kind::Page),
         _ => None,
     }
 }
@@ -41,6 +47,8 @@ pub(crate) fn kind_of(body: &Body) -> Kind
         Body::PingReq { .. } => Kind::PingReq,
         Body::Ack { .. } => Kind::Ack,
         Body::Nack { .. } => Kind::Nack,
+        Body::Pull { .. } => Kind::Pull,
+        Body::Page => Kind::Page,
     }
 }
 

@@ -4,7 +4,8 @@ ghost use Rattle.std.specs.Prelude.{◌≡◌};
 use arrayvec::ArrayVec;
 use lg_rules::{Addr, Claim, MAX_CLAIMS, Name};
 
-/// What a packet asks for, or answers (SWIM, section 3.1; a Nack is Lifeguard's).
+/// What a packet asks for, or answers (SWIM, section 3.1; a Nack is Lifeguard's, a Pull and a Page are this
+/// project's choice).
 #[derive(Clone, Copy, Debug, PartialEq, Eq)]
 pub enum Body {
     /// Asks a member for an Ack with this number.
@@ -34,6 +35,15 @@ pub enum Body {
         /// The number of the PingReq.
         number: u32,
     },
+    /// Asks for the next records behind a name, or for the first where there is none (this project's choice: a
+    /// member joins by pages of records over datagrams).
+    Pull {
+        /// The records that are asked for are those of the names behind this one, in name order.
+        after: Option<Name>,
+    },
+    /// Answers a Pull: its claims are records (this project's choice: a member joins by pages of records over
+    /// datagrams).
+    Page,
 }
 
 /// What one member sends to another in one datagram.

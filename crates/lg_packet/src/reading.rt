@@ -6,9 +6,10 @@ ghost use Rattle.lg_rules.specs.Meaning.Name.{is_name_byte};
 ghost use Rattle.lg_packet.specs.declared.packet.Packet.{Packet};
 ghost use Rattle.lg_packet.specs.Meaning.Decoding.{DecodesTo};
 ghost use Rattle.lg_packet.specs.Meaning.Fault.{fault_of};
-ghost use Rattle.lg_packet.specs.Meaning.Reading.{addr_at, body_at, claim_at, claim_kind_at, claims_at, count_at};
-ghost use Rattle.lg_packet.specs.Meaning.Reading.{head_at, incarnation_at, kind_at, literal_at, name_at, name_bytes_at};
-ghost use Rattle.lg_packet.specs.Meaning.Reading.{number_at, octets_at, packet_at, packet_of, status_at};
+ghost use Rattle.lg_packet.specs.Meaning.Reading.{addr_at, after_at, body_at, claim_at, claim_kind_at, claims_at};
+ghost use Rattle.lg_packet.specs.Meaning.Reading.{count_at, head_at, incarnation_at, kind_at, literal_at, name_at};
+ghost use Rattle.lg_packet.specs.Meaning.Reading.{name_bytes_at, number_at, octets_at, packet_at, packet_of};
+ghost use Rattle.lg_packet.specs.Meaning.Reading.{some_name_at, status_at};
 ghost use Rattle.lg_packet.specs.Support.Gives.{Gives};
 ghost use Rattle.lg_packet.specs.Meaning.Spelling.{Spells};
 
@@ -134,6 +135,30 @@ impl Reader<'_> {
         Ok(Addr { octets, port })
     }
 
+    /// The name of a Pull that has one.
+    #[tactic(auto, unfolding(crate::specs::Meaning::Reading::some_name_at))]
+    fn some_name(&mut self) -> Result<Option<Name>, Fault>
+        ensures { Gives (λ x. (x, self.new.rest.now)) result (some_name_at self.old.rest.now) }
+    {
+        let name = self.name()?;
+        Ok(Some(name))
+    }
+
+    /// The name of a Pull, or none where its length is 0.
+    #[tactic(auto, unfolding(crate::specs::Meaning::Reading::after_at))]
+    fn after(&mut self) -> Result<Option<Name>, Fault>
+        ensures { Gives (λ x. (x, self.new.rest.now)) result (after_at self.old.rest.now) }
+    {
+        let [len, rest @ ..] = self.rest else {
+            return Err(Fault::Short);
+        };
+        if *len == 0 {
+            self.rest = rest;
+            return Ok(None);
+        }
+        self.some_name()
+    }
+
     #[tactic(auto, unfolding(crate::specs::Meaning::Reading::head_at))]
     fn head(&mut self) -> Result<Kind, Fault>
         ensures { Gives (λ x. (x, self.new.rest.now)) result (head_at self.old.rest.now) }
@@ -164,6 +189,10 @@ impl Reader<'_> {
             Kind::Nack => Ok(Body::Nack {
                 number: self.number()?,
             }),
+            Kind::Pull => Ok(Body::Pull {
+                after: self.after()?,
+            }),
+            Kind::Page => Ok(Body::Page),
         }
     }
 
@@ -270,7 +299,8 @@ impl Reader<'_> {
         let body = self.body(kind)?;
         let count = self.count()?;
         self.claims(count, packet)?;
-        if !self.rest.is_empty() {
+        // Not `is_empty`: the checker knows the `Option` in a body only where the function names one.
+        if self.rest.first().is_some() {
             return Err(Fault::Trailing);
         }
         packet.sender = sender;

@@ -22,6 +22,20 @@ const PING_REQ: &[u8] = b"SL\x01\x02\x01a\x00\x00\x00\x01\x01c\x7f\x00\x00\x01\x
 /// The helper `b` has no Ack for the probe numbered 1.
 const NACK: &[u8] = b"SL\x01\x04\x01b\x00\x00\x00\x01\x00";
 
+/// `a` asks for the first records, and says that it is there itself.
+const PULL: &[u8] = b"SL\x01\x05\x01a\x00\x01\
+    \x01\x01a\x7f\x00\x00\x01\x1b\x59\x00\x00\x00\x00";
+
+/// `a` asks for the records behind `f`.
+const PULL_AFTER: &[u8] = b"SL\x01\x05\x01a\x01f\x01\
+    \x01\x01a\x7f\x00\x00\x01\x1b\x59\x00\x00\x00\x00";
+
+/// `b` answers by the records of `a`, `b` and `c`.
+const PAGE: &[u8] = b"SL\x01\x06\x01b\x03\
+    \x01\x01a\x7f\x00\x00\x01\x1b\x59\x00\x00\x00\x00\
+    \x01\x01b\x7f\x00\x00\x01\x1b\x5a\x00\x00\x00\x00\
+    \x01\x01c\x7f\x00\x00\x01\x1b\x5b\x00\x00\x00\x00";
+
 /// A Ping from `a` for `c`, that says that `c` is there.
 const ALIVE: &[u8] = b"SL\x01\x01\x01a\x00\x00\x00\x07\x01c\x01\
     \x01\x01c\x7f\x00\x00\x01\x1b\x5b\x00\x00\x00\x00";
@@ -104,6 +118,17 @@ fn near_a_nack(rt: HostRuntime) -> Result<(), Fail> {
 }
 
 #[test]
+fn near_a_pull(rt: HostRuntime) -> Result<(), Fail> {
+    agree_near(&rt, rt.alloc(), PULL)?;
+    agree_near(&rt, rt.alloc(), PULL_AFTER)
+}
+
+#[test]
+fn near_a_page(rt: HostRuntime) -> Result<(), Fail> {
+    agree_near(&rt, rt.alloc(), PAGE)
+}
+
+#[test]
 fn near_a_claim(rt: HostRuntime) -> Result<(), Fail> {
     agree_near(&rt, rt.alloc(), ALIVE)?;
     agree_near(&rt, rt.alloc(), ACK_ALIVE)
@@ -124,7 +149,9 @@ fn near_the_greatest_incarnation(rt: HostRuntime) -> Result<(), Fail> {
 fn fills_a_packet_in_place(rt: HostRuntime) -> Result<(), Fail> {
     let mut packet = Packet::default();
     let mut out = ArrayVec::new();
-    for bytes in [SUSPECTS, PING, PING_REQ, ALIVE, NACK, ACK] {
+    for bytes in [
+        SUSPECTS, PING, PULL_AFTER, PING_REQ, ALIVE, PAGE, NACK, PULL, ACK,
+    ] {
         assert_eq!(rt; decode_into(bytes, &mut packet), Ok(()));
         encode(&packet, &mut out);
         assert_eq!(rt; out.as_slice(), bytes);
@@ -277,16 +304,57 @@ fn reads_and_writes_a_ping_req_and_a_nack(rt: HostRuntime) -> Result<(), Fail> {
     Ok(())
 }
 
+/// The claim that a member is there, at this port.
+fn there(name: Name, port: u16) -> Claim {
+    Claim {
+        name,
+        addr: Addr::new([127, 0, 0, 1], port),
+        ..Claim::default()
+    }
+}
+
 #[test]
-fn refuses_what_is_near_a_ping_req_and_a_nack(rt: HostRuntime) -> Result<(), Fail> {
-    for bytes in [PING_REQ, NACK] {
+fn reads_and_writes_pulls_and_a_page(rt: HostRuntime) -> Result<(), Fail> {
+    let (a, b, c, f) = (name(b"a")?, name(b"b")?, name(b"c")?, name(b"f")?);
+    let records = [there(a, 7001), there(b, 7002), there(c, 7003)];
+    let first = Body::Pull { after: None };
+    let next = Body::Pull { after: Some(f) };
+    let rows = [
+        (PULL, a, first, 1),
+        (PULL_AFTER, a, next, 1),
+        (PAGE, b, Body::Page, 3),
+    ];
+    let mut out = ArrayVec::new();
+    for (bytes, sender, body, count) in rows {
+        let mut claims = ArrayVec::new();
+        for record in records.iter().take(count) {
+            assert!(rt; claims.try_push(*record).is_ok());
+        }
+        let packet = Packet {
+            sender,
+            body,
+            claims,
+        };
+        encode(&packet, &mut out);
+        assert_eq!(rt; out.as_slice(), bytes);
+        let read = decode(bytes).ok().ok_or("the bytes are a packet")?;
+        assert_eq!(rt; read.sender, sender);
+        assert_eq!(rt; read.body, body);
+        assert_eq!(rt; read.claims.as_slice(), packet.claims.as_slice());
+    }
+    Ok(())
+}
+
+#[test]
+fn refuses_what_is_near_a_packet(rt: HostRuntime) -> Result<(), Fail> {
+    for bytes in [PING_REQ, NACK, PULL, PULL_AFTER, PAGE] {
         for end in 0..bytes.len() {
             assert_eq!(rt; decode(&bytes[..end]).err(), Some(Fault::Short), "{end}");
         }
         let mut changed = bytes.to_vec(rt.alloc())?;
         changed.push(0)?;
         assert_eq!(rt; decode(&changed).err(), Some(Fault::Trailing));
-        for kind in [0, 5, 6, 7] {
+        for kind in [0, 7, 255] {
             assert!(rt; changed.len() > 3);
             changed[3] = kind;
             assert_eq!(rt; decode(&changed).err(), Some(Fault::Kind), "{kind}");
@@ -297,12 +365,13 @@ fn refuses_what_is_near_a_ping_req_and_a_nack(rt: HostRuntime) -> Result<(), Fai
 
 #[test]
 fn refuses_by_the_first_fault(rt: HostRuntime) -> Result<(), Fail> {
-    let rows: [(&[u8], Fault); 16] = [
+    let rows: [(&[u8], Fault); 20] = [
         (b"", Fault::Short),
         (b"S", Fault::Short),
         (b"\x00", Fault::Magic),
         (b"S\x00", Fault::Magic),
         (b"SL\xff", Fault::Version),
+        (b"SL\x01\x00", Fault::Kind),
         (b"SL\x01\x07", Fault::Kind),
         (b"SL\x01\x01\x00", Fault::Name),
         (b"SL\x01\x01\x21", Fault::Name),
@@ -312,6 +381,9 @@ fn refuses_by_the_first_fault(rt: HostRuntime) -> Result<(), Fail> {
         (b"SL\x01\x03\x01b\x00\x00\x00\x07\x07", Fault::Count),
         (b"SL\x01\x03\x01b\x00\x00\x00\x07\x06", Fault::Short),
         (b"SL\x01\x03\x01b\x00\x00\x00\x07\x01\x04", Fault::ClaimKind),
+        (b"SL\x01\x05\x01a\x21", Fault::Name),
+        (b"SL\x01\x05\x01a\x02 ", Fault::Name),
+        (b"SL\x01\x06\x01b\x07", Fault::Count),
         (&ABOVE[..25], Fault::Short),
         (&ABOVE[..26], Fault::Incarnation),
     ];

@@ -3,9 +3,9 @@ ghost use Rattle.std.specs.Prelude.{◌≡◌, ◌+◌, ◌*◌, ◌≤◌, ◌+
 ghost use Rattle.std.specs.Int.{w32, to_be_bytes};
 ghost use Rattle.arrayvec.specs.ArrayVec.{array_vec_len};
 ghost use Rattle.lg_rules.specs.Meaning.Name.{is_name};
-ghost use Rattle.lg_packet.specs.Meaning.Spelling.{AreClaims, IsAddr, IsBody, IsClaim, IsStatus, Spells};
-ghost use Rattle.lg_packet.specs.Meaning.Spelling.{spelled_accuser, spelled_addr, spelled_body, spelled_claim};
-ghost use Rattle.lg_packet.specs.Meaning.Spelling.{spelled_claims, spelled_head, spelled_name, spelling};
+ghost use Rattle.lg_packet.specs.Meaning.Spelling.{AreClaims, IsAddr, IsAfter, IsBody, IsClaim, IsStatus, Spells};
+ghost use Rattle.lg_packet.specs.Meaning.Spelling.{spelled_accuser, spelled_addr, spelled_after, spelled_body};
+ghost use Rattle.lg_packet.specs.Meaning.Spelling.{spelled_claim, spelled_claims, spelled_head, spelled_name, spelling};
 ghost use Rattle.lg_packet.specs.Meaning.Reading.{packet_of};
 
 use crate::kind::{Kind, claim_kind_of, kind_of};
@@ -71,6 +71,19 @@ fn put_addr(out: &mut Row, addr: &Addr)
     put(out, &[a, b, c, d, high, low]);
 }
 
+/// The name of a Pull, or a length of 0 where it has none.
+fn put_after(out: &mut Row, after: &Option<Name>)
+    requires { array_vec_len out.old + NAME_ROOM ≤ MAX_PACKET }
+    ensures items { out.new.items ≡ out.old.items ++ spelled_after after.now }
+    ensures len { array_vec_len out.new ≤ array_vec_len out.old + NAME_ROOM }
+    ensures after { IsAfter after.now }
+{
+    match after {
+        Some(name) => put_name(out, name),
+        None => put(out, &[0]),
+    }
+}
+
 fn put_body(out: &mut Row, body: &Body)
     requires { array_vec_len out.old + BODY_ROOM ≤ MAX_PACKET }
     ensures items { out.new.items ≡ out.old.items ++ spelled_body body.now }
@@ -92,6 +105,8 @@ fn put_body(out: &mut Row, body: &Body)
             put_addr(out, addr);
         }
         Body::Ack { number } | Body::Nack { number } => put(out, &number.to_be_bytes()),
+        Body::Pull { after } => put_after(out, after),
+        Body::Page => {}
     }
 }
 

@@ -1,15 +1,15 @@
 -- Worked rows.
-use Rattle.std.specs.Prelude.{◌≡◌, ℕ, List, [], ◌∷◌, length, replicate, take, Ok, Err, refl}
+use Rattle.std.specs.Prelude.{◌≡◌, ℕ, List, [], ◌∷◌, ◌++◌, length, replicate, take, Some, None, Ok, Err, refl}
 use Rattle.lg_rules.specs.declared.addr.Addr.{Addr}
 use Rattle.lg_rules.specs.declared.claim.Claim.{Claim}
 use Rattle.lg_rules.specs.declared.claim.Status.TheVariants.{Alive, Suspect}
 use Rattle.lg_packet.specs.declared.fault.Fault.{Fault}
 use Rattle.lg_packet.specs.declared.fault.Fault.TheVariants as faults
-use Rattle.lg_packet.specs.declared.packet.Body.TheVariants.{Ping, PingReq, Ack, Nack}
+use Rattle.lg_packet.specs.declared.packet.Body.TheVariants.{Ping, PingReq, Ack, Nack, Pull, Page}
 use Rattle.lg_packet.specs.declared.packet.Packet.{Packet}
 use Rattle.lg_packet.specs.Meaning.Spelling.{spelled_body, spelling}
 use Rattle.lg_packet.specs.Meaning.Reading.{name_at, head_at, body_at, claims_at, packet_at, packet_of}
-use Rattle.lg_packet.specs.Meaning.Reading.{addr_at, incarnation_at, status_at, claim_at}
+use Rattle.lg_packet.specs.Meaning.Reading.{addr_at, incarnation_at, status_at, claim_at, some_name_at, after_at}
 use Rattle.lg_packet.specs.Meaning.Fault.{fault_of, first_fault, fault_behind}
 
 -- a Ping from a for b, numbered 7
@@ -69,13 +69,13 @@ other_version : Fails (0x53 ∷ 0x4c ∷ 0xff ∷ []) faults.Version
 unfolding packet_of packet_at head_at name_at body_at claims_at fault_of first_fault fault_behind
 other_version = record { read = refl; placed = refl }
 
-other_kind : Fails (0x53 ∷ 0x4c ∷ 1 ∷ 7 ∷ []) faults.Kind
+seventh_kind : Fails (0x53 ∷ 0x4c ∷ 1 ∷ 7 ∷ []) faults.Kind
 unfolding packet_of packet_at head_at name_at body_at claims_at fault_of first_fault fault_behind
-other_kind = record { read = refl; placed = refl }
+seventh_kind = record { read = refl; placed = refl }
 
-fifth_kind : Fails (0x53 ∷ 0x4c ∷ 1 ∷ 5 ∷ []) faults.Kind
+no_kind : Fails (0x53 ∷ 0x4c ∷ 1 ∷ 0 ∷ []) faults.Kind
 unfolding packet_of packet_at head_at name_at body_at claims_at fault_of first_fault fault_behind
-fifth_kind = record { read = refl; placed = refl }
+no_kind = record { read = refl; placed = refl }
 
 -- the length of a name is judged at once
 no_name : Fails (0x53 ∷ 0x4c ∷ 1 ∷ 1 ∷ 0 ∷ []) faults.Name
@@ -259,3 +259,104 @@ fourth_byte : Fails
 unfolding packet_of packet_at head_at name_at body_at claims_at claim_at addr_at incarnation_at
     fault_of first_fault fault_behind
 fourth_byte = record { read = refl; placed = refl }
+
+-- ---- pages of records
+
+-- the claim that the member with this one byte of name is there, at this port
+abbrev there : ℕ → ℕ → Claim
+there name port = record { name = name ∷ []; addr = at_port port; status = Alive; incarnation = 0 }
+
+-- a asks for the first records, and says that it is there itself
+abbrev pull : Packet
+pull = record { sender = 97 ∷ []; body = Pull None; claims = record { items = there 97 7001 ∷ [] } }
+
+abbrev pull_bytes : List ℕ
+pull_bytes =
+    0x53 ∷ 0x4c ∷ 1 ∷ 5 ∷ 1 ∷ 97 ∷ 0 ∷ 1 ∷ 1 ∷ 1 ∷ 97 ∷ 0x7f ∷ 0 ∷ 0 ∷ 1 ∷ 0x1b ∷ 0x59 ∷ 0 ∷ 0 ∷ 0 ∷ 0 ∷ []
+
+-- b answers by the records of a, b and c
+abbrev page : Packet
+page =
+    let records = there 97 7001 ∷ there 98 7002 ∷ there 99 7003 ∷ [] in
+    record { sender = 98 ∷ []; body = Page; claims = record { items = records } }
+
+abbrev page_bytes : List ℕ
+page_bytes =
+    0x53 ∷ 0x4c ∷ 1 ∷ 6 ∷ 1 ∷ 98 ∷ 3 ∷ 1 ∷ 1 ∷ 97 ∷ 0x7f ∷ 0 ∷ 0 ∷ 1 ∷ 0x1b ∷ 0x59 ∷ 0 ∷ 0 ∷ 0 ∷ 0 ∷ 1 ∷ 1 ∷ 98
+    ∷ 0x7f ∷ 0 ∷ 0 ∷ 1 ∷ 0x1b ∷ 0x5a ∷ 0 ∷ 0 ∷ 0 ∷ 0 ∷ 1 ∷ 1 ∷ 99 ∷ 0x7f ∷ 0 ∷ 0 ∷ 1 ∷ 0x1b ∷ 0x5b ∷ 0 ∷ 0 ∷ 0
+    ∷ 0 ∷ []
+
+-- a asks for the records behind f
+abbrev pull_after : Packet
+pull_after = record { sender = 97 ∷ []; body = Pull (Some (102 ∷ [])); claims = record { items = there 97 7001 ∷ [] } }
+
+abbrev pull_after_bytes : List ℕ
+pull_after_bytes =
+    0x53 ∷ 0x4c ∷ 1 ∷ 5 ∷ 1 ∷ 97 ∷ 1 ∷ 102 ∷ 1 ∷ 1 ∷ 1 ∷ 97 ∷ 0x7f ∷ 0 ∷ 0 ∷ 1 ∷ 0x1b ∷ 0x59 ∷ 0 ∷ 0 ∷ 0 ∷ 0 ∷ []
+
+spelled_pull : spelling pull ≡ pull_bytes
+unfolding spelling
+spelled_pull = refl
+
+spelled_page : spelling page ≡ page_bytes
+unfolding spelling
+spelled_page = refl
+
+spelled_pull_after : spelling pull_after ≡ pull_after_bytes
+unfolding spelling
+spelled_pull_after = refl
+
+read_pull : packet_of pull_bytes ≡ Ok pull
+unfolding packet_of packet_at head_at name_at some_name_at after_at body_at claims_at claim_at addr_at incarnation_at
+    status_at
+read_pull = refl
+
+read_page : packet_of page_bytes ≡ Ok page
+unfolding packet_of packet_at head_at name_at some_name_at after_at body_at claims_at claim_at addr_at incarnation_at
+    status_at
+read_page = refl
+
+read_pull_after : packet_of pull_after_bytes ≡ Ok pull_after
+unfolding packet_of packet_at head_at name_at some_name_at after_at body_at claims_at claim_at addr_at incarnation_at
+    status_at
+read_pull_after = refl
+
+-- a Pull that ends before the length of its name, in its name, and before its count
+no_length : Fails (take 6 pull_bytes) faults.Short
+unfolding packet_of packet_at head_at name_at some_name_at after_at body_at claims_at fault_of first_fault fault_behind
+no_length = record { read = refl; placed = refl }
+
+short_after : Fails (take 7 pull_after_bytes) faults.Short
+unfolding packet_of packet_at head_at name_at some_name_at after_at body_at claims_at fault_of first_fault fault_behind
+short_after = record { read = refl; placed = refl }
+
+no_count : Fails (take 7 pull_bytes) faults.Short
+unfolding packet_of packet_at head_at name_at some_name_at after_at body_at claims_at fault_of first_fault fault_behind
+no_count = record { read = refl; placed = refl }
+
+-- the name of a Pull with 32 bytes, with 33, and with a bad one of two
+longest_after : packet_of (take 6 pull_bytes ++ 32 ∷ replicate 32 99 ++ 0 ∷ [])
+    ≡ Ok (record { sender = 97 ∷ []; body = Pull (Some (replicate 32 99)); claims = record { items = [] } })
+unfolding packet_of packet_at head_at name_at some_name_at after_at body_at claims_at
+longest_after = refl
+
+long_after : Fails (0x53 ∷ 0x4c ∷ 1 ∷ 5 ∷ 1 ∷ 97 ∷ 0x21 ∷ []) faults.Name
+unfolding packet_of packet_at head_at name_at some_name_at after_at body_at claims_at fault_of first_fault fault_behind
+long_after = record { read = refl; placed = refl }
+
+bad_after : Fails (0x53 ∷ 0x4c ∷ 1 ∷ 5 ∷ 1 ∷ 97 ∷ 2 ∷ 32 ∷ []) faults.Name
+unfolding packet_of packet_at head_at name_at some_name_at after_at body_at claims_at fault_of first_fault fault_behind
+bad_after = record { read = refl; placed = refl }
+
+-- a Page that ends before its count, one of seven records, and one with a byte more
+short_page : Fails (take 6 page_bytes) faults.Short
+unfolding packet_of packet_at head_at name_at some_name_at after_at body_at claims_at fault_of first_fault fault_behind
+short_page = record { read = refl; placed = refl }
+
+seven_records : Fails (0x53 ∷ 0x4c ∷ 1 ∷ 6 ∷ 1 ∷ 98 ∷ 7 ∷ []) faults.Count
+unfolding packet_of packet_at head_at name_at some_name_at after_at body_at claims_at fault_of first_fault fault_behind
+seven_records = record { read = refl; placed = refl }
+
+longer_page : Fails (0x53 ∷ 0x4c ∷ 1 ∷ 6 ∷ 1 ∷ 98 ∷ 0 ∷ 0 ∷ []) faults.Trailing
+unfolding packet_of packet_at head_at name_at some_name_at after_at body_at claims_at fault_of first_fault fault_behind
+longer_page = record { read = refl; placed = refl }

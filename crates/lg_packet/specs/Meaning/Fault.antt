@@ -7,12 +7,14 @@ use Rattle.lg_rules.specs.Meaning.Bounds.{greatest_incarnation, most_claims, mos
 use Rattle.lg_packet.specs.declared.fault.Fault.{Fault}
 use Rattle.lg_packet.specs.declared.fault.Fault.TheVariants as faults
 
--- what can be due at a place: of an incarnation, a byte behind those of it that are there
+-- what can be due at a place: of an incarnation, a byte behind those of it that are there; where a Pull has no
+-- name, its length is 0
 pub data Part : Type 0 where
   MagicByte : ℕ → Part
   VersionByte : Part
   KindByte : Part
   LengthByte : Part
+  AfterLengthByte : Part
   NameByte : Part
   NumberByte : Part
   CountByte : Part
@@ -23,8 +25,9 @@ pub data Part : Type 0 where
 abbrev pub is_allowed : Part → ℕ → Bool
 is_allowed (MagicByte magic) b = b == magic
 is_allowed VersionByte b = b == 1
-is_allowed KindByte b = nat_le 1 b && nat_le b 4
+is_allowed KindByte b = nat_le 1 b && nat_le b 6
 is_allowed LengthByte b = nat_le 1 b && nat_le b most_name_bytes
+is_allowed AfterLengthByte b = nat_le b most_name_bytes
 is_allowed NameByte b = is_name_byte b
 is_allowed NumberByte b = true
 is_allowed CountByte b = nat_le b most_claims
@@ -38,6 +41,7 @@ fault_at (MagicByte magic) = faults.Magic
 fault_at VersionByte = faults.Version
 fault_at KindByte = faults.Kind
 fault_at LengthByte = faults.Name
+fault_at AfterLengthByte = faults.Name
 fault_at NameByte = faults.Name
 fault_at NumberByte = faults.Short
 fault_at CountByte = faults.Count
@@ -54,7 +58,8 @@ addr_parts = replicate 6 NumberByte
 abbrev pub body_parts : ℕ → List Part
 body_parts kind =
     if kind == 1 then number_parts ++ LengthByte ∷ []
-    else if kind == 2 then number_parts ++ LengthByte ∷ addr_parts else number_parts
+    else if kind == 2 then number_parts ++ LengthByte ∷ addr_parts
+    else if kind == 5 then AfterLengthByte ∷ [] else if kind == 6 then [] else number_parts
 
 -- the parts of a claim of a kind behind its kind
 abbrev pub accuser_parts : ℕ → List Part
@@ -67,6 +72,7 @@ claim_parts kind = LengthByte ∷ addr_parts ++ IncarnationByte [] ∷ accuser_p
 abbrev pub brought : Part → ℕ → List Part
 brought KindByte kind = LengthByte ∷ body_parts kind ++ CountByte ∷ []
 brought LengthByte n = replicate n NameByte
+brought AfterLengthByte n = replicate n NameByte
 brought CountByte n = replicate n ClaimKindByte
 brought ClaimKindByte kind = claim_parts kind
 brought (IncarnationByte before) b = if nat_lt (length before) 3 then IncarnationByte (before ++ b ∷ []) ∷ [] else []

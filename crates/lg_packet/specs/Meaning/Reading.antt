@@ -18,7 +18,7 @@ use Rattle.lg_packet.specs.declared.kind.ClaimKind.TheVariants as claims
 use Rattle.lg_packet.specs.declared.kind.Kind.{Kind}
 use Rattle.lg_packet.specs.declared.kind.Kind.TheVariants as kinds
 use Rattle.lg_packet.specs.declared.packet.Body.{Body}
-use Rattle.lg_packet.specs.declared.packet.Body.TheVariants.{Ping, PingReq, Ack, Nack}
+use Rattle.lg_packet.specs.declared.packet.Body.TheVariants.{Ping, PingReq, Ack, Nack, Pull, Page}
 use Rattle.lg_packet.specs.declared.packet.Packet.{Packet}
 
 infixl 10 ◌>>=◌
@@ -35,7 +35,9 @@ abbrev pub kind_of_byte : ℕ → Option Kind
 kind_of_byte b =
     if b == 1 then Some kinds.Ping
     else if b == 2 then Some kinds.PingReq
-    else if b == 3 then Some kinds.Ack else if b == 4 then Some kinds.Nack else None
+    else if b == 3 then Some kinds.Ack
+    else if b == 4 then Some kinds.Nack
+    else if b == 5 then Some kinds.Pull else if b == 6 then Some kinds.Page else None
 
 abbrev pub kind_before : List ℕ → Option Kind → Result (Kind × List ℕ) Fault
 kind_before rest None = Err faults.Kind
@@ -71,6 +73,17 @@ addr_at bytes = do
   port ← number_at w16 octets.1
   Ok (record { octets = octets.0; port = port.0 }, port.1)
 
+-- the name of a Pull that has one
+unfoldable pub some_name_at : List ℕ → Result (Option (List ℕ) × List ℕ) Fault
+some_name_at bytes = do
+  name ← name_at bytes
+  Ok (Some name.0, name.1)
+
+-- the name of a Pull, or none where its length is 0
+unfoldable pub after_at : List ℕ → Result (Option (List ℕ) × List ℕ) Fault
+after_at [] = Err faults.Short
+after_at (n ∷ bytes) = if n == 0 then Ok (None, bytes) else some_name_at (n ∷ bytes)
+
 -- the magic, the version and the kind
 unfoldable pub head_at : List ℕ → Result (Kind × List ℕ) Fault
 head_at bytes = do
@@ -95,6 +108,10 @@ body_at kinds.Ack bytes = do
 body_at kinds.Nack bytes = do
   number ← number_at w32 bytes
   Ok (Nack number.0, number.1)
+body_at kinds.Pull bytes = do
+  after ← after_at bytes
+  Ok (Pull after.0, after.1)
+body_at kinds.Page bytes = Ok (Page, bytes)
 
 -- ---- claims
 

@@ -1,5 +1,5 @@
 -- What packets are, and the one spelling of each (the formats are this project's choice).
-use Rattle.std.specs.Prelude.{◌≡◌, ℕ, ◌<◌, ◌≤◌, ◌^◌, IsTrue, List, [], ◌∷◌, ◌++◌, length}
+use Rattle.std.specs.Prelude.{◌≡◌, ℕ, ◌<◌, ◌≤◌, ◌^◌, IsTrue, List, [], ◌∷◌, ◌++◌, length, Option, Some, None}
 use Rattle.std.specs.Int.{w16, w32, to_be_bytes}
 use Rattle.std.specs.List.{flat_map, AllByRecursion}
 use Rattle.lg_rules.specs.Meaning.Name.{is_name}
@@ -13,7 +13,7 @@ use Rattle.lg_packet.specs.declared.kind.ClaimKind.TheVariants as claims
 use Rattle.lg_packet.specs.declared.kind.Kind.{Kind}
 use Rattle.lg_packet.specs.declared.kind.Kind.TheVariants as kinds
 use Rattle.lg_packet.specs.declared.packet.Body.{Body}
-use Rattle.lg_packet.specs.declared.packet.Body.TheVariants.{Ping, PingReq, Ack, Nack}
+use Rattle.lg_packet.specs.declared.packet.Body.TheVariants.{Ping, PingReq, Ack, Nack, Pull, Page}
 use Rattle.lg_packet.specs.declared.packet.Packet.{Packet}
 
 abbrev pub kind_of : Body → Kind
@@ -21,6 +21,8 @@ kind_of (Ping number target) = kinds.Ping
 kind_of (PingReq number target addr) = kinds.PingReq
 kind_of (Ack number) = kinds.Ack
 kind_of (Nack number) = kinds.Nack
+kind_of (Pull after) = kinds.Pull
+kind_of Page = kinds.Page
 
 -- the byte that stands for a kind
 abbrev pub byte_of_kind : Kind → ℕ
@@ -28,6 +30,8 @@ byte_of_kind kinds.Ping = 1
 byte_of_kind kinds.PingReq = 2
 byte_of_kind kinds.Ack = 3
 byte_of_kind kinds.Nack = 4
+byte_of_kind kinds.Pull = 5
+byte_of_kind kinds.Page = 6
 
 abbrev pub claim_kind_of : Status → ClaimKind
 claim_kind_of Alive = claims.Alive
@@ -51,11 +55,19 @@ spelled_number number = to_be_bytes w32 number
 abbrev pub spelled_addr : Addr → List ℕ
 spelled_addr addr = addr.octets ++ to_be_bytes w16 addr.port
 
+-- the name of a Pull, or a length of 0 where it has none
+abbrev pub spelled_after : Option (List ℕ) → List ℕ
+spelled_after None = 0 ∷ []
+spelled_after (Some name) = spelled_name name
+
+-- a Page has nothing but its claims
 abbrev pub spelled_body : Body → List ℕ
 spelled_body (Ping number target) = spelled_number number ++ spelled_name target
 spelled_body (PingReq number target addr) = spelled_number number ++ (spelled_name target ++ spelled_addr addr)
 spelled_body (Ack number) = spelled_number number
 spelled_body (Nack number) = spelled_number number
+spelled_body (Pull after) = spelled_after after
+spelled_body Page = []
 
 -- the magic, the version and the kind
 abbrev pub spelled_head : Kind → List ℕ
@@ -89,11 +101,17 @@ pub record IsAddr (addr : Addr) : Type 0 where
   pub octets : AllByRecursion (λ b. b < 256) addr.octets
   pub port : addr.port < 2 ^ 16
 
+abbrev pub IsAfter : Option (List ℕ) → Type 0
+IsAfter None = Unit {0}
+IsAfter (Some name) = IsTrue (is_name name)
+
 abbrev pub IsBody : Body → Type 0
 IsBody (Ping number target) = (number < 2 ^ 32) × IsTrue (is_name target)
 IsBody (PingReq number target addr) = (number < 2 ^ 32) × IsTrue (is_name target) × IsAddr addr
 IsBody (Ack number) = number < 2 ^ 32
 IsBody (Nack number) = number < 2 ^ 32
+IsBody (Pull after) = IsAfter after
+IsBody Page = Unit {0}
 
 abbrev pub IsStatus : Status → Type 0
 IsStatus Alive = Unit {0}

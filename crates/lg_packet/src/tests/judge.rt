@@ -9,6 +9,8 @@ enum Due {
     Exactly(u8, Fault),
     Kind,
     Length,
+    /// The length of a name, or 0 where there is none.
+    AfterLength,
     NameByte,
     Any,
     Count,
@@ -21,8 +23,9 @@ enum Due {
 fn fault_of(due: Due, byte: u8) -> Option<Fault> {
     let (stands, fault) = match due {
         Due::Exactly(wanted, fault) => (byte == wanted, fault),
-        Due::Kind => (matches!(byte, 1..=4), Fault::Kind),
+        Due::Kind => (matches!(byte, 1..=6), Fault::Kind),
         Due::Length => (byte != 0 && byte < 33, Fault::Name),
+        Due::AfterLength => (byte < 33, Fault::Name),
         Due::NameByte => (
             byte.is_ascii_alphanumeric() || b"._-".contains(&byte),
             Fault::Name,
@@ -51,12 +54,17 @@ fn bring(due: Due, byte: u8, stack: &mut Vec<Due>) -> Result<(), AllocError> {
             if byte == 1 || byte == 2 {
                 stack.push(Due::Length)?;
             }
-            for _ in 0..4 {
-                stack.push(Due::Any)?;
+            if byte == 5 {
+                stack.push(Due::AfterLength)?;
+            }
+            if byte < 5 {
+                for _ in 0..4 {
+                    stack.push(Due::Any)?;
+                }
             }
             stack.push(Due::Length)?;
         }
-        Due::Length => {
+        Due::Length | Due::AfterLength => {
             for _ in 0..byte {
                 stack.push(Due::NameByte)?;
             }
