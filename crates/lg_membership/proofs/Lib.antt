@@ -15,3 +15,5 @@ pub mod Shown
 pub mod Differing
 pub mod LiveOthers
 pub mod AppliedLaws
+pub mod PageLaws
+pub mod Paging

@@ -3,4 +3,5 @@ pub mod Log
 pub mod Suspicions
 pub mod Gossip
 pub mod Applied
+pub mod Pages
 pub mod Examples

@@ -23,6 +23,7 @@ use lg_timing::{Config, Moment};
 use std::cmp::Ordering;
 use std::marker::Model;
 
+mod pages;
 mod readers;
 
 pub use lg_rules::MAX_MEMBERS;

@@ -18,6 +18,7 @@ use Rattle.lg_membership.specs.Meaning.Log.{Log, config, me, said, own, live_nam
 use Rattle.lg_membership.specs.Meaning.Suspicions.{suspicions}
 use Rattle.lg_membership.specs.Meaning.Gossip.{queue, put_of_own, put_of_other, target_record}
 use Rattle.lg_membership.specs.Meaning.Applied.{is_refuted}
+use Rattle.lg_membership.specs.Meaning.Pages.{is_behind}
 use Rattle.lg_membership.specs.Support.Changes.{Change, change_of, suspicions_after, deadline_after, presence_heard}
 
 pub record State : Type 0 where
@@ -63,6 +64,10 @@ shown s = view_in s.config s.own s.members.table
 abbrev pub with_found : Option Claim → List Claim → List Claim
 with_found None rows = rows
 with_found (Some r) rows = put_row name_cmp name_of r rows
+
+-- the records with one more, where that is behind a name
+abbrev pub with_behind : Option (List ℕ) → Claim → List Claim → List Claim
+with_behind after r rows = if is_behind after r then put_row name_cmp name_of r rows else rows
 
 -- what a claim at a moment changes of the suspicions
 abbrev pub change_in : ℕ → Claim → State → Change

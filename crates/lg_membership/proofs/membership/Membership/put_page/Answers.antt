@@ -1,0 +1,31 @@
+use Rattle.std.proofs.Common.{rules, ◌≡◌, take, ap, sym, ◌∙◌, List, map, subst}
+use Rattle.std.specs.Prelude.{option_copied}
+use Rattle.lg_rules.specs.declared.claim.Claim.{Claim}
+use Rattle.lg_rules.specs.Meaning.Bounds.{most_claims}
+use Rattle.lg_rules.specs.Meaning.Claim.{name_of}
+use Rattle.lg_rules.specs.Meaning.Rows.{name_cmp, Rises}
+use Rattle.lg_membership.specs.Meaning.Pages.{page_of}
+use Rattle.lg_membership.specs.Support.State.{State, shown, with_behind}
+use Rattle.lg_membership.proofs.Paging.{rises-page, page-shown}
+use Rattle.lg_membership.proofs.membership.Membership.put_page.Goals as goal
+
+pub put_own-requires-clause-rises : goal.put_own-requires-clause-rises
+put_own-requires-clause-rises c =
+    subst (λ (rows : List Claim). Rises name_cmp (map name_of rows)) (sym c.put_others.ensures)
+    (rises-page (option_copied c.args.after) c.records.result.now c.records.ensures.rises)
+
+pub returns-then-is_some-clause-state : goal.returns-then-is_some-clause-state
+returns-then-is_some-clause-state c =
+    let after = option_copied c.args.after in
+    let inside = c.self.inside in
+    let copied : c.try_extend_from_slice-copied.new.self.items ≡ c.as_slice.result.now = search rules in
+    let others = c.put_others.ensures ∙ ap (page_of after) c.records.ensures.records in
+    let gathered = c.put_own.ensures ∙ (λ i. with_behind after (c.record.ensures i) (others i)) in
+    let cut = c.as_slice.ensures.value ∙ c.truncate.ensures.items ∙ ap (take most_claims) gathered in
+    copied ∙ cut
+    ∙ page-shown after _ c.self.invariant (sym c.is_some.ensures ∙ c.if-is_some.true)
+    ∙ ap (λ (s : State). page_of after (shown s)) c.self.view_is
+
+pub returns-then-is_some-clause-log : goal.returns-then-is_some-clause-log
+returns-then-is_some-clause-log c = λ log is.
+    returns-then-is_some-clause-state c ∙ ap (λ (s : State). page_of (option_copied c.args.after) (shown s)) is
