@@ -269,6 +269,7 @@ fn a_suspicion_of_oneself_is_refuted_once(rt: HostRuntime) {
     assert_eq!(rt; filled(&mut b).as_slice(), [alive(b"b", 1)].as_slice());
     assert_eq!(rt; say(&mut b, 0, &alive(b"b", 3)), did(true, Deadline::Stays));
     assert_eq!(rt; b.number().number(), 4);
+    assert_eq!(rt; b.own_record(), alive(b"b", 4));
 }
 
 #[test]

@@ -2,6 +2,7 @@
 ghost use Rattle.std.specs.Prelude.{◌≡◌, ◌≤◌, ◌<◌, [], length, map, filter, option_copied};
 ghost use Rattle.arrayvec.specs.ArrayVec.{array_vec_len};
 ghost use Rattle.lg_rules.specs.Meaning.Claim.{name_of};
+ghost use Rattle.lg_rules.specs.Meaning.Own.{own_record};
 ghost use Rattle.lg_rules.specs.Meaning.Rows.{name_cmp, is_among, row_at, Rises};
 ghost use Rattle.lg_rules.specs.Meaning.Table.{live_in};
 ghost use Rattle.lg_membership.specs.Meaning.Log.{Log, config, own, view, live};
@@ -27,6 +28,14 @@ impl Membership {
         ensures log { (log : Log) → self.now ≡ state_of log → result ≡ (own log).name }
     {
         self.own.name()
+    }
+
+    /// The own record: Alive by the own number, at the own address.
+    pub fn own_record(&self) -> Record
+        ensures state { result ≡ own_record self.now.own }
+        ensures log { (log : Log) → self.now ≡ state_of log → result ≡ own_record (own log) }
+    {
+        self.own.record()
     }
 
     /// The own number.
