@@ -7,7 +7,7 @@ use Rattle.std.proofs.lemmas.List.Folds.{list_any-append}
 use Rattle.lg_rules.specs.declared.addr.Addr.{Addr}
 use Rattle.lg_rules.specs.declared.claim.Claim.{Claim}
 use Rattle.lg_packet.specs.declared.packet.Body.{Body}
-use Rattle.lg_packet.specs.declared.packet.Body.TheVariants.{Ping, PingReq, Ack, Nack}
+use Rattle.lg_packet.specs.declared.packet.Body.TheVariants.{Ping, PingReq, Ack, Nack, Pull, Page}
 use Rattle.lg_timing.specs.declared.config.Config.{Config}
 use Rattle.lg_timing.specs.declared.config.ConfigFault.{ConfigFault}
 use Rattle.lg_timing.specs.Meaning.Config.{check_of, IsChecked}
@@ -16,7 +16,7 @@ use Rattle.lg_membership.specs.declared.origin.Origin.{Origin}
 use Rattle.lg_membership.specs.declared.origin.Origin.TheVariants.{Seed, Group}
 use Rattle.lg_membership.specs.Meaning.Log as group
 use Rattle.lg_detector.specs.declared.event.Event.{Event}
-use Rattle.lg_detector.specs.declared.event.Event.TheVariants.{Open, Tick, Heard, Ask, Health}
+use Rattle.lg_detector.specs.declared.event.Event.TheVariants.{Open, Tick, Heard, Ask, Health, Pull as Pulls}
 use Rattle.lg_detector.specs.declared.message.Message.{Message}
 use Rattle.lg_detector.specs.Meaning.Log.{Log, Came, Fired, Relayed, OfGroup, events, group_log}
 use Rattle.lg_detector.specs.Meaning.Relaying.{relays}
@@ -39,6 +39,8 @@ events-send (Ping number target) log = refl
 events-send (PingReq number target addr) log = refl
 events-send (Ack number) log = refl
 events-send (Nack number) log = refl
+events-send (Pull after) log = refl
+events-send Page log = refl
 
 events-send_all : (ms : List Message) (log : Log) → events (send_all ms log) ≡ events log
 events-send_all [] log = refl
@@ -53,6 +55,8 @@ events-note source sender (Ping k target) log = refl
 events-note source sender (PingReq k target addr) log = events-relayed (is_relayed (group.me (group_log log)) (relays log) target) target source k log
 events-note source sender (Ack k) log = refl
 events-note source sender (Nack k) log = refl
+events-note source sender (Pull after) log = refl
+events-note source sender Page log = refl
 
 events-expire : (o : Option Timer) (words : List ℕ) (log : Log) → events (expire o words log) ≡ events log
 events-expire None words log = refl
@@ -75,6 +79,7 @@ events-log_of (Heard now source packet ∷ past) =
 events-log_of (Tick now words ∷ past) = events-expire (due (Came now ∷ log_of past)) words (Came now ∷ log_of past) ∙ one_more _ _ (events-log_of past)
 events-log_of (Ask now name ∷ past) = one_more _ _ (events-log_of past)
 events-log_of (Health now ∷ past) = one_more _ _ (events-log_of past)
+events-log_of (Pulls now peer ∷ past) = one_more _ _ (events-log_of past)
 
 pub events-after : (f : List Event) → (state_after f).events ≡ length f
 events-after f = events-log_of (reverse f) ∙ length-reverse f

@@ -3,9 +3,10 @@ use Rattle.std.proofs.Common.{◌≡◌, ℕ, Bool, true, false, cond, List, [],
 use Rattle.std.proofs.lemmas.List.{reverse-append}
 use Rattle.lg_rules.specs.declared.addr.Addr.{Addr}
 use Rattle.lg_rules.specs.declared.claim.Claim.{Claim}
+use Rattle.lg_rules.specs.Meaning.Own.{own_record}
 use Rattle.lg_rules.specs.Meaning.View.{changed}
 use Rattle.lg_packet.specs.declared.packet.Body.{Body}
-use Rattle.lg_packet.specs.declared.packet.Body.TheVariants.{Ping, PingReq, Ack, Nack}
+use Rattle.lg_packet.specs.declared.packet.Body.TheVariants.{Ping, PingReq, Ack, Nack, Pull, Page}
 use Rattle.lg_packet.specs.declared.packet.Packet.{Packet}
 use Rattle.lg_timing.specs.declared.config.Config.{Config}
 use Rattle.lg_timers.specs.declared.timer.Timer.{Timer}
@@ -15,9 +16,10 @@ use Rattle.lg_timers.specs.declared.timer.TimerId.TheVariants.{RelayNack, RelayE
 use Rattle.lg_membership.specs.declared.origin.Origin.{Origin}
 use Rattle.lg_membership.specs.declared.origin.Origin.TheVariants.{Seed, Group}
 use Rattle.lg_membership.specs.Meaning.Log as group
+use Rattle.lg_membership.specs.Meaning.Pages.{page_of}
 use Rattle.lg_membership.proofs.FactLaws.{own_name}
 use Rattle.lg_detector.specs.declared.event.Event.{Event}
-use Rattle.lg_detector.specs.declared.event.Event.TheVariants.{Open, Tick, Heard, Ask, Health}
+use Rattle.lg_detector.specs.declared.event.Event.TheVariants.{Open, Tick, Heard, Ask, Health, Pull as Pulls}
 use Rattle.lg_detector.specs.declared.message.Message.{Message}
 use Rattle.lg_detector.specs.Meaning.Log.{Log, Came, Fired, Relayed, OfGroup, group_log}
 use Rattle.lg_detector.specs.Meaning.Probing.{number, round}
@@ -28,11 +30,13 @@ use Rattle.lg_detector.specs.Meaning.Open as open_log
 use Rattle.lg_detector.specs.Meaning.Hear as hear_log
 use Rattle.lg_detector.specs.Meaning.Tick as tick_log
 use Rattle.lg_detector.specs.Meaning.Send as send_log
+use Rattle.lg_detector.specs.Meaning.Joining as join_log
 use Rattle.lg_detector.specs.Meaning.Step as step_log
 use Rattle.lg_detector.specs.Support.State.{State, state_of, begin, apply_all, open_relay}
 use Rattle.lg_detector.specs.Support.Send as send_state
 use Rattle.lg_detector.specs.Support.Open as open_state
 use Rattle.lg_detector.specs.Support.Hear as hear_state
+use Rattle.lg_detector.specs.Support.Joining as join_state
 use Rattle.lg_detector.specs.Support.Tick as tick_state
 use Rattle.lg_detector.specs.Support.Step.{state_after, accepts_of, view_in, advance, step, deadline_of, reply}
 use Rattle.lg_detector.proofs.FactLaws.{come-state, begin-state, apply-state, send-state}
@@ -59,6 +63,8 @@ send-body (Ping number target) log = send-state _ log
 send-body (PingReq number target addr) log = send-state _ log
 send-body (Ack number) log = send-state _ log
 send-body (Nack number) log = refl
+send-body (Pull after) log = refl
+send-body Page log = refl
 
 pub send_all-state : (ms : List Message) (log : Log) → send_state.send_all ms (state_of log) ≡ state_of (send_log.send_all ms log)
 send_all-state [] log = refl
@@ -69,6 +75,8 @@ claims_of-log (Ping number target) log = refl
 claims_of-log (PingReq number target addr) log = refl
 claims_of-log (Ack number) log = refl
 claims_of-log (Nack number) log = refl
+claims_of-log (Pull after) log = refl
+claims_of-log Page log = refl
 
 outgoing-log : (m : Message) (log : Log) → send_state.outgoing m (state_of log) ≡ send_log.outgoing m log
 outgoing-log m log = λ i. record {
@@ -98,6 +106,8 @@ note-state source sender (PingReq k target addr) log =
     ∙ note-request (hear_log.is_relayed (group.me (group_log log)) (relays log) target) target source k log
 note-state source sender (Ack k) log = ack-state k sender log
 note-state source sender (Nack k) log = nack-heard k sender log
+note-state source sender (Pull after) log = refl
+note-state source sender Page log = refl
 
 respond-state : (source : Addr) (sender : List ℕ) (body : Body) (log : Log) → hear_state.respond source sender body (state_of log) ≡ state_of (hear_log.respond source sender body log)
 respond-state source sender body log =
@@ -108,10 +118,34 @@ hear-state : (now : ℕ) (source : Addr) (packet : Packet) (log : Log) → hear_
 hear-state now source packet log =
     ap (hear_state.respond source packet.sender packet.body) (claims-state now packet log) ∙ respond-state source packet.sender packet.body (hear_log.hear_claims now packet log)
 
-sends_to-log : (source : Addr) (sender : List ℕ) (body : Body) (log : Log) → hear_state.sends_to source sender body (state_of log) ≡ hear_log.sends_to source sender body log
-sends_to-log source sender body log =
+response_sent-log : (source : Addr) (sender : List ℕ) (body : Body) (log : Log)
+    → send_state.packets (hear_state.response source sender body (state_of log)) (hear_state.note source sender body (state_of log))
+    ≡ send_log.packets (hear_log.response source sender body log) (hear_log.note source sender body log)
+response_sent-log source sender body log =
     (λ i. send_state.packets (response-log source sender body log i) (note-state source sender body log i))
     ∙ packets-log (hear_log.response source sender body log) (hear_log.note source sender body log)
+
+-- Pulls and Pages
+pull_after-log : (to : Addr) (after : Option (List ℕ)) (log : Log) → join_state.pull_after to after (state_of log) ≡ join_log.pull_after to after log
+pull_after-log to after log =
+    ap (λ me. join_log.with_claims to me (Pull after) (own_record (group.own (group_log log)) ∷ [])) (own_name (group_log log))
+
+page_behind-log : (to : Addr) (after : Option (List ℕ)) (log : Log) → join_state.page_behind to after (state_of log) ≡ join_log.page_behind to after log
+page_behind-log to after log =
+    ap (λ me. join_log.with_claims to me Page (page_of after (group.view (group_log log)))) (own_name (group_log log))
+
+next_pull-log : (to : Addr) (sixth : Option Claim) (log : Log) → join_state.next_pull to sixth (state_of log) ≡ join_log.next_pull to sixth log
+next_pull-log to None log = refl
+next_pull-log to (Some sixth) log = λ i. pull_after-log to (Some sixth.name) log i ∷ []
+
+sends_to-log : (source : Addr) (sender : List ℕ) (body : Body) (claims : List Claim) (log : Log)
+    → hear_state.sends_to source sender body claims (state_of log) ≡ hear_log.sends_to source sender body claims log
+sends_to-log source sender (Ping k target) claims log = response_sent-log source sender (Ping k target) log
+sends_to-log source sender (PingReq k target addr) claims log = response_sent-log source sender (PingReq k target addr) log
+sends_to-log source sender (Ack k) claims log = response_sent-log source sender (Ack k) log
+sends_to-log source sender (Nack k) claims log = response_sent-log source sender (Nack k) log
+sends_to-log source sender (Pull after) claims log = λ i. page_behind-log source after log i ∷ []
+sends_to-log source sender Page claims log = next_pull-log source (join_log.sixth_of claims) log
 
 -- a timer fires, if one is due
 said-log : (id : TimerId) (log : Log) → tick_state.claims_said id (state_of log) ≡ tick_log.claims_said id log
@@ -152,6 +186,7 @@ advance-state log (Heard now source packet) = hear-state now source packet log
 advance-state log (Tick now words) = tick-state now words log
 advance-state log (Ask now name) = come-state now log
 advance-state log (Health now) = come-state now log
+advance-state log (Pulls now peer) = come-state now log
 
 pub reply-state : (log : Log) (e : Event) → reply (state_of log) e ≡ step_log.reply e log
 unfolding reply
@@ -166,7 +201,8 @@ reply-state log (Open now opening) = λ i. record {
 reply-state log (Heard now source packet) =
     let heard = hear_log.hear_claims now packet log in
     let heard-is = claims-state now packet log in
-    let sends-is = ap (hear_state.sends_to source packet.sender packet.body) heard-is ∙ sends_to-log source packet.sender packet.body heard in
+    let said = packet.claims.items in
+    let sends-is = ap (hear_state.sends_to source packet.sender packet.body said) heard-is ∙ sends_to-log source packet.sender packet.body said heard in
     λ i. record {
       fired = None;
       sends = record { items = sends-is i };
@@ -190,6 +226,14 @@ reply-state log (Health now) = λ i. record {
   answer = step_log.answer_by (Health now) log;
   ousted = (advance-state log (Health now) i).membership.own.ousted;
   next = or_zero (deadline_of (advance-state log (Health now) i));
+}
+reply-state log (Pulls now peer) = λ i. record {
+  fired = None;
+  sends = record { items = pull_after-log peer None (Came now ∷ log) i ∷ [] };
+  changed = record { items = [] };
+  answer = None;
+  ousted = (advance-state log (Pulls now peer) i).membership.own.ousted;
+  next = or_zero (deadline_of (advance-state log (Pulls now peer) i));
 }
 reply-state log (Tick now words) = λ i. record {
   fired = tick_state.due (come-state now log i);

@@ -3,7 +3,7 @@ use Rattle.std.proofs.Common.{◌≡◌, ℕ, List, [], ◌∷◌, Option, sym, 
 use Rattle.lg_rules.specs.declared.claim.Claim.{Claim}
 use Rattle.lg_rules.specs.Meaning.View.{changed}
 use Rattle.lg_packet.specs.declared.packet.Body.{Body}
-use Rattle.lg_packet.specs.declared.packet.Body.TheVariants.{Ping, PingReq, Ack, Nack}
+use Rattle.lg_packet.specs.declared.packet.Body.TheVariants.{Ping, PingReq, Ack, Nack, Pull, Page}
 use Rattle.lg_timers.specs.declared.timer.Timer.{Timer}
 use Rattle.lg_membership.specs.declared.origin.Origin.TheVariants.{Group}
 use Rattle.lg_membership.specs.Support.State.{shown}
@@ -24,6 +24,8 @@ view-send (Ping number target) s = refl
 view-send (PingReq number target addr) s = refl
 view-send (Ack number) s = refl
 view-send (Nack number) s = refl
+view-send (Pull after) s = refl
+view-send Page s = refl
 
 pub view-send_all : (ms : List Message) (s : State) → view_in (send_all ms s) ≡ view_in s
 view-send_all [] s = refl

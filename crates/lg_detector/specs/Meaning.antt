@@ -12,14 +12,16 @@ pub mod Timing
 -- what is added to a log, and what is sent
 pub mod Apply
 pub mod Send
--- the kinds of event; Hear is Heard, and Ask is Ask and Health
+-- the kinds of event; Hear is Heard, Ask is Ask and Health, and Joining has Pull
 pub mod Open
 pub mod Hear
 pub mod Tick
 pub mod Ask
+pub mod Joining
 -- all of them
 pub mod Step
 -- worked events: Examples has the literals that the others use
 pub mod Examples
 pub mod ProbingExamples
 pub mod RelayingExamples
+pub mod JoiningExamples

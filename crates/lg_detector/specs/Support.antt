@@ -6,6 +6,7 @@ pub mod Open
 pub mod Hear
 pub mod Tick
 pub mod Ask
+pub mod Joining
 pub mod Step
 pub mod Reached
 pub mod Kept

@@ -23,6 +23,7 @@ use std::marker::Model;
 mod ask;
 mod facts;
 mod hear;
+mod joining;
 mod open;
 mod readers;
 mod relay;
@@ -172,6 +173,7 @@ impl Detector {
             } => self.hear(*now, *source, packet, reply),
             Event::Ask { now, name } => self.ask(*now, name, reply),
             Event::Health { now } => self.ask_health(*now, reply),
+            Event::Pull { now, peer } => self.pull(*now, *peer, reply),
         }
     }
 }

@@ -43,6 +43,13 @@ pub enum Event {
         /// When.
         now: Moment,
     },
+    /// Another member is asked for its table, page by page, and told of oneself (this project's choice).
+    Pull {
+        /// When.
+        now: Moment,
+        /// The address of the member that is asked.
+        peer: Addr,
+    },
 }
 
 impl Event {
@@ -73,6 +80,10 @@ impl Event {
                 name: *name,
             },
             Event::Health { now } => Event::Health { now: *now },
+            Event::Pull { now, peer } => Event::Pull {
+                now: *now,
+                peer: *peer,
+            },
         }
     }
 }

@@ -1,7 +1,7 @@
 //! The sequential detector: its state and its replies depend on the list of past events alone.
 //!
 //! Where to read on:
-//! - what an event does: `detector/open.rt`, `hear.rt`, `tick.rt` and `ask.rt`, one for each kind of event, and by the
+//! - what an event does: `detector/open.rt`, `hear.rt`, `tick.rt`, `ask.rt` and `joining.rt` (Pull), and by the
 //!   log of what happened the files of the same names in `specs/Meaning`;
 //! - what an opening or a claim does to the score, the timers and the order of probing: `detector/facts.rt`;
 //! - the rounds of probing and the relays: `detector/round.rt` and `relay.rt`, and how packets are filled: `send.rt`;

@@ -1,6 +1,10 @@
 //! A packet that is to be sent, before its sender and its claims are written.
+ghost use Rattle.std.specs.Prelude.{◌≡◌, [], ◌∷◌};
+
+use crate::reply::MAX_SENDS;
+use arrayvec::ArrayVec;
 use lg_packet::Body;
-use lg_rules::Addr;
+use lg_rules::{Addr, Name};
 
 /// Where a packet goes, and what it asks for or responds.
 #[derive(Clone, Copy, Debug, PartialEq, Eq)]
@@ -25,4 +29,15 @@ impl Default for Message {
             body: Body::Ack { number: 0 },
         }
     }
+}
+
+/// One message to an address, with this body.
+pub(crate) fn one(to: Addr, body: Body) -> ArrayVec<Message, MAX_SENDS>
+    ensures { result.items ≡ record { to = to; body = body } ∷ [] }
+{
+    // The checker follows a message into a row where the types of its parts are named.
+    let _part: Option<Name> = None;
+    let mut messages = ArrayVec::new();
+    messages.push(Message { to, body });
+    messages
 }

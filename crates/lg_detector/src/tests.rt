@@ -6,6 +6,7 @@ mod claims;
 mod comparing;
 mod copies;
 mod hear;
+mod joining;
 mod many;
 mod open;
 mod playing;

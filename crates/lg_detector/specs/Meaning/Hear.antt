@@ -1,10 +1,11 @@
 -- The event Heard: the claims of a packet are said in their order, and then its body is responded to (SWIM, section
--- 3.1; Lifeguard, local health aware probe).
+-- 3.1; Lifeguard, local health aware probe; Joining.antt).
 use Rattle.std.specs.Prelude.{ℕ, Bool, ◌||◌, not, List, [], ◌∷◌, Option, Some, None, if◌then◌else◌}
 use Rattle.lg_rules.specs.declared.addr.Addr.{Addr}
+use Rattle.lg_rules.specs.declared.claim.Claim.{Claim}
 use Rattle.lg_rules.specs.Meaning.Rows.{name_cmp, is_same}
 use Rattle.lg_packet.specs.declared.packet.Body.{Body}
-use Rattle.lg_packet.specs.declared.packet.Body.TheVariants.{Ping, PingReq, Ack, Nack}
+use Rattle.lg_packet.specs.declared.packet.Body.TheVariants.{Ping, PingReq, Ack, Nack, Pull, Page}
 use Rattle.lg_packet.specs.declared.packet.Packet.{Packet}
 use Rattle.lg_probe.specs.declared.relays.Relay.{Relay}
 use Rattle.lg_probe.specs.Meaning.Relays.{ended_asker}
@@ -14,6 +15,7 @@ use Rattle.lg_detector.specs.declared.message.Message.{Message}
 use Rattle.lg_detector.specs.declared.reply.Outgoing.{Outgoing}
 use Rattle.lg_detector.specs.Meaning.Log.{Log, AckHeard, NackHeard, Relayed, group_log}
 use Rattle.lg_detector.specs.Meaning.Apply.{come, apply_all}
+use Rattle.lg_detector.specs.Meaning.Joining.{page_behind, next_pull, sixth_of}
 use Rattle.lg_detector.specs.Meaning.Probing.{number}
 use Rattle.lg_detector.specs.Meaning.Relaying.{relays, is_full}
 use Rattle.lg_detector.specs.Meaning.Send.{send_all, packets}
@@ -21,7 +23,7 @@ use Rattle.lg_detector.specs.Meaning.Send.{send_all, packets}
 -- The packet by which a body is responded to, where one is. A Ping or a PingReq for oneself is acked, by its number. A
 -- PingReq for another is relayed as a Ping with the next sequence number to the address in it, or, where as many relays
 -- are open as may be, answered by a Nack at once. The Ack of a relay's target is passed on to its asker, by the asker's
--- number.
+-- number. How a Pull and a Page are answered is in Joining.antt.
 abbrev pub ack_to : Addr → ℕ → List Message
 ack_to to k = record { to = to; body = Ack k } ∷ []
 
@@ -42,6 +44,8 @@ response_by me next open_ones source sender (PingReq k target addr) =
     else relay_or_refuse (is_full open_ones) source k (record { to = addr; body = Ping next target })
 response_by me next open_ones source sender (Ack k) = pass_on (ended_asker k sender open_ones)
 response_by me next open_ones source sender (Nack k) = []
+response_by me next open_ones source sender (Pull after) = []
+response_by me next open_ones source sender Page = []
 
 abbrev pub response : Addr → List ℕ → Body → Log → List Message
 response source sender body log =
@@ -57,6 +61,8 @@ note source sender (PingReq k target addr) log =
     if is_relayed (group.me (group_log log)) (relays log) target then Relayed target source k ∷ log else log
 note source sender (Ack k) log = AckHeard k sender ∷ log
 note source sender (Nack k) log = NackHeard k sender ∷ log
+note source sender (Pull after) log = log
+note source sender Page log = log
 
 abbrev pub respond : Addr → List ℕ → Body → Log → Log
 respond source sender body log = send_all (response source sender body log) (note source sender body log)
@@ -68,5 +74,8 @@ hear_claims now packet log = apply_all Group packet.claims.items (come now log)
 abbrev pub hear : ℕ → Addr → Packet → Log → Log
 hear now source packet log = respond source packet.sender packet.body (hear_claims now packet log)
 
-abbrev pub sends_to : Addr → List ℕ → Body → Log → List Outgoing
-sends_to source sender body log = packets (response source sender body log) (note source sender body log)
+-- the packets that are sent, by what the claims left
+abbrev pub sends_to : Addr → List ℕ → Body → List Claim → Log → List Outgoing
+sends_to source sender (Pull after) claims log = page_behind source after log ∷ []
+sends_to source sender Page claims log = next_pull source (sixth_of claims) log
+sends_to source sender body claims log = packets (response source sender body log) (note source sender body log)

@@ -1,10 +1,11 @@
 -- The packets that are sent. Each has what it asks for or acknowledges, and goes to an address; Pings, PingReqs and
 -- Acks take claims, filled one after another (SWIM, section 4.1), and a Ping for a suspected member begins with its
--- record (Lifeguard's buddy system). Nacks take none (this project's choice).
+-- record (Lifeguard's buddy system). Nacks take none, and nor do Pulls and Pages, whose claims are told in Joining.antt
+-- (this project's choice).
 use Rattle.std.specs.Prelude.{List, [], ◌∷◌, Some, None}
 use Rattle.lg_rules.specs.declared.claim.Claim.{Claim}
 use Rattle.lg_packet.specs.declared.packet.Body.{Body}
-use Rattle.lg_packet.specs.declared.packet.Body.TheVariants.{Ping, PingReq, Ack, Nack}
+use Rattle.lg_packet.specs.declared.packet.Body.TheVariants.{Ping, PingReq, Ack, Nack, Pull, Page}
 use Rattle.lg_membership.specs.Meaning.Gossip.{taken, fill}
 use Rattle.lg_membership.specs.Meaning.Log as group
 use Rattle.lg_detector.specs.declared.message.Message.{Message}
@@ -13,12 +14,14 @@ use Rattle.lg_detector.specs.Meaning.Log.{Log, OfGroup, group_log}
 
 -- A message is a packet without its sender and its claims: where it goes, and its body.
 
--- the claims that a packet with this body has
+-- the claims that a packet with this body takes of the queue
 abbrev pub claims_of : Body → Log → List Claim
 claims_of (Ping number target) log = fill (Some target) (group_log log)
 claims_of (PingReq number target addr) log = fill None (group_log log)
 claims_of (Ack number) log = fill None (group_log log)
 claims_of (Nack number) log = []
+claims_of (Pull after) log = []
+claims_of Page log = []
 
 abbrev pub outgoing : Message → Log → Outgoing
 outgoing message log =
@@ -35,6 +38,8 @@ send (Ping number target) log = OfGroup (group.Sent (taken (Some target) (group_
 send (PingReq number target addr) log = OfGroup (group.Sent (taken None (group_log log))) ∷ log
 send (Ack number) log = OfGroup (group.Sent (taken None (group_log log))) ∷ log
 send (Nack number) log = log
+send (Pull after) log = log
+send Page log = log
 
 -- packets are sent one after another, each filled after those before it
 abbrev pub send_all : List Message → Log → Log

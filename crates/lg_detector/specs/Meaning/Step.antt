@@ -25,7 +25,7 @@ use Rattle.lg_timing.specs.Meaning.Config.{check_of}
 use Rattle.lg_timers.specs.declared.timer.Timer.{Timer}
 use Rattle.lg_membership.specs.Meaning.Log as group
 use Rattle.lg_detector.specs.declared.event.Event.{Event}
-use Rattle.lg_detector.specs.declared.event.Event.TheVariants.{Open, Tick, Heard, Ask, Health}
+use Rattle.lg_detector.specs.declared.event.Event.TheVariants.{Open, Tick, Heard, Ask, Health, Pull}
 use Rattle.lg_detector.specs.declared.reply.Answer.{Answer}
 use Rattle.lg_detector.specs.declared.reply.Outgoing.{Outgoing}
 use Rattle.lg_detector.specs.declared.reply.Reply.{Reply}
@@ -36,6 +36,7 @@ use Rattle.lg_detector.specs.Meaning.Open.{open_with}
 use Rattle.lg_detector.specs.Meaning.Hear.{hear_claims, hear, sends_to}
 use Rattle.lg_detector.specs.Meaning.Tick.{tick, sends_at}
 use Rattle.lg_detector.specs.Meaning.Ask.{ask, status, health}
+use Rattle.lg_detector.specs.Meaning.Joining.{pull, pulls}
 
 -- the log once an event came
 abbrev pub step : Event → Log → Log
@@ -44,6 +45,7 @@ step (Heard now source packet) log = hear now source packet log
 step (Tick now words) log = tick now words log
 step (Ask now name) log = ask now log
 step (Health now) log = ask now log
+step (Pull now peer) log = pull now log
 
 -- the log of some events, the latest first
 abbrev pub log_of : List Event → Log
@@ -57,8 +59,10 @@ fired_by _ log = None
 
 -- the packets to be sent;
 abbrev pub sends_by : Event → Log → List Outgoing
-sends_by (Heard now source packet) log = sends_to source packet.sender packet.body (hear_claims now packet log)
+sends_by (Heard now source packet) log =
+    sends_to source packet.sender packet.body packet.claims.items (hear_claims now packet log)
 sends_by (Tick now words) log = sends_at now words log
+sends_by (Pull now peer) log = pulls now peer log
 sends_by _ log = []
 
 -- the records of the member table that weren't in it before, but for the opening;

@@ -2,7 +2,7 @@
 use Rattle.std.specs.Prelude.{List, [], ◌∷◌, Some, None}
 use Rattle.lg_rules.specs.declared.claim.Claim.{Claim}
 use Rattle.lg_packet.specs.declared.packet.Body.{Body}
-use Rattle.lg_packet.specs.declared.packet.Body.TheVariants.{Ping, PingReq, Ack, Nack}
+use Rattle.lg_packet.specs.declared.packet.Body.TheVariants.{Ping, PingReq, Ack, Nack, Pull, Page}
 use Rattle.lg_membership.specs.Support.State.{taken_in, fill_in}
 use Rattle.lg_detector.specs.declared.reply.Outgoing.{Outgoing}
 use Rattle.lg_detector.specs.declared.message.Message.{Message}
@@ -13,6 +13,8 @@ claims_of (Ping number target) s = fill_in (Some target) s.membership
 claims_of (PingReq number target addr) s = fill_in None s.membership
 claims_of (Ack number) s = fill_in None s.membership
 claims_of (Nack number) s = []
+claims_of (Pull after) s = []
+claims_of Page s = []
 
 abbrev pub outgoing : Message → State → Outgoing
 outgoing message s =
@@ -28,6 +30,8 @@ send (Ping number target) s = send_taken (taken_in (Some target) s.membership) s
 send (PingReq number target addr) s = send_taken (taken_in None s.membership) s
 send (Ack number) s = send_taken (taken_in None s.membership) s
 send (Nack number) s = s
+send (Pull after) s = s
+send Page s = s
 
 abbrev pub send_all : List Message → State → State
 send_all [] s = s

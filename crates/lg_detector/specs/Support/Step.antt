@@ -5,7 +5,7 @@ use Rattle.lg_rules.specs.Meaning.View.{changed}
 use Rattle.lg_timers.specs.declared.timer.Timer.{Timer}
 use Rattle.lg_membership.specs.Support.State as group
 use Rattle.lg_detector.specs.declared.event.Event.{Event}
-use Rattle.lg_detector.specs.declared.event.Event.TheVariants.{Open, Tick, Heard, Ask, Health}
+use Rattle.lg_detector.specs.declared.event.Event.TheVariants.{Open, Tick, Heard, Ask, Health, Pull}
 use Rattle.lg_detector.specs.declared.reply.Answer.{Answer}
 use Rattle.lg_detector.specs.declared.reply.Outgoing.{Outgoing}
 use Rattle.lg_detector.specs.declared.reply.Reply.{Reply}
@@ -16,6 +16,7 @@ use Rattle.lg_detector.specs.Support.Open.{open_with}
 use Rattle.lg_detector.specs.Support.Hear.{hear_claims, hear, sends_to}
 use Rattle.lg_detector.specs.Support.Tick.{due, tick, sends_at}
 use Rattle.lg_detector.specs.Support.Ask.{ask, status, health}
+use Rattle.lg_detector.specs.Support.Joining.{pull, pulls}
 
 -- the state after a list of events, the earliest first
 abbrev pub state_after : List Event → State
@@ -39,6 +40,7 @@ advance s (Heard now source packet) = hear now source packet s
 advance s (Tick now words) = tick now words s
 advance s (Ask now name) = ask now s
 advance s (Health now) = ask now s
+advance s (Pull now peer) = pull now s
 
 -- the state after an event; one that isn't accepted changes nothing
 abbrev pub step : State → Event → State
@@ -50,8 +52,10 @@ fired_by s (Tick now words) = due (come now s)
 fired_by s _ = None
 
 abbrev pub sends_by : State → Event → List Outgoing
-sends_by s (Heard now source packet) = sends_to source packet.sender packet.body (hear_claims now packet s)
+sends_by s (Heard now source packet) =
+    sends_to source packet.sender packet.body packet.claims.items (hear_claims now packet s)
 sends_by s (Tick now words) = sends_at now words s
+sends_by s (Pull now peer) = pulls now peer s
 sends_by s _ = []
 
 abbrev pub changed_by : State → Event → List Claim

@@ -7,6 +7,7 @@
 //! - An Ack counts for the probe that runs by its number and its sender, and for a relay likewise: the relay is closed,
 //!   and its asker gets an Ack by its own number.
 //! - A Nack counts for the probe that runs, once for each helper that was asked.
+//! - A Pull is answered by a Page, and a Page that is full by the next Pull: `joining.rt`.
 ghost use Rattle.std.specs.Prelude.{◌≡◌, ◌<◌, ◌≤◌, [], ◌∷◌, ◌==◌, None, Some, length, option_map};
 ghost use Rattle.lg_rules.specs.Meaning.Rows.{name_cmp, is_same};
 ghost use Rattle.lg_rules.specs.Meaning.View.{changed};
@@ -14,27 +15,18 @@ ghost use Rattle.lg_membership.specs.declared.origin.Origin.TheVariants.{Group};
 ghost use Rattle.lg_packet.specs.declared.packet.Body.TheVariants.{Ping, PingReq};
 ghost use Rattle.lg_probe.specs.Meaning.Relays.{ended_asker};
 ghost use Rattle.lg_detector.specs.Meaning.Hear.{pass_on};
-ghost use Rattle.lg_detector.specs.Support.Hear.{hear, hear_claims, note, response, sends_to};
+ghost use Rattle.lg_detector.specs.Support.Hear.{hear, hear_claims, note, respond, response, sends_to};
 ghost use Rattle.lg_detector.specs.Support.State.{apply_all, hear_ack, hear_nack};
 ghost use Rattle.lg_detector.specs.Support.Step.{view_in};
 
 use super::{Detector, MAX_EVENTS, relay, round};
-use crate::message::Message;
-use crate::reply::{MAX_CHANGED, MAX_SENDS, Reply};
+use crate::message::{Message, one};
+use crate::reply::{MAX_CHANGED, MAX_SENDS, Outgoing, Reply};
 use arrayvec::ArrayVec;
 use lg_packet::{Body, Packet};
 use lg_probe::MAX_RELAYS;
 use lg_rules::{Addr, Claim, MAX_CLAIMS, Name, Record};
 use lg_timing::Moment;
-
-/// One packet with this body.
-fn one(to: Addr, body: Body) -> ArrayVec<Message, MAX_SENDS>
-    ensures { result.items ≡ record { to = to; body = body } ∷ [] }
-{
-    let mut messages = ArrayVec::new();
-    messages.push(Message { to, body });
-    messages
-}
 
 impl Detector {
     /// A packet is heard from a source: its claims are said, and its body is responded to.
@@ -43,7 +35,8 @@ impl Detector {
         ensures state { self.new ≡ hear now source packet.now self.old }
         ensures fired { reply.new.fired ≡ None }
         ensures sends { reply.new.sends.items
-            ≡ sends_to source packet.now.sender packet.now.body (hear_claims now packet.now self.old) }
+            ≡ sends_to source packet.now.sender packet.now.body packet.now.claims.items
+            (hear_claims now packet.now self.old) }
         ensures differing { reply.new.changed.items
             ≡ changed (view_in self.old) (view_in (hear_claims now packet.now self.old)) }
         ensures answer { reply.new.answer ≡ None }
@@ -53,8 +46,25 @@ impl Detector {
         reply.answer = None;
         self.come(now);
         self.say(packet.claims.as_slice(), &mut reply.changed);
-        let messages = self.respond(source, &packet.sender, &packet.body);
-        self.send_all(messages.as_slice(), &mut reply.sends);
+        self.answer(source, packet, &mut reply.sends);
+    }
+
+    /// The body of a packet is responded to: a Pull by a Page, a Page that is full by the next Pull, and any other by
+    /// what it means for the probe that runs and for the relays.
+    fn answer(&mut self, source: Addr, packet: &Packet, sends: &mut ArrayVec<Outgoing, MAX_SENDS>)
+        requires { self.old.number ≤ self.old.events }
+        ensures state { self.new ≡ respond source packet.now.sender packet.now.body self.old }
+        ensures sends { sends.new.items
+            ≡ sends_to source packet.now.sender packet.now.body packet.now.claims.items self.old }
+    {
+        match &packet.body {
+            Body::Ping { .. } | Body::PingReq { .. } | Body::Ack { .. } | Body::Nack { .. } => {
+                let messages = self.respond(source, &packet.sender, &packet.body);
+                self.send_all(messages.as_slice(), sends);
+            }
+            Body::Pull { after } => self.send_page(source, after, sends),
+            Body::Page => self.send_next_pull(source, packet.claims.as_slice(), sends),
+        }
     }
 
     /// Claims are said one after another. Writes the records that differ then, in the place of what the row held.
@@ -89,6 +99,7 @@ impl Detector {
                 self.hear_nack(*number, sender);
                 ArrayVec::new()
             }
+            Body::Pull { .. } | Body::Page => ArrayVec::new(),
         }
     }
 

@@ -17,7 +17,7 @@ ghost use Rattle.lg_detector.specs.Support.State.{close_relay, open_relay, with_
 ghost use Rattle.lg_detector.specs.Support.State.{nack_relay};
 
 use super::Detector;
-use crate::message::Message;
+use crate::message::{Message, one};
 use crate::reply::MAX_SENDS;
 use arrayvec::ArrayVec;
 use lg_packet::Body;
@@ -97,28 +97,20 @@ pub(super) fn take_ack(
 pub(super) fn pass_on(asker: Option<(Addr, u32)>) -> ArrayVec<Message, MAX_SENDS>
     ensures { result.items ≡ pass_on asker }
 {
-    let mut messages = ArrayVec::new();
-    if let Some((to, number)) = asker {
-        messages.push(Message {
-            to,
-            body: Body::Ack { number },
-        });
+    match asker {
+        Some((to, number)) => one(to, Body::Ack { number }),
+        None => ArrayVec::new(),
     }
-    messages
 }
 
 /// The packet that tells an asker, by its number, that no Ack came so far.
 fn nack_to(asker: Option<(Addr, u32)>) -> ArrayVec<Message, MAX_SENDS>
     ensures { result.items ≡ nack_to asker }
 {
-    let mut messages = ArrayVec::new();
-    if let Some((to, number)) = asker {
-        messages.push(Message {
-            to,
-            body: Body::Nack { number },
-        });
+    match asker {
+        Some((to, number)) => one(to, Body::Nack { number }),
+        None => ArrayVec::new(),
     }
-    messages
 }
 
 impl Detector {

@@ -1,6 +1,6 @@
 //! The packets that are sent. They are filled one after another, each over the packet that stood in its place in the
 //! reply before, since a packet is large. A Ping for a member whose record is Suspect begins with that record
-//! (Lifeguard's buddy system); a Nack takes no claims (this project's choice).
+//! (Lifeguard's buddy system); a Nack takes no claims (this project's choice). Pulls and Pages are in `joining.rt`.
 ghost use Rattle.std.specs.Prelude.{◌≡◌, ◌≤◌, [], length};
 ghost use Rattle.arrayvec.specs.ArrayVec.{array_vec_len};
 ghost use Rattle.lg_detector.specs.Support.Send.{outgoing, packets, send, send_all};
@@ -12,7 +12,7 @@ use arrayvec::ArrayVec;
 use lg_packet::Body;
 
 /// Gives a row so many packets: those that it has, and further ones behind them.
-fn make_places(sends: &mut ArrayVec<Outgoing, MAX_SENDS>, count: usize)
+pub(super) fn make_places(sends: &mut ArrayVec<Outgoing, MAX_SENDS>, count: usize)
     requires { count ≤ MAX_SENDS }
     ensures { array_vec_len sends.new ≡ count }
 {
@@ -54,7 +54,7 @@ impl Detector {
                 .parts
                 .membership
                 .fill_into(None, claims),
-            Body::Nack { .. } => claims.clear(),
+            Body::Nack { .. } | Body::Pull { .. } | Body::Page => claims.clear(),
         }
     }
 }

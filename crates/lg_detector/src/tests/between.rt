@@ -6,7 +6,7 @@ use super::{
     takes,
 };
 use crate::{Answer, Detector, Event, Outgoing, Reply};
-use Happening::{Asks, Delivers, Opens, Ticks};
+use Happening::{Asks, Delivers, Opens, Pulls, Ticks};
 use arrayvec::ArrayVec;
 use lg_packet::{MAX_PACKET, encode};
 use lg_rules::{Addr, Claim, Incarnation, Name};
@@ -26,6 +26,8 @@ enum Happening<'a> {
     Delivers(usize, u64),
     /// Its health is asked for.
     Asks(u64),
+    /// It asks the member of a letter for its table.
+    Pulls(u64, u8),
 }
 
 /// What happens to the member of a letter, and all of its reply.
@@ -117,7 +119,9 @@ impl<'a> Turn<'a> {
 
     /// The same, where a record changes.
     fn changes(mut self, record: Claim) -> Turn<'a> {
-        self.changed = said(&[record]);
+        if !self.changed.is_full() {
+            self.changed.push(record);
+        }
         self
     }
 
@@ -151,6 +155,10 @@ impl<'a> Turn<'a> {
                 })
             }
             Happening::Asks(now) => Some(ask_health(*now)),
+            Happening::Pulls(now, member) => Some(Event::Pull {
+                now: at(*now),
+                peer: home(*member),
+            }),
         }
     }
 
@@ -317,4 +325,27 @@ fn a_relay_and_its_nack(rt: HostRuntime) {
 #[test]
 fn a_relay_without_its_nack(rt: HostRuntime) {
     relayed(&rt, rt.alloc()).play(&rt, "the Nack is lost", &unanswered(2));
+}
+
+/// a asks b for its table, which tells b of a.
+#[test]
+fn a_joins_by_b(rt: HostRuntime) {
+    let turns = [
+        Turn::new(b'b', Opens(b"c"), 0),
+        Turn::new(b'a', Opens(b""), 0),
+        Turn::new(b'a', Pulls(0, b'b'), 0).sends(
+            7002,
+            b"SL\x01\x05\x01a\0\x01\x01\x01a\x7f\0\0\x01\x1b\x59\0\0\0\0",
+        ),
+        Turn::new(b'b', Delivers(0, 10), 0)
+            .sends(
+                7001,
+                b"SL\x01\x06\x01b\x03\x01\x01a\x7f\0\0\x01\x1b\x59\0\0\0\0\x01\x01b\x7f\0\0\x01\x1b\x5a\0\0\0\0\x01\x01c\x7f\0\0\x01\x1b\x5b\0\0\0\0",
+            )
+            .changes(at_home(b'a', alive(b'a', 0))),
+        Turn::new(b'a', Delivers(1, 20), 0)
+            .changes(at_home(b'b', alive(b'b', 0)))
+            .changes(at_home(b'c', alive(b'c', 0))),
+    ];
+    Pair::blank(&rt, rt.alloc()).play(&rt, "a asks b for its table", &turns);
 }

@@ -1,13 +1,13 @@
 //! Copies, and events that are absorbed.
 use super::{
-    alive, ask_for, ask_health, blank, heard, is_same_reply, is_same_state, opening, ping, suspect,
-    takes, tick_at,
+    alive, ask_for, ask_health, at, blank, heard, is_same_reply, is_same_state, local, opening,
+    ping, suspect, takes, tick_at,
 };
 use crate::{Event, Reply};
 use lg_packet::Body;
 
-/// An opening, claims, Acks, questions, and ticks that fire the start of a round, the asking of helpers, and its end.
-fn events() -> [Event; 10] {
+/// An opening, claims, Acks, Pulls, questions, and ticks that fire the start of a round, the asking of helpers, and its end.
+fn events() -> [Event; 12] {
     [
         opening(50),
         ping(60, 1, b'c', &[alive(b'c', 0), suspect(b'd', 2, b'a')]),
@@ -16,6 +16,11 @@ fn events() -> [Event; 10] {
         tick_at(75),
         ask_for(80, b'd'),
         ask_health(85),
+        Event::Pull {
+            now: at(86),
+            peer: local(7002),
+        },
+        heard(87, Body::Pull { after: None }, &[]),
         ping(90, 4, b'b', &[suspect(b'b', 1_000_000_000, b'c')]),
         tick_at(6000),
         tick_at(6000),

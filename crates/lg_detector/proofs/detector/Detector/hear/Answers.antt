@@ -4,8 +4,8 @@ use Rattle.lg_detector.specs.Support.State.{State}
 use Rattle.lg_detector.proofs.Reaching.{number-apply_all, events-apply_all}
 use Rattle.lg_detector.proofs.detector.Detector.hear.Goals as goal
 
-pub respond-messages-requires : goal.respond-messages-requires
-respond-messages-requires c =
+pub answer-requires : goal.answer-requires
+answer-requires c =
     omega (
       arith,
       c.come.ensures.numbered,

@@ -26,3 +26,7 @@ returns-in-Ask-clause-state c = c.ask.ensures.state ∙ ap (advance c.args.self.
 pub returns-in-Health-clause-state : goal.returns-in-Health-clause-state
 unfolding advance
 returns-in-Health-clause-state c = c.ask_health.ensures.state ∙ ap (advance c.args.self.now) (sym c.in-Health.is)
+
+pub returns-in-Pull-clause-state : goal.returns-in-Pull-clause-state
+unfolding advance
+returns-in-Pull-clause-state c = c.pull.ensures.state ∙ ap (advance c.args.self.now) (sym c.in-Pull.is)

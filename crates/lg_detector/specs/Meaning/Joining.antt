@@ -1,0 +1,47 @@
+-- Joining: a member asks another for its table by a Pull, and is answered by Pages of at most 6 records, in the order
+-- of names. None of these takes claims of the queue (this project's choice; SWIM, section 3.2, leaves open how a member
+-- joins).
+use Rattle.std.specs.Prelude.{ℕ, ◌-◌, List, [], ◌∷◌, Option, Some, None, slice_get}
+use Rattle.lg_rules.specs.declared.addr.Addr.{Addr}
+use Rattle.lg_rules.specs.declared.claim.Claim.{Claim}
+use Rattle.lg_rules.specs.Meaning.Bounds.{most_claims}
+use Rattle.lg_rules.specs.Meaning.Own.{own_record}
+use Rattle.lg_packet.specs.declared.packet.Body.{Body}
+use Rattle.lg_packet.specs.declared.packet.Body.TheVariants.{Pull, Page}
+use Rattle.lg_membership.specs.Meaning.Log as group
+use Rattle.lg_membership.specs.Meaning.Pages.{page_of}
+use Rattle.lg_detector.specs.declared.reply.Outgoing.{Outgoing}
+use Rattle.lg_detector.specs.Meaning.Log.{Log, group_log}
+use Rattle.lg_detector.specs.Meaning.Apply.{come}
+
+-- a packet that is sent with these claims
+abbrev pub with_claims : Addr → List ℕ → Body → List Claim → Outgoing
+with_claims to sender body claims =
+    record { to = to; packet = record { sender = sender; body = body; claims = record { items = claims } } }
+
+-- A Pull asks for the records behind a name, or for the first of all where there is none. It carries the own record.
+abbrev pub pull_after : Addr → Option (List ℕ) → Log → Outgoing
+pull_after to after log =
+    let members = group_log log in
+    with_claims to (group.me members) (Pull after) (own_record (group.own members) ∷ [])
+
+-- A Page has the next records behind the name of a Pull, the own one among them.
+abbrev pub page_behind : Addr → Option (List ℕ) → Log → Outgoing
+page_behind to after log =
+    let members = group_log log in
+    with_claims to (group.me members) Page (page_of after (group.view members))
+
+-- A Page with a sixth claim is full, and is answered by a Pull after this one, its last, known or not.
+abbrev pub next_pull : Addr → Option Claim → Log → List Outgoing
+next_pull to None log = []
+next_pull to (Some sixth) log = pull_after to (Some sixth.name) log ∷ []
+
+abbrev pub sixth_of : List Claim → Option Claim
+sixth_of claims = slice_get claims (most_claims - 1)
+
+-- the event Pull: a Pull goes to a peer, for its first records
+abbrev pub pull : ℕ → Log → Log
+pull now log = come now log
+
+abbrev pub pulls : ℕ → Addr → Log → List Outgoing
+pulls now peer log = pull_after peer None (come now log) ∷ []
