@@ -1,4 +1,5 @@
 //! Worked claims of b, which is at 127.0.0.1:7000.
+mod pages;
 mod queue;
 
 use crate::{Applied, Deadline, MAX_MEMBERS, Membership, Origin, Presence};

@@ -22,6 +22,7 @@ use Rattle.lg_membership.specs.Meaning.Log.{Fact, Log, Opened, Said, Sent, own, 
 use Rattle.lg_membership.specs.Meaning.Suspicions.{suspicions, suspected}
 use Rattle.lg_membership.specs.Meaning.Gossip.{put_by, queued, queue_rows, queue, target_record, taken, fill}
 use Rattle.lg_membership.specs.Meaning.Applied.{is_live, presence_of}
+use Rattle.lg_membership.specs.Meaning.Pages.{page_of}
 
 -- the letters that name the members
 abbrev a : ℕ
@@ -287,3 +288,34 @@ repetition_is_not_queued :
     ≡ Some record { claim = on c (accused_by d) 0; sends = 1 }
 unfolding table_of record_of roster takes put_by queued suspicions suspected range_of log10_of counted_accusers
 repetition_is_not_queued = refl
+
+-- A table of seven records, a to e, g (103) and h (104): its first page has six, and the page behind the sixth has one.
+-- The status of a record doesn't matter.
+abbrev seven : List Claim
+seven =
+    on a Alive 0 ∷ on b Alive 3 ∷ on c (accused_by a) 2 ∷ on d Failed 1 ∷ on e Alive 0 ∷ on 103 Failed 7 ∷ on 104 Alive 0
+    ∷ []
+
+first_page_has_six :
+    page_of None seven
+    ≡ on a Alive 0 ∷ on b Alive 3 ∷ on c (accused_by a) 2 ∷ on d Failed 1 ∷ on e Alive 0 ∷ on 103 Failed 7 ∷ []
+first_page_has_six = refl
+
+page_behind_the_sixth : page_of (Some (103 ∷ [])) seven ≡ on 104 Alive 0 ∷ []
+page_behind_the_sixth = refl
+
+page_behind_the_last : page_of (Some (104 ∷ [])) seven ≡ []
+page_behind_the_last = refl
+
+-- Nobody is called f (102) or dd.
+page_behind_f : page_of (Some (102 ∷ [])) seven ≡ on 103 Failed 7 ∷ on 104 Alive 0 ∷ []
+page_behind_f = refl
+
+page_behind_dd : page_of (Some (d ∷ d ∷ [])) seven ≡ on e Alive 0 ∷ on 103 Failed 7 ∷ on 104 Alive 0 ∷ []
+page_behind_dd = refl
+
+no_page_of_none : page_of None [] ≡ []
+no_page_of_none = refl
+
+none_behind_a_name : page_of (Some (c ∷ [])) [] ≡ []
+none_behind_a_name = refl
