@@ -1,0 +1,3 @@
+pub mod CuttingLaws
+pub mod ReadingLaws
+pub mod ValueLaws

@@ -1,0 +1,21 @@
+-- The least and the greatest numbers of a script (this project's choice).
+use Rattle.std.specs.Prelude.{ℕ}
+
+-- the most decimal digits of a number
+abbrev pub most_digits : ℕ
+most_digits = 16
+
+-- the last moment, in milliseconds
+abbrev pub greatest_moment : ℕ
+greatest_moment = 1000000000000000
+
+-- the last number of 16 bits
+abbrev pub greatest_port : ℕ
+greatest_port = 65535
+
+-- the random words of a tick: how many there are, and the greatest, the last number of 32 bits
+abbrev pub random_words : ℕ
+random_words = 8
+
+abbrev pub greatest_random_word : ℕ
+greatest_random_word = 4294967295

@@ -1,0 +1,218 @@
+-- Worked lines.
+use Rattle.std.specs.Prelude.{◌≡◌, ℕ, List, [], ◌∷◌, ◌++◌, replicate, Option, Some, None, Result, Ok, Err, codes, refl}
+use Rattle.std.specs.List.{flat_map}
+use Rattle.lg_timing.specs.declared.config.Seed.{Seed}
+use Rattle.lg_script.specs.declared.command.Command.{Command}
+use Rattle.lg_script.specs.declared.command.Command.TheVariants.{Set, Open, Tick, Deliver, Ask, Health, Pull, Table}
+use Rattle.lg_script.specs.declared.command.Key.TheVariants.{IntervalMs, Lambda, HistoryLimit}
+use Rattle.lg_script.specs.declared.fault.ScriptFault.{ScriptFault}
+use Rattle.lg_script.specs.declared.fault.ScriptFault.TheVariants as fault
+use Rattle.lg_script.specs.Meaning.Commands.{set_of, open_of, tick_of, deliver_of, ask_of, health_of, pull_of, table_of}
+use Rattle.lg_script.specs.Meaning.Lines.{command_of}
+use Rattle.lg_script.specs.Meaning.Values.{key_of, local}
+use Rattle.lg_script.specs.Meaning.Words.{verb_of, parts_of}
+
+-- a line that gives a command
+abbrev gives : Command → Result (Option Command) ScriptFault
+gives command = Ok (Some command)
+
+-- ---- each command
+
+set-lambda : command_of (codes "set lambda 99999") ≡ gives (Set Lambda 99999)
+unfolding command_of verb_of set_of key_of
+set-lambda = refl
+
+set-interval : command_of (codes "set interval_ms 0000000000000007") ≡ gives (Set IntervalMs 7)
+unfolding command_of verb_of set_of key_of
+set-interval = refl
+
+set-history : command_of (codes "set history_limit 9999999999999999") ≡ gives (Set HistoryLimit 9999999999999999)
+unfolding command_of verb_of set_of key_of
+set-history = refl
+
+opens-alone : command_of (codes "open a 7001 0") ≡ gives (Open (97 ∷ []) 7001 0 record { items = [] })
+unfolding command_of verb_of open_of
+opens-alone = refl
+
+b-at-7002 : Seed
+b-at-7002 = record { name = 98 ∷ []; addr = record { octets = 127 ∷ 0 ∷ 0 ∷ 1 ∷ []; port = 7002 } }
+
+opens-with-seed : command_of (codes "open a 65535 1000 b:7002") ≡ gives (Open (97 ∷ []) 65535 1000 record { items = b-at-7002 ∷ [] })
+unfolding command_of verb_of open_of b-at-7002
+opens-with-seed = refl
+
+ticks : command_of (codes "tick z 1000000000000000") ≡ gives (Tick (122 ∷ []) 1000000000000000 (0 ∷ 0 ∷ 0 ∷ 0 ∷ 0 ∷ 0 ∷ 0 ∷ 0 ∷ []))
+unfolding command_of verb_of tick_of
+ticks = refl
+
+ticks-with-words : command_of (codes "tick z 5 4294967295 2") ≡ gives (Tick (122 ∷ []) 5 (4294967295 ∷ 2 ∷ 0 ∷ 0 ∷ 0 ∷ 0 ∷ 0 ∷ 0 ∷ []))
+unfolding command_of verb_of tick_of
+ticks-with-words = refl
+
+ticks-with-all : command_of (codes "tick z 5 1 2 3 4 5 6 7 8") ≡ gives (Tick (122 ∷ []) 5 (1 ∷ 2 ∷ 3 ∷ 4 ∷ 5 ∷ 6 ∷ 7 ∷ 8 ∷ []))
+unfolding command_of verb_of tick_of
+ticks-with-all = refl
+
+delivers : command_of (codes "deliver 12 500") ≡ gives (Deliver 12 500)
+unfolding command_of verb_of deliver_of
+delivers = refl
+
+-- whether the number was sent is judged elsewhere
+delivers-none : command_of (codes "deliver 0 0") ≡ gives (Deliver 0 0)
+unfolding command_of verb_of deliver_of
+delivers-none = refl
+
+asks : command_of (codes "ask a 7 b") ≡ gives (Ask (97 ∷ []) 7 (98 ∷ []))
+unfolding command_of verb_of ask_of
+asks = refl
+
+health-asked : command_of (codes "health a 7") ≡ gives (Health (97 ∷ []) 7)
+unfolding command_of verb_of health_of
+health-asked = refl
+
+pulls : command_of (codes "pull a 7 1") ≡ gives (Pull (97 ∷ []) 7 1)
+unfolding command_of verb_of pull_of
+pulls = refl
+
+shows-table : command_of (codes "table a") ≡ gives (Table (97 ∷ []))
+unfolding command_of verb_of table_of
+shows-table = refl
+
+-- ---- lines that are passed over
+
+empty-line : command_of [] ≡ Ok None
+unfolding command_of
+empty-line = refl
+
+comment : command_of (codes "#x") ≡ Ok None
+unfolding command_of
+comment = refl
+
+-- in a comment anything goes
+comment-of-bytes : command_of (35 ∷ 0 ∷ 255 ∷ 9 ∷ 13 ∷ []) ≡ Ok None
+unfolding command_of
+comment-of-bytes = refl
+
+-- ---- the first word names no command
+
+spaces-alone : command_of (codes "  ") ≡ Err fault.Command
+unfolding command_of verb_of
+spaces-alone = refl
+
+unknown : command_of (codes " tock") ≡ Err fault.Command
+unfolding command_of verb_of
+unknown = refl
+
+spaced-comment : command_of (codes " #x") ≡ Err fault.Command
+unfolding command_of verb_of
+spaced-comment = refl
+
+capital : command_of (codes "Table a") ≡ Err fault.Command
+unfolding command_of verb_of
+capital = refl
+
+tab-in-name-of-command : command_of (codes "tick" ++ 9 ∷ codes "a 0") ≡ Err fault.Command
+unfolding command_of verb_of
+tab-in-name-of-command = refl
+
+-- ---- another number of words, or spaces that don't part two words
+
+leading-space : command_of (codes " tick a 0") ≡ Err fault.Words
+unfolding command_of verb_of
+leading-space = refl
+
+doubled-space : command_of (codes "tick  a 0") ≡ Err fault.Words
+unfolding command_of verb_of
+doubled-space = refl
+
+trailing-space : command_of (codes "table a ") ≡ Err fault.Words
+unfolding command_of verb_of
+trailing-space = refl
+
+table-of-nothing : command_of (codes "table ") ≡ Err fault.Words
+unfolding command_of verb_of
+table-of-nothing = refl
+
+lone-table : command_of (codes "table") ≡ Err fault.Words
+unfolding command_of verb_of
+lone-table = refl
+
+ninth-word : command_of (codes "tick a 0 1 2 3 4 5 6 7 8 9") ≡ Err fault.Words
+unfolding command_of verb_of
+ninth-word = refl
+
+open-without-moment : command_of (codes "open a 7001") ≡ Err fault.Words
+unfolding command_of verb_of
+open-without-moment = refl
+
+-- a bad number is no matter where the words are too few
+words-before-values : command_of (codes "deliver x") ≡ Err fault.Words
+unfolding command_of verb_of
+words-before-values = refl
+
+-- ---- a word out of its form or range
+
+digits-17 : command_of (codes "deliver 00000000000000001 0") ≡ Err fault.Value
+unfolding command_of verb_of deliver_of
+digits-17 = refl
+
+signed : command_of (codes "deliver +1 0") ≡ Err fault.Value
+unfolding command_of verb_of deliver_of
+signed = refl
+
+moment-past-last : command_of (codes "health a 1000000000000001") ≡ Err fault.Value
+unfolding command_of verb_of health_of
+moment-past-last = refl
+
+port-0 : command_of (codes "open a 0 0") ≡ Err fault.Value
+unfolding command_of verb_of open_of
+port-0 = refl
+
+port-65536 : command_of (codes "pull a 0 65536") ≡ Err fault.Value
+unfolding command_of verb_of pull_of
+port-65536 = refl
+
+great-random-word : command_of (codes "tick a 0 4294967296") ≡ Err fault.Value
+unfolding command_of verb_of tick_of
+great-random-word = refl
+
+seed-without-port : command_of (codes "open a 7001 0 b") ≡ Err fault.Value
+unfolding command_of verb_of open_of
+seed-without-port = refl
+
+seed-with-two-colons : command_of (codes "open a 7001 0 b:1:2") ≡ Err fault.Value
+unfolding command_of verb_of open_of
+seed-with-two-colons = refl
+
+-- some seeds, one like the others
+abbrev seeds : ℕ → List ℕ
+seeds count = flat_map (λ seed. seed) (replicate count (codes " b:1"))
+
+seeds-17 : command_of (codes "open a 7001 0" ++ seeds 17) ≡ Err fault.Value
+unfolding command_of verb_of open_of
+seeds-17 = refl
+
+-- that their names differ is judged elsewhere
+seeds-16 : command_of (codes "open a 7001 0" ++ seeds 16) ≡ gives (Open (97 ∷ []) 7001 0 record { items = replicate 16 record { name = 98 ∷ []; addr = local 1 } })
+unfolding command_of verb_of open_of
+seeds-16 = refl
+
+unknown-key : command_of (codes "set seeds 1") ≡ Err fault.Value
+unfolding command_of verb_of set_of key_of
+unknown-key = refl
+
+tab-in-word : command_of (codes "table a" ++ 9 ∷ []) ≡ Err fault.Value
+unfolding command_of verb_of table_of
+tab-in-word = refl
+
+carriage-return : command_of (codes "health a 0" ++ 13 ∷ []) ≡ Err fault.Value
+unfolding command_of verb_of health_of
+carriage-return = refl
+
+bad-bytes : command_of (codes "table " ++ 0 ∷ 255 ∷ []) ≡ Err fault.Value
+unfolding command_of verb_of table_of
+bad-bytes = refl
+
+long-name : command_of (codes "table " ++ replicate 33 97) ≡ Err fault.Value
+unfolding command_of verb_of table_of
+long-name = refl

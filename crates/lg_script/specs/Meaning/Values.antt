@@ -1,0 +1,103 @@
+-- What one word of a line says: a number, a moment, a port, a random word, a name, a seed, a key.
+use Rattle.std.specs.Prelude.{ℕ, ◌-◌, ◌==◌, Bool, ◌&&◌, nat_le, List, [], ◌∷◌, ◌++◌, length, replicate, codes}
+use Rattle.std.specs.Prelude.{Option, Some, None, option_and_then, if◌then◌else◌}
+use Rattle.std.specs.Char.{is_ascii_digit}
+use Rattle.std.specs.List.{list_all, before_first, after_first}
+use Rattle.std.specs.Option.{option_map}
+use Rattle.std.specs.Str.{bytes_eq}
+use Rattle.std.specs.Str.Parse.{digits_value}
+use Rattle.lg_rules.specs.Meaning.Name.{is_name}
+use Rattle.lg_rules.specs.declared.addr.Addr.{Addr}
+use Rattle.lg_timing.specs.Meaning.Bounds.{most_seeds}
+use Rattle.lg_timing.specs.Meaning.Config.{is_within}
+use Rattle.lg_timing.specs.declared.config.Seed.{Seed}
+use Rattle.lg_script.specs.declared.command.Key.{Key}
+use Rattle.lg_script.specs.declared.command.Key.TheVariants.{IntervalMs, TimeoutMs, Indirect, MaxScore, Alpha}
+use Rattle.lg_script.specs.declared.command.Key.TheVariants.{Beta, Confirmations, Lambda, NackThousandths, HistoryLimit}
+use Rattle.lg_script.specs.Meaning.Bounds.{most_digits, greatest_moment, greatest_port}
+use Rattle.lg_script.specs.Meaning.Bounds.{random_words, greatest_random_word}
+
+-- what follows from a value, if there is one
+infixl 10 ◌>>=◌
+abbrev pub ◌>>=◌ : {A B : Type 0} → Option A → (A → Option B) → Option B
+found >>= f = option_and_then f found
+
+-- 1 to 16 decimal digits
+abbrev pub is_number : List ℕ → Bool
+is_number word = is_within 1 most_digits (length word) && list_all is_ascii_digit word
+
+-- the number of a word that is one
+abbrev pub number_of : List ℕ → Option ℕ
+number_of word = if is_number word then Some (digits_value 10 word) else None
+
+-- the number of a word that is one, where it lies between two others, which count
+abbrev pub number_within : ℕ → ℕ → List ℕ → Option ℕ
+number_within least most word = do
+  number ← number_of word
+  if is_within least most number then Some number else None
+
+-- a moment, in milliseconds
+abbrev pub moment_of : List ℕ → Option ℕ
+moment_of word = number_within 0 greatest_moment word
+
+abbrev pub port_of : List ℕ → Option ℕ
+port_of word = number_within 1 greatest_port word
+
+abbrev pub random_word_of : List ℕ → Option ℕ
+random_word_of word = number_within 0 greatest_random_word word
+
+abbrev pub name_of : List ℕ → Option (List ℕ)
+name_of word = if is_name word then Some word else None
+
+-- where the member of a port is: all members are at 127.0.0.1
+abbrev pub local : ℕ → Addr
+local port = record { octets = 127 ∷ 0 ∷ 0 ∷ 1 ∷ []; port = port }
+
+-- a byte `:`
+abbrev pub is_colon : ℕ → Bool
+is_colon b = b == 58
+
+-- a seed is cut at its first colon: a name stands before it, and a port behind it
+abbrev pub seed_of : List ℕ → Option Seed
+seed_of word = do
+  name ← name_of (before_first is_colon word)
+  port ← port_of (after_first is_colon word)
+  Some record { name = name; addr = local port }
+
+-- each of some words, as it is read; none where one of them can't be
+abbrev pub each_of : {A : Type 0} → (List ℕ → Option A) → List (List ℕ) → Option (List A)
+each_of read [] = Some []
+each_of read (word ∷ words) = do
+  value ← read word
+  values ← each_of read words
+  Some (value ∷ values)
+
+-- each of some words, unless they are too many
+abbrev pub at_most_of : {A : Type 0} → ℕ → (List ℕ → Option A) → List (List ℕ) → Option (List A)
+at_most_of most read words = if nat_le (length words) most then each_of read words else None
+
+-- the eight random words of a tick; those that are missing are 0
+abbrev pub with_missing : List ℕ → List ℕ
+with_missing numbers = numbers ++ replicate (random_words - length numbers) 0
+
+abbrev pub random_words_of : List (List ℕ) → Option (List ℕ)
+random_words_of words = option_map with_missing (at_most_of random_words random_word_of words)
+
+-- at most sixteen seeds
+abbrev pub seeds_of : List (List ℕ) → Option (List Seed)
+seeds_of words = at_most_of most_seeds seed_of words
+
+-- the key that a word names
+unfoldable pub key_of : List ℕ → Option Key
+key_of word =
+    if bytes_eq word (codes "interval_ms") then Some IntervalMs
+    else if bytes_eq word (codes "timeout_ms") then Some TimeoutMs
+    else if bytes_eq word (codes "indirect") then Some Indirect
+    else if bytes_eq word (codes "max_score") then Some MaxScore
+    else if bytes_eq word (codes "alpha") then Some Alpha
+    else if bytes_eq word (codes "beta") then Some Beta
+    else if bytes_eq word (codes "confirmations") then Some Confirmations
+    else if bytes_eq word (codes "lambda") then Some Lambda
+    else if bytes_eq word (codes "nack_thousandths") then Some NackThousandths
+    else if bytes_eq word (codes "history_limit") then Some HistoryLimit
+    else None

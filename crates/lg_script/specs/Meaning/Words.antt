@@ -1,0 +1,48 @@
+-- The words of a line, the commands that they name, and how many words each takes.
+use Rattle.std.specs.Prelude.{ℕ, Bool, not, ◌==◌, nat_le, ◌&&◌, List, length, Option, Some, None, codes, find}
+use Rattle.std.specs.Prelude.{if◌then◌else◌, option_and_then, ◌-◌}
+use Rattle.std.specs.List.{list_all, slice_split}
+use Rattle.std.specs.Str.{bytes_eq}
+use Rattle.lg_timing.specs.Meaning.Config.{is_within}
+use Rattle.lg_script.specs.declared.verb.Verb.{Verb}
+use Rattle.lg_script.specs.declared.verb.Verb.TheVariants.{Set, Open, Tick, Deliver, Ask, Health, Pull, Table}
+
+-- the parts of a line between its spaces; a line with no space is one part
+abbrev pub parts_of : List ℕ → List (List ℕ)
+parts_of line = slice_split (λ b. b == 32) line
+
+-- a part that is a word: it isn't empty
+abbrev pub is_word : List ℕ → Bool
+is_word part = not (length part == 0)
+
+-- which of the commands a word names
+unfoldable pub verb_of : List ℕ → Option Verb
+verb_of word =
+    if bytes_eq word (codes "set") then Some Set
+    else if bytes_eq word (codes "open") then Some Open
+    else if bytes_eq word (codes "tick") then Some Tick
+    else if bytes_eq word (codes "deliver") then Some Deliver
+    else if bytes_eq word (codes "ask") then Some Ask
+    else if bytes_eq word (codes "health") then Some Health
+    else if bytes_eq word (codes "pull") then Some Pull
+    else if bytes_eq word (codes "table") then Some Table
+    else None
+
+-- the command that the first word of a line names
+abbrev pub verb_in : List (List ℕ) → Option Verb
+verb_in parts = option_and_then verb_of (find is_word parts)
+
+-- how many words may follow the name of a command; `open` takes any number of seeds
+abbrev pub takes : Verb → ℕ → Bool
+takes Set words = words == 2
+takes Open words = nat_le 3 words
+takes Tick words = is_within 2 10 words
+takes Deliver words = words == 2
+takes Ask words = words == 3
+takes Health words = words == 2
+takes Pull words = words == 3
+takes Table words = words == 1
+
+-- the parts of a line are words, parted by single spaces, and as many as the command takes
+abbrev pub are_words_of : Verb → List (List ℕ) → Bool
+are_words_of verb parts = takes verb (length parts - 1) && list_all is_word parts

@@ -1,0 +1,41 @@
+//! Why a line is faulty.
+ghost use Rattle.std.specs.Prelude.{◌≡◌};
+ghost use Rattle.lg_script.specs.Meaning.Faults.{fault_word};
+
+/// Why a line is faulty, in the order in which the faults of one line are looked for (this
+/// project's choice).
+#[derive(Clone, Copy, Debug, PartialEq, Eq)]
+pub enum ScriptFault {
+    /// The first word names no command, or there is none.
+    Command,
+    /// A space is doubled, leads or trails, or the command takes another number of words.
+    Words,
+    /// A word is out of its form or range, a key is unknown, or an `open` gives a configuration
+    /// that fails its check.
+    Value,
+    /// The name or the port of an `open` is open already.
+    Double,
+    /// An `open` of a seventeenth member.
+    Full,
+    /// No member of this name is open.
+    Member,
+    /// No packet of this number was sent.
+    Packet,
+}
+
+impl ScriptFault {
+    /// The word for the fault.
+    pub fn text(self) -> &'static str
+        ensures { result.now ≡ fault_word self }
+    {
+        match self {
+            ScriptFault::Command => "command",
+            ScriptFault::Words => "words",
+            ScriptFault::Value => "value",
+            ScriptFault::Double => "double",
+            ScriptFault::Full => "full",
+            ScriptFault::Member => "member",
+            ScriptFault::Packet => "packet",
+        }
+    }
+}

@@ -1,0 +1,22 @@
+//! The lines of a simulation script: which command a line gives, or why the line is faulty.
+//!
+//! [`command_in`] reads one line. It knows nothing of the members that are open: the faults
+//! [`ScriptFault::Double`], [`ScriptFault::Full`], [`ScriptFault::Member`] and
+//! [`ScriptFault::Packet`], and [`ScriptFault::Value`] of a configuration that fails its check,
+//! are judged by who keeps them.
+#![tactic(auto)]
+
+mod command;
+mod fault;
+mod line;
+mod reading;
+#[cfg(test)]
+mod tests;
+mod values;
+mod verb;
+mod words;
+
+pub use command::{Command, Key, RANDOM_WORDS};
+pub use fault::ScriptFault;
+pub use line::command_in;
+pub use values::{LOCALHOST, local};
