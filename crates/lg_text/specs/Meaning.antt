@@ -1,0 +1,7 @@
+-- What is right: whoever wants to believe the contracts reads these.
+pub mod Examples
+pub mod Faults
+pub mod Lines
+pub mod Numbers
+pub mod Ranges
+pub mod Running

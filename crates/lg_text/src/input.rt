@@ -1,0 +1,104 @@
+//! Reads an input whole, up to a limit.
+ghost use Rattle.std.specs.Prelude.{◌≡◌, ◌+◌, ◌-◌, ◌≤◌, ◌<◌, ◌++◌, ◌⊎◌, IfErr, IfOk, OnOk, Ok, length, vec_len};
+ghost use Rattle.std.specs.Io.KnownBytes.{Consumes, IsAtEnd};
+ghost use Rattle.lg_text.specs.Meaning.Running.{TakesAtMost};
+ghost use Rattle.lg_text.specs.Support.Input.{Grows};
+
+use crate::fault::RunFault;
+use std::alloc::Global;
+use std::io::{ErrorKind, Read};
+
+/// The most bytes of an input: 1,048,576 (this project's choice).
+pub const MAX_INPUT: usize = 1_048_576;
+
+/// The most read calls for an input: two for each byte of one that is a byte too long, so that a
+/// reader that gives a byte at a time may be interrupted before each.
+const MAX_READS: usize = 2 * (MAX_INPUT + 1);
+
+/// The most bytes of one read call.
+const MAX_CHUNK: usize = 8192;
+
+/// How far an input was read.
+#[derive(Clone, Copy, Debug, PartialEq, Eq)]
+enum Progress {
+    /// More may follow.
+    More,
+    /// Nothing follows.
+    End,
+}
+
+/// Reads all that a reader has left, at most [`MAX_INPUT`] bytes of it.
+///
+/// A longer or endless input is [`RunFault::Read`], found after at most `MAX_INPUT + 1` bytes and
+/// `2 * (MAX_INPUT + 1)` read calls. An interrupted call is made again within these calls, and any
+/// other error of the reader is [`RunFault::Read`]. The memory taken is in proportion to the
+/// bytes; where it is refused the fault is [`RunFault::Memory`].
+pub fn read_input<R: Read>(alloc: Global, reader: &mut R) -> Result<Vec<u8>, RunFault>
+    ensures all { IfOk result (λ input. Consumes (R.remaining reader.old) (R.remaining reader.new) input.items) }
+    ensures end { OnOk result (IsAtEnd (R.remaining reader.new)) }
+    ensures within { IfOk result (λ input. vec_len input ≤ MAX_INPUT) }
+    ensures taken { TakesAtMost (MAX_INPUT + 1) (R.remaining reader.old) (R.remaining reader.new) }
+    ensures memory { IfErr result (λ fault. fault ≡ RunFault.Memory
+        → TakesAtMost MAX_INPUT (R.remaining reader.old) (R.remaining reader.new)) }
+    ensures refused { IfErr result (λ fault. (fault ≡ RunFault.Memory) ⊎ (fault ≡ RunFault.Read)) }
+{
+    let mut input = Vec::new(alloc);
+    let mut chunk = [0; MAX_CHUNK];
+    for _ in 0..MAX_READS {
+        match read_more(reader, &mut chunk, &mut input)? {
+            Progress::End => return Ok(input),
+            Progress::More => {}
+        }
+    }
+    Err(RunFault::Read)
+}
+
+/// Makes one read call and puts its bytes behind the input, where they are not too many.
+fn read_more<R: Read>(
+    reader: &mut R,
+    chunk: &mut [u8],
+    input: &mut Vec<u8>,
+) -> Result<Progress, RunFault>
+    requires space { 0 < length chunk.old }
+    requires room { vec_len input.old ≤ MAX_INPUT }
+    ensures grows { OnOk result
+        (Grows (R.remaining reader.old) (R.remaining reader.new) input.old.items input.new.items) }
+    ensures within { OnOk result (vec_len input.new ≤ MAX_INPUT) }
+    ensures taken { TakesAtMost (MAX_INPUT + 1 - vec_len input.old) (R.remaining reader.old) (R.remaining reader.new) }
+    ensures memory { IfErr result (λ fault. fault ≡ RunFault.Memory
+        → TakesAtMost (MAX_INPUT - vec_len input.old) (R.remaining reader.old) (R.remaining reader.new)) }
+    ensures end { result ≡ Ok Progress.End → IsAtEnd (R.remaining reader.new) }
+    ensures refused { IfErr result (λ fault. (fault ≡ RunFault.Memory) ⊎ (fault ≡ RunFault.Read)) }
+{
+    let most = chunk.len().min(MAX_INPUT + 1 - input.len());
+    match reader.read(&mut chunk[..most]) {
+        Ok(0) => Ok(Progress::End),
+        Ok(count) => {
+            keep_read(&chunk[..count], input)?;
+            Ok(Progress::More)
+        }
+        Err(error) => {
+            if error.kind() == ErrorKind::Interrupted {
+                Ok(Progress::More)
+            } else {
+                Err(RunFault::Read)
+            }
+        }
+    }
+}
+
+/// Puts what was read behind the input, where it then isn't too long.
+fn keep_read(read: &[u8], input: &mut Vec<u8>) -> Result<(), RunFault>
+    requires { vec_len input.old ≤ MAX_INPUT }
+    ensures grown { OnOk result (input.new.items ≡ input.old.items ++ read.now) }
+    ensures within { OnOk result (vec_len input.new ≤ MAX_INPUT) }
+    ensures refused { IfErr result (λ fault.
+        ((fault ≡ RunFault.Memory) × (vec_len input.old + length read.now ≤ MAX_INPUT))
+        ⊎ ((fault ≡ RunFault.Read) × (MAX_INPUT < vec_len input.old + length read.now))) }
+{
+    if read.len() > MAX_INPUT - input.len() {
+        return Err(RunFault::Read);
+    }
+    input.extend_from_slice(read)?;
+    Ok(())
+}
