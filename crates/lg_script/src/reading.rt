@@ -9,10 +9,11 @@ ghost use Rattle.lg_script.specs.Meaning.Bounds.{random_words};
 ghost use Rattle.lg_script.specs.Support.Cutting.{words_left};
 
 use crate::command::{Command, RANDOM_WORDS};
-use crate::values::{key_of, moment_in, name_in, number_in, port_in, random_word_in, seed_in};
+use crate::values::{key_of, moment_in, name_in, port_in, random_word_in, seed_in};
 use crate::verb::Verb;
 use crate::words::{cut_part, cut_word};
 use arrayvec::ArrayVec;
+use lg_text::number_in;
 use lg_timing::{MAX_SEEDS, Seed};
 
 /// `set KEY NUMBER`.

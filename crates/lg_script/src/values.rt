@@ -1,18 +1,13 @@
 //! Reads single words.
-ghost use Rattle.std.specs.Prelude.{◌≡◌, true};
-ghost use Rattle.std.specs.Char.{is_ascii_digit};
-ghost use Rattle.std.specs.List.{list_all};
-ghost use Rattle.std.specs.Str.Parse.{digits_value};
-ghost use Rattle.lg_script.specs.Meaning.Values.{is_number, key_of, local, moment_of, name_of, number_of};
+ghost use Rattle.std.specs.Prelude.{◌≡◌};
+ghost use Rattle.lg_script.specs.Meaning.Values.{key_of, local, moment_of, name_of};
 ghost use Rattle.lg_script.specs.Meaning.Values.{number_within, port_of, random_word_of, seed_of};
 
 use crate::command::Key;
 use crate::words::cut_at;
 use lg_rules::{Addr, Name};
+use lg_text::number_in;
 use lg_timing::{MAX_MOMENT, Moment, Seed, is_within};
-
-/// The most decimal digits of a number: 16 (this project's choice).
-const MAX_DIGITS: usize = 16;
 
 /// The address that all members of a script share: 127.0.0.1 (this project's choice).
 pub const LOCALHOST: [u8; 4] = [127, 0, 0, 1];
@@ -22,43 +17,6 @@ pub fn local(port: u16) -> Addr
     ensures { result ≡ local port }
 {
     Addr::new(LOCALHOST, port)
-}
-
-/// Whether a word is decimal digits alone.
-fn are_digits(word: &[u8]) -> bool
-    ensures { result ≡ list_all is_ascii_digit word.now }
-{
-    word.iter().all(|byte| byte.is_ascii_digit())
-}
-
-/// Whether a word is 1 to 16 decimal digits.
-fn is_number(word: &[u8]) -> bool
-    ensures { result ≡ is_number word.now }
-{
-    (1..=MAX_DIGITS).contains(&word.len()) && are_digits(word)
-}
-
-/// The number of a word that is one.
-fn digits_value(word: &[u8]) -> u64
-    requires { is_number word.now ≡ true }
-    ensures { result ≡ digits_value 10 word.now }
-{
-    let mut number = 0;
-    for byte in word {
-        number = number * 10 + u64::from(*byte - b'0');
-    }
-    number
-}
-
-/// The number of a word of 1 to 16 decimal digits.
-pub(crate) fn number_in(word: &[u8]) -> Option<u64>
-    ensures { result ≡ number_of word.now }
-{
-    if is_number(word) {
-        Some(digits_value(word))
-    } else {
-        None
-    }
 }
 
 /// The number of a word, where it lies between two others, which count.

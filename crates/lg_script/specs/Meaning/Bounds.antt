@@ -1,10 +1,6 @@
 -- The least and the greatest numbers of a script (this project's choice).
 use Rattle.std.specs.Prelude.{ℕ}
 
--- the most decimal digits of a number
-abbrev pub most_digits : ℕ
-most_digits = 16
-
 -- the last moment, in milliseconds
 abbrev pub greatest_moment : ℕ
 greatest_moment = 1000000000000000

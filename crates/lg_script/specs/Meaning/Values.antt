@@ -1,34 +1,25 @@
 -- What one word of a line says: a number, a moment, a port, a random word, a name, a seed, a key.
 use Rattle.std.specs.Prelude.{ℕ, ◌-◌, ◌==◌, Bool, ◌&&◌, nat_le, List, [], ◌∷◌, ◌++◌, length, replicate, codes}
 use Rattle.std.specs.Prelude.{Option, Some, None, option_and_then, if◌then◌else◌}
-use Rattle.std.specs.Char.{is_ascii_digit}
-use Rattle.std.specs.List.{list_all, before_first, after_first}
+use Rattle.std.specs.List.{before_first, after_first}
 use Rattle.std.specs.Option.{option_map}
 use Rattle.std.specs.Str.{bytes_eq}
-use Rattle.std.specs.Str.Parse.{digits_value}
 use Rattle.lg_rules.specs.Meaning.Name.{is_name}
 use Rattle.lg_rules.specs.declared.addr.Addr.{Addr}
 use Rattle.lg_timing.specs.Meaning.Bounds.{most_seeds}
 use Rattle.lg_timing.specs.Meaning.Config.{is_within}
 use Rattle.lg_timing.specs.declared.config.Seed.{Seed}
+use Rattle.lg_text.specs.Meaning.Numbers.{number_of}
 use Rattle.lg_script.specs.declared.command.Key.{Key}
 use Rattle.lg_script.specs.declared.command.Key.TheVariants.{IntervalMs, TimeoutMs, Indirect, MaxScore, Alpha}
 use Rattle.lg_script.specs.declared.command.Key.TheVariants.{Beta, Confirmations, Lambda, NackThousandths, HistoryLimit}
-use Rattle.lg_script.specs.Meaning.Bounds.{most_digits, greatest_moment, greatest_port}
+use Rattle.lg_script.specs.Meaning.Bounds.{greatest_moment, greatest_port}
 use Rattle.lg_script.specs.Meaning.Bounds.{random_words, greatest_random_word}
 
 -- what follows from a value, if there is one
 infixl 10 ◌>>=◌
 abbrev pub ◌>>=◌ : {A B : Type 0} → Option A → (A → Option B) → Option B
 found >>= f = option_and_then f found
-
--- 1 to 16 decimal digits
-abbrev pub is_number : List ℕ → Bool
-is_number word = is_within 1 most_digits (length word) && list_all is_ascii_digit word
-
--- the number of a word that is one
-abbrev pub number_of : List ℕ → Option ℕ
-number_of word = if is_number word then Some (digits_value 10 word) else None
 
 -- the number of a word that is one, where it lies between two others, which count
 abbrev pub number_within : ℕ → ℕ → List ℕ → Option ℕ

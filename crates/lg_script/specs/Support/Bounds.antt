@@ -1,12 +1,8 @@
 -- The bounds of the code are those of the definitions.
 use Rattle.std.specs.Prelude.{◌≡◌, refl}
 use Rattle.lg_timing.specs.declared.moment.TheConstants.{MAX_MOMENT}
-use Rattle.lg_script.specs.Meaning.Bounds.{most_digits, greatest_moment, random_words}
+use Rattle.lg_script.specs.Meaning.Bounds.{greatest_moment, random_words}
 use Rattle.lg_script.specs.declared.command.TheConstants.{RANDOM_WORDS}
-use Rattle.lg_script.specs.declared.values.TheConstants.{MAX_DIGITS}
-
-most_digits-is : MAX_DIGITS ≡ most_digits
-most_digits-is = refl
 
 greatest_moment-is : MAX_MOMENT ≡ greatest_moment
 greatest_moment-is = refl

@@ -1,0 +1,44 @@
+-- Records as text.
+use Rattle.std.specs.Prelude.{ℕ, List, [], ◌∷◌, ◌++◌, codes, decimal}
+use Rattle.std.specs.List.{flat_map}
+use Rattle.lg_rules.specs.declared.addr.Addr.{Addr}
+use Rattle.lg_rules.specs.declared.claim.Claim.{Claim}
+use Rattle.lg_rules.specs.declared.claim.Status.{Status}
+use Rattle.lg_rules.specs.declared.claim.Status.TheVariants.{Alive, Suspect, Failed}
+use Rattle.lg_text.specs.Meaning.Lines.{newline}
+
+abbrev pub blank : List ℕ
+blank = 32 ∷ []
+
+-- numbers in decimal with dots between them
+abbrev pub dotted : List ℕ → List ℕ
+dotted [] = []
+dotted (n ∷ ns) = decimal n ++ flat_map (λ m. codes "." ++ decimal m) ns
+
+-- A.B.C.D:PORT
+abbrev pub addr_text : Addr → List ℕ
+addr_text addr = dotted addr.octets ++ codes ":" ++ decimal addr.port
+
+abbrev pub status_text : Status → List ℕ
+status_text Alive = codes "alive"
+status_text (Suspect accuser) = codes "suspect"
+status_text Failed = codes "failed"
+
+-- who accuses a suspect
+abbrev pub accuser_text : Status → List ℕ
+accuser_text Alive = []
+accuser_text (Suspect accuser) = codes " by " ++ accuser
+accuser_text Failed = []
+
+-- NAME STATUS INCARNATION A.B.C.D:PORT, and by ACCUSER behind where it is suspect
+abbrev pub record_text : Claim → List ℕ
+record_text c =
+    c.name ++ blank ++ status_text c.status ++ blank ++ decimal c.incarnation ++ blank ++ addr_text c.addr
+    ++ accuser_text c.status
+
+abbrev pub record_line : Claim → List ℕ
+record_line c = codes "record " ++ record_text c ++ newline
+
+-- records, a line each
+unfoldable pub table_text : List Claim → List ℕ
+table_text records = flat_map record_line records

@@ -1,0 +1,14 @@
+//! Records and the replies of a detector, as lines of text.
+//!
+//! A line ends with a newline byte. The forms are this project's choice; `specs/Meaning/Records.antt` and
+//! `specs/Meaning/Replies.antt` have them all.
+#![tactic(auto)]
+
+mod records;
+mod replies;
+#[cfg(test)]
+mod tests;
+
+pub use lg_detector::NoMemory;
+pub use records::put_table;
+pub use replies::put_reply;

@@ -1,0 +1,202 @@
+//! The replies of a detector as text.
+ghost use Rattle.std.specs.Prelude.{◌≡◌, ◌+◌, ◌<◌, ◌^◌, ◌++◌, OnOk, length};
+ghost use Rattle.lg_report.specs.Meaning.Replies.{answer_text, fired_text, health_text, kind_text, next_text};
+ghost use Rattle.lg_report.specs.Meaning.Replies.{ousted_text, reply_text, send_line, sends_text};
+ghost use Rattle.lg_report.specs.Meaning.Replies.{subject_text, tick_text, told_text};
+
+use crate::records::{put_addr, put_numbered, put_record, put_table};
+use arrayvec::ArrayVec;
+use lg_detector::{Answer, Event, MAX_SENDS, NoMemory, Outgoing, Reply, Timer, TimerId};
+use lg_packet::MAX_PACKET;
+use lg_rules::Incarnation;
+use lg_text::put_hex;
+
+/// Room for the bytes of a packet that is written.
+type Row = ArrayVec<u8, MAX_PACKET>;
+
+/// The kind of a timer.
+fn kind_word(id: &TimerId) -> &'static str
+    ensures { result.now ≡ kind_text id.now }
+{
+    match id {
+        TimerId::RoundEnd => "round-end",
+        TimerId::Suspicion(_) => "suspicion",
+        TimerId::Direct => "direct",
+        TimerId::RelayNack(_) => "relay-nack",
+        TimerId::RelayEnd(_) => "relay-end",
+        TimerId::RoundStart => "round-start",
+    }
+}
+
+/// Puts the member or the relay's number that a timer is about behind a text, where it has one.
+fn put_subject(id: &TimerId, text: &mut Vec<u8>) -> Result<(), NoMemory>
+    ensures { OnOk result (text.new.items ≡ text.old.items ++ subject_text id.now) }
+{
+    match id {
+        TimerId::Suspicion(member) => {
+            text.push(b' ')?;
+            text.extend_from_slice(member.as_bytes())?;
+        }
+        TimerId::RelayNack(relay) => put_numbered(" ", u64::from(*relay), text)?,
+        TimerId::RelayEnd(relay) => put_numbered(" ", u64::from(*relay), text)?,
+        TimerId::RoundEnd | TimerId::Direct | TimerId::RoundStart => {}
+    }
+    Ok(())
+}
+
+/// Puts the line of a tick behind a text: the timer that it fired, or that it fired none.
+fn put_tick(fired: &Option<Timer>, text: &mut Vec<u8>) -> Result<(), NoMemory>
+    ensures { OnOk result (text.new.items ≡ text.old.items ++ tick_text fired.now) }
+{
+    let Some(timer) = fired else {
+        text.extend_from_slice(b"idle\n")?;
+        return Ok(());
+    };
+    text.extend_from_slice(b"fired ")?;
+    text.extend_from_slice(kind_word(&timer.id).as_bytes())?;
+    put_subject(&timer.id, text)?;
+    text.push(b'\n')?;
+    Ok(())
+}
+
+/// Puts the line of an event that is a tick behind a text. Others have none.
+fn put_fired(event: &Event, fired: &Option<Timer>, text: &mut Vec<u8>) -> Result<(), NoMemory>
+    ensures { OnOk result (text.new.items ≡ text.old.items ++ fired_text event.now fired.now) }
+{
+    if matches!(event, Event::Tick { .. }) {
+        put_tick(fired, text)?;
+    }
+    Ok(())
+}
+
+/// Puts what Health answers behind a text.
+fn put_health(
+    score: u64,
+    number: Incarnation,
+    members: u64,
+    text: &mut Vec<u8>,
+) -> Result<(), NoMemory>
+    ensures { OnOk result (text.new.items ≡ text.old.items ++ health_text score number members) }
+{
+    put_numbered("score ", score, text)?;
+    put_numbered(" number ", u64::from(number.number()), text)?;
+    put_numbered(" members ", members, text)?;
+    Ok(())
+}
+
+/// Puts what is answered behind a text.
+fn put_told(answer: &Answer, text: &mut Vec<u8>) -> Result<(), NoMemory>
+    ensures { OnOk result (text.new.items ≡ text.old.items ++ told_text answer.now) }
+{
+    match answer {
+        Answer::Status(None) => text.extend_from_slice(b"none")?,
+        Answer::Status(Some(claim)) => put_record(claim, text)?,
+        Answer::Health {
+            score,
+            number,
+            members,
+        } => put_health(*score, *number, *members, text)?,
+    }
+    Ok(())
+}
+
+/// Puts the line of an answer behind a text, where there is one.
+fn put_answer(answer: &Option<Answer>, text: &mut Vec<u8>) -> Result<(), NoMemory>
+    ensures { OnOk result (text.new.items ≡ text.old.items ++ answer_text answer.now) }
+{
+    if let Some(told) = answer {
+        text.extend_from_slice(b"answer ")?;
+        put_told(told, text)?;
+        text.push(b'\n')?;
+    }
+    Ok(())
+}
+
+/// Puts the line of a packet that is sent behind a text.
+fn put_send(
+    number: u64,
+    outgoing: &Outgoing,
+    row: &mut Row,
+    text: &mut Vec<u8>,
+) -> Result<(), NoMemory>
+    ensures { OnOk result (text.new.items ≡ text.old.items ++ send_line number outgoing.now) }
+{
+    put_numbered("send ", number, text)?;
+    text.push(b' ')?;
+    put_addr(&outgoing.to, text)?;
+    text.push(b' ')?;
+    put_hex(&outgoing.packet, row, text)?;
+    text.push(b'\n')?;
+    Ok(())
+}
+
+/// Puts the lines of the packets that are sent behind a text, numbered on from the first.
+fn put_sends(
+    first: u64,
+    sends: &[Outgoing],
+    row: &mut Row,
+    text: &mut Vec<u8>,
+) -> Result<(), NoMemory>
+    requires { first + length sends.now < 2 ^ 64 }
+    ensures { OnOk result (text.new.items ≡ text.old.items ++ sends_text first sends.now) }
+{
+    let mut number = first;
+    for outgoing in sends {
+        put_send(number, outgoing, row, text)?;
+        number += 1;
+    }
+    Ok(())
+}
+
+/// Puts the line of the flag `ousted` behind a text, where it is set.
+fn put_ousted(ousted: bool, text: &mut Vec<u8>) -> Result<(), NoMemory>
+    ensures { OnOk result (text.new.items ≡ text.old.items ++ ousted_text ousted) }
+{
+    if ousted {
+        text.extend_from_slice(b"ousted\n")?;
+    }
+    Ok(())
+}
+
+/// Puts the line of the next deadline behind a text.
+fn put_next(next: u64, text: &mut Vec<u8>) -> Result<(), NoMemory>
+    ensures { OnOk result (text.new.items ≡ text.old.items ++ next_text next) }
+{
+    put_numbered("next ", next, text)?;
+    text.push(b'\n')?;
+    Ok(())
+}
+
+/// Puts what a detector replied to an event behind a text, as lines in this order:
+///
+/// - for a tick `fired KIND` or `fired KIND ID`, the timer that fired, or `idle` where none did;
+/// - `answer none`, `answer RECORD` or `answer score S number I members N`, where the event was a question;
+/// - `send K A.B.C.D:PORT HEX` for each packet sent, in order: `first` is the number K of the first, and the others
+///   are numbered on, up to [`MAX_SENDS`] of them, which 64 bits must have room for; HEX is the packet in lower-case
+///   hex;
+/// - `record RECORD` for each record that changed, as [`put_table`] writes it;
+/// - `ousted` where the flag is set;
+/// - `next MOMENT`, always.
+///
+/// `row` is room alone: what it holds is of no use before or after. It takes memory only where the text has to grow.
+/// The only error is that memory was refused; the text then has what it had, and some beginning of the lines behind
+/// it, which may end within a line.
+#[tactic(auto, unfolding(crate::specs::Meaning::Replies::reply_text))]
+pub fn put_reply(
+    event: &Event,
+    first: u64,
+    reply: &Reply,
+    row: &mut ArrayVec<u8, MAX_PACKET>,
+    text: &mut Vec<u8>,
+) -> Result<(), NoMemory>
+    requires { first + MAX_SENDS < 2 ^ 64 }
+    ensures { OnOk result (text.new.items ≡ text.old.items ++ reply_text event.now first reply.now) }
+{
+    put_fired(event, &reply.fired, text)?;
+    put_answer(&reply.answer, text)?;
+    put_sends(first, reply.sends.as_slice(), row, text)?;
+    put_table(reply.changed.as_slice(), text)?;
+    put_ousted(reply.ousted, text)?;
+    put_next(reply.next, text)?;
+    Ok(())
+}
