@@ -12,13 +12,13 @@ use Rattle.lg_detector.specs.Support.Step.{state_after, accepts_of}
 use Rattle.lg_detector.specs.Support.State.{State}
 use Rattle.lg_detector.specs.declared.event.Event.{Event}
 use Rattle.lg_detector.proofs.Accepting.{accepts-after}
-use Rattle.lg_cli.specs.Meaning.Lines.{lines_of}
+use Rattle.lg_text.specs.Meaning.Lines.{lines_of}
 use Rattle.lg_cli.specs.Meaning.Spelled.{packet_in}
 use Rattle.lg_cli.specs.Meaning.Answering.{local, opening, heard, event_of, events_of, line_text, text_from, answer_text, answer_end, is_faulty}
 use Rattle.lg_timing.specs.Meaning.Config.{defaults}
 use Rattle.lg_cli.specs.Support.Hearing.{with_heard, AcceptsHeard}
-use Rattle.lg_cli.specs.declared.answer.End.{End}
-use Rattle.lg_cli.specs.declared.answer.End.TheVariants.{Done, Faulty}
+use Rattle.lg_text.specs.declared.end.End.{End}
+use Rattle.lg_text.specs.declared.end.End.TheVariants.{Done, Faulty}
 use Rattle.lg_cli.specs.declared.line.LineFault.{LineFault}
 
 heard_in : List (List ℕ) → List Event

@@ -8,10 +8,11 @@ use Rattle.lg_detector.specs.Support.Step.{state_after}
 use Rattle.lg_detector.specs.Support.State.{State}
 use Rattle.lg_detector.specs.declared.event.Event.{Event}
 use Rattle.lg_detector.specs.declared.reply.Reply.{Reply}
-use Rattle.lg_cli.specs.Meaning.Answering.{heard, line_reply, line_text, newline, sent_line}
+use Rattle.lg_text.specs.Meaning.Lines.{newline}
+use Rattle.lg_cli.specs.Meaning.Answering.{heard, line_reply, line_text, sent_line}
 use Rattle.lg_cli.specs.Meaning.Spelled.{fault_text, packet_in}
 use Rattle.lg_cli.specs.Support.Hearing.{line_end, with_heard}
-use Rattle.lg_cli.specs.declared.answer.End.TheVariants.{Done, Faulty}
+use Rattle.lg_text.specs.declared.end.End.TheVariants.{Done, Faulty}
 use Rattle.lg_cli.specs.declared.line.LineFault.{LineFault}
 
 -- ---- a faulty line

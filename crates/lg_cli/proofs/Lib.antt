@@ -2,6 +2,5 @@ pub mod AnswerLaws
 pub mod CommandLaws
 pub mod HeardLines
 pub mod HexLines
-pub mod LineLaws
 pub mod ListLaws
 pub mod TimeoutLaws

@@ -1,17 +1,15 @@
 -- The names and the words of a list, by its parts.
-use Rattle.std.proofs.Common.{◌≡◌, ℕ, ◌≤◌, ◌<◌, ◌^◌, Bool, true, false, ◌&&◌, cond, eqb, leb, ltb, List, [], ◌∷◌, length, get_or, map, Option, Some, None, Result, Ok, Err, IfErr, OnErr, refl, sym, ap, subst, ◌∙◌, arith, rules}
+use Rattle.std.proofs.Common.{◌≡◌, ℕ, ◌≤◌, ◌<◌, Bool, true, false, ◌&&◌, cond, eqb, leb, ltb, List, [], ◌∷◌, length, get_or, map, Option, Some, None, Result, Ok, Err, IfErr, OnErr, refl, sym, ap, subst, ◌∙◌, arith}
 use Rattle.std.specs.Borrow.{Bor}
-use Rattle.std.specs.Char.{is_ascii_digit}
 use Rattle.std.specs.List.{list_all}
 use Rattle.std.specs.Bool.{then_some}
 use Rattle.std.specs.Option.{ok_or, option_map}
-use Rattle.std.specs.Result.{result_ok, IsErrAnd, OkIff}
-use Rattle.std.specs.Str.Parse.{digits_value, ParsesUnsigned}
-use Rattle.std.proofs.lemmas.Bool.{and_left, and_right, cond-true, le-leb, leb-true, lt-leb}
+use Rattle.std.specs.Result.{result_ok, IsErrAnd}
+use Rattle.std.specs.Str.Parse.{digits_value}
+use Rattle.std.proofs.lemmas.Bool.{and_left, and_right, cond-true, le-leb, lt-leb}
 use Rattle.std.proofs.lemmas.Bool.Decides.{nat_tests}
 use Rattle.std.proofs.lemmas.List.{length-map, map-id}
 use Rattle.std.proofs.lemmas.List.Folds.{list_all_at}
-use Rattle.std.proofs.lemmas.Str.Parse.{IsNumeralModel, numerals_by_value, parse_digits}
 use Rattle.lg_rules.specs.Meaning.Name.{bad_byte, is_name, is_name_byte, name_of_text}
 use Rattle.lg_rules.proofs.NameLemmas.{is_named}
 use Rattle.lg_rules.proofs.Tests.{both}
@@ -32,29 +30,6 @@ name_is text good =
     let some : eqb (length text) 0 ≡ false = grind (arith, nat_tests, n.some) in
     let few : ltb 32 (length text) ≡ false = grind (arith, nat_tests, n.few) in
     rw (some, few, all_good text n.good) refl
-
--- ---- a word, by what reading it gives
-
-digits : IsNumeralModel (λ ds. list_all is_ascii_digit ds ≡ true) (digits_value 10)
-digits = numerals_by_value (λ ds. list_all is_ascii_digit ds ≡ true) (search rules)
-
--- the number of some decimal digits, where it is one of 32 bits
-pub read_word : {E : Type 0} (part : List ℕ) (r : Result ℕ E) → ParsesUnsigned 32 10 part r → length part ≤ 16 → list_all is_ascii_digit part ≡ true
-    → result_ok r ≡ word_of part
-read_word part r parses few good = go r (parse_digits digits 32 part r parses good)
-  where
-    go : {E : Type 0} (r : Result ℕ E) → OkIff r ((0 < length part) × (digits_value 10 part < 2 ^ 32)) (digits_value 10 part) → result_ok r ≡ word_of part
-    go (Ok n) is =
-        let some : leb 1 (length part) ≡ true = le-leb 1 (length part) (omega (arith, is.0.0)) in
-        let short : leb (length part) 16 ≡ true = le-leb (length part) 16 few in
-        let low : leb (digits_value 10 part) 4294967295 ≡ true = le-leb (digits_value 10 part) 4294967295 (omega (arith, is.0.1)) in
-        rw (some, short, good, low) (ap Some is.1)
-    go (Err e) not_one = none (leb 1 (length part)) (leb (digits_value 10 part) 4294967295) refl refl
-      where
-        none : (some low : Bool) → leb 1 (length part) ≡ some → leb (digits_value 10 part) 4294967295 ≡ low → None ≡ word_of part
-        none true true is_some is_low = absurd (not_one (omega (arith, leb-true 1 (length part) is_some), omega (arith, leb-true (digits_value 10 part) 4294967295 is_low)))
-        none false low is_some is_low = rw is_some refl
-        none true false is_some is_low = rw (is_some, le-leb (length part) 16 few, good, is_low) refl
 
 -- ---- the parts of a list, read one after another
 

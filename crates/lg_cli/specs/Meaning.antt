@@ -4,7 +4,6 @@ pub mod Choosing
 pub mod Commands
 pub mod Examples
 pub mod Faults
-pub mod Lines
 pub mod Ranges
 pub mod Running
 pub mod Spelled

@@ -1,5 +1,3 @@
 -- What only carries the proofs.
-pub mod Bounds
 pub mod Hearing
-pub mod Input
 pub mod Requests

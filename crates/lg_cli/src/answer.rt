@@ -3,18 +3,18 @@ ghost use Rattle.std.specs.Prelude.{◌≡◌, ◌+◌, ◌*◌, ◌≤◌, List
 ghost use Rattle.std.specs.List.{flat_map};
 ghost use Rattle.lg_detector.specs.Support.Step.{state_after};
 ghost use Rattle.lg_detector.specs.declared.event.Event.{Event as Happened};
-ghost use Rattle.lg_cli.specs.Meaning.Answering.{answer_end, answer_text, heard, line_text, newline, opening};
+ghost use Rattle.lg_text.specs.Meaning.Lines.{newline};
+ghost use Rattle.lg_cli.specs.Meaning.Answering.{answer_end, answer_text, heard, line_text, opening};
 ghost use Rattle.lg_cli.specs.Meaning.Answering.{sent_line, sent_text};
 ghost use Rattle.lg_cli.specs.Meaning.Spelled.{fault_text, packet_in};
 ghost use Rattle.lg_cli.specs.Support.Hearing.{line_end, with_heard, AcceptsHeard};
 
-use crate::input::MAX_INPUT;
 use crate::line::LineFault;
-use crate::lines::cut_line;
 use arrayvec::ArrayVec;
 use lg_detector::{Detector, Event, NoMemory, Outgoing, Reply};
 use lg_packet::{MAX_PACKET, Packet};
 use lg_rules::{Addr, Name};
+use lg_text::{End, MAX_INPUT, cut_line, put_hex};
 use lg_timing::{Config, Moment};
 use std::alloc::Global;
 
@@ -23,15 +23,6 @@ type Row = ArrayVec<u8, MAX_PACKET>;
 
 /// The address of the machine itself.
 const LOCALHOST: [u8; 4] = [127, 0, 0, 1];
-
-/// How a run over an input ended.
-#[derive(Clone, Copy, Debug, PartialEq, Eq)]
-pub enum End {
-    /// No line was faulty.
-    Done = 0,
-    /// Some line was faulty.
-    Faulty = 3,
-}
 
 /// What a run over an input writes, and how it ends.
 #[derive(Debug, Drop)]
@@ -57,10 +48,7 @@ fn open_event(name: &Name) -> Event
 fn put_packet(packet: &Packet, row: &mut Row, text: &mut Vec<u8>) -> Result<(), NoMemory>
     ensures { OnOk result (text.new.items ≡ text.old.items ++ sent_text packet.now) }
 {
-    lg_packet::encode(packet, row);
-    let start = text.len();
-    text.resize(start + 2 * row.len(), b'0')?;
-    hex::encode_to_slice(row.as_slice(), &mut text[start..]).unwrap();
+    put_hex(packet, row, text)?;
     text.push(b'\n')?;
     Ok(())
 }

@@ -3,10 +3,7 @@
 
 mod answer;
 mod command;
-mod fault;
-mod input;
 mod line;
-mod lines;
 mod order;
 mod program;
 mod run;

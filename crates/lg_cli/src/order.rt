@@ -1,21 +1,16 @@
 //! The command `order`: whom words choose one after another of some names.
 ghost use Rattle.std.specs.Prelude.{◌≡◌, ◌≢◌, Ok, Err, IfErr, IfOk};
-ghost use Rattle.std.specs.Char.{is_ascii_digit};
-ghost use Rattle.std.specs.List.{list_all};
 ghost use Rattle.std.specs.Option.{option_map};
 ghost use Rattle.lg_rules.specs.Meaning.Rows.{name_cmp, is_among};
 ghost use Rattle.lg_cli.specs.Meaning.Choosing.{are_different, name_lines, names_in, order_text, word_of, words_in};
 ghost use Rattle.lg_cli.specs.Meaning.Faults.{bad_list_text};
 ghost use Rattle.lg_cli.specs.Meaning.Running.{IsFaultOf};
 
-use crate::fault::RunFault;
 use arrayvec::ArrayVec;
 use lg_probe::choose_all;
 use lg_rules::{MAX_OTHERS, Name};
+use lg_text::{RunFault, number_in};
 use std::alloc::{AllocError, Global};
-
-/// The most digits of a word: 16 (this project's choice).
-const MAX_WORD_DIGITS: usize = 16;
 
 /// Which list of `order` is bad. The names are judged first.
 #[derive(Clone, Copy, Debug, PartialEq, Eq)]
@@ -72,7 +67,7 @@ impl From<RunFault> for OrderFault {
 
 impl From<AllocError> for OrderFault {
     ghost use Rattle.std.specs.Prelude.{◌≡◌};
-    ghost use Rattle.lg_cli.specs.declared.fault.RunFault.TheVariants.{Memory};
+    ghost use Rattle.lg_text.specs.declared.fault.RunFault.TheVariants.{Memory};
     ghost use Rattle.lg_cli.specs.declared.order.OrderFault.TheVariants.{Run};
 
     ghost from_gives = { λ _ fault. fault ≡ Run Memory };
@@ -112,21 +107,12 @@ fn names_in(text: &str) -> Option<ArrayVec<Name, MAX_OTHERS>>
     are_different(names.as_slice()).then_some(names)
 }
 
-/// Whether a text is decimal digits alone.
-fn are_digits(text: &[u8]) -> bool
-    ensures { result ≡ list_all is_ascii_digit text.now }
-{
-    text.iter().all(|byte| byte.is_ascii_digit())
-}
-
 /// The word that a text is: 1 to 16 decimal digits, a number of at most 4,294,967,295.
 fn word_of(text: &str) -> Option<u32>
     ensures { result ≡ word_of text.now }
 {
-    if text.len() > MAX_WORD_DIGITS || !are_digits(text.as_bytes()) {
-        return None;
-    }
-    text.parse().ok()
+    let number = number_in(text.as_bytes())?;
+    u32::try_from(number).ok()
 }
 
 /// The words between the commas of a text, where each part is a word; an empty text has none.

@@ -2,17 +2,17 @@
 ghost use Rattle.std.specs.Prelude.{◌≡◌, ◌≢◌, ◌⊎◌, ◌+◌, ◌≤◌, ◌<◌, true, Err, IfErr, IfOk, IfSome, IsOkAnd, OnOk};
 ghost use Rattle.std.specs.Prelude.{length};
 ghost use Rattle.std.specs.Io.KnownBytes.{Appends};
+ghost use Rattle.lg_text.specs.Meaning.Running.{ReadsWhole, TakesAtMost};
 ghost use Rattle.lg_cli.specs.Meaning.Answering.{answer_end, answer_text};
 ghost use Rattle.lg_cli.specs.Meaning.Choosing.{order_text};
-ghost use Rattle.lg_cli.specs.Meaning.Running.{AnswersInput, IsFaultOf, ReadsWhole, TakesAtMost};
+ghost use Rattle.lg_cli.specs.Meaning.Running.{AnswersInput, IsFaultOf};
 ghost use Rattle.lg_cli.specs.Meaning.Timeouts.{are_good, timeouts_text};
 
-use crate::answer::{End, answer};
-use crate::fault::RunFault;
-use crate::input::{MAX_INPUT, read_input};
+use crate::answer::answer;
 use crate::order::{BadList, OrderFault, order};
 use crate::timeouts::{Numbers, timeouts};
 use lg_rules::Name;
+use lg_text::{End, MAX_INPUT, RunFault, read_input, write_whole};
 use std::alloc::Global;
 use std::io::{Read, Write};
 
@@ -109,16 +109,5 @@ pub fn order_run<W: Write>(
 {
     let text = order(alloc, names, words)?;
     write_whole(writer, &text)?;
-    Ok(())
-}
-
-/// Writes a text and hands it on. Where that fails, a beginning of the text may be written.
-fn write_whole<W: Write>(writer: &mut W, text: &[u8]) -> Result<(), RunFault>
-    ensures written { OnOk result (Appends (W.contents writer.old) (W.contents writer.new) text.now) }
-    ensures refused { IfErr result (λ fault. fault ≡ RunFault.Write) }
-{
-    if writer.write_all(text).is_err() || writer.flush().is_err() {
-        return Err(RunFault::Write);
-    }
     Ok(())
 }

@@ -11,11 +11,11 @@ use Rattle.lg_detector.specs.declared.event.Event.{Event}
 use Rattle.lg_detector.specs.declared.event.Event.TheVariants.{Open, Heard}
 use Rattle.lg_detector.specs.declared.reply.Outgoing.{Outgoing}
 use Rattle.lg_timing.specs.Meaning.Config.{defaults}
-use Rattle.lg_cli.specs.Meaning.Lines.{lines_of}
+use Rattle.lg_text.specs.Meaning.Lines.{lines_of, newline}
+use Rattle.lg_text.specs.declared.end.End.{End}
+use Rattle.lg_text.specs.declared.end.End.TheVariants.{Done, Faulty}
 use Rattle.lg_cli.specs.Meaning.Spelled.{fault_text, packet_in}
 use Rattle.lg_cli.specs.declared.line.LineFault.{LineFault}
-use Rattle.lg_cli.specs.declared.answer.End.{End}
-use Rattle.lg_cli.specs.declared.answer.End.TheVariants.{Done, Faulty}
 
 abbrev pub local : ℕ → Addr
 local port = record { octets = 127 ∷ 0 ∷ 0 ∷ 1 ∷ []; port = port }
@@ -36,9 +36,6 @@ event_of (Err fault) = None
 -- the events of some lines: the opening, and what each line that spells a packet lets the detector hear
 unfoldable pub events_of : List ℕ → List (List ℕ) → List Event
 events_of name lines = opening name ∷ filter_map (λ line. event_of (packet_in line)) lines
-
-abbrev pub newline : List ℕ
-newline = 10 ∷ []
 
 -- a packet that is sent, as a line of lower-case hex
 abbrev pub sent_text : Packet → List ℕ

@@ -1,16 +1,15 @@
 -- What the command `order` writes for its two lists, the names and the words.
 use Rattle.std.specs.Prelude.{ℕ, ◌==◌, Bool, true, ◌&&◌, not, nat_le, List, [], ◌∷◌, ◌++◌, length, map}
 use Rattle.std.specs.Prelude.{Option, Some, None, Result, Ok, Err, if◌then◌else◌}
-use Rattle.std.specs.Char.{is_ascii_digit}
 use Rattle.std.specs.List.{flat_map, list_all, slice_split}
 use Rattle.std.specs.Str.Parse.{digits_value}
 use Rattle.lg_rules.specs.Meaning.Bounds.{most_others}
 use Rattle.lg_rules.specs.Meaning.Name.{is_name}
 use Rattle.lg_rules.specs.Meaning.Rows.{name_cmp, is_among}
-use Rattle.lg_timing.specs.Meaning.Config.{is_within}
 use Rattle.lg_probe.specs.Meaning.Order.{picks}
-use Rattle.lg_cli.specs.Meaning.Answering.{newline}
-use Rattle.lg_cli.specs.Meaning.Ranges.{greatest_word, most_word_digits}
+use Rattle.lg_text.specs.Meaning.Lines.{newline}
+use Rattle.lg_text.specs.Meaning.Numbers.{is_number}
+use Rattle.lg_cli.specs.Meaning.Ranges.{greatest_word}
 use Rattle.lg_cli.specs.declared.order.BadList.{BadList}
 use Rattle.lg_cli.specs.declared.order.BadList.TheVariants.{Names, Words}
 
@@ -33,9 +32,7 @@ names_in text = if are_names (comma_parts text) then Some (comma_parts text) els
 
 -- 1 to 16 decimal digits, a number of at most 4,294,967,295
 abbrev pub is_word : List ℕ → Bool
-is_word part =
-    is_within 1 most_word_digits (length part)
-    && (list_all is_ascii_digit part && nat_le (digits_value 10 part) greatest_word)
+is_word part = is_number part && nat_le (digits_value 10 part) greatest_word
 
 -- the parts of a text that lists words: an empty text has none
 abbrev pub word_parts : List ℕ → List (List ℕ)

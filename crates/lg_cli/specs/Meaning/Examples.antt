@@ -14,24 +14,14 @@ use Rattle.lg_packet.specs.Meaning.Reading.{name_at, packet_at, packet_of, statu
 use Rattle.lg_packet.specs.Meaning.Spelling.{spelling}
 use Rattle.lg_timing.specs.Meaning.Tables.{log10_of, ratio_of}
 use Rattle.lg_timing.specs.Meaning.Timeouts.{range_of, timeout_of}
-use Rattle.lg_cli.specs.Meaning.Answering.{answer_end, answer_text, events_of, heard, local, newline, opening}
-use Rattle.lg_cli.specs.Meaning.Answering.{sent_text}
+use Rattle.lg_text.specs.Meaning.Lines.{lines_of, newline}
+use Rattle.lg_text.specs.declared.end.End.TheVariants.{Done}
+use Rattle.lg_cli.specs.Meaning.Answering.{answer_end, answer_text, events_of, heard, local, opening, sent_text}
 use Rattle.lg_cli.specs.Meaning.Choosing.{are_names, comma_parts, names_in, order_text, words_in}
 use Rattle.lg_cli.specs.Meaning.Commands.{answer, order, timeouts, asked, line_faults}
-use Rattle.lg_cli.specs.Meaning.Lines.{lines_of}
 use Rattle.lg_cli.specs.Meaning.Spelled.{packet_in}
 use Rattle.lg_cli.specs.Meaning.Timeouts.{timeouts_text}
-use Rattle.lg_cli.specs.declared.answer.End.TheVariants.{Done}
 use Rattle.lg_cli.specs.declared.order.BadList.TheVariants.{Names, Words}
-
-two-lines : lines_of (codes "ab" ++ 10 ∷ 10 ∷ codes "c") ≡ codes "ab" ∷ [] ∷ codes "c" ∷ []
-two-lines = refl
-
-ended-line : lines_of (97 ∷ 10 ∷ []) ≡ (97 ∷ []) ∷ []
-ended-line = refl
-
-no-line : lines_of [] ≡ []
-no-line = refl
 
 -- a Ping from a for b, numbered 7
 abbrev ping : List ℕ

@@ -1,38 +1,20 @@
 -- How the runs of the commands end.
-use Rattle.std.specs.Prelude.{◌≡◌, ◌≢◌, ⊤, true, ℕ, ◌≤◌, List, [], ◌++◌, length, is_ok, Option, Result, Ok, Err}
+use Rattle.std.specs.Prelude.{◌≡◌, ◌≢◌, ⊤, true, ℕ, ◌≤◌, List, [], length, is_ok, Option, Result, Ok, Err}
 use Rattle.std.specs.Io.KnownBytes.{Appends, Consumes, IsAtEnd}
+use Rattle.lg_text.specs.Meaning.Faults.{run_fault_text}
+use Rattle.lg_text.specs.Meaning.Ranges.{most_input}
+use Rattle.lg_text.specs.Meaning.Running.{AppendsFront}
+use Rattle.lg_text.specs.declared.end.End.{End}
+use Rattle.lg_text.specs.declared.end.End.TheVariants.{Done, Faulty}
+use Rattle.lg_text.specs.declared.fault.RunFault.{RunFault}
+use Rattle.lg_text.specs.declared.fault.RunFault.TheVariants.{Memory, Read, Write}
 use Rattle.lg_cli.specs.Meaning.Answering.{answer_end, answer_text}
-use Rattle.lg_cli.specs.Meaning.Faults.{bad_list_text, run_fault_text}
-use Rattle.lg_cli.specs.Meaning.Ranges.{most_input}
+use Rattle.lg_cli.specs.Meaning.Faults.{bad_list_text}
 use Rattle.lg_cli.specs.Meaning.Timeouts.{timeouts_text}
-use Rattle.lg_cli.specs.declared.answer.End.{End}
-use Rattle.lg_cli.specs.declared.answer.End.TheVariants.{Done, Faulty}
-use Rattle.lg_cli.specs.declared.fault.RunFault.{RunFault}
-use Rattle.lg_cli.specs.declared.fault.RunFault.TheVariants.{Memory, Read, Write}
 use Rattle.lg_cli.specs.declared.order.BadList.{BadList}
 use Rattle.lg_cli.specs.declared.order.OrderFault.{OrderFault}
 use Rattle.lg_cli.specs.declared.order.OrderFault.TheVariants.{Bad, Run}
 use Rattle.lg_cli.specs.declared.timeouts.Numbers.{Numbers}
-
--- Known bytes lose no more than this many of their first.
-pub record TakesAtMost (limit : ℕ) (old new : Option (List ℕ)) : Type 0 where
-  pub bytes : List ℕ
-  pub few : length bytes ≤ limit
-  pub taken : Consumes old new bytes
-
--- An input that isn't too long is read to its end.
-pub record ReadsWhole (left rest : Option (List ℕ)) : Type 0 where
-  pub input : List ℕ
-  pub few : length input ≤ most_input
-  pub read : Consumes left rest input
-  pub whole : IsAtEnd rest
-
--- Known bytes grow by a beginning of a text, which may be none of it or all.
-pub record AppendsFront (held holds : Option (List ℕ)) (text : List ℕ) : Type 0 where
-  pub front : List ℕ
-  pub rest : List ℕ
-  pub is : text ≡ front ++ rest
-  pub taken : Appends held holds front
 
 -- A run fails by a fault, which is reported as far as the report is taken.
 -- Only a fault of writing leaves anything written.

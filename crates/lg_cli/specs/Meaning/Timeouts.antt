@@ -6,7 +6,7 @@ use Rattle.lg_timing.specs.Meaning.Config.{is_within}
 use Rattle.lg_timing.specs.Meaning.TimeoutRange.{TimeoutRange}
 use Rattle.lg_timing.specs.Meaning.Timeouts.{range_of, timeout_of}
 use Rattle.lg_timing.specs.declared.config.Config.{Config}
-use Rattle.lg_cli.specs.Meaning.Answering.{newline}
+use Rattle.lg_text.specs.Meaning.Lines.{newline}
 use Rattle.lg_timing.specs.Meaning.Config.{defaults}
 use Rattle.lg_rules.specs.Meaning.Bounds.{most_members}
 use Rattle.lg_timing.specs.Meaning.Bounds.{least_interval_ms, most_confirmations, most_factor, most_interval_ms}

@@ -5,8 +5,8 @@ use Rattle.lg_detector.specs.Support.Step.{accepts_of}
 use Rattle.lg_detector.specs.Support.State.{State}
 use Rattle.lg_detector.specs.declared.event.Event.{Event}
 use Rattle.lg_cli.specs.Meaning.Answering.{heard, is_faulty}
-use Rattle.lg_cli.specs.declared.answer.End.{End}
-use Rattle.lg_cli.specs.declared.answer.End.TheVariants.{Done, Faulty}
+use Rattle.lg_text.specs.declared.end.End.{End}
+use Rattle.lg_text.specs.declared.end.End.TheVariants.{Done, Faulty}
 use Rattle.lg_cli.specs.declared.line.LineFault.{LineFault}
 
 -- the earlier events, and what a line lets the detector hear

@@ -1,7 +1,7 @@
 //! More names than a member table has places, and more relays than may be open.
 use super::runs::{Command, Streams, check_command};
 use super::scripted::Said;
-use crate::answer::End;
+use lg_text::End;
 use std::alloc::AllocError;
 use std::process::Abort;
 use std::test::Fail;

@@ -1,11 +1,10 @@
 //! The longest input, longer ones, and readers that never end.
 use super::runs::{Command, Streams, check_command};
 use super::scripted::{Interrupts, Said};
-use crate::answer::End;
-use crate::fault::RunFault;
 use crate::order::OrderFault;
 use crate::run::answer_run;
 use lg_rules::Name;
+use lg_text::{End, RunFault};
 use std::process::Abort;
 use std::test::Fail;
 

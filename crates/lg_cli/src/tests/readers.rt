@@ -1,9 +1,8 @@
 //! Readers that give little at a time, are interrupted or fail.
 use super::runs::{Command, Streams, check_command};
 use super::scripted::{Interrupts, Said};
-use crate::answer::End;
-use crate::fault::RunFault;
 use crate::order::OrderFault;
+use lg_text::{End, RunFault};
 use std::process::Abort;
 
 const PING: &[u8; 27] = b"534c0101016100000007016200\n";

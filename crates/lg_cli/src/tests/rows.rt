@@ -1,7 +1,7 @@
 //! Inputs of the command `answer`, and what is written for them.
 use super::runs::{Command, Streams, check_command};
 use super::scripted::Said;
-use crate::answer::End;
+use lg_text::End;
 use std::process::Abort;
 
 /// What the input shows, the input, the text that is written, and the end.

@@ -1,14 +1,13 @@
 //! Runs over streams in memory, and what comes of them. A test is a table of runs: the asserts stand here, since each
 //! assert, and each call of a run, is a branch that the check proves.
 use super::scripted::{Pieces, Room, Said};
-use crate::answer::End;
-use crate::fault::RunFault;
 use crate::order::OrderFault;
 use crate::program::run_words;
 use crate::run::{answer_run, order_run, timeouts_run};
 use crate::timeouts::Numbers;
 use arrayvec::ArrayVec;
 use lg_rules::Name;
+use lg_text::{End, RunFault};
 use std::alloc::Global;
 use std::process::Abort;
 

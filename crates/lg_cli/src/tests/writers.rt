@@ -1,8 +1,8 @@
 //! Writers that fail.
 use super::runs::{Command, Streams, check_command, check_failing_writes};
 use super::scripted::{ROOM, Said};
-use crate::fault::RunFault;
 use crate::order::OrderFault;
+use lg_text::RunFault;
 
 const PING: &[u8; 27] = b"534c0101016100000007016200\n";
 
