@@ -1,17 +1,10 @@
 -- Names by what reading them answers.
-use Rattle.std.proofs.Common.{◌≡◌, ℕ, ◌+◌, ◌-◌, ◌*◌, ◌^◌, ◌<◌, ◌≤◌, Bool, true, false, ◌&&◌, eqb, leb, ltb, List, [], ◌∷◌, length, get_or, take, Option, Some, None, refl, sym, subst, ap, ◌∙◌, arith, rules}
-use Rattle.std.specs.Char.{is_ascii_digit, digit_value}
+use Rattle.std.proofs.Common.{◌≡◌, ℕ, ◌≤◌, Bool, true, false, eqb, leb, ltb, List, [], ◌∷◌, length, Option, Some, None, refl, arith}
 use Rattle.std.specs.List.{list_all}
 use Rattle.std.specs.Result.{result_ok}
-use Rattle.std.specs.Str.Parse.{digits_value}
-use Rattle.std.proofs.lemmas.Bool.{leb-true, le-leb, lt-leb}
 use Rattle.std.proofs.lemmas.Bool.Decides.{nat_tests}
-use Rattle.std.proofs.lemmas.Int.Digits.{digits_value_more}
-use Rattle.std.proofs.lemmas.Str.{digit_value_digit}
-use Rattle.std.proofs.lemmas.Str.Parse.{IsNumeralModel, numerals_by_value, digit_at, digits_value_short, digits_value-take-le}
-use Rattle.lg_rules.specs.Meaning.Name.{bad_byte, is_name, is_name_byte, name_of_text}
+use Rattle.lg_rules.specs.Meaning.Name.{bad_byte, is_name_byte, name_of_text}
 use Rattle.lg_rules.proofs.NameLemmas.{named}
-use Rattle.lg_rules.proofs.Tests.{both}
 use Rattle.lg_script.specs.Meaning.Values.{name_of}
 
 some_bad : (text : List ℕ) (b : ℕ) → bad_byte text ≡ Some b → list_all is_name_byte text ≡ false

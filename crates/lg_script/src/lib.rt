@@ -1,9 +1,12 @@
 //! The lines of a simulation script: which command a line gives, or why the line is faulty.
 //!
-//! [`command_in`] reads one line. It knows nothing of the members that are open: the faults
-//! [`ScriptFault::Double`], [`ScriptFault::Full`], [`ScriptFault::Member`] and
-//! [`ScriptFault::Packet`], and [`ScriptFault::Value`] of a configuration that fails its check,
-//! are judged by who keeps them.
+//! [`command_in`] reads one line into a [`Command`], or answers its [`ScriptFault`]. It knows nothing of the members
+//! that are open: the faults [`ScriptFault::Double`], [`ScriptFault::Full`], [`ScriptFault::Member`] and
+//! [`ScriptFault::Packet`], and [`ScriptFault::Value`] of a configuration that fails its check, are judged by who
+//! keeps the members. [`local`] says where the member of a port is.
+//!
+//! Clauses of other crates cite `command_of` (`specs/Meaning/Lines.antt`), `fault_word` (`Faults.antt`) and `local`
+//! (`Values.antt`).
 #![tactic(auto)]
 
 mod command;

@@ -82,7 +82,8 @@ fn tick_in(words: Option<&[u8]>) -> Option<Command>
 
 /// The random words that words are, at most 8 of them.
 fn random_words_in(words: Option<&[u8]>) -> Option<ArrayVec<u32, RANDOM_WORDS>>
-    ensures { option_map (λ random. random.items) result ≡ at_most_of random_words random_word_of (words_left words.entry) }
+    ensures { let left = words_left words.entry in
+        option_map (λ random. random.items) result ≡ at_most_of random_words random_word_of left }
 {
     let mut random = ArrayVec::new();
     let mut left = words;

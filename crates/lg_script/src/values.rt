@@ -27,14 +27,14 @@ fn number_within(word: &[u8], least: u64, most: u64) -> Option<u64>
     is_within(least, most, number).then_some(number)
 }
 
-/// The moment that a word is.
+/// The moment that a word is, 0 to 1,000,000,000,000,000.
 pub(crate) fn moment_in(word: &[u8]) -> Option<Moment>
     ensures { result ≡ moment_of word.now }
 {
     Moment::new(number_within(word, 0, MAX_MOMENT)?)
 }
 
-/// The port that a word is.
+/// The port that a word is, 1 to 65535.
 pub(crate) fn port_in(word: &[u8]) -> Option<u16>
     ensures { result ≡ port_of word.now }
 {
@@ -42,7 +42,7 @@ pub(crate) fn port_in(word: &[u8]) -> Option<u16>
     Some(port as u16)
 }
 
-/// The random word that a word is.
+/// The random word of a tick that a word is, 0 to 4,294,967,295.
 pub(crate) fn random_word_in(word: &[u8]) -> Option<u32>
     ensures { result ≡ random_word_of word.now }
 {

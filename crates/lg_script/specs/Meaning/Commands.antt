@@ -1,5 +1,5 @@
 -- What the words behind the name of a command say; none where one of them is out of its form or range.
-use Rattle.std.specs.Prelude.{ℕ, List, [], Option, Some, None, slice_index_or, drop}
+use Rattle.std.specs.Prelude.{ℕ, List, [], Option, Some, slice_index_or, drop}
 use Rattle.lg_text.specs.Meaning.Numbers.{number_of}
 use Rattle.lg_script.specs.Meaning.Values.{◌>>=◌, moment_of, port_of, name_of, key_of}
 use Rattle.lg_script.specs.Meaning.Values.{random_words_of, seeds_of}

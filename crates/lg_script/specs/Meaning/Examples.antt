@@ -10,7 +10,7 @@ use Rattle.lg_script.specs.declared.fault.ScriptFault.TheVariants as fault
 use Rattle.lg_script.specs.Meaning.Commands.{set_of, open_of, tick_of, deliver_of, ask_of, health_of, pull_of, table_of}
 use Rattle.lg_script.specs.Meaning.Lines.{command_of}
 use Rattle.lg_script.specs.Meaning.Values.{key_of, local}
-use Rattle.lg_script.specs.Meaning.Words.{verb_of, parts_of}
+use Rattle.lg_script.specs.Meaning.Words.{verb_of}
 
 -- a line that gives a command
 abbrev gives : Command → Result (Option Command) ScriptFault
@@ -37,19 +37,23 @@ opens-alone = refl
 b-at-7002 : Seed
 b-at-7002 = record { name = 98 ∷ []; addr = record { octets = 127 ∷ 0 ∷ 0 ∷ 1 ∷ []; port = 7002 } }
 
-opens-with-seed : command_of (codes "open a 65535 1000 b:7002") ≡ gives (Open (97 ∷ []) 65535 1000 record { items = b-at-7002 ∷ [] })
+opens-with-seed : command_of (codes "open a 65535 1000 b:7002")
+    ≡ gives (Open (97 ∷ []) 65535 1000 record { items = b-at-7002 ∷ [] })
 unfolding command_of verb_of open_of b-at-7002
 opens-with-seed = refl
 
-ticks : command_of (codes "tick z 1000000000000000") ≡ gives (Tick (122 ∷ []) 1000000000000000 (0 ∷ 0 ∷ 0 ∷ 0 ∷ 0 ∷ 0 ∷ 0 ∷ 0 ∷ []))
+ticks : command_of (codes "tick z 1000000000000000")
+    ≡ gives (Tick (122 ∷ []) 1000000000000000 (0 ∷ 0 ∷ 0 ∷ 0 ∷ 0 ∷ 0 ∷ 0 ∷ 0 ∷ []))
 unfolding command_of verb_of tick_of
 ticks = refl
 
-ticks-with-words : command_of (codes "tick z 5 4294967295 2") ≡ gives (Tick (122 ∷ []) 5 (4294967295 ∷ 2 ∷ 0 ∷ 0 ∷ 0 ∷ 0 ∷ 0 ∷ 0 ∷ []))
+ticks-with-words : command_of (codes "tick z 5 4294967295 2")
+    ≡ gives (Tick (122 ∷ []) 5 (4294967295 ∷ 2 ∷ 0 ∷ 0 ∷ 0 ∷ 0 ∷ 0 ∷ 0 ∷ []))
 unfolding command_of verb_of tick_of
 ticks-with-words = refl
 
-ticks-with-all : command_of (codes "tick z 5 1 2 3 4 5 6 7 8") ≡ gives (Tick (122 ∷ []) 5 (1 ∷ 2 ∷ 3 ∷ 4 ∷ 5 ∷ 6 ∷ 7 ∷ 8 ∷ []))
+ticks-with-all : command_of (codes "tick z 5 1 2 3 4 5 6 7 8")
+    ≡ gives (Tick (122 ∷ []) 5 (1 ∷ 2 ∷ 3 ∷ 4 ∷ 5 ∷ 6 ∷ 7 ∷ 8 ∷ []))
 unfolding command_of verb_of tick_of
 ticks-with-all = refl
 
@@ -192,9 +196,13 @@ seeds-17 : command_of (codes "open a 7001 0" ++ seeds 17) ≡ Err fault.Value
 unfolding command_of verb_of open_of
 seeds-17 = refl
 
+b-at-1 : Seed
+b-at-1 = record { name = 98 ∷ []; addr = local 1 }
+
 -- that their names differ is judged elsewhere
-seeds-16 : command_of (codes "open a 7001 0" ++ seeds 16) ≡ gives (Open (97 ∷ []) 7001 0 record { items = replicate 16 record { name = 98 ∷ []; addr = local 1 } })
-unfolding command_of verb_of open_of
+seeds-16 : command_of (codes "open a 7001 0" ++ seeds 16)
+    ≡ gives (Open (97 ∷ []) 7001 0 record { items = replicate 16 b-at-1 })
+unfolding command_of verb_of open_of b-at-1
 seeds-16 = refl
 
 unknown-key : command_of (codes "set seeds 1") ≡ Err fault.Value

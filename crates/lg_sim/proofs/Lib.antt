@@ -1,0 +1,5 @@
+pub mod ClusterLaws
+pub mod CommandLaws
+pub mod OpenLaws
+pub mod PlaceLaws
+pub mod ScriptLaws

@@ -1,0 +1,6 @@
+-- What is right: whoever wants to believe the contracts reads these.
+pub mod Members
+pub mod Outcome
+pub mod Past
+pub mod Running
+pub mod Text

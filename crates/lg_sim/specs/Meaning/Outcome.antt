@@ -1,0 +1,70 @@
+-- What a command gives after the earlier ones: its text, or its fault.
+use Rattle.std.specs.Prelude.{ℕ, ◌+◌, nat_le, Bool, ◌||◌, List, [], ◌∷◌, ◌++◌, length, Option, Some, None, is_some, Result, Ok, Err, is_err, codes, if◌then◌else◌}
+use Rattle.lg_timing.specs.Meaning.Config.{check_of}
+use Rattle.lg_timing.specs.declared.config.Config.{Config}
+use Rattle.lg_detector.specs.Meaning.Step.{reply_after, view_after}
+use Rattle.lg_report.specs.Meaning.Records.{table_text}
+use Rattle.lg_report.specs.Meaning.Replies.{reply_text}
+use Rattle.lg_script.specs.declared.command.Command.{Command}
+use Rattle.lg_script.specs.declared.command.Command.TheVariants.{Set, Open, Tick, Deliver, Ask, Health, Pull, Table}
+use Rattle.lg_script.specs.declared.fault.ScriptFault.{ScriptFault}
+use Rattle.lg_script.specs.declared.fault.ScriptFault.TheVariants as fault
+use Rattle.lg_sim.specs.Meaning.Members.{Happening, events_of, member_at, member_named, packet_number, sent}
+use Rattle.lg_sim.specs.Meaning.Past.{happening_of, happenings, opened, opening, settings}
+use Rattle.lg_sim.specs.declared.host.Member.{Member}
+
+-- at most 16 members are opened (this project's choice)
+abbrev pub most_members : ℕ
+most_members = 16
+
+-- a member of this name or at this address is open
+abbrev pub is_taken : Config → List Member → Bool
+is_taken config members =
+    is_some (member_named config.name members) || is_some (member_at config.addr members)
+
+-- why a member can't be opened with a configuration: the first of these, if there is one
+abbrev pub opening_fault : Config → List Member → Option ScriptFault
+opening_fault config members =
+    if is_err (check_of config) then Some fault.Value
+    else (if is_taken config members then Some fault.Double
+    else (if nat_le most_members (length members) then Some fault.Full else None))
+
+-- a command for a name that isn't open
+abbrev pub naming_fault : List ℕ → List Member → Option ScriptFault
+naming_fault name members = if is_some (member_named name members) then None else Some fault.Member
+
+-- a delivery of a packet that was never sent
+abbrev pub packet_fault : ℕ → List Happening → Option ScriptFault
+packet_fault k past = if is_some (packet_number k (sent past)) then None else Some fault.Packet
+
+-- why a command can't be carried out after the earlier ones
+abbrev pub fault_of : Command → List Command → Option ScriptFault
+fault_of (Set key number) before = None
+fault_of (Open name port now seeds) before =
+    opening_fault (opening name port seeds (settings before)) (opened before)
+fault_of (Tick name now words) before = naming_fault name (opened before)
+fault_of (Deliver packet now) before = packet_fault packet (happenings before)
+fault_of (Ask name now other) before = naming_fault name (opened before)
+fault_of (Health name now) before = naming_fault name (opened before)
+fault_of (Pull name now port) before = naming_fault name (opened before)
+fault_of (Table name) before = naming_fault name (opened before)
+
+-- the lines of what happened: the reply of the member, whose packets are numbered on from those sent before
+abbrev pub happening_text : Option Happening → List Happening → List ℕ
+happening_text None past = codes "nobody" ++ 10 ∷ []
+happening_text (Some h) past =
+    reply_text h.event (length (sent past) + 1) (reply_after (events_of h.member.name past) h.event)
+
+-- what a command writes that can be carried out after the earlier ones
+abbrev pub text_of : Command → List Command → List ℕ
+text_of (Set key number) before = []
+text_of (Table name) before = table_text (view_after (events_of name (happenings before)))
+text_of command before = happening_text (happening_of command before) (happenings before)
+
+abbrev pub unless : Option ScriptFault → List ℕ → Result (List ℕ) ScriptFault
+unless None text = Ok text
+unless (Some fault) text = Err fault
+
+-- what a command gives after the earlier ones
+abbrev pub outcome : Command → List Command → Result (List ℕ) ScriptFault
+outcome command before = unless (fault_of command before) (text_of command before)

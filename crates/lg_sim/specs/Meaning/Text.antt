@@ -1,0 +1,68 @@
+-- What a script gives: its text, and how its run ends.
+use Rattle.std.specs.Prelude.{ℕ, ◌+◌, List, [], ◌∷◌, ◌++◌, Option, Some, None, Result, Ok, Err, codes, decimal}
+use Rattle.lg_text.specs.Meaning.Lines.{lines_of, newline}
+use Rattle.lg_text.specs.declared.end.End.{End}
+use Rattle.lg_text.specs.declared.end.End.TheVariants.{Done, Faulty}
+use Rattle.lg_script.specs.Meaning.Faults.{fault_word}
+use Rattle.lg_script.specs.Meaning.Lines.{command_of}
+use Rattle.lg_script.specs.declared.command.Command.{Command}
+use Rattle.lg_script.specs.declared.fault.ScriptFault.{ScriptFault}
+use Rattle.lg_sim.specs.Meaning.Outcome.{fault_of, text_of}
+
+-- Why a line is faulty after the earlier commands: by its form, or by its command. A line without a command isn't.
+abbrev pub fault_said : Result (Option Command) ScriptFault → List Command → Option ScriptFault
+fault_said (Ok None) before = None
+fault_said (Ok (Some command)) before = fault_of command before
+fault_said (Err fault) before = Some fault
+
+abbrev pub line_fault : List ℕ → List Command → Option ScriptFault
+line_fault line before = fault_said (command_of line) before
+
+-- what a line that isn't faulty writes: what its command gives, if it has one
+abbrev pub text_said : Result (Option Command) ScriptFault → List Command → List ℕ
+text_said (Ok None) before = []
+text_said (Ok (Some command)) before = text_of command before
+text_said (Err fault) before = []
+
+abbrev pub line_text : List ℕ → List Command → List ℕ
+line_text line before = text_said (command_of line) before
+
+-- the commands so far, with that of a line
+abbrev pub with_said : Result (Option Command) ScriptFault → List Command → List Command
+with_said (Ok None) before = before
+with_said (Ok (Some command)) before = command ∷ before
+with_said (Err fault) before = before
+
+abbrev pub with_line : List ℕ → List Command → List Command
+with_line line before = with_said (command_of line) before
+
+-- the line of a fault: the number of the faulty line, and the word of its fault
+abbrev pub fault_line : ℕ → ScriptFault → List ℕ
+fault_line number fault =
+    codes "fault " ++ decimal number ++ codes " " ++ fault_word fault ++ newline
+
+-- What lines give after the earlier commands, where the first of them has this number: each what it writes after those
+-- before it, up to the first faulty one, whose fault is the last line.
+abbrev pub text_from : ℕ → List Command → List (List ℕ) → List ℕ
+text_from number before [] = []
+text_from number before (line ∷ lines) =
+    elim (line_fault line before) [
+      | None ↦ line_text line before ++ text_from (number + 1) (with_line line before) lines
+      | Some fault ↦ fault_line number fault
+    ]
+
+abbrev pub end_from : List Command → List (List ℕ) → End
+end_from before [] = Done
+end_from before (line ∷ lines) =
+    elim (line_fault line before) [
+      | None ↦ end_from (with_line line before) lines
+      | Some fault ↦ Faulty
+    ]
+
+-- what is written for a script
+unfoldable pub script_text : List ℕ → List ℕ
+script_text input = text_from 1 [] (lines_of input)
+
+-- how the run of a script ends: faulty exactly where some line is, after those before it
+unfoldable pub script_end : List ℕ → End
+script_end input = end_from [] (lines_of input)

@@ -1,0 +1,307 @@
+//! A cluster: its members with their detectors, and the packets that they sent.
+ghost use Rattle.std.specs.Prelude.{◌≡◌, ◌≢◌, ◌<◌, ◌∷◌, ◌++◌, [], List, IfErr, None, OnOk, Some, false};
+ghost use Rattle.std.specs.Prelude.{slice_get, vec_len};
+ghost use Rattle.std.specs.List.{position};
+ghost use Rattle.lg_detector.specs.Meaning.Step.{is_open, view_after};
+ghost use Rattle.lg_report.specs.Meaning.Records.{table_text};
+ghost use Rattle.lg_sim.specs.Meaning.Members.{Happening, events_of, is_at, is_named, member_named, packet_number, sent};
+ghost use Rattle.lg_sim.specs.Meaning.Outcome.{naming_fault, opening_fault, packet_fault};
+ghost use Rattle.lg_sim.specs.Meaning.Past.{at_named, delivered, heard, new_member, opening, unset, with_number};
+ghost use Rattle.lg_sim.specs.Support.After.{IsCluster, IsReached, LedOn, StopsAt, delivery_of, fault_in};
+ghost use Rattle.lg_detector.specs.declared.event.Event.TheVariants as Happened;
+ghost use Rattle.lg_timing.specs.Meaning.Config.{IsChecked};
+ghost use Rattle.lg_sim.specs.declared.host.Member.{Member as OfMember};
+ghost use Rattle.lg_sim.specs.declared.cluster.Stop.TheVariants.{NoRoom};
+
+use crate::host::{Host, Member, Row, Sent, lead};
+use arrayvec::ArrayVec;
+use lg_detector::{Detector, Event, NoMemory, Reply};
+use lg_report::put_table;
+use lg_rules::{Addr, Name};
+use lg_script::{Key, ScriptFault, local};
+use lg_timing::{Config, MAX_SEEDS, Moment, Seed};
+use std::alloc::{AllocError, Global};
+
+/// The most members of a cluster: 16 (this project's choice).
+pub const MAX_CLUSTER: usize = 16;
+
+/// Why a command isn't carried out.
+#[derive(Clone, Copy, Debug, PartialEq, Eq)]
+pub enum Stop {
+    /// Memory was refused.
+    NoRoom,
+    /// The command is faulty.
+    Faulty(ScriptFault),
+}
+
+impl From<AllocError> for Stop {
+    ghost from_gives = { λ _ stop. stop ≡ NoRoom };
+
+    fn from(_refused: AllocError) -> Stop {
+        Stop::NoRoom
+    }
+}
+
+/// A cluster of members, each with its detector.
+#[derive(Drop)]
+pub struct Cluster {
+    /// The numbers for the members that are opened next; name, address and seeds stand for none.
+    settings: Config,
+    /// The members, in the order in which they were opened: at most [`MAX_CLUSTER`].
+    hosts: Vec<Host>,
+    /// The packets that they sent, in the order in which they were sent.
+    sent: Vec<Sent>,
+}
+
+impl Cluster {
+    /// A cluster without members, and the default settings. It takes no memory.
+    pub fn new(alloc: Global) -> Cluster
+        ensures settings { result.settings ≡ unset }
+        ensures hosts { result.hosts.items ≡ [] }
+        ensures sent { result.sent.items ≡ [] }
+    {
+        Cluster {
+            settings: Config::new(Name::default(), Addr::default()),
+            hosts: Vec::new(alloc),
+            sent: Vec::new(alloc),
+        }
+    }
+
+    /// Changes a number for the members that are opened later.
+    pub fn set(&mut self, key: Key, number: u64)
+        ensures { self.new ≡ record self.old { settings = with_number key number self.old.settings } }
+    {
+        match key {
+            Key::IntervalMs => self.settings.interval_ms = number,
+            Key::TimeoutMs => self.settings.timeout_ms = number,
+            Key::Indirect => self.settings.indirect = number,
+            Key::MaxScore => self.settings.max_score = number,
+            Key::Alpha => self.settings.alpha = number,
+            Key::Beta => self.settings.beta = number,
+            Key::Confirmations => self.settings.confirmations = number,
+            Key::Lambda => self.settings.lambda = number,
+            Key::NackThousandths => self.settings.nack_thousandths = number,
+            Key::HistoryLimit => self.settings.history_limit = number,
+        }
+    }
+
+    /// The place of the member of a name.
+    fn place_of(&self, name: &Name) -> Option<usize>
+        ensures { result ≡ position (λ host. is_named name.now host.member) self.now.hosts.items }
+    {
+        self.hosts
+            .iter()
+            .position(|host| host.member.is_named(name))
+    }
+
+    /// The place of the member at an address.
+    fn place_at(&self, addr: &Addr) -> Option<usize>
+        ensures { result ≡ position (λ host. is_at addr.now host.member) self.now.hosts.items }
+    {
+        self.hosts.iter().position(|host| host.member.is_at(addr))
+    }
+
+    /// An event that isn't an opening happens at the member in a place: its reply is put behind a text.
+    fn happen(
+        &mut self,
+        at: usize,
+        event: &Event,
+        reply: &mut Reply,
+        row: &mut Row,
+        text: &mut Vec<u8>,
+    ) -> Result<(), NoMemory>
+        requires place { at < vec_len self.old.hosts }
+        requires reached { IsReached self.old }
+        requires later { is_open event.now ≡ false }
+        ensures { OnOk result ((members : List OfMember) (past : List Happening) (m : OfMember)
+            → IsCluster self.old.hosts.items self.old.sent.items members past → slice_get members at ≡ Some m
+            → LedOn self.old self.new text.old.items text.new.items members past
+            (Some (record { member = m; event = event.now }))) }
+    {
+        lead(&mut self.hosts[at], event, &mut self.sent, reply, row, text)?;
+        Ok(())
+    }
+
+    /// An event that isn't an opening happens at the member of a name.
+    pub fn happen_at(
+        &mut self,
+        name: &Name,
+        event: &Event,
+        reply: &mut Reply,
+        row: &mut Row,
+        text: &mut Vec<u8>,
+    ) -> Result<(), Stop>
+        requires reached { IsReached self.old }
+        requires later { is_open event.now ≡ false }
+        ensures stops { (members : List OfMember) (past : List Happening)
+            → IsCluster self.old.hosts.items self.old.sent.items members past
+            → StopsAt result (naming_fault name.now members) }
+        ensures unchanged { IfErr result (λ stop. stop ≢ Stop.NoRoom
+            → (self.new ≡ self.old) × (text.new.items ≡ text.old.items)) }
+        ensures leads { OnOk result ((members : List OfMember) (past : List Happening)
+            → IsCluster self.old.hosts.items self.old.sent.items members past
+            → LedOn self.old self.new text.old.items text.new.items members past
+            (at_named name.now event.now members)) }
+    {
+        let Some(at) = self.place_of(name) else {
+            return Err(Stop::Faulty(ScriptFault::Member));
+        };
+        self.happen(at, event, reply, row, text)?;
+        Ok(())
+    }
+    /// The configuration of a member of this name and port, with these seeds and the settings.
+    fn config_of(&self, name: Name, port: u16, seeds: ArrayVec<Seed, MAX_SEEDS>) -> Config
+        ensures { result ≡ opening name port seeds self.now.settings }
+    {
+        Config {
+            seeds,
+            name,
+            addr: local(port),
+            ..self.settings
+        }
+    }
+
+    /// Why a member can't be opened with a configuration, if it can't.
+    fn opening_fault(&self, config: &Config) -> Option<ScriptFault>
+        ensures { result ≡ fault_in config.now self.now.hosts.items }
+    {
+        if config.check().is_err() {
+            return Some(ScriptFault::Value);
+        }
+        if self.place_of(&config.name).is_some() || self.place_at(&config.addr).is_some() {
+            return Some(ScriptFault::Double);
+        }
+        if self.hosts.len() >= MAX_CLUSTER {
+            return Some(ScriptFault::Full);
+        }
+        None
+    }
+
+    /// Opens a member with a good configuration.
+    fn begin(
+        &mut self,
+        alloc: Global,
+        now: Moment,
+        config: Config,
+        reply: &mut Reply,
+        row: &mut Row,
+        text: &mut Vec<u8>,
+    ) -> Result<(), NoMemory>
+        requires { IsChecked config }
+        ensures { OnOk result ((members : List OfMember) (past : List Happening)
+            → IsCluster self.old.hosts.items self.old.sent.items members past
+            → member_named config.name members ≡ None
+            → let m : OfMember = record { name = config.name; addr = config.addr } in
+            LedOn self.old self.new text.old.items text.new.items (members ++ m ∷ []) past
+            (Some (record { member = m; event = Happened.Open now config }))) }
+    {
+        let member = Member {
+            name: config.name,
+            addr: config.addr,
+        };
+        let detector = Detector::blank(alloc)?;
+        let mut host = Host { member, detector };
+        let event = Event::Open { now, config };
+        lead(&mut host, &event, &mut self.sent, reply, row, text)?;
+        self.hosts.push(host)?;
+        Ok(())
+    }
+
+    /// Opens a member of this name at 127.0.0.1 with this port, with these seeds and the settings.
+    pub fn open(
+        &mut self,
+        alloc: Global,
+        name: Name,
+        port: u16,
+        now: Moment,
+        seeds: ArrayVec<Seed, MAX_SEEDS>,
+        reply: &mut Reply,
+        row: &mut Row,
+        text: &mut Vec<u8>,
+    ) -> Result<(), Stop>
+        ensures stops { (members : List OfMember) (past : List Happening)
+            → IsCluster self.old.hosts.items self.old.sent.items members past
+            → StopsAt result (opening_fault (opening name port seeds self.old.settings) members) }
+        ensures unchanged { IfErr result (λ stop. stop ≢ Stop.NoRoom
+            → (self.new ≡ self.old) × (text.new.items ≡ text.old.items)) }
+        ensures leads { OnOk result ((members : List OfMember) (past : List Happening)
+            → IsCluster self.old.hosts.items self.old.sent.items members past
+            → LedOn self.old self.new text.old.items text.new.items (members ++ new_member name port ∷ []) past
+            (Some (record {
+              member = new_member name port;
+              event = Happened.Open now (opening name port seeds self.old.settings);
+            }))) }
+    {
+        let config = self.config_of(name, port, seeds);
+        if let Some(fault) = self.opening_fault(&config) {
+            return Err(Stop::Faulty(fault));
+        }
+        self.begin(alloc, now, config, reply, row, text)?;
+        Ok(())
+    }
+
+    /// Where the packet of a number goes, and what happens there when it is delivered.
+    fn delivery(&self, packet: u64, now: Moment) -> Option<(Addr, Event)>
+        ensures { result ≡ delivery_of now (packet_number packet self.now.sent.items) }
+    {
+        if packet == 0 {
+            return None;
+        }
+        let sent = self.sent.get(packet as usize - 1)?;
+        let event = Event::Heard {
+            now,
+            source: sent.from,
+            packet: sent.outgoing.packet.copy(),
+        };
+        Some((sent.outgoing.to, event))
+    }
+
+    /// Delivers the packet of a number to the member at its destination, if there is one.
+    pub fn deliver(
+        &mut self,
+        packet: u64,
+        now: Moment,
+        reply: &mut Reply,
+        row: &mut Row,
+        text: &mut Vec<u8>,
+    ) -> Result<(), Stop>
+        requires reached { IsReached self.old }
+        ensures stops { (members : List OfMember) (past : List Happening)
+            → IsCluster self.old.hosts.items self.old.sent.items members past
+            → StopsAt result (packet_fault packet past) }
+        ensures unchanged { IfErr result (λ stop. stop ≢ Stop.NoRoom
+            → (self.new ≡ self.old) × (text.new.items ≡ text.old.items)) }
+        ensures leads { OnOk result ((members : List OfMember) (past : List Happening)
+            → IsCluster self.old.hosts.items self.old.sent.items members past
+            → LedOn self.old self.new text.old.items text.new.items members past
+            (delivered now (packet_number packet (sent past)) members)) }
+    {
+        let Some((to, event)) = self.delivery(packet, now) else {
+            return Err(Stop::Faulty(ScriptFault::Packet));
+        };
+        let Some(at) = self.place_at(&to) else {
+            text.extend_from_slice(b"nobody\n")?;
+            return Ok(());
+        };
+        self.happen(at, &event, reply, row, text)?;
+        Ok(())
+    }
+
+    /// Puts the member table of the member of a name behind a text.
+    pub fn put_table_of(&self, alloc: Global, name: &Name, text: &mut Vec<u8>) -> Result<(), Stop>
+        ensures stops { (members : List OfMember) (past : List Happening)
+            → IsCluster self.now.hosts.items self.now.sent.items members past
+            → StopsAt result (naming_fault name.now members) }
+        ensures unchanged { IfErr result (λ stop. stop ≢ Stop.NoRoom → text.new.items ≡ text.old.items) }
+        ensures text { OnOk result ((members : List OfMember) (past : List Happening)
+            → IsCluster self.now.hosts.items self.now.sent.items members past
+            → text.new.items ≡ text.old.items ++ table_text (view_after (events_of name.now past))) }
+    {
+        let Some(at) = self.place_of(name) else {
+            return Err(Stop::Faulty(ScriptFault::Member));
+        };
+        let records = self.hosts[at].detector.table(alloc)?;
+        put_table(records.as_slice(), text)?;
+        Ok(())
+    }
+}

@@ -1,0 +1,60 @@
+//! Carries out the commands of a script.
+ghost use Rattle.std.specs.Prelude.{◌≡◌, ◌≢◌, IfErr, List, OnOk};
+ghost use Rattle.lg_script.specs.declared.command.Command.{Command as Commanded};
+ghost use Rattle.lg_sim.specs.Meaning.Outcome.{fault_of};
+ghost use Rattle.lg_sim.specs.Support.After.{IsAfter, IsReached, Ran, StopsAt};
+
+use crate::cluster::{Cluster, Stop};
+use crate::host::Row;
+use lg_detector::{Event, Reply};
+use lg_script::{Command, local};
+use std::alloc::Global;
+
+/// Carries out a command, and puts what it gives behind a text.
+///
+/// `reply` and `row` are room alone: what they hold is of no use before or after. Where the command is faulty, nothing
+/// has changed.
+pub fn run_command(
+    alloc: Global,
+    command: Command,
+    cluster: &mut Cluster,
+    reply: &mut Reply,
+    row: &mut Row,
+    text: &mut Vec<u8>,
+) -> Result<(), Stop>
+    requires { IsReached cluster.old }
+    ensures stops { (before : List Commanded) → IsAfter cluster.old before → StopsAt result (fault_of command before) }
+    ensures unchanged { IfErr result (λ stop. stop ≢ Stop.NoRoom
+        → (cluster.new ≡ cluster.old) × (text.new.items ≡ text.old.items)) }
+    ensures runs { OnOk result ((before : List Commanded) → IsAfter cluster.old before
+        → Ran cluster.new text.old.items text.new.items before command) }
+{
+    match command {
+        Command::Set { key, number } => {
+            cluster.set(key, number);
+            Ok(())
+        }
+        Command::Open {
+            name,
+            port,
+            now,
+            seeds,
+        } => cluster.open(alloc, name, port, now, seeds, reply, row, text),
+        Command::Tick { name, now, words } => {
+            cluster.happen_at(&name, &Event::Tick { now, words }, reply, row, text)
+        }
+        Command::Deliver { packet, now } => cluster.deliver(packet, now, reply, row, text),
+        Command::Ask { name, now, other } => {
+            let event = Event::Ask { now, name: other };
+            cluster.happen_at(&name, &event, reply, row, text)
+        }
+        Command::Health { name, now } => {
+            cluster.happen_at(&name, &Event::Health { now }, reply, row, text)
+        }
+        Command::Pull { name, now, port } => {
+            let peer = local(port);
+            cluster.happen_at(&name, &Event::Pull { now, peer }, reply, row, text)
+        }
+        Command::Table { name } => cluster.put_table_of(alloc, &name, text),
+    }
+}

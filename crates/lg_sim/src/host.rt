@@ -1,0 +1,96 @@
+//! A member of a cluster with its detector, and what it does when something happens.
+ghost use Rattle.std.specs.Prelude.{◌≡◌, ◌+◌, ◌∷◌, ◌++◌, [], List, IsTrue, OnOk, map, vec_len};
+ghost use Rattle.lg_detector.specs.Meaning.Step.{reply_after};
+ghost use Rattle.lg_detector.specs.Support.Step.{accepts_of, state_after};
+ghost use Rattle.lg_detector.specs.declared.event.Event.{Event as Happened};
+ghost use Rattle.lg_report.specs.Meaning.Replies.{reply_text};
+ghost use Rattle.lg_sim.specs.Meaning.Members.{is_at, is_named, sent_from};
+
+use arrayvec::ArrayVec;
+use lg_detector::{Detector, Event, NoMemory, Outgoing, Reply};
+use lg_packet::MAX_PACKET;
+use lg_report::put_reply;
+use lg_rules::{Addr, Name};
+
+/// Room for the bytes of a packet that is written.
+pub type Row = ArrayVec<u8, MAX_PACKET>;
+
+/// A member of the cluster.
+#[derive(Clone, Copy, Debug, PartialEq, Eq)]
+pub struct Member {
+    /// Its name, which no other member has.
+    pub name: Name,
+    /// Where it is reached, which is where no other member is.
+    pub addr: Addr,
+}
+
+/// A member and its detector.
+#[derive(Drop)]
+pub struct Host {
+    /// The member.
+    pub member: Member,
+    /// Its detector.
+    pub detector: Detector,
+}
+
+/// A packet that a member sent.
+#[derive(Debug, Drop)]
+pub struct Sent {
+    /// The address of the member that sent it.
+    pub from: Addr,
+    /// The packet, and where it goes.
+    pub outgoing: Outgoing,
+}
+
+impl Member {
+    /// Whether it has this name.
+    pub fn is_named(&self, name: &Name) -> bool
+        ensures { result ≡ is_named name.now self.now }
+    {
+        self.name == *name
+    }
+
+    /// Whether it is at this address.
+    pub fn is_at(&self, addr: &Addr) -> bool
+        ensures { result ≡ is_at addr.now self.now }
+    {
+        self.addr.octets == addr.octets && self.addr.port == addr.port
+    }
+}
+
+/// Keeps copies of packets that a member at an address sends, behind those sent before.
+fn keep_sends(from: Addr, sends: &[Outgoing], sent: &mut Vec<Sent>) -> Result<(), NoMemory>
+    ensures { OnOk result (sent.new.items ≡ sent.old.items ++ map (sent_from from) sends.now) }
+{
+    for outgoing in sends {
+        let outgoing = outgoing.copy();
+        sent.push(Sent { from, outgoing })?;
+    }
+    Ok(())
+}
+
+/// Leads a member's detector on by an event, keeps what it sends behind the packets sent so far, and puts the lines of
+/// its reply behind a text.
+///
+/// `reply` and `row` are room alone: what they hold is of no use before or after.
+pub fn lead(
+    host: &mut Host,
+    event: &Event,
+    sent: &mut Vec<Sent>,
+    reply: &mut Reply,
+    row: &mut Row,
+    text: &mut Vec<u8>,
+) -> Result<(), NoMemory>
+    requires { IsTrue (accepts_of host.old.detector event.now) }
+    ensures host { (f : List Happened) → host.old.detector ≡ state_after f
+        → host.new ≡ record { member = host.old.member; detector = state_after (f ++ event.now ∷ []) } }
+    ensures sent { OnOk result ((f : List Happened) → host.old.detector ≡ state_after f → sent.new.items
+        ≡ sent.old.items ++ map (sent_from host.old.member.addr) (reply_after f event.now).sends.items) }
+    ensures text { OnOk result ((f : List Happened) → host.old.detector ≡ state_after f → text.new.items
+        ≡ text.old.items ++ reply_text event.now (vec_len sent.old + 1) (reply_after f event.now)) }
+{
+    let first = sent.len() as u64 + 1;
+    host.detector.step(event, reply);
+    keep_sends(host.member.addr, reply.sends.as_slice(), sent)?;
+    put_reply(event, first, reply, row, text)
+}

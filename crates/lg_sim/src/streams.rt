@@ -1,0 +1,58 @@
+//! Runs a script over a reader and a writer.
+ghost use Rattle.std.specs.Prelude.{◌≡◌, ◌≢◌, ◌⊎◌, ◌+◌, ◌≤◌, ◌<◌, Err, IfErr, IfOk, IfSome, OnOk, length};
+ghost use Rattle.std.specs.Io.KnownBytes.{Appends};
+ghost use Rattle.lg_text.specs.Meaning.Running.{ReadsWhole, TakesAtMost};
+ghost use Rattle.lg_sim.specs.Meaning.Running.{RunsInput};
+ghost use Rattle.lg_sim.specs.Meaning.Text.{script_end, script_text};
+
+use crate::script::run_script;
+use lg_text::{End, MAX_INPUT, RunFault, read_input, write_whole};
+use std::alloc::Global;
+use std::io::{Read, Write};
+
+/// Runs a script: reads all that a reader has left, and writes what the script gives, and nothing else.
+///
+/// Each line is a command, and each command gives lines of text. The members that it opens are at 127.0.0.1, at most
+/// 16 of them; what a member sends is numbered from 1 over all members, and is heard only where a command delivers it.
+/// A line that is empty or begins with `#` is passed over. The first faulty line gives `fault LINE KIND` as the last
+/// line of the text, and the end is then [`End::Faulty`].
+///
+/// The input has at most 1,048,576 bytes; a longer or endless one is [`RunFault::Read`], as is any error of the reader
+/// but an interruption; [`RunFault::Memory`] comes before that where memory is refused for what was read so far. The
+/// whole text is made before its first byte is written: with [`RunFault::Read`] or [`RunFault::Memory`] nothing is.
+/// [`RunFault::Write`] comes only once the whole input was read, and doesn't say how much stands written. Time and
+/// memory are in proportion to the input and the text.
+///
+/// What is said of bytes holds for a reader and a writer that tell their bytes, as those over memory do.
+pub fn run<R: Read, W: Write>(
+    alloc: Global,
+    reader: &mut R,
+    writer: &mut W,
+) -> Result<End, RunFault>
+    // Where the reader tells its bytes, the text of the script is written, and the end is its own.
+    ensures text { OnOk result (IfSome (R.remaining reader.old) (λ input.
+        Appends (W.contents writer.old) (W.contents writer.new) (script_text input))) }
+    ensures end { IfOk result (λ end. IfSome (R.remaining reader.old) (λ input. end ≡ script_end input)) }
+    ensures few { OnOk result (IfSome (R.remaining reader.old) (λ input. length input ≤ MAX_INPUT)) }
+
+    // At any reader what is written is the text of what was read, and it was read to its end.
+    ensures runs { IfOk result (λ end. RunsInput (R.remaining reader.old) (R.remaining reader.new)
+        (W.contents writer.old) (W.contents writer.new) end) }
+    ensures taken { TakesAtMost (MAX_INPUT + 1) (R.remaining reader.old) (R.remaining reader.new) }
+
+    // Nothing is written but where it is the writing that fails, and then the whole input was read.
+    ensures unwritten { IfErr result (λ fault. fault ≢ RunFault.Write → writer.new ≡ writer.old) }
+    ensures whole { IfErr result (λ fault. fault ≡ RunFault.Write
+        → ReadsWhole (R.remaining reader.old) (R.remaining reader.new)) }
+    // A byte past the longest input is taken only where the fault is one of reading.
+    ensures within { IfErr result (λ fault. fault ≢ RunFault.Read
+        → TakesAtMost MAX_INPUT (R.remaining reader.old) (R.remaining reader.new)) }
+    // So nothing is written for an input that is too long.
+    ensures long { IfSome (R.remaining reader.old) (λ input. MAX_INPUT < length input
+        → (writer.new ≡ writer.old) × ((result ≡ Err RunFault.Read) ⊎ (result ≡ Err RunFault.Memory))) }
+{
+    let input = read_input(alloc, reader)?;
+    let written = run_script(alloc, &input)?;
+    write_whole(writer, &written.text)?;
+    Ok(written.end)
+}
