@@ -18,7 +18,7 @@ use Rattle.clap.specs.declared.error.kind.ErrorKind.TheVariants.{ValueValidation
 use Rattle.clap.specs.declared.builder.value_parser.ValueParser.{ValueParser}
 use Rattle.clap.specs.declared.builder.value_parser.ValueParser.TheVariants.{Unsigned}
 use Rattle.clap.proofs.ValueTestLemmas.{accepts-Accepts, Accepts-accepts}
-use Rattle.lg_cli.specs.Meaning.Commands.{Request, answer, order, timeouts, number_of, request_faults, IfTimeouts}
+use Rattle.lg_cli.specs.Meaning.Commands.{Request, answer, order, timeouts, sim, number_of, request_faults, IfTimeouts}
 use Rattle.lg_cli.specs.Meaning.Timeouts.{are_good}
 
 abbrev any_number : ValueParser
@@ -78,6 +78,7 @@ kind_of_first error first next (inr among) = inr (among_more _ first next among)
 pub faultless_is_good : (request : Request) → request_faults request ≡ [] → IfTimeouts request (λ numbers. are_good numbers ≡ true)
 faultless_is_good (answer text) none = tt
 faultless_is_good (order names words) none = tt
+faultless_is_good sim none = tt
 faultless_is_good (timeouts numbers) none = go (are_good numbers) refl
   where
     go : (b : Bool) → are_good numbers ≡ b → are_good numbers ≡ true

@@ -7,7 +7,7 @@ ghost use Rattle.clap.specs.Walk.{rows_of, rule_of};
 ghost use Rattle.clap.specs.declared.builder.command.Command.TheViews.{out-Command as fields_of};
 ghost use Rattle.lg_cli.specs.Meaning.Commands.{answer_app, asked, lg_app, line_faults, number_in, number_rule};
 ghost use Rattle.lg_cli.specs.Meaning.Commands.{numbers_in, order_app, request_faults, request_of_rows};
-ghost use Rattle.lg_cli.specs.Meaning.Commands.{text_in, text_rule, timeouts_app, IfTimeouts};
+ghost use Rattle.lg_cli.specs.Meaning.Commands.{sim_app, text_in, text_rule, timeouts_app, IfTimeouts};
 ghost use Rattle.lg_cli.specs.Meaning.Timeouts.{are_good};
 ghost use Rattle.lg_cli.specs.Support.Requests.{request_of};
 
@@ -35,6 +35,8 @@ pub enum Asked<'a> {
         /// The text of the words, which may be bad.
         words: &'a str,
     },
+    /// The command `sim`.
+    Sim,
     /// The command `timeouts`.
     Timeouts {
         /// Its numbers.
@@ -82,6 +84,16 @@ fn order_command<'a>(alloc: Global) -> Result<Command<'a>, AllocError>
         .about("Writes whom words choose to be probed, one after another of the names")
         .arg(names)?
         .arg(words)
+}
+
+/// The command `sim`, which has no options.
+fn sim_command<'a>(alloc: Global) -> Command<'a>
+    ensures app { app_of result ≡ sim_app }
+    ensures local { (fields_of result).has_globals ≡ false }
+{
+    Command::new(alloc, "sim").about(
+        "Simulates a cluster of members from a script, and writes what each replies",
+    )
 }
 
 /// The option `--ID N`, a number between two others, which count.
@@ -132,12 +144,14 @@ fn lg_command<'a>(alloc: Global) -> Result<Command<'a>, AllocError>
     let answer = answer_command(alloc)?;
     let order = order_command(alloc)?;
     let timeouts = timeouts_command(alloc)?;
+    let sim = sim_command(alloc);
     let lg = Command::new(alloc, "lg")
         .about("A SWIM failure detector with Lifeguard's extensions")
         .subcommand_required(true)
         .subcommand(answer)?
         .subcommand(order)?
-        .subcommand(timeouts)?;
+        .subcommand(timeouts)?
+        .subcommand(sim)?;
     Ok(lg)
 }
 
@@ -178,6 +192,7 @@ fn asked_in<'a>(matches: &ArgMatches<'a>) -> Asked<'a>
     ensures { request_of result ≡ request_of_rows (subcommand_rows_of matches.now) }
 {
     match matches.subcommand() {
+        Some(("sim", _)) => Asked::Sim,
         Some(("timeouts", found)) => Asked::Timeouts {
             numbers: numbers_in(found),
         },

@@ -7,9 +7,9 @@ ghost use Rattle.lg_rules.specs.Meaning.Name.{name_of_text};
 ghost use Rattle.lg_text.specs.Meaning.Faults.{run_fault_text};
 ghost use Rattle.lg_text.specs.Meaning.Running.{AppendsFront, ReadsWhole};
 ghost use Rattle.lg_cli.specs.Meaning.Choosing.{order_text};
-ghost use Rattle.lg_cli.specs.Meaning.Running.{FailsBy, RunsAnswer, RunsOrder, RunsTimeouts};
+ghost use Rattle.lg_cli.specs.Meaning.Running.{FailsBy, RunsAnswer, RunsOrder, RunsSim, RunsTimeouts};
 ghost use Rattle.lg_cli.specs.Meaning.Commands.{asked, line_faults, status_of_kind, IfAnswer, IfOrder, IfTimeouts};
-ghost use Rattle.lg_cli.specs.Meaning.Commands.{RefusesLine};
+ghost use Rattle.lg_cli.specs.Meaning.Commands.{IfSim, RefusesLine};
 ghost use Rattle.lg_cli.specs.Meaning.Timeouts.{are_good};
 
 use crate::command::{Asked, read_words};
@@ -43,8 +43,8 @@ const BAD_INPUT: u8 = 3;
 /// line is refused, reported by a text of the command line's own; 3 for bad input: `lg: bad names`
 /// where the text of `--name` is no name, and nothing is then read, or where that of `--names` is no
 /// list of 1 to 255 different names, `lg: bad words` where that of `--words` is no list of words, or
-/// a faulty line of the input of `answer`, of which nothing is reported. `order` and `timeouts` read
-/// nothing. A line that `faults` doesn't take is dropped.
+/// a faulty line of the input of `answer` or `sim`, of which nothing is reported. `order` and
+/// `timeouts` read nothing. A line that `faults` doesn't take is dropped.
 pub fn run_words<S: AsStr, R: Read, W: Write, F: Write>(
     alloc: Global,
     words: &[S],
@@ -71,6 +71,9 @@ pub fn run_words<S: AsStr, R: Read, W: Write, F: Write>(
     ensures timed { let line = map S.text words.now in line_faults line ≡ [] → result ≢ FAILED
         → IfTimeouts (asked line)
         (λ numbers. RunsTimeouts (W.contents writer.old) (W.contents writer.new) numbers result) }
+    ensures simulated { let line = map S.text words.now in line_faults line ≡ [] → result ≢ FAILED
+        → IfSim (asked line) (RunsSim (R.remaining reader.old) (R.remaining reader.new) (W.contents writer.old)
+        (W.contents writer.new) result) }
     ensures timed_unread { IfTimeouts (asked (map S.text words.now)) (λ _. reader.new ≡ reader.old) }
 
     // Any other is refused, or asks for help.
@@ -80,16 +83,20 @@ pub fn run_words<S: AsStr, R: Read, W: Write, F: Write>(
     ensures unwritten { result ≡ USAGE → writer.new ≡ writer.old }
 
     // A run that fails reports why, and writes nothing but where it is the writing that fails; the
-    // whole input of `answer` was read then.
+    // whole input of `answer` or `sim` was read then.
     ensures failed { result ≡ FAILED
         → FailsBy (F.contents faults.old) (F.contents faults.new) writer.old writer.new }
     ensures read { let line = map S.text words.now in line_faults line ≡ [] → result ≡ FAILED
         → IfAnswer (asked line) (λ _. (writer.new ≡ writer.old)
         ⊎ ReadsWhole (R.remaining reader.old) (R.remaining reader.new)) }
+    ensures read_script { let line = map S.text words.now in line_faults line ≡ [] → result ≡ FAILED
+        → IfSim (asked line) ((writer.new ≡ writer.old)
+        ⊎ ReadsWhole (R.remaining reader.old) (R.remaining reader.new)) }
 {
     match read_words(alloc, words) {
         Ok(Asked::Answer { name }) => answer_named(alloc, name, reader, writer, faults),
         Ok(Asked::Order { names, words }) => order_lists(alloc, names, words, writer, faults),
+        Ok(Asked::Sim) => simulate(alloc, reader, writer, faults),
         Ok(Asked::Timeouts { numbers }) => timeouts_of(alloc, &numbers, writer, faults),
         Err(error) => report_refusal(&error, writer, faults),
     }
@@ -122,6 +129,30 @@ fn answer_named<R: Read, W: Write, F: Write>(
         }
     };
     match answer_run(alloc, reader, writer, &name) {
+        Ok(end) => end as u8,
+        Err(fault) => {
+            report(faults, fault.text());
+            FAILED
+        }
+    }
+}
+
+/// Runs `sim`.
+fn simulate<R: Read, W: Write, F: Write>(
+    alloc: Global,
+    reader: &mut R,
+    writer: &mut W,
+    faults: &mut F,
+) -> u8
+    ensures simulated { result ≢ FAILED → RunsSim (R.remaining reader.old) (R.remaining reader.new)
+        (W.contents writer.old) (W.contents writer.new) result }
+    ensures failed { result ≡ FAILED
+        → FailsBy (F.contents faults.old) (F.contents faults.new) writer.old writer.new }
+    ensures read { result ≡ FAILED
+        → (writer.new ≡ writer.old) ⊎ ReadsWhole (R.remaining reader.old) (R.remaining reader.new) }
+    ensures run { result ≢ USAGE }
+{
+    match lg_sim::run(alloc, reader, writer) {
         Ok(end) => end as u8,
         Err(fault) => {
             report(faults, fault.text());

@@ -61,11 +61,15 @@ timeouts_app =
     let numbers = with_rule (with_rule (new_app (codes "timeouts")) members_rule) confirmations_rule in
     with_rule (with_rule (with_rule numbers alpha_rule) beta_rule) interval_rule
 
--- the program has the commands `answer`, `order` and `timeouts`, and one of its commands has to be named
+abbrev pub sim_app : App
+sim_app = new_app (codes "sim")
+
+-- the program has the commands `answer`, `order`, `timeouts` and `sim`, and one of its commands has to be named
 abbrev pub lg_app : App
 lg_app =
     let lg = on_top (λ s. record s { subcommand_required = true }) (new_app (codes "lg")) in
-    with_subcommand (with_subcommand (with_subcommand lg answer_app.top) order_app.top) timeouts_app.top
+    let others = with_subcommand (with_subcommand (with_subcommand lg answer_app.top) order_app.top) timeouts_app.top in
+    with_subcommand others sim_app.top
 
 -- the text of an option, or an empty one where it has none
 abbrev pub text_in : List Row → Text → Text
@@ -94,6 +98,7 @@ pub data Request : Type 0 where
   answer : Text → Request
   order : Text → Text → Request
   timeouts : Numbers → Request
+  sim : Request
 
 -- whether the command of this name was met
 abbrev pub is_met : Text → Option (Text × List Row) → Bool
@@ -107,7 +112,8 @@ rows_met met = option_map_or (λ p. p.1) met []
 abbrev pub request_of_rows : Option (Text × List Row) → Request
 request_of_rows met =
     let rows = rows_met met in
-    if is_met (codes "timeouts") met then timeouts (numbers_in rows)
+    if is_met (codes "sim") met then sim
+    else if is_met (codes "timeouts") met then timeouts (numbers_in rows)
     else if is_met (codes "order") met then order (text_in rows (codes "names")) (text_in rows (codes "words"))
     else answer (text_in rows (codes "name"))
 
@@ -120,6 +126,7 @@ abbrev pub request_faults : Request → Kinds
 request_faults (answer text) = []
 request_faults (order names words) = []
 request_faults (timeouts numbers) = if are_good numbers then [] else ValueValidation ∷ []
+request_faults sim = []
 
 -- why a command line is refused, or that it asks for help; empty where it is taken
 unfoldable pub line_faults : List Text → Kinds
@@ -130,18 +137,28 @@ abbrev pub IfAnswer : Request → (Text → Type 0) → Type 0
 IfAnswer (answer text) P = P text
 IfAnswer (order names words) P = Unit {0}
 IfAnswer (timeouts numbers) P = Unit {0}
+IfAnswer sim P = Unit {0}
 
 -- a fact about the two texts of `order`, of its names and of its words
 abbrev pub IfOrder : Request → (Text → Text → Type 0) → Type 0
 IfOrder (answer text) P = Unit {0}
 IfOrder (order names words) P = P names words
 IfOrder (timeouts numbers) P = Unit {0}
+IfOrder sim P = Unit {0}
 
 -- a fact about the numbers of `timeouts`
 abbrev pub IfTimeouts : Request → (Numbers → Type 0) → Type 0
 IfTimeouts (answer text) P = Unit {0}
 IfTimeouts (order names words) P = Unit {0}
 IfTimeouts (timeouts numbers) P = P numbers
+IfTimeouts sim P = Unit {0}
+
+-- a fact where `sim` is asked for
+abbrev pub IfSim : Request → Type 0 → Type 0
+IfSim (answer text) P = Unit {0}
+IfSim (order names words) P = Unit {0}
+IfSim (timeouts numbers) P = Unit {0}
+IfSim sim P = P
 
 -- the status of a command line that isn't run: 0 where it asks for help
 abbrev pub status_of_kind : ErrorKind → ℕ

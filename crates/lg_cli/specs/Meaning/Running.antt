@@ -8,6 +8,7 @@ use Rattle.lg_text.specs.declared.end.End.{End}
 use Rattle.lg_text.specs.declared.end.End.TheVariants.{Done, Faulty}
 use Rattle.lg_text.specs.declared.fault.RunFault.{RunFault}
 use Rattle.lg_text.specs.declared.fault.RunFault.TheVariants.{Memory, Read, Write}
+use Rattle.lg_sim.specs.Meaning.Running.{RunsInput}
 use Rattle.lg_cli.specs.Meaning.Answering.{answer_end, answer_text}
 use Rattle.lg_cli.specs.Meaning.Faults.{bad_list_text}
 use Rattle.lg_cli.specs.Meaning.Timeouts.{timeouts_text}
@@ -41,6 +42,12 @@ pub record RunsAnswer (left rest held holds : Option (List ℕ)) (name : List �
   pub end : End
   pub is : status ≡ status_of end
   pub answers : AnswersInput left rest held holds name end
+
+-- An input that isn't too long is read to its end, and the text of the script that it is is written.
+pub record RunsSim (left rest held holds : Option (List ℕ)) (status : ℕ) : Type 0 where
+  pub end : End
+  pub is : status ≡ status_of end
+  pub runs : RunsInput left rest held holds end
 
 -- The timeouts for some numbers are written, and the status is 0.
 pub record RunsTimeouts (held holds : Option (List ℕ)) (numbers : Numbers) (status : ℕ) : Type 0 where

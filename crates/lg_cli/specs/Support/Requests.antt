@@ -1,9 +1,10 @@
 -- What a command line asks for, as the program holds it.
-use Rattle.lg_cli.specs.Meaning.Commands.{Request, answer, order, timeouts}
+use Rattle.lg_cli.specs.Meaning.Commands.{Request, answer, order, timeouts, sim}
 use Rattle.lg_cli.specs.declared.command.Asked.{Asked}
-use Rattle.lg_cli.specs.declared.command.Asked.TheVariants.{Answer, Order, Timeouts}
+use Rattle.lg_cli.specs.declared.command.Asked.TheVariants.{Answer, Order, Sim, Timeouts}
 
 abbrev pub request_of : Asked → Request
 request_of (Answer name) = answer name.now
 request_of (Order names words) = order names.now words.now
+request_of Sim = sim
 request_of (Timeouts numbers) = timeouts numbers

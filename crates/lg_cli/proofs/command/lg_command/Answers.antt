@@ -13,4 +13,6 @@ returns c =
     ∙ ap₂ with_subcommand (top ∙ ap requiring (named ∙ c.new.ensures.app)) (ap (λ (a : App). a.top) c.in_ok-answer.ensures.app) in
     let orders = c.in_ok-subcommand-2.ensures.shape c.in_ok-order.ensures.local
     ∙ ap₂ with_subcommand answers (ap (λ (a : App). a.top) c.in_ok-order.ensures.app) in
-    c.in_ok-lg.ensures.shape c.in_ok-timeouts.ensures.local ∙ ap₂ with_subcommand orders (ap (λ (a : App). a.top) c.in_ok-timeouts.ensures.app)
+    let times = c.in_ok-subcommand-3.ensures.shape c.in_ok-timeouts.ensures.local
+    ∙ ap₂ with_subcommand orders (ap (λ (a : App). a.top) c.in_ok-timeouts.ensures.app) in
+    c.in_ok-lg.ensures.shape c.sim_command-sim.ensures.local ∙ ap₂ with_subcommand times (ap (λ (a : App). a.top) c.sim_command-sim.ensures.app)
