@@ -1,5 +1,41 @@
 -- How a cluster goes on by what happens at a member.
-use Rattle.std.proofs.Common.{◌≡◌, ℕ, ◌+◌, ◌<◌, ◌≤◌, zero, suc, Bool, true, false, ◌&&◌, ◌||◌, not, cond, eqb, ltb, List, [], ◌∷◌, ◌++◌, length, map, Option, Some, None, refl, sym, ap, subst, ◌∙◌, arith, append-nil, length-append, get_or, vec_len}
+use Rattle.std.proofs.Common.{
+  ◌≡◌,
+  ℕ,
+  ◌+◌,
+  ◌<◌,
+  ◌≤◌,
+  zero,
+  suc,
+  Bool,
+  true,
+  false,
+  ◌&&◌,
+  ◌||◌,
+  not,
+  cond,
+  eqb,
+  ltb,
+  List,
+  [],
+  ◌∷◌,
+  ◌++◌,
+  length,
+  map,
+  Option,
+  Some,
+  None,
+  refl,
+  sym,
+  ap,
+  subst,
+  ◌∙◌,
+  arith,
+  append-nil,
+  length-append,
+  get_or,
+  vec_len,
+}
 use Rattle.std.specs.Prelude.{codes, nat_eq, slice_get, set, IsTrue, is_some}
 use Rattle.std.specs.List.{list_any, cons_option, find, position}
 use Rattle.std.specs.Option.{option_map}
@@ -16,11 +52,30 @@ use Rattle.lg_detector.specs.declared.event.Event.{Event}
 use Rattle.lg_detector.proofs.Accepting.{events-after}
 use Rattle.lg_report.specs.Meaning.Replies.{reply_text}
 use Rattle.lg_script.specs.declared.command.Command.{Command}
-use Rattle.lg_sim.specs.Meaning.Members.{Happening, events_of, is_at, is_named, member_at, member_named, packet_number, sent, sent_by, sent_from}
+use Rattle.lg_sim.specs.Meaning.Members.{
+  Happening,
+  events_of,
+  is_at,
+  is_named,
+  member_at,
+  member_named,
+  packet_number,
+  sent,
+  sent_by,
+  sent_from,
+}
 use Rattle.lg_script.specs.declared.fault.ScriptFault.TheVariants as fault
 use Rattle.lg_sim.specs.Meaning.Outcome.{naming_fault}
 use Rattle.lg_sim.specs.Meaning.Past.{at_named, delivered, happening_after, heard, happenings, opened}
-use Rattle.lg_sim.specs.Support.After.{IsCluster, IsReached, LedOn, delivery_of, have_distinct_names, host_after, is_begun}
+use Rattle.lg_sim.specs.Support.After.{
+  IsCluster,
+  IsReached,
+  LedOn,
+  delivery_of,
+  have_distinct_names,
+  host_after,
+  is_begun,
+}
 use Rattle.lg_sim.proofs.PlaceLaws.{find-map, find_placed, find_unplaced, placed_within}
 use Rattle.lg_sim.specs.declared.host.Host.{Host}
 use Rattle.lg_sim.specs.declared.host.Member.{Member}

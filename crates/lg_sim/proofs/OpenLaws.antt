@@ -1,5 +1,35 @@
 -- How a cluster goes on by a member that is opened.
-use Rattle.std.proofs.Common.{◌≡◌, ℕ, ◌+◌, Bool, true, false, ◌||◌, not, cond, leb, List, [], ◌∷◌, ◌++◌, length, map, Option, Some, None, Result, Ok, Err, refl, sym, ap, subst, ◌∙◌, arith, vec_len}
+use Rattle.std.proofs.Common.{
+  ◌≡◌,
+  ℕ,
+  ◌+◌,
+  Bool,
+  true,
+  false,
+  ◌||◌,
+  not,
+  cond,
+  leb,
+  List,
+  [],
+  ◌∷◌,
+  ◌++◌,
+  length,
+  map,
+  Option,
+  Some,
+  None,
+  Result,
+  Ok,
+  Err,
+  refl,
+  sym,
+  ap,
+  subst,
+  ◌∙◌,
+  arith,
+  vec_len,
+}
 use Rattle.std.specs.Prelude.{is_some, is_ok, is_err, IsTrue}
 use Rattle.std.specs.List.{list_any, find, position}
 use Rattle.std.specs.Option.{option_map, option_or}
@@ -18,10 +48,30 @@ use Rattle.lg_detector.specs.declared.event.Event.TheVariants.{Open}
 use Rattle.lg_report.specs.Meaning.Replies.{reply_text}
 use Rattle.lg_script.specs.declared.fault.ScriptFault.{ScriptFault}
 use Rattle.lg_script.specs.declared.fault.ScriptFault.TheVariants as fault
-use Rattle.lg_sim.specs.Meaning.Members.{Happening, events_of, is_at, is_named, member_at, member_named, sent, sent_by, sent_from}
+use Rattle.lg_sim.specs.Meaning.Members.{
+  Happening,
+  events_of,
+  is_at,
+  is_named,
+  member_at,
+  member_named,
+  sent,
+  sent_by,
+  sent_from,
+}
 use Rattle.lg_sim.specs.Meaning.Outcome.{opening_fault}
 use Rattle.lg_sim.specs.Support.After.{IsCluster, LedOn, fault_in, have_distinct_names, host_after, is_begun}
-use Rattle.lg_sim.proofs.ClusterLaws.{begun_more, events_of-other, events_of-own, found_host, hosts_same, names_swap, not_true, or_false, within_some}
+use Rattle.lg_sim.proofs.ClusterLaws.{
+  begun_more,
+  events_of-other,
+  events_of-own,
+  found_host,
+  hosts_same,
+  names_swap,
+  not_true,
+  or_false,
+  within_some,
+}
 use Rattle.lg_sim.proofs.PlaceLaws.{find_placed, find_unplaced, placed_within}
 use Rattle.lg_sim.specs.declared.cluster.Cluster.{Cluster}
 use Rattle.lg_sim.specs.declared.host.Host.{Host}

@@ -1,5 +1,27 @@
 -- Where the first element that passes a test stands.
-use Rattle.std.proofs.Common.{◌≡◌, ℕ, ◌<◌, ◌≤◌, Bool, true, false, cond, ltb, List, [], ◌∷◌, length, map, Option, Some, None, refl, ap, ◌∙◌, arith}
+use Rattle.std.proofs.Common.{
+  ◌≡◌,
+  ℕ,
+  ◌<◌,
+  ◌≤◌,
+  Bool,
+  true,
+  false,
+  cond,
+  ltb,
+  List,
+  [],
+  ◌∷◌,
+  length,
+  map,
+  Option,
+  Some,
+  None,
+  refl,
+  ap,
+  ◌∙◌,
+  arith,
+}
 use Rattle.std.specs.Prelude.{slice_get}
 use Rattle.std.specs.List.{find, position, position_or_len}
 use Rattle.std.specs.Option.{option_map}

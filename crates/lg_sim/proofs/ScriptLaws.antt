@@ -1,12 +1,46 @@
 -- How the run of a script goes on by a line.
-use Rattle.std.proofs.Common.{◌≡◌, ℕ, ◌+◌, ◌<◌, ◌≤◌, List, [], ◌∷◌, ◌++◌, length, Option, Some, None, Result, Ok, Err, refl, sym, ap, ◌∙◌, arith, append_assoc, append-nil}
+use Rattle.std.proofs.Common.{
+  ◌≡◌,
+  ℕ,
+  ◌+◌,
+  ◌<◌,
+  ◌≤◌,
+  List,
+  [],
+  ◌∷◌,
+  ◌++◌,
+  length,
+  Option,
+  Some,
+  None,
+  Result,
+  Ok,
+  Err,
+  refl,
+  sym,
+  ap,
+  ◌∙◌,
+  arith,
+  append_assoc,
+  append-nil,
+}
 use Rattle.lg_text.specs.Meaning.Lines.{lines_of}
 use Rattle.lg_text.specs.declared.end.End.TheVariants.{Done, Faulty}
 use Rattle.lg_script.specs.Meaning.Lines.{command_of}
 use Rattle.lg_script.specs.declared.command.Command.{Command}
 use Rattle.lg_script.specs.declared.fault.ScriptFault.{ScriptFault}
 use Rattle.lg_sim.specs.Meaning.Past.{unset}
-use Rattle.lg_sim.specs.Meaning.Text.{end_from, fault_line, line_fault, line_text, script_end, script_text, text_from, with_line, with_said}
+use Rattle.lg_sim.specs.Meaning.Text.{
+  end_from,
+  fault_line,
+  line_fault,
+  line_text,
+  script_end,
+  script_text,
+  text_from,
+  with_line,
+  with_said,
+}
 use Rattle.lg_sim.specs.Support.After.{IsAfter, IsReached, RanLine}
 use Rattle.lg_sim.specs.declared.cluster.Cluster.{Cluster}
 

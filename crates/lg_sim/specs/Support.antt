@@ -1,2 +1,3 @@
 -- What only carries the proofs.
 pub mod After
+pub mod Bounds

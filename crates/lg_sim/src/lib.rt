@@ -11,6 +11,8 @@ mod command;
 mod host;
 mod script;
 mod streams;
+#[cfg(test)]
+mod tests;
 
 pub use cluster::MAX_CLUSTER;
 pub use lg_text::{End, RunFault};

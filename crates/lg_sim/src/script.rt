@@ -46,7 +46,8 @@ fn run_line(
     text: &mut Vec<u8>,
 ) -> Result<(), Stop>
     requires { IsReached cluster.old }
-    ensures stops { (before : List Commanded) → IsAfter cluster.old before → StopsAt result (line_fault line.now before) }
+    ensures stops { (before : List Commanded) → IsAfter cluster.old before
+        → StopsAt result (line_fault line.now before) }
     ensures unchanged { IfErr result (λ stop. stop ≢ Stop.NoRoom
         → (cluster.new ≡ cluster.old) × (text.new.items ≡ text.old.items)) }
     ensures runs { OnOk result ((before : List Commanded) → IsAfter cluster.old before

@@ -1,5 +1,26 @@
 -- What a command gives after the earlier ones: its text, or its fault.
-use Rattle.std.specs.Prelude.{ℕ, ◌+◌, nat_le, Bool, ◌||◌, List, [], ◌∷◌, ◌++◌, length, Option, Some, None, is_some, Result, Ok, Err, is_err, codes, if◌then◌else◌}
+use Rattle.std.specs.Prelude.{
+  ℕ,
+  ◌+◌,
+  nat_le,
+  Bool,
+  ◌||◌,
+  List,
+  [],
+  ◌∷◌,
+  ◌++◌,
+  length,
+  Option,
+  Some,
+  None,
+  is_some,
+  Result,
+  Ok,
+  Err,
+  is_err,
+  codes,
+  if◌then◌else◌,
+}
 use Rattle.lg_timing.specs.Meaning.Config.{check_of}
 use Rattle.lg_timing.specs.declared.config.Config.{Config}
 use Rattle.lg_detector.specs.Meaning.Step.{reply_after, view_after}

@@ -1,0 +1,234 @@
+-- Worked commands and scripts.
+use Rattle.std.specs.Prelude.{◌≡◌, ℕ, ◌+◌, List, [], ◌∷◌, ◌++◌, map, Option, Some, None, Result, Ok, Err, codes, refl}
+use Rattle.std.specs.List.{range_with_len}
+use Rattle.arrayvec.specs.ArrayVec.{ArrayVec}
+use Rattle.lg_timing.specs.Meaning.Config.{check_of}
+use Rattle.lg_timing.specs.declared.config.Config.{Config}
+use Rattle.lg_timing.specs.declared.config.Seed.{Seed}
+use Rattle.lg_packet.specs.declared.packet.Body.TheVariants.{Ack, Ping}
+use Rattle.lg_packet.specs.declared.packet.Packet.{Packet}
+use Rattle.lg_detector.specs.Meaning.Examples.{by_computing as detecting}
+use Rattle.lg_detector.specs.declared.event.Event.{Event}
+use Rattle.lg_detector.specs.declared.event.Event.TheVariants as event
+use Rattle.lg_detector.specs.declared.reply.Outgoing.{Outgoing}
+use Rattle.lg_report.specs.Meaning.Examples.{by_computing as reporting}
+use Rattle.lg_script.specs.Meaning.Commands.{open_of, tick_of}
+use Rattle.lg_script.specs.Meaning.Lines.{command_of}
+use Rattle.lg_script.specs.Meaning.Values.{local}
+use Rattle.lg_script.specs.Meaning.Words.{verb_of}
+use Rattle.lg_script.specs.declared.command.Command.{Command}
+use Rattle.lg_script.specs.declared.command.Command.TheVariants.{Set, Open, Tick, Deliver, Ask, Health, Pull, Table}
+use Rattle.lg_script.specs.declared.command.Key.TheVariants.{Alpha, Beta, IntervalMs}
+use Rattle.lg_script.specs.declared.fault.ScriptFault.TheVariants as fault
+use Rattle.lg_text.specs.Meaning.Lines.{newline}
+use Rattle.lg_text.specs.declared.end.End.TheVariants.{Done, Faulty}
+use Rattle.lg_sim.specs.Meaning.Members.{Happening, events_of, member_at, member_named, packet_number, sent}
+use Rattle.lg_sim.specs.Meaning.Outcome.{fault_of, happening_text, opening_fault, outcome, text_of}
+use Rattle.lg_sim.specs.Meaning.Past.{delivered, happening_of, happenings, new_member, opened, opening, settings, unset}
+use Rattle.lg_sim.specs.Meaning.Text.{script_end, script_text}
+use Rattle.lg_sim.specs.declared.host.Member.{Member}
+use Rattle.lg_sim.specs.declared.host.Sent.{Sent}
+
+-- the names of three members, of which a is at port 7001 and b at 7002
+abbrev a : List ℕ
+a = 97 ∷ []
+
+abbrev b : List ℕ
+b = 98 ∷ []
+
+abbrev z : List ℕ
+z = 122 ∷ []
+
+abbrev member-a : Member
+member-a = new_member a 7001
+
+abbrev member-b : Member
+member-b = new_member b 7002
+
+abbrev no-seeds : ArrayVec Seed
+no-seeds = record { items = [] }
+
+abbrev open-a : Command
+open-a = Open a 7001 0 no-seeds
+
+abbrev open-b : Command
+open-b = Open b 7002 0 no-seeds
+
+-- ---- settings, the latest command first
+
+latest-counts : settings (Set Beta 5 ∷ Set Alpha 4 ∷ Set Beta 3 ∷ []) ≡ record unset { alpha = 4; beta = 5 }
+latest-counts = refl
+
+-- a setting is for the members that are opened later
+set-between : happenings (open-b ∷ Set Beta 5 ∷ open-a ∷ [])
+    ≡ record { member = member-b; event = event.Open 0 (opening b 7002 no-seeds (record unset { beta = 5 })) }
+    ∷ record { member = member-a; event = event.Open 0 (opening a 7001 no-seeds unset) } ∷ []
+set-between = refl
+
+-- ---- members
+
+two-opened : opened (open-b ∷ Set Beta 5 ∷ open-a ∷ []) ≡ member-a ∷ member-b ∷ []
+two-opened = refl
+
+b-found : member_named b (member-a ∷ member-b ∷ []) ≡ Some member-b
+b-found = refl
+
+z-not-found : member_named z (member-a ∷ member-b ∷ []) ≡ None
+z-not-found = refl
+
+found-at-port : member_at (local 7002) (member-a ∷ member-b ∷ []) ≡ Some member-b
+found-at-port = refl
+
+nobody-at-port : member_at (local 7003) (member-a ∷ member-b ∷ []) ≡ None
+nobody-at-port = refl
+
+-- ---- what happened, the latest first
+
+asked : Member → ℕ → Happening
+asked member now = record { member = member; event = event.Health now }
+
+events-of-a : events_of a (asked member-a 2 ∷ asked member-b 1 ∷ asked member-a 0 ∷ [])
+    ≡ event.Health 0 ∷ event.Health 2 ∷ []
+unfolding asked
+events-of-a = refl
+
+health-of-a : happening_of (Health a 5) (open-b ∷ open-a ∷ []) ≡ Some (asked member-a 5)
+unfolding asked
+health-of-a = refl
+
+health-of-z : happening_of (Health z 5) (open-b ∷ open-a ∷ []) ≡ None
+health-of-z = refl
+
+pull-by-a : happening_of (Pull a 5 7002) (open-a ∷ [])
+    ≡ Some record { member = member-a; event = event.Pull 5 (local 7002) }
+pull-by-a = refl
+
+-- ---- packets
+
+-- a Ping of a to b, and b's Ack
+pinged : Packet
+pinged = record { sender = a; body = Ping 1 b; claims = record { items = [] } }
+
+acked : Packet
+acked = record { sender = b; body = Ack 1; claims = record { items = [] } }
+
+ping : Sent
+ping = record { from = local 7001; outgoing = record { to = local 7002; packet = pinged } }
+
+ack : Sent
+ack = record { from = local 7002; outgoing = record { to = local 7001; packet = acked } }
+
+first-packet : packet_number 1 (ping ∷ ack ∷ []) ≡ Some ping
+first-packet = refl
+
+second-packet : packet_number 2 (ping ∷ ack ∷ []) ≡ Some ack
+second-packet = refl
+
+no-third-packet : packet_number 3 (ping ∷ ack ∷ []) ≡ None
+no-third-packet = refl
+
+-- packets are counted from 1
+no-packet-zero : packet_number 0 (ping ∷ ack ∷ []) ≡ None
+no-packet-zero = refl
+
+-- b hears the Ping from the address of a
+ping-delivered : delivered 5 (Some ping) (member-a ∷ member-b ∷ [])
+    ≡ Some record { member = member-b; event = event.Heard 5 (local 7001) pinged }
+unfolding ping
+ping-delivered = refl
+
+delivered-to-nobody : delivered 5 (Some ping) (member-a ∷ []) ≡ None
+unfolding ping
+delivered-to-nobody = refl
+
+-- a's first tick chooses b
+tick-a : Command
+tick-a = Tick a 0 (0 ∷ 0 ∷ 0 ∷ 0 ∷ 0 ∷ 0 ∷ 0 ∷ 0 ∷ [])
+
+open-a-with-b : Command
+open-a-with-b = Open a 7001 0 record { items = record { name = b; addr = local 7002 } ∷ [] }
+
+one-sent : sent (happenings (tick-a ∷ open-b ∷ open-a-with-b ∷ [])) ≡ ping ∷ []
+unfolding tick-a open-a-with-b ping pinged detecting
+one-sent = refl
+
+-- ---- faults
+
+unmade : fault_of (Open a 7001 0 no-seeds) (Set IntervalMs 5 ∷ open-a ∷ []) ≡ Some fault.Value
+unfolding check_of
+unmade = refl
+
+name-taken : fault_of (Open a 7003 0 no-seeds) (open-a ∷ []) ≡ Some fault.Double
+unfolding check_of
+name-taken = refl
+
+port-taken : fault_of (Open z 7001 0 no-seeds) (open-a ∷ []) ≡ Some fault.Double
+unfolding check_of
+port-taken = refl
+
+-- sixteen members, with names of one letter from a on, at ports from 7001 on
+sixteen : List Member
+sixteen = map (λ n. new_member ((97 + n) ∷ []) (7001 + n)) (range_with_len 0 16)
+
+seventeenth : opening_fault (opening z 7100 no-seeds unset) sixteen ≡ Some fault.Full
+unfolding check_of sixteen
+seventeenth = refl
+
+seventeenth-of-used-name : opening_fault (opening a 7100 no-seeds unset) sixteen ≡ Some fault.Double
+unfolding check_of sixteen
+seventeenth-of-used-name = refl
+
+can-be-opened : fault_of open-b (open-a ∷ []) ≡ None
+unfolding check_of
+can-be-opened = refl
+
+not-open : fault_of (Table z) (open-a ∷ []) ≡ Some fault.Member
+not-open = refl
+
+never-sent : fault_of (Deliver 1 0) [] ≡ Some fault.Packet
+never-sent = refl
+
+set-is-never-faulty : fault_of (Set IntervalMs 5) [] ≡ None
+set-is-never-faulty = refl
+
+-- ---- texts
+
+nothing-said : outcome (Set Beta 99) (open-a ∷ []) ≡ Ok []
+nothing-said = refl
+
+opening-said : outcome open-a [] ≡ Ok (codes "next 0" ++ newline)
+unfolding check_of detecting reporting
+opening-said = refl
+
+table-said : text_of (Table a) (open-a ∷ []) ≡ codes "record a alive 0 127.0.0.1:7001" ++ newline
+unfolding detecting reporting
+table-said = refl
+
+nobody-said : happening_text None [] ≡ codes "nobody" ++ newline
+nobody-said = refl
+
+not-open-said : outcome (Health z 0) (open-a ∷ []) ≡ Err fault.Member
+not-open-said = refl
+
+-- lines that are passed over are counted
+third-line : script_text (codes "#" ++ newline ++ newline ++ codes "tock") ≡ codes "fault 3 command" ++ newline
+unfolding script_text command_of verb_of reporting
+third-line = refl
+
+third-line-ends : script_end (codes "#" ++ newline ++ newline ++ codes "tock") ≡ Faulty
+unfolding script_end command_of verb_of
+third-line-ends = refl
+
+no-command : script_end (codes "#" ++ newline ++ newline) ≡ Done
+unfolding script_end command_of
+no-command = refl
+
+second-line : script_text (codes "open a 7001 0" ++ newline ++ codes "tick z 0")
+    ≡ codes "next 0" ++ newline ++ codes "fault 2 member" ++ newline
+unfolding script_text command_of verb_of open_of tick_of detecting reporting
+second-line = refl
+
+-- nothing follows the first fault
+first-fault : script_text (codes "tick z 0" ++ newline ++ codes "tock") ≡ codes "fault 1 member" ++ newline
+unfolding script_text command_of verb_of tick_of reporting
+first-fault = refl
