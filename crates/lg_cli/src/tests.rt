@@ -9,5 +9,6 @@ mod refused_memory;
 mod rows;
 mod runs;
 mod scripted;
+mod sim;
 mod timeouts;
 mod writers;

@@ -17,6 +17,13 @@ fn tells_refused_memory(rt: HostRuntime) {
 }
 
 #[test]
+fn tells_refused_memory_of_sim(rt: HostRuntime) {
+    let script = b"open a 7001 0\ntable a\n";
+    let text = "next 0\nrecord a alive 0 127.0.0.1:7001\n";
+    check_refused(&rt, ["lg", "sim"].as_slice(), script, text);
+}
+
+#[test]
 fn tells_refused_memory_of_timeouts(rt: HostRuntime) {
     let words = ["lg", "timeouts", "--members", "4"];
     check_refused(&rt, words.as_slice(), b"", "min 5000\nmax 30000\n0 5000\n");
