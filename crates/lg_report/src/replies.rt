@@ -1,6 +1,6 @@
 //! The replies of a detector as text.
 ghost use Rattle.std.specs.Prelude.{◌≡◌, ◌+◌, ◌<◌, ◌^◌, ◌++◌, OnOk, length};
-ghost use Rattle.lg_report.specs.Meaning.Replies.{answer_text, fired_text, health_text, kind_text, next_text};
+ghost use Rattle.lg_report.specs.Meaning.Replies.{answer_line, fired_text, health_text, kind_text, next_text};
 ghost use Rattle.lg_report.specs.Meaning.Replies.{ousted_text, reply_text, send_line, sends_text};
 ghost use Rattle.lg_report.specs.Meaning.Replies.{subject_text, tick_text, told_text};
 
@@ -102,7 +102,7 @@ fn put_told(answer: &Answer, text: &mut Vec<u8>) -> Result<(), NoMemory>
 
 /// Puts the line of an answer behind a text, where there is one.
 fn put_answer(answer: &Option<Answer>, text: &mut Vec<u8>) -> Result<(), NoMemory>
-    ensures { OnOk result (text.new.items ≡ text.old.items ++ answer_text answer.now) }
+    ensures { OnOk result (text.new.items ≡ text.old.items ++ answer_line answer.now) }
 {
     if let Some(told) = answer {
         text.extend_from_slice(b"answer ")?;

@@ -7,7 +7,7 @@ use Rattle.std.proofs.lemmas.Bool.{lt-ltb, le-ltb}
 use Rattle.std.proofs.lemmas.List.Elements.{All-from_get_or}
 use Rattle.std.proofs.lemmas.List.Splits.{length-slice_split, slice_split_first, slice_split_none}
 use Rattle.std.proofs.lemmas.List.Sums.{fails_before_first}
-use Rattle.lg_script.specs.Meaning.Words.{are_words_of, is_word, parts_of, takes}
+use Rattle.lg_script.specs.Meaning.Words.{are_words_of, is_filled, parts_of, takes_words}
 use Rattle.lg_script.specs.declared.verb.Verb.{Verb}
 use Rattle.lg_script.specs.Support.Cutting.{is_byte, rest_behind, words_left}
 
@@ -69,13 +69,13 @@ behind_first line = omega (arith, length-slice_split (is_byte 32) line)
 judged : (t good : Bool) → t ≡ true → good ≡ (t && good)
 judged t good e = rw e refl
 
-pub words-some : (verb : Verb) (line : List ℕ) (good : Bool) → takes verb (count_by (is_byte 32) line) ≡ true → good ≡ list_all is_word (parts_of line) → good ≡ are_words_of verb (parts_of line)
+pub words-some : (verb : Verb) (line : List ℕ) (good : Bool) → takes_words verb (count_by (is_byte 32) line) ≡ true → good ≡ list_all is_filled (parts_of line) → good ≡ are_words_of verb (parts_of line)
 words-some verb line good taken is =
-    is ∙ judged (takes verb (length (parts_of line) - 1)) (list_all is_word (parts_of line)) (ap (takes verb) (behind_first line) ∙ taken)
+    is ∙ judged (takes_words verb (length (parts_of line) - 1)) (list_all is_filled (parts_of line)) (ap (takes_words verb) (behind_first line) ∙ taken)
 
 refused : (t good r : Bool) → r ≡ t → r ≡ false → r ≡ (t && good)
 refused t good r is none = rw (← is, none) refl
 
-pub words-none : (verb : Verb) (line : List ℕ) (taken : Bool) → takes verb (count_by (is_byte 32) line) ≡ taken → taken ≡ false → taken ≡ are_words_of verb (parts_of line)
+pub words-none : (verb : Verb) (line : List ℕ) (taken : Bool) → takes_words verb (count_by (is_byte 32) line) ≡ taken → taken ≡ false → taken ≡ are_words_of verb (parts_of line)
 words-none verb line taken is none =
-    refused (takes verb (length (parts_of line) - 1)) (list_all is_word (parts_of line)) taken (sym is ∙ ap (takes verb) (sym (behind_first line))) none
+    refused (takes_words verb (length (parts_of line) - 1)) (list_all is_filled (parts_of line)) taken (sym is ∙ ap (takes_words verb) (sym (behind_first line))) none

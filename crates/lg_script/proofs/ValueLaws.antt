@@ -5,7 +5,7 @@ use Rattle.std.specs.Result.{result_ok}
 use Rattle.std.proofs.lemmas.Bool.Decides.{nat_tests}
 use Rattle.lg_rules.specs.Meaning.Name.{bad_byte, is_name_byte, name_of_text}
 use Rattle.lg_rules.proofs.NameLemmas.{named}
-use Rattle.lg_script.specs.Meaning.Values.{name_of}
+use Rattle.lg_script.specs.Meaning.Values.{member_name_of}
 
 some_bad : (text : List ℕ) (b : ℕ) → bad_byte text ≡ Some b → list_all is_name_byte text ≡ false
 some_bad [] b e = absurd cc
@@ -15,10 +15,10 @@ some_bad (x ∷ xs) b e = step (is_name_byte x) refl (some_bad xs b)
     step true g rest = rw g (rest (rw g at e))
     step false g rest = rw g refl
 
-pub name_read : (text : List ℕ) → result_ok (name_of_text text) ≡ name_of text
+pub name_read : (text : List ℕ) → result_ok (name_of_text text) ≡ member_name_of text
 name_read text = go (eqb (length text) 0) (ltb 32 (length text)) (bad_byte text) refl refl refl
   where
-    go : (empty long : Bool) (bad : Option ℕ) → eqb (length text) 0 ≡ empty → ltb 32 (length text) ≡ long → bad_byte text ≡ bad → result_ok (name_of_text text) ≡ name_of text
+    go : (empty long : Bool) (bad : Option ℕ) → eqb (length text) 0 ≡ empty → ltb 32 (length text) ≡ long → bad_byte text ≡ bad → result_ok (name_of_text text) ≡ member_name_of text
     go true long bad e l b =
         let none : leb 1 (length text) ≡ false = grind (arith, nat_tests) in
         rw (e, none) refl

@@ -6,7 +6,7 @@ ghost use Rattle.lg_script.specs.Meaning.Words.{are_words_of, parts_of, verb_in}
 use crate::command::Command;
 use crate::fault::ScriptFault;
 use crate::reading::command_named;
-use crate::verb::{Verb, takes, verb_of};
+use crate::verb::{Verb, takes_words, verb_of};
 use crate::words::{are_words, cut_part, first_word, spaces_in};
 
 /// Whether a line is passed over: it is empty or begins with `#`.
@@ -27,7 +27,7 @@ fn verb_in(line: &[u8]) -> Option<Verb>
 fn are_words_of(verb: Verb, line: &[u8]) -> bool
     ensures { result ≡ are_words_of verb (parts_of line.now) }
 {
-    takes(verb, spaces_in(line)) && are_words(line)
+    takes_words(verb, spaces_in(line)) && are_words(line)
 }
 
 /// The command of a line without its newline byte; none where the line is empty or begins with

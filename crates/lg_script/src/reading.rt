@@ -2,8 +2,9 @@
 //! end is no value.
 ghost use Rattle.std.specs.Prelude.{◌≡◌, ◌≤◌, length};
 ghost use Rattle.std.specs.Option.{option_map};
-ghost use Rattle.lg_script.specs.Meaning.Commands.{ask_of, deliver_of, health_of, open_of, pull_of, command_named};
-ghost use Rattle.lg_script.specs.Meaning.Commands.{set_of, table_of, tick_of};
+ghost use Rattle.lg_script.specs.Meaning.Commands.{ask_command, deliver_command, health_command, open_command};
+ghost use Rattle.lg_script.specs.Meaning.Commands.{pull_command, command_named};
+ghost use Rattle.lg_script.specs.Meaning.Commands.{set_command, table_command, tick_command};
 ghost use Rattle.lg_script.specs.Meaning.Values.{at_most_of, random_word_of, seeds_of, with_missing};
 ghost use Rattle.lg_script.specs.Meaning.Bounds.{random_words};
 ghost use Rattle.lg_script.specs.Support.Cutting.{words_left};
@@ -17,9 +18,9 @@ use lg_text::number_in;
 use lg_timing::{MAX_SEEDS, Seed};
 
 /// `set KEY NUMBER`.
-#[tactic(auto, unfolding(crate::specs::Meaning::Commands::set_of))]
+#[tactic(auto, unfolding(crate::specs::Meaning::Commands::set_command))]
 fn set_in(words: Option<&[u8]>) -> Option<Command>
-    ensures { result ≡ set_of (words_left words.entry) }
+    ensures { result ≡ set_command (words_left words.entry) }
 {
     let (key, words) = cut_word(words);
     let (number, _) = cut_word(words);
@@ -29,9 +30,9 @@ fn set_in(words: Option<&[u8]>) -> Option<Command>
 }
 
 /// `open NAME PORT MOMENT SEED..`.
-#[tactic(auto, unfolding(crate::specs::Meaning::Commands::open_of))]
+#[tactic(auto, unfolding(crate::specs::Meaning::Commands::open_command))]
 fn open_in(words: Option<&[u8]>) -> Option<Command>
-    ensures { result ≡ open_of (words_left words.entry) }
+    ensures { result ≡ open_command (words_left words.entry) }
 {
     let (name, words) = cut_word(words);
     let (port, words) = cut_word(words);
@@ -64,9 +65,9 @@ fn seeds_in(words: Option<&[u8]>) -> Option<ArrayVec<Seed, MAX_SEEDS>>
 }
 
 /// `tick NAME MOMENT WORD..`.
-#[tactic(auto, unfolding(crate::specs::Meaning::Commands::tick_of))]
+#[tactic(auto, unfolding(crate::specs::Meaning::Commands::tick_command))]
 fn tick_in(words: Option<&[u8]>) -> Option<Command>
-    ensures { result ≡ tick_of (words_left words.entry) }
+    ensures { result ≡ tick_command (words_left words.entry) }
 {
     let (name, words) = cut_word(words);
     let (now, words) = cut_word(words);
@@ -107,9 +108,9 @@ fn with_missing(random: &[u32]) -> [u32; RANDOM_WORDS]
 }
 
 /// `deliver PACKET MOMENT`.
-#[tactic(auto, unfolding(crate::specs::Meaning::Commands::deliver_of))]
+#[tactic(auto, unfolding(crate::specs::Meaning::Commands::deliver_command))]
 fn deliver_in(words: Option<&[u8]>) -> Option<Command>
-    ensures { result ≡ deliver_of (words_left words.entry) }
+    ensures { result ≡ deliver_command (words_left words.entry) }
 {
     let (packet, words) = cut_word(words);
     let (now, _) = cut_word(words);
@@ -119,9 +120,9 @@ fn deliver_in(words: Option<&[u8]>) -> Option<Command>
 }
 
 /// `ask NAME MOMENT OTHER`.
-#[tactic(auto, unfolding(crate::specs::Meaning::Commands::ask_of))]
+#[tactic(auto, unfolding(crate::specs::Meaning::Commands::ask_command))]
 fn ask_in(words: Option<&[u8]>) -> Option<Command>
-    ensures { result ≡ ask_of (words_left words.entry) }
+    ensures { result ≡ ask_command (words_left words.entry) }
 {
     let (name, words) = cut_word(words);
     let (now, words) = cut_word(words);
@@ -133,9 +134,9 @@ fn ask_in(words: Option<&[u8]>) -> Option<Command>
 }
 
 /// `health NAME MOMENT`.
-#[tactic(auto, unfolding(crate::specs::Meaning::Commands::health_of))]
+#[tactic(auto, unfolding(crate::specs::Meaning::Commands::health_command))]
 fn health_in(words: Option<&[u8]>) -> Option<Command>
-    ensures { result ≡ health_of (words_left words.entry) }
+    ensures { result ≡ health_command (words_left words.entry) }
 {
     let (name, words) = cut_word(words);
     let (now, _) = cut_word(words);
@@ -145,9 +146,9 @@ fn health_in(words: Option<&[u8]>) -> Option<Command>
 }
 
 /// `pull NAME MOMENT PORT`.
-#[tactic(auto, unfolding(crate::specs::Meaning::Commands::pull_of))]
+#[tactic(auto, unfolding(crate::specs::Meaning::Commands::pull_command))]
 fn pull_in(words: Option<&[u8]>) -> Option<Command>
-    ensures { result ≡ pull_of (words_left words.entry) }
+    ensures { result ≡ pull_command (words_left words.entry) }
 {
     let (name, words) = cut_word(words);
     let (now, words) = cut_word(words);
@@ -159,9 +160,9 @@ fn pull_in(words: Option<&[u8]>) -> Option<Command>
 }
 
 /// `table NAME`.
-#[tactic(auto, unfolding(crate::specs::Meaning::Commands::table_of))]
+#[tactic(auto, unfolding(crate::specs::Meaning::Commands::table_command))]
 fn table_in(words: Option<&[u8]>) -> Option<Command>
-    ensures { result ≡ table_of (words_left words.entry) }
+    ensures { result ≡ table_command (words_left words.entry) }
 {
     let (name, _) = cut_word(words);
     let name = name_in(name)?;

@@ -1,6 +1,6 @@
 //! Reads single words.
 ghost use Rattle.std.specs.Prelude.{◌≡◌};
-ghost use Rattle.lg_script.specs.Meaning.Values.{key_of, local, moment_of, name_of};
+ghost use Rattle.lg_script.specs.Meaning.Values.{key_of, local, moment_of, member_name_of};
 ghost use Rattle.lg_script.specs.Meaning.Values.{number_within, port_of, random_word_of, seed_of};
 
 use crate::command::Key;
@@ -52,7 +52,7 @@ pub(crate) fn random_word_in(word: &[u8]) -> Option<u32>
 
 /// The name that a word is.
 pub(crate) fn name_in(word: &[u8]) -> Option<Name>
-    ensures { result ≡ name_of word.now }
+    ensures { result ≡ member_name_of word.now }
 {
     Name::new(word).ok()
 }

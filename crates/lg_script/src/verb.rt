@@ -1,6 +1,6 @@
 //! The names of the commands.
 ghost use Rattle.std.specs.Prelude.{◌≡◌};
-ghost use Rattle.lg_script.specs.Meaning.Words.{takes, verb_of};
+ghost use Rattle.lg_script.specs.Meaning.Words.{takes_words, verb_of};
 
 /// Which command a line gives.
 #[derive(Clone, Copy, Debug, PartialEq, Eq)]
@@ -50,8 +50,8 @@ pub(crate) fn verb_of(word: &[u8]) -> Option<Verb>
 }
 
 /// Whether the command takes this number of words behind its name.
-pub(crate) fn takes(verb: Verb, words: usize) -> bool
-    ensures { result ≡ takes verb words }
+pub(crate) fn takes_words(verb: Verb, words: usize) -> bool
+    ensures { result ≡ takes_words verb words }
 {
     match verb {
         Verb::Set | Verb::Deliver | Verb::Health => words == 2,

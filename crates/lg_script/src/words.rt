@@ -3,7 +3,7 @@ ghost use Rattle.std.specs.Prelude.{◌≡◌, ◌∷◌, count_by, drop, find, 
 ghost use Rattle.std.specs.List.{before_first, list_all};
 ghost use Rattle.std.specs.Option.{option_map};
 ghost use Rattle.lg_script.specs.Meaning.Commands.{word_at};
-ghost use Rattle.lg_script.specs.Meaning.Words.{is_word, parts_of};
+ghost use Rattle.lg_script.specs.Meaning.Words.{is_filled, parts_of};
 ghost use Rattle.lg_script.specs.Support.Cutting.{is_byte, rest_behind, words_left};
 
 /// The place of the first of these bytes in a text.
@@ -44,7 +44,7 @@ pub(crate) fn cut_word<'a>(words: Option<&'a [u8]>) -> (&'a [u8], Option<&'a [u8
 
 /// The first part of a line that isn't empty.
 pub(crate) fn first_word(line: &[u8]) -> Option<&[u8]>
-    ensures { option_map (λ word. word.now) result ≡ find is_word (parts_of line.now) }
+    ensures { option_map (λ word. word.now) result ≡ find is_filled (parts_of line.now) }
 {
     line.split(|byte| *byte == b' ')
         .find(|part| !part.is_empty())
@@ -52,7 +52,7 @@ pub(crate) fn first_word(line: &[u8]) -> Option<&[u8]>
 
 /// Whether no part of a line is empty: its words are parted by single spaces.
 pub(crate) fn are_words(line: &[u8]) -> bool
-    ensures { result ≡ list_all is_word (parts_of line.now) }
+    ensures { result ≡ list_all is_filled (parts_of line.now) }
 {
     line.split(|byte| *byte == b' ')
         .all(|part| !part.is_empty())

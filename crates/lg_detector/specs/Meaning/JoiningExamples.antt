@@ -7,7 +7,8 @@ use Rattle.lg_detector.specs.declared.event.Event.TheVariants.{Pull as Pulls}
 use Rattle.lg_detector.specs.Meaning.Joining.{sixth_of}
 use Rattle.lg_detector.specs.Meaning.Step.{log_of, is_accepted, reply_after}
 use Rattle.lg_detector.specs.Meaning.Log.{events}
-use Rattle.lg_detector.specs.Meaning.Examples.{by_computing, a, b, c, d, at, alive, suspect, opening, says, nothing, sent}
+use Rattle.lg_detector.specs.Meaning.Examples.{by_computing, a, b, c, d, at, alive, suspect, opening, says, nothing}
+use Rattle.lg_detector.specs.Meaning.Examples.{sent}
 use Rattle.lg_detector.specs.Meaning.Examples.{log_after, suspects_c}
 
 -- b asks the member at port 7002 for its table, and tells of itself. It is one event more.

@@ -340,7 +340,8 @@ fn a_joins_by_b(rt: HostRuntime) {
         Turn::new(b'b', Delivers(0, 10), 0)
             .sends(
                 7001,
-                b"SL\x01\x06\x01b\x03\x01\x01a\x7f\0\0\x01\x1b\x59\0\0\0\0\x01\x01b\x7f\0\0\x01\x1b\x5a\0\0\0\0\x01\x01c\x7f\0\0\x01\x1b\x5b\0\0\0\0",
+                b"SL\x01\x06\x01b\x03\x01\x01a\x7f\0\0\x01\x1b\x59\0\0\0\0\
+                  \x01\x01b\x7f\0\0\x01\x1b\x5a\0\0\0\0\x01\x01c\x7f\0\0\x01\x1b\x5b\0\0\0\0",
             )
             .changes(at_home(b'a', alive(b'a', 0))),
         Turn::new(b'a', Delivers(1, 20), 0)

@@ -6,7 +6,8 @@ use super::{
 use crate::{Event, Reply};
 use lg_packet::Body;
 
-/// An opening, claims, Acks, Pulls, questions, and ticks that fire the start of a round, the asking of helpers, and its end.
+/// An opening, claims, Acks, Pulls, questions, and ticks that fire the start of a round, the asking of helpers, and its
+/// end.
 fn events() -> [Event; 12] {
     [
         opening(50),

@@ -293,7 +293,8 @@ repetition_is_not_queued = refl
 -- The status of a record doesn't matter.
 abbrev seven : List Claim
 seven =
-    on a Alive 0 ∷ on b Alive 3 ∷ on c (accused_by a) 2 ∷ on d Failed 1 ∷ on e Alive 0 ∷ on 103 Failed 7 ∷ on 104 Alive 0
+    on a Alive 0 ∷ on b Alive 3 ∷ on c (accused_by a) 2 ∷ on d Failed 1 ∷ on e Alive 0 ∷ on 103 Failed 7
+    ∷ on 104 Alive 0
     ∷ []
 
 first_page_has_six :

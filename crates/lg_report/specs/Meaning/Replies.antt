@@ -60,9 +60,9 @@ told_text (OfStatus (Some c)) = record_text c
 told_text (OfHealth score number members) = health_text score number members
 
 -- an answer, where there is one
-abbrev pub answer_text : Option Answer → List ℕ
-answer_text None = []
-answer_text (Some answer) = codes "answer " ++ told_text answer ++ newline
+abbrev pub answer_line : Option Answer → List ℕ
+answer_line None = []
+answer_line (Some answer) = codes "answer " ++ told_text answer ++ newline
 
 -- a packet in lower-case hex
 abbrev pub packet_text : Packet → List ℕ
@@ -88,5 +88,5 @@ next_text next = codes "next " ++ decimal next ++ newline
 -- the lines of the reply to an event, whose first packet has the number k
 unfoldable pub reply_text : Event → ℕ → Reply → List ℕ
 reply_text event k reply =
-    fired_text event reply.fired ++ answer_text reply.answer ++ sends_text k reply.sends.items
+    fired_text event reply.fired ++ answer_line reply.answer ++ sends_text k reply.sends.items
     ++ table_text reply.changed.items ++ ousted_text reply.ousted ++ next_text reply.next

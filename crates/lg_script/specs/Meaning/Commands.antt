@@ -1,7 +1,7 @@
 -- What the words behind the name of a command say; none where one of them is out of its form or range.
 use Rattle.std.specs.Prelude.{ℕ, List, [], Option, Some, slice_index_or, drop}
 use Rattle.lg_text.specs.Meaning.Numbers.{number_of}
-use Rattle.lg_script.specs.Meaning.Values.{◌>>=◌, moment_of, port_of, name_of, key_of}
+use Rattle.lg_script.specs.Meaning.Values.{◌>>=◌, moment_of, port_of, member_name_of, key_of}
 use Rattle.lg_script.specs.Meaning.Values.{random_words_of, seeds_of}
 use Rattle.lg_script.specs.declared.command.Command.{Command}
 use Rattle.lg_script.specs.declared.command.Command.TheVariants.{Set, Open, Tick, Deliver, Ask, Health, Pull, Table}
@@ -13,72 +13,72 @@ abbrev pub word_at : List (List ℕ) → ℕ → List ℕ
 word_at words place = slice_index_or words place []
 
 -- set KEY NUMBER
-unfoldable pub set_of : List (List ℕ) → Option Command
-set_of words = do
+unfoldable pub set_command : List (List ℕ) → Option Command
+set_command words = do
   key ← key_of (word_at words 0)
   number ← number_of (word_at words 1)
   Some (Set key number)
 
 -- open NAME PORT MOMENT SEED..
-unfoldable pub open_of : List (List ℕ) → Option Command
-open_of words = do
-  name ← name_of (word_at words 0)
+unfoldable pub open_command : List (List ℕ) → Option Command
+open_command words = do
+  name ← member_name_of (word_at words 0)
   port ← port_of (word_at words 1)
   now ← moment_of (word_at words 2)
   seeds ← seeds_of (drop 3 words)
   Some (Open name port now record { items = seeds })
 
 -- tick NAME MOMENT WORD..
-unfoldable pub tick_of : List (List ℕ) → Option Command
-tick_of words = do
-  name ← name_of (word_at words 0)
+unfoldable pub tick_command : List (List ℕ) → Option Command
+tick_command words = do
+  name ← member_name_of (word_at words 0)
   now ← moment_of (word_at words 1)
   random ← random_words_of (drop 2 words)
   Some (Tick name now random)
 
 -- deliver PACKET MOMENT
-unfoldable pub deliver_of : List (List ℕ) → Option Command
-deliver_of words = do
+unfoldable pub deliver_command : List (List ℕ) → Option Command
+deliver_command words = do
   packet ← number_of (word_at words 0)
   now ← moment_of (word_at words 1)
   Some (Deliver packet now)
 
 -- ask NAME MOMENT OTHER
-unfoldable pub ask_of : List (List ℕ) → Option Command
-ask_of words = do
-  name ← name_of (word_at words 0)
+unfoldable pub ask_command : List (List ℕ) → Option Command
+ask_command words = do
+  name ← member_name_of (word_at words 0)
   now ← moment_of (word_at words 1)
-  other ← name_of (word_at words 2)
+  other ← member_name_of (word_at words 2)
   Some (Ask name now other)
 
 -- health NAME MOMENT
-unfoldable pub health_of : List (List ℕ) → Option Command
-health_of words = do
-  name ← name_of (word_at words 0)
+unfoldable pub health_command : List (List ℕ) → Option Command
+health_command words = do
+  name ← member_name_of (word_at words 0)
   now ← moment_of (word_at words 1)
   Some (Health name now)
 
 -- pull NAME MOMENT PORT
-unfoldable pub pull_of : List (List ℕ) → Option Command
-pull_of words = do
-  name ← name_of (word_at words 0)
+unfoldable pub pull_command : List (List ℕ) → Option Command
+pull_command words = do
+  name ← member_name_of (word_at words 0)
   now ← moment_of (word_at words 1)
   port ← port_of (word_at words 2)
   Some (Pull name now port)
 
 -- table NAME
-unfoldable pub table_of : List (List ℕ) → Option Command
-table_of words = do
-  name ← name_of (word_at words 0)
+unfoldable pub table_command : List (List ℕ) → Option Command
+table_command words = do
+  name ← member_name_of (word_at words 0)
   Some (Table name)
 
 -- the command of this name with these words
 abbrev pub command_named : Verb → List (List ℕ) → Option Command
-command_named verb.Set words = set_of words
-command_named verb.Open words = open_of words
-command_named verb.Tick words = tick_of words
-command_named verb.Deliver words = deliver_of words
-command_named verb.Ask words = ask_of words
-command_named verb.Health words = health_of words
-command_named verb.Pull words = pull_of words
-command_named verb.Table words = table_of words
+command_named verb.Set words = set_command words
+command_named verb.Open words = open_command words
+command_named verb.Tick words = tick_command words
+command_named verb.Deliver words = deliver_command words
+command_named verb.Ask words = ask_command words
+command_named verb.Health words = health_command words
+command_named verb.Pull words = pull_command words
+command_named verb.Table words = table_command words

@@ -7,7 +7,8 @@ use Rattle.lg_script.specs.declared.command.Command.TheVariants.{Set, Open, Tick
 use Rattle.lg_script.specs.declared.command.Key.TheVariants.{IntervalMs, Lambda, HistoryLimit}
 use Rattle.lg_script.specs.declared.fault.ScriptFault.{ScriptFault}
 use Rattle.lg_script.specs.declared.fault.ScriptFault.TheVariants as fault
-use Rattle.lg_script.specs.Meaning.Commands.{set_of, open_of, tick_of, deliver_of, ask_of, health_of, pull_of, table_of}
+use Rattle.lg_script.specs.Meaning.Commands.{set_command, open_command, tick_command, deliver_command}
+use Rattle.lg_script.specs.Meaning.Commands.{ask_command, health_command, pull_command, table_command}
 use Rattle.lg_script.specs.Meaning.Lines.{command_of}
 use Rattle.lg_script.specs.Meaning.Values.{key_of, local}
 use Rattle.lg_script.specs.Meaning.Words.{verb_of}
@@ -19,19 +20,19 @@ gives command = Ok (Some command)
 -- ---- each command
 
 set-lambda : command_of (codes "set lambda 99999") ≡ gives (Set Lambda 99999)
-unfolding command_of verb_of set_of key_of
+unfolding command_of verb_of set_command key_of
 set-lambda = refl
 
 set-interval : command_of (codes "set interval_ms 0000000000000007") ≡ gives (Set IntervalMs 7)
-unfolding command_of verb_of set_of key_of
+unfolding command_of verb_of set_command key_of
 set-interval = refl
 
 set-history : command_of (codes "set history_limit 9999999999999999") ≡ gives (Set HistoryLimit 9999999999999999)
-unfolding command_of verb_of set_of key_of
+unfolding command_of verb_of set_command key_of
 set-history = refl
 
 opens-alone : command_of (codes "open a 7001 0") ≡ gives (Open (97 ∷ []) 7001 0 record { items = [] })
-unfolding command_of verb_of open_of
+unfolding command_of verb_of open_command
 opens-alone = refl
 
 b-at-7002 : Seed
@@ -39,47 +40,47 @@ b-at-7002 = record { name = 98 ∷ []; addr = record { octets = 127 ∷ 0 ∷ 0 
 
 opens-with-seed : command_of (codes "open a 65535 1000 b:7002")
     ≡ gives (Open (97 ∷ []) 65535 1000 record { items = b-at-7002 ∷ [] })
-unfolding command_of verb_of open_of b-at-7002
+unfolding command_of verb_of open_command b-at-7002
 opens-with-seed = refl
 
 ticks : command_of (codes "tick z 1000000000000000")
     ≡ gives (Tick (122 ∷ []) 1000000000000000 (0 ∷ 0 ∷ 0 ∷ 0 ∷ 0 ∷ 0 ∷ 0 ∷ 0 ∷ []))
-unfolding command_of verb_of tick_of
+unfolding command_of verb_of tick_command
 ticks = refl
 
 ticks-with-words : command_of (codes "tick z 5 4294967295 2")
     ≡ gives (Tick (122 ∷ []) 5 (4294967295 ∷ 2 ∷ 0 ∷ 0 ∷ 0 ∷ 0 ∷ 0 ∷ 0 ∷ []))
-unfolding command_of verb_of tick_of
+unfolding command_of verb_of tick_command
 ticks-with-words = refl
 
 ticks-with-all : command_of (codes "tick z 5 1 2 3 4 5 6 7 8")
     ≡ gives (Tick (122 ∷ []) 5 (1 ∷ 2 ∷ 3 ∷ 4 ∷ 5 ∷ 6 ∷ 7 ∷ 8 ∷ []))
-unfolding command_of verb_of tick_of
+unfolding command_of verb_of tick_command
 ticks-with-all = refl
 
 delivers : command_of (codes "deliver 12 500") ≡ gives (Deliver 12 500)
-unfolding command_of verb_of deliver_of
+unfolding command_of verb_of deliver_command
 delivers = refl
 
 -- whether the number was sent is judged elsewhere
 delivers-none : command_of (codes "deliver 0 0") ≡ gives (Deliver 0 0)
-unfolding command_of verb_of deliver_of
+unfolding command_of verb_of deliver_command
 delivers-none = refl
 
 asks : command_of (codes "ask a 7 b") ≡ gives (Ask (97 ∷ []) 7 (98 ∷ []))
-unfolding command_of verb_of ask_of
+unfolding command_of verb_of ask_command
 asks = refl
 
 health-asked : command_of (codes "health a 7") ≡ gives (Health (97 ∷ []) 7)
-unfolding command_of verb_of health_of
+unfolding command_of verb_of health_command
 health-asked = refl
 
 pulls : command_of (codes "pull a 7 1") ≡ gives (Pull (97 ∷ []) 7 1)
-unfolding command_of verb_of pull_of
+unfolding command_of verb_of pull_command
 pulls = refl
 
 shows-table : command_of (codes "table a") ≡ gives (Table (97 ∷ []))
-unfolding command_of verb_of table_of
+unfolding command_of verb_of table_command
 shows-table = refl
 
 -- ---- lines that are passed over
@@ -157,35 +158,35 @@ words-before-values = refl
 -- ---- a word out of its form or range
 
 digits-17 : command_of (codes "deliver 00000000000000001 0") ≡ Err fault.Value
-unfolding command_of verb_of deliver_of
+unfolding command_of verb_of deliver_command
 digits-17 = refl
 
 signed : command_of (codes "deliver +1 0") ≡ Err fault.Value
-unfolding command_of verb_of deliver_of
+unfolding command_of verb_of deliver_command
 signed = refl
 
 moment-past-last : command_of (codes "health a 1000000000000001") ≡ Err fault.Value
-unfolding command_of verb_of health_of
+unfolding command_of verb_of health_command
 moment-past-last = refl
 
 port-0 : command_of (codes "open a 0 0") ≡ Err fault.Value
-unfolding command_of verb_of open_of
+unfolding command_of verb_of open_command
 port-0 = refl
 
 port-65536 : command_of (codes "pull a 0 65536") ≡ Err fault.Value
-unfolding command_of verb_of pull_of
+unfolding command_of verb_of pull_command
 port-65536 = refl
 
 great-random-word : command_of (codes "tick a 0 4294967296") ≡ Err fault.Value
-unfolding command_of verb_of tick_of
+unfolding command_of verb_of tick_command
 great-random-word = refl
 
 seed-without-port : command_of (codes "open a 7001 0 b") ≡ Err fault.Value
-unfolding command_of verb_of open_of
+unfolding command_of verb_of open_command
 seed-without-port = refl
 
 seed-with-two-colons : command_of (codes "open a 7001 0 b:1:2") ≡ Err fault.Value
-unfolding command_of verb_of open_of
+unfolding command_of verb_of open_command
 seed-with-two-colons = refl
 
 -- some seeds, one like the others
@@ -193,7 +194,7 @@ abbrev seeds : ℕ → List ℕ
 seeds count = flat_map (λ seed. seed) (replicate count (codes " b:1"))
 
 seeds-17 : command_of (codes "open a 7001 0" ++ seeds 17) ≡ Err fault.Value
-unfolding command_of verb_of open_of
+unfolding command_of verb_of open_command
 seeds-17 = refl
 
 b-at-1 : Seed
@@ -202,25 +203,25 @@ b-at-1 = record { name = 98 ∷ []; addr = local 1 }
 -- that their names differ is judged elsewhere
 seeds-16 : command_of (codes "open a 7001 0" ++ seeds 16)
     ≡ gives (Open (97 ∷ []) 7001 0 record { items = replicate 16 b-at-1 })
-unfolding command_of verb_of open_of b-at-1
+unfolding command_of verb_of open_command b-at-1
 seeds-16 = refl
 
 unknown-key : command_of (codes "set seeds 1") ≡ Err fault.Value
-unfolding command_of verb_of set_of key_of
+unfolding command_of verb_of set_command key_of
 unknown-key = refl
 
 tab-in-word : command_of (codes "table a" ++ 9 ∷ []) ≡ Err fault.Value
-unfolding command_of verb_of table_of
+unfolding command_of verb_of table_command
 tab-in-word = refl
 
 carriage-return : command_of (codes "health a 0" ++ 13 ∷ []) ≡ Err fault.Value
-unfolding command_of verb_of health_of
+unfolding command_of verb_of health_command
 carriage-return = refl
 
 bad-bytes : command_of (codes "table " ++ 0 ∷ 255 ∷ []) ≡ Err fault.Value
-unfolding command_of verb_of table_of
+unfolding command_of verb_of table_command
 bad-bytes = refl
 
 long-name : command_of (codes "table " ++ replicate 33 97) ≡ Err fault.Value
-unfolding command_of verb_of table_of
+unfolding command_of verb_of table_command
 long-name = refl

@@ -37,8 +37,8 @@ port_of word = number_within 1 greatest_port word
 abbrev pub random_word_of : List ℕ → Option ℕ
 random_word_of word = number_within 0 greatest_random_word word
 
-abbrev pub name_of : List ℕ → Option (List ℕ)
-name_of word = if is_name word then Some word else None
+abbrev pub member_name_of : List ℕ → Option (List ℕ)
+member_name_of word = if is_name word then Some word else None
 
 -- where the member of a port is: all members are at 127.0.0.1
 abbrev pub local : ℕ → Addr
@@ -51,7 +51,7 @@ is_colon b = b == 58
 -- a seed is cut at its first colon: a name stands before it, and a port behind it
 abbrev pub seed_of : List ℕ → Option Seed
 seed_of word = do
-  name ← name_of (before_first is_colon word)
+  name ← member_name_of (before_first is_colon word)
   port ← port_of (after_first is_colon word)
   Some record { name = name; addr = local port }
 

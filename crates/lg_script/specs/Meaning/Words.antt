@@ -12,8 +12,8 @@ abbrev pub parts_of : List ℕ → List (List ℕ)
 parts_of line = slice_split (λ b. b == 32) line
 
 -- a part that is a word: it isn't empty
-abbrev pub is_word : List ℕ → Bool
-is_word part = not (length part == 0)
+abbrev pub is_filled : List ℕ → Bool
+is_filled part = not (length part == 0)
 
 -- which of the commands a word names
 unfoldable pub verb_of : List ℕ → Option Verb
@@ -30,19 +30,19 @@ verb_of word =
 
 -- the command that the first word of a line names
 abbrev pub verb_in : List (List ℕ) → Option Verb
-verb_in parts = option_and_then verb_of (find is_word parts)
+verb_in parts = option_and_then verb_of (find is_filled parts)
 
 -- how many words may follow the name of a command; `open` takes any number of seeds
-abbrev pub takes : Verb → ℕ → Bool
-takes Set words = words == 2
-takes Open words = nat_le 3 words
-takes Tick words = is_within 2 10 words
-takes Deliver words = words == 2
-takes Ask words = words == 3
-takes Health words = words == 2
-takes Pull words = words == 3
-takes Table words = words == 1
+abbrev pub takes_words : Verb → ℕ → Bool
+takes_words Set words = words == 2
+takes_words Open words = nat_le 3 words
+takes_words Tick words = is_within 2 10 words
+takes_words Deliver words = words == 2
+takes_words Ask words = words == 3
+takes_words Health words = words == 2
+takes_words Pull words = words == 3
+takes_words Table words = words == 1
 
 -- the parts of a line are words, parted by single spaces, and as many as the command takes
 abbrev pub are_words_of : Verb → List (List ℕ) → Bool
-are_words_of verb parts = takes verb (length parts - 1) && list_all is_word parts
+are_words_of verb parts = takes_words verb (length parts - 1) && list_all is_filled parts

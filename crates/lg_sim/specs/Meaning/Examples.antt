@@ -12,7 +12,7 @@ use Rattle.lg_detector.specs.declared.event.Event.{Event}
 use Rattle.lg_detector.specs.declared.event.Event.TheVariants as event
 use Rattle.lg_detector.specs.declared.reply.Outgoing.{Outgoing}
 use Rattle.lg_report.specs.Meaning.Examples.{by_computing as reporting}
-use Rattle.lg_script.specs.Meaning.Commands.{open_of, tick_of}
+use Rattle.lg_script.specs.Meaning.Commands.{open_command, tick_command}
 use Rattle.lg_script.specs.Meaning.Lines.{command_of}
 use Rattle.lg_script.specs.Meaning.Values.{local}
 use Rattle.lg_script.specs.Meaning.Words.{verb_of}
@@ -23,7 +23,7 @@ use Rattle.lg_script.specs.declared.fault.ScriptFault.TheVariants as fault
 use Rattle.lg_text.specs.Meaning.Lines.{newline}
 use Rattle.lg_text.specs.declared.end.End.TheVariants.{Done, Faulty}
 use Rattle.lg_sim.specs.Meaning.Members.{Happening, events_of, member_at, member_named, packet_number, sent}
-use Rattle.lg_sim.specs.Meaning.Outcome.{fault_of, happening_text, opening_fault, outcome, text_of}
+use Rattle.lg_sim.specs.Meaning.Outcome.{fault_of, happening_text, opening_fault, text_of}
 use Rattle.lg_sim.specs.Meaning.Past.{delivered, happening_of, happenings, new_member, opened, opening, settings, unset}
 use Rattle.lg_sim.specs.Meaning.Text.{script_end, script_text}
 use Rattle.lg_sim.specs.declared.host.Member.{Member}
@@ -193,11 +193,11 @@ set-is-never-faulty = refl
 
 -- ---- texts
 
-nothing-said : outcome (Set Beta 99) (open-a ∷ []) ≡ Ok []
+nothing-said : text_of (Set Beta 99) (open-a ∷ []) ≡ []
 nothing-said = refl
 
-opening-said : outcome open-a [] ≡ Ok (codes "next 0" ++ newline)
-unfolding check_of detecting reporting
+opening-said : text_of open-a [] ≡ codes "next 0" ++ newline
+unfolding detecting reporting
 opening-said = refl
 
 table-said : text_of (Table a) (open-a ∷ []) ≡ codes "record a alive 0 127.0.0.1:7001" ++ newline
@@ -207,7 +207,7 @@ table-said = refl
 nobody-said : happening_text None [] ≡ codes "nobody" ++ newline
 nobody-said = refl
 
-not-open-said : outcome (Health z 0) (open-a ∷ []) ≡ Err fault.Member
+not-open-said : fault_of (Health z 0) (open-a ∷ []) ≡ Some fault.Member
 not-open-said = refl
 
 -- lines that are passed over are counted
@@ -225,10 +225,10 @@ no-command = refl
 
 second-line : script_text (codes "open a 7001 0" ++ newline ++ codes "tick z 0")
     ≡ codes "next 0" ++ newline ++ codes "fault 2 member" ++ newline
-unfolding script_text command_of verb_of open_of tick_of detecting reporting
+unfolding script_text command_of verb_of open_command tick_command detecting reporting
 second-line = refl
 
 -- nothing follows the first fault
 first-fault : script_text (codes "tick z 0" ++ newline ++ codes "tock") ≡ codes "fault 1 member" ++ newline
-unfolding script_text command_of verb_of tick_of reporting
+unfolding script_text command_of verb_of tick_command reporting
 first-fault = refl

@@ -1,4 +1,4 @@
--- What a command gives after the earlier ones: its text, or its fault.
+-- What a command gives after the earlier ones: its fault, or else its text.
 use Rattle.std.specs.Prelude.{
   ℕ,
   ◌+◌,
@@ -26,6 +26,7 @@ use Rattle.lg_timing.specs.declared.config.Config.{Config}
 use Rattle.lg_detector.specs.Meaning.Step.{reply_after, view_after}
 use Rattle.lg_report.specs.Meaning.Records.{table_text}
 use Rattle.lg_report.specs.Meaning.Replies.{reply_text}
+use Rattle.lg_text.specs.Meaning.Lines.{newline}
 use Rattle.lg_script.specs.declared.command.Command.{Command}
 use Rattle.lg_script.specs.declared.command.Command.TheVariants.{Set, Open, Tick, Deliver, Ask, Health, Pull, Table}
 use Rattle.lg_script.specs.declared.fault.ScriptFault.{ScriptFault}
@@ -35,8 +36,8 @@ use Rattle.lg_sim.specs.Meaning.Past.{happening_of, happenings, opened, opening,
 use Rattle.lg_sim.specs.declared.host.Member.{Member}
 
 -- at most 16 members are opened (this project's choice)
-abbrev pub most_members : ℕ
-most_members = 16
+abbrev pub most_opened : ℕ
+most_opened = 16
 
 -- a member of this name or at this address is open
 abbrev pub is_taken : Config → List Member → Bool
@@ -48,7 +49,7 @@ abbrev pub opening_fault : Config → List Member → Option ScriptFault
 opening_fault config members =
     if is_err (check_of config) then Some fault.Value
     else (if is_taken config members then Some fault.Double
-    else (if nat_le most_members (length members) then Some fault.Full else None))
+    else (if nat_le most_opened (length members) then Some fault.Full else None))
 
 -- a command for a name that isn't open
 abbrev pub naming_fault : List ℕ → List Member → Option ScriptFault
@@ -72,7 +73,7 @@ fault_of (Table name) before = naming_fault name (opened before)
 
 -- the lines of what happened: the reply of the member, whose packets are numbered on from those sent before
 abbrev pub happening_text : Option Happening → List Happening → List ℕ
-happening_text None past = codes "nobody" ++ 10 ∷ []
+happening_text None past = codes "nobody" ++ newline
 happening_text (Some h) past =
     reply_text h.event (length (sent past) + 1) (reply_after (events_of h.member.name past) h.event)
 
@@ -81,11 +82,3 @@ abbrev pub text_of : Command → List Command → List ℕ
 text_of (Set key number) before = []
 text_of (Table name) before = table_text (view_after (events_of name (happenings before)))
 text_of command before = happening_text (happening_of command before) (happenings before)
-
-abbrev pub unless : Option ScriptFault → List ℕ → Result (List ℕ) ScriptFault
-unless None text = Ok text
-unless (Some fault) text = Err fault
-
--- what a command gives after the earlier ones
-abbrev pub outcome : Command → List Command → Result (List ℕ) ScriptFault
-outcome command before = unless (fault_of command before) (text_of command before)

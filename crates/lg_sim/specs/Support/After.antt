@@ -39,7 +39,7 @@ use Rattle.lg_script.specs.declared.command.Command.{Command}
 use Rattle.lg_script.specs.declared.fault.ScriptFault.{ScriptFault}
 use Rattle.lg_script.specs.declared.fault.ScriptFault.TheVariants as fault
 use Rattle.lg_sim.specs.Meaning.Members.{Happening, events_of, is_at, is_named, member_named, sent}
-use Rattle.lg_sim.specs.Meaning.Outcome.{happening_text, most_members, text_of}
+use Rattle.lg_sim.specs.Meaning.Outcome.{happening_text, most_opened, text_of}
 use Rattle.lg_sim.specs.Meaning.Past.{happenings, heard, opened, settings}
 use Rattle.lg_sim.specs.Meaning.Text.{line_text, with_line}
 use Rattle.lg_sim.specs.declared.cluster.Cluster.{Cluster}
@@ -101,7 +101,7 @@ fault_in config hosts =
     if is_err (check_of config) then Some fault.Value
     else (if is_some (position (λ host. is_named config.name host.member) hosts)
     || is_some (position (λ host. is_at config.addr host.member) hosts) then Some fault.Double
-    else (if nat_le most_members (length hosts) then Some fault.Full else None))
+    else (if nat_le most_opened (length hosts) then Some fault.Full else None))
 
 -- where a packet goes, and what happens there when it is delivered
 abbrev pub delivery_of : ℕ → Option Sent → Option (Addr × Event)

@@ -1,12 +1,12 @@
 use Rattle.std.proofs.Common.{rules, tests}
 use Rattle.std.proofs.lemmas.Iterator.Search.{all_from_yields_List}
 use Rattle.std.proofs.lemmas.Iterator.Splits.{YieldsList-from_slice_split}
-use Rattle.lg_script.specs.Meaning.Words.{is_word}
+use Rattle.lg_script.specs.Meaning.Words.{is_filled}
 use Rattle.lg_script.specs.Support.Cutting.{is_byte}
 use Rattle.lg_script.proofs.words.are_words.Goals as goal
 
 pub returns : goal.returns
 returns c =
-    all_from_yields_List is_word _ _ c.all.result c.all.ensures.ran
+    all_from_yields_List is_filled _ _ c.all.result c.all.ensures.ran
     (YieldsList-from_slice_split _ (is_byte 32) c.args.line.now c.split.ensures.rest c.split.ensures.done c.split.ensures.closure (λ x b q k. search (rules, tests)))
     (λ x b q k. search (rules, tests))
