@@ -12,10 +12,14 @@ use std::io::{Read, Write};
 
 /// Runs a script: reads all that a reader has left, and writes what the script gives, and nothing else.
 ///
-/// Each line is a command, and each command gives lines of text. The members that it opens are at 127.0.0.1, at most
-/// 16 of them; what a member sends is numbered from 1 over all members, and is heard only where a command delivers it.
-/// A line that is empty or begins with `#` is passed over. The first faulty line gives `fault LINE KIND` as the last
-/// line of the text, and the end is then [`End::Faulty`].
+/// Each line is a command, `set`, `open`, `tick`, `deliver`, `ask`, `health`, `pull` or `table`, as `lg_script` reads
+/// them, and each command gives lines of text. The members that are opened are at 127.0.0.1, at most [`MAX_CLUSTER`] of
+/// them; what a member sends is numbered from 1 over all members, and is heard only where a command delivers it, which
+/// may be never, again, and in any order. A packet whose destination no member has gives the line `nobody`. A line that
+/// is empty or begins with `#` is passed over. The first faulty line gives `fault LINE KIND` as the last line of the
+/// text, and the end is then [`End::Faulty`] (all this project's choice).
+///
+/// [`MAX_CLUSTER`]: crate::MAX_CLUSTER
 ///
 /// The input has at most 1,048,576 bytes; a longer or endless one is [`RunFault::Read`], as is any error of the reader
 /// but an interruption; [`RunFault::Memory`] comes before that where memory is refused for what was read so far. The

@@ -1,23 +1,20 @@
 -- Worked commands and scripts.
-use Rattle.std.specs.Prelude.{◌≡◌, ℕ, ◌+◌, List, [], ◌∷◌, ◌++◌, map, Option, Some, None, Result, Ok, Err, codes, refl}
+use Rattle.std.specs.Prelude.{◌≡◌, ℕ, ◌+◌, List, [], ◌∷◌, ◌++◌, map, Some, None, codes, refl}
 use Rattle.std.specs.List.{range_with_len}
 use Rattle.arrayvec.specs.ArrayVec.{ArrayVec}
 use Rattle.lg_timing.specs.Meaning.Config.{check_of}
-use Rattle.lg_timing.specs.declared.config.Config.{Config}
 use Rattle.lg_timing.specs.declared.config.Seed.{Seed}
 use Rattle.lg_packet.specs.declared.packet.Body.TheVariants.{Ack, Ping}
 use Rattle.lg_packet.specs.declared.packet.Packet.{Packet}
 use Rattle.lg_detector.specs.Meaning.Examples.{by_computing as detecting}
-use Rattle.lg_detector.specs.declared.event.Event.{Event}
 use Rattle.lg_detector.specs.declared.event.Event.TheVariants as event
-use Rattle.lg_detector.specs.declared.reply.Outgoing.{Outgoing}
 use Rattle.lg_report.specs.Meaning.Examples.{by_computing as reporting}
 use Rattle.lg_script.specs.Meaning.Commands.{open_command, tick_command}
 use Rattle.lg_script.specs.Meaning.Lines.{command_of}
 use Rattle.lg_script.specs.Meaning.Values.{local}
 use Rattle.lg_script.specs.Meaning.Words.{verb_of}
 use Rattle.lg_script.specs.declared.command.Command.{Command}
-use Rattle.lg_script.specs.declared.command.Command.TheVariants.{Set, Open, Tick, Deliver, Ask, Health, Pull, Table}
+use Rattle.lg_script.specs.declared.command.Command.TheVariants.{Set, Open, Tick, Deliver, Health, Pull, Table}
 use Rattle.lg_script.specs.declared.command.Key.TheVariants.{Alpha, Beta, IntervalMs}
 use Rattle.lg_script.specs.declared.fault.ScriptFault.TheVariants as fault
 use Rattle.lg_text.specs.Meaning.Lines.{newline}
@@ -206,9 +203,6 @@ table-said = refl
 
 nobody-said : happening_text None [] ≡ codes "nobody" ++ newline
 nobody-said = refl
-
-not-open-said : fault_of (Health z 0) (open-a ∷ []) ≡ Some fault.Member
-not-open-said = refl
 
 -- lines that are passed over are counted
 third-line : script_text (codes "#" ++ newline ++ newline ++ codes "tock") ≡ codes "fault 3 command" ++ newline

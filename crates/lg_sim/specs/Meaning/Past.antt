@@ -78,7 +78,7 @@ delivered now None members = None
 delivered now (Some packet) members =
     option_map (λ m. record { member = m; event = heard now packet }) (member_at packet.outgoing.to members)
 
--- what a command makes happen after the earlier ones, at which these happenings stand
+-- what a command makes happen, after the earlier ones and what they made happen
 abbrev pub happening_after : Command → List Command → List Happening → Option Happening
 happening_after (Set key number) before past = None
 happening_after (Open name port now seeds) before past = Some record {

@@ -89,6 +89,12 @@ fn is_opened_with_the_settings(rt: HostRuntime) -> Result<(), Fail> {
                 End::Done,
             ),
             (
+                "a number out of its range that no member is opened with",
+                &["set interval_ms 5"],
+                &[],
+                End::Done,
+            ),
+            (
                 "the range is judged where a member is opened",
                 &["set interval_ms 5", "open a 7001 0"],
                 &["fault 2 value"],

@@ -23,6 +23,34 @@ fn delivers_to_nobody(rt: HostRuntime) -> Result<(), Fail> {
 }
 
 #[test]
+fn delivers_to_who_is_open_by_then(rt: HostRuntime) -> Result<(), Fail> {
+    check(
+        &rt,
+        &[(
+            "the member at the destination is opened later",
+            &[
+                "open a 7001 0 b:7002",
+                "tick a 0 0",
+                "deliver 1 5",
+                "open b 7002 0",
+                "deliver 1 6",
+            ],
+            &[
+                "next 0",
+                "fired round-start",
+                "send 1 127.0.0.1:7002 534c0101016100000001016200",
+                "next 500",
+                "nobody",
+                "next 0",
+                "send 2 127.0.0.1:7001 534c010301620000000100",
+                "next 0",
+            ],
+            End::Done,
+        )],
+    )
+}
+
+#[test]
 fn delivers_again_and_in_any_order(rt: HostRuntime) -> Result<(), Fail> {
     check(
         &rt,
