@@ -18,7 +18,7 @@ use Rattle.clap.specs.declared.error.kind.ErrorKind.TheVariants.{ValueValidation
 use Rattle.clap.specs.declared.builder.value_parser.ValueParser.{ValueParser}
 use Rattle.clap.specs.declared.builder.value_parser.ValueParser.TheVariants.{Unsigned}
 use Rattle.clap.proofs.ValueTestLemmas.{accepts-Accepts, Accepts-accepts}
-use Rattle.lg_cli.specs.Meaning.Commands.{Request, answer, order, timeouts, sim, number_of, request_faults, IfTimeouts}
+use Rattle.lg_cli.specs.Meaning.Commands.{Request, answer, order, timeouts, sim, option_number, request_faults, IfTimeouts}
 use Rattle.lg_cli.specs.Meaning.Timeouts.{are_good}
 
 abbrev any_number : ValueParser
@@ -27,24 +27,24 @@ any_number = Unsigned 0 18446744073709551615
 abbrev value_of : Text → ℕ
 value_of text = digits_value 10 (without_leading_plus text)
 
-spells : (text : Text) → IsNumeral 10 (without_leading_plus text) × (value_of text < 2 ^ 64) → number_of text ≡ value_of text
+spells : (text : Text) → IsNumeral 10 (without_leading_plus text) × (value_of text < 2 ^ 64) → option_number text ≡ value_of text
 spells text is = ap (λ (b : Bool). cond b (value_of text) 0) (Accepts-accepts false any_number text (is.0, is.1, omega arith, omega arith))
 
-spells_none : (text : Text) → (IsNumeral 10 (without_leading_plus text) × (value_of text < 2 ^ 64) → ⊥) → number_of text ≡ 0
+spells_none : (text : Text) → (IsNumeral 10 (without_leading_plus text) × (value_of text < 2 ^ 64) → ⊥) → option_number text ≡ 0
 spells_none text isnt = go (accepts false any_number text) refl
   where
-    go : (b : Bool) → accepts false any_number text ≡ b → number_of text ≡ 0
+    go : (b : Bool) → accepts false any_number text ≡ b → option_number text ≡ 0
     go true it = let is = accepts-Accepts false any_number text it in absurd (isnt (is.0, is.1))
     go false it = ap (λ (b : Bool). cond b (value_of text) 0) it
 
 -- the number that is read of a text, if there is one
 pub number_read : {E : Type 0} (G : Text → Result ℕ E → Type 0) (one : Option Text) (r : Option ℕ)
     → (one ≡ None → r ≡ None) → ((text : Text) → one ≡ Some text → ReadsOne G text r) → ((text : Text) (x : Result ℕ E) → G text x → ParsesUnsigned 64 10 text x)
-    → unwrap_or r 0 ≡ option_map_or number_of one 0
+    → unwrap_or r 0 ≡ option_map_or option_number one 0
 number_read G None r none some only = ap (λ (o : Option ℕ). unwrap_or o 0) (none refl)
 number_read G (Some text) r none some only = go r (some text refl)
   where
-    go : (o : Option ℕ) → ReadsOne G text o → unwrap_or o 0 ≡ number_of text
+    go : (o : Option ℕ) → ReadsOne G text o → unwrap_or o 0 ≡ option_number text
     go (Some n) h = let parsed = only text (Ok n) h in parsed.1 ∙ sym (spells text parsed.0)
     go None h = sym (spells_none text (only text (Err h.0) h.1))
 

@@ -55,7 +55,8 @@ pub fn run_words<S: AsStr, R: Read, W: Write, F: Write>(
     // A command line that is taken runs its command: `answer` for a text of `--name` that is a name.
     ensures answered { let line = map S.text words.now in line_faults line ≡ [] → result ≢ FAILED
         → IfAnswer (asked line) (λ text. IfOk (name_of_text text) (λ name. RunsAnswer (R.remaining reader.old)
-        (R.remaining reader.new) (W.contents writer.old) (W.contents writer.new) name result)) }
+        (R.remaining reader.new) (W.contents writer.old) (W.contents writer.new) (F.contents faults.old)
+        (F.contents faults.new) name result)) }
     ensures bad_name { let line = map S.text words.now in line_faults line ≡ [] → result ≢ FAILED
         → IfAnswer (asked line) (λ text. is_err (name_of_text text) ≡ true → result ≡ BAD_INPUT) }
     ensures unread { IfAnswer (asked (map S.text words.now))
@@ -69,11 +70,11 @@ pub fn run_words<S: AsStr, R: Read, W: Write, F: Write>(
         (λ names listed. is_err (order_text names listed) ≡ true → writer.new ≡ writer.old) }
     ensures ordered_unread { IfOrder (asked (map S.text words.now)) (λ _ _. reader.new ≡ reader.old) }
     ensures timed { let line = map S.text words.now in line_faults line ≡ [] → result ≢ FAILED
-        → IfTimeouts (asked line)
-        (λ numbers. RunsTimeouts (W.contents writer.old) (W.contents writer.new) numbers result) }
+        → IfTimeouts (asked line) (λ numbers. RunsTimeouts (W.contents writer.old) (W.contents writer.new)
+        (F.contents faults.old) (F.contents faults.new) numbers result) }
     ensures simulated { let line = map S.text words.now in line_faults line ≡ [] → result ≢ FAILED
         → IfSim (asked line) (RunsSim (R.remaining reader.old) (R.remaining reader.new) (W.contents writer.old)
-        (W.contents writer.new) result) }
+        (W.contents writer.new) (F.contents faults.old) (F.contents faults.new) result) }
     ensures timed_unread { IfTimeouts (asked (map S.text words.now)) (λ _. reader.new ≡ reader.old) }
 
     // Any other is refused, or asks for help.
@@ -111,7 +112,8 @@ fn answer_named<R: Read, W: Write, F: Write>(
     faults: &mut F,
 ) -> u8
     ensures answered { result ≢ FAILED → IfOk (name_of_text name.now) (λ name. RunsAnswer (R.remaining reader.old)
-        (R.remaining reader.new) (W.contents writer.old) (W.contents writer.new) name result) }
+        (R.remaining reader.new) (W.contents writer.old) (W.contents writer.new) (F.contents faults.old)
+        (F.contents faults.new) name result) }
     ensures bad_name { is_err (name_of_text name.now) ≡ true → result ≡ BAD_INPUT }
     ensures unread { is_err (name_of_text name.now) ≡ true → reader.new ≡ reader.old }
     ensures unnamed { is_err (name_of_text name.now) ≡ true → writer.new ≡ writer.old }
@@ -145,7 +147,7 @@ fn simulate<R: Read, W: Write, F: Write>(
     faults: &mut F,
 ) -> u8
     ensures simulated { result ≢ FAILED → RunsSim (R.remaining reader.old) (R.remaining reader.new)
-        (W.contents writer.old) (W.contents writer.new) result }
+        (W.contents writer.old) (W.contents writer.new) (F.contents faults.old) (F.contents faults.new) result }
     ensures failed { result ≡ FAILED
         → FailsBy (F.contents faults.old) (F.contents faults.new) writer.old writer.new }
     ensures read { result ≡ FAILED
@@ -198,7 +200,8 @@ fn timeouts_of<W: Write, F: Write>(
     faults: &mut F,
 ) -> u8
     requires { are_good numbers.now ≡ true }
-    ensures timed { result ≢ FAILED → RunsTimeouts (W.contents writer.old) (W.contents writer.new) numbers.now result }
+    ensures timed { result ≢ FAILED → RunsTimeouts (W.contents writer.old) (W.contents writer.new)
+        (F.contents faults.old) (F.contents faults.new) numbers.now result }
     ensures failed { result ≡ FAILED
         → FailsBy (F.contents faults.old) (F.contents faults.new) writer.old writer.new }
     ensures run { result ≢ USAGE }

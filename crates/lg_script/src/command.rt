@@ -63,7 +63,7 @@ pub enum Command {
     },
     /// A packet is heard by the member at its destination.
     Deliver {
-        /// Its number, by the order in which packets were sent. It may be the number of none.
+        /// Its number, from 1 on by the order in which packets were sent. It may be the number of none.
         packet: u64,
         /// When.
         now: Moment,

@@ -10,8 +10,8 @@ pub enum ScriptFault {
     Command,
     /// A space is doubled, leads or trails, or the command takes another number of words.
     Words,
-    /// A word is out of its form or range, a key is unknown, or an `open` gives a configuration
-    /// that fails its check.
+    /// A word is out of its form or range, a key is unknown, or an `open` has more than 16 seeds or
+    /// gives a configuration that fails its check.
     Value,
     /// The name or the port of an `open` is open already.
     Double,

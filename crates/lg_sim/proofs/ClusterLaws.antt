@@ -79,7 +79,7 @@ use Rattle.lg_sim.specs.Support.After.{
 use Rattle.lg_sim.proofs.PlaceLaws.{find-map, find_placed, find_unplaced, placed_within}
 use Rattle.lg_sim.specs.declared.host.Host.{Host}
 use Rattle.lg_sim.specs.declared.host.Member.{Member}
-use Rattle.lg_sim.specs.declared.host.Sent.{Sent}
+use Rattle.lg_sim.specs.declared.host.SentPacket.{SentPacket}
 use Rattle.lg_sim.specs.declared.cluster.Cluster.{Cluster}
 
 -- ---- the events of a name
@@ -155,13 +155,13 @@ within_some [] k e = absurd (omega arith)
 within_some (x ∷ xs) zero e = (x, refl)
 within_some (x ∷ xs) (suc k) e = within_some xs k (omega arith)
 
-pub member_in : (hosts : List Host) (packets : List Sent) (members : List Member) (past : List Happening) (at : ℕ) → IsCluster hosts packets members past → at < length hosts
+pub member_in : (hosts : List Host) (packets : List SentPacket) (members : List Member) (past : List Happening) (at : ℕ) → IsCluster hosts packets members past → at < length hosts
     → (m : Member) × (slice_get members at ≡ Some m)
 member_in hosts packets members past at is within =
     let same : length hosts ≡ length members = ap length is.hosts_are ∙ length-map members (host_after past) in
     within_some members at (omega arith)
 
-pub read_host : (hosts : List Host) (packets : List Sent) (members : List Member) (past : List Happening) (at : ℕ) (m : Member) (x : Host) → IsCluster hosts packets members past
+pub read_host : (hosts : List Host) (packets : List SentPacket) (members : List Member) (past : List Happening) (at : ℕ) (m : Member) (x : Host) → IsCluster hosts packets members past
     → slice_get members at ≡ Some m → x ≡ get_or hosts at x → x ≡ host_after past m
 read_host hosts packets members past at m x is found read =
     let place : slice_get hosts at ≡ Some (host_after past m) =
@@ -190,7 +190,7 @@ pub begun_more : (es : List Event) (e : Event) → is_begun (es ++ e ∷ []) ≡
 begun_more [] e = refl
 begun_more (x ∷ es) e = refl
 
-pub has_begun : (hosts : List Host) (packets : List Sent) (members : List Member) (past : List Happening) (at : ℕ) (m : Member)
+pub has_begun : (hosts : List Host) (packets : List SentPacket) (members : List Member) (past : List Happening) (at : ℕ) (m : Member)
     → IsCluster hosts packets members past → slice_get members at ≡ Some m → 0 < length (events_of m.name past)
 has_begun hosts packets members past at m is found =
     begun_some (events_of m.name past) (sym (is.begun m.name) ∙ first_among members at m (is_named m.name) found (nat_list_eq_equiv.refl m.name))
@@ -223,7 +223,7 @@ accepts_next cluster at x e reached within read later =
 
 -- ---- a cluster goes on by an event at the member in a place
 
-pub happened : (hosts : List Host) (packets : List Sent) (members : List Member) (past : List Happening) (at : ℕ) (m : Member) (e : Event) (led : Host) (sends : List Sent)
+pub happened : (hosts : List Host) (packets : List SentPacket) (members : List Member) (past : List Happening) (at : ℕ) (m : Member) (e : Event) (led : Host) (sends : List SentPacket)
     → IsCluster hosts packets members past → slice_get members at ≡ Some m
     → led ≡ record { member = m; detector = state_after (events_of m.name past ++ e ∷ []) }
     → sends ≡ packets ++ sent_by (record { member = m; event = e }) past
@@ -234,7 +234,7 @@ happened hosts packets members past at m e led sends is found leads sent_more = 
       let own : events_of m.name (h ∷ past) ≡ events_of m.name past ++ e ∷ [] = events_of-own m.name h past (nat_list_eq_equiv.refl m.name) in
       let now : led ≡ host_after (h ∷ past) m = leads ∙ ap (λ (es : List Event). record { member = m; detector = state_after es }) (sym own) in
       rw (is.hosts_are, now) (hosts_led past members at m e found is.distinct);
-  packets_are = sent_more ∙ ap (λ (ps : List Sent). ps ++ sent_by (record { member = m; event = e }) past) is.packets_are;
+  packets_are = sent_more ∙ ap (λ (ps : List SentPacket). ps ++ sent_by (record { member = m; event = e }) past) is.packets_are;
   distinct = is.distinct;
   begun = λ name. begun_on name (is_named name m) refl;
 }
@@ -274,17 +274,17 @@ of_map found past None e none = refl
 of_map found past (Some m) e none = absurd cc
 
 -- the hosts that pass a test of their members are those of the members that pass it
-pub found_host : (hosts : List Host) (packets : List Sent) (members : List Member) (past : List Happening) (test : Member → Bool) → IsCluster hosts packets members past
+pub found_host : (hosts : List Host) (packets : List SentPacket) (members : List Member) (past : List Happening) (test : Member → Bool) → IsCluster hosts packets members past
     → find (λ host. test host.member) hosts ≡ option_map (host_after past) (find test members)
 found_host hosts packets members past test is =
     ap (λ (hs : List Host). find (λ host. test host.member) hs) is.hosts_are ∙ find-map (λ host. test host.member) (host_after past) members
 
-pub found_nowhere : (hosts : List Host) (packets : List Sent) (members : List Member) (past : List Happening) (test : Member → Bool) → IsCluster hosts packets members past
+pub found_nowhere : (hosts : List Host) (packets : List SentPacket) (members : List Member) (past : List Happening) (test : Member → Bool) → IsCluster hosts packets members past
     → None ≡ position (λ host. test host.member) hosts → find test members ≡ None
 found_nowhere hosts packets members past test is none =
     of_map (find (λ host. test host.member) hosts) past (find test members) (found_host hosts packets members past test is) (find_unplaced (λ host. test host.member) hosts none)
 
-pub found_at : (hosts : List Host) (packets : List Sent) (members : List Member) (past : List Happening) (test : Member → Bool) (at : ℕ) → IsCluster hosts packets members past
+pub found_at : (hosts : List Host) (packets : List SentPacket) (members : List Member) (past : List Happening) (test : Member → Bool) (at : ℕ) → IsCluster hosts packets members past
     → Some at ≡ position (λ host. test host.member) hosts → (m : Member) × (find test members ≡ Some m) × (slice_get members at ≡ Some m)
 found_at hosts packets members past test at is found =
     let within = placed_within (λ host. test host.member) hosts at found in
@@ -300,11 +300,11 @@ found_at hosts packets members past test at is found =
 
 -- ---- a command for a name
 
-pub named_nowhere : (hosts : List Host) (packets : List Sent) (members : List Member) (past : List Happening) (name : List ℕ) → IsCluster hosts packets members past
+pub named_nowhere : (hosts : List Host) (packets : List SentPacket) (members : List Member) (past : List Happening) (name : List ℕ) → IsCluster hosts packets members past
     → None ≡ position (λ host. is_named name host.member) hosts → member_named name members ≡ None
 named_nowhere hosts packets members past name is none = found_nowhere hosts packets members past (is_named name) is none
 
-pub named_at : (hosts : List Host) (packets : List Sent) (members : List Member) (past : List Happening) (name : List ℕ) (at : ℕ) → IsCluster hosts packets members past
+pub named_at : (hosts : List Host) (packets : List SentPacket) (members : List Member) (past : List Happening) (name : List ℕ) (at : ℕ) → IsCluster hosts packets members past
     → Some at ≡ position (λ host. is_named name host.member) hosts → (m : Member) × (member_named name members ≡ Some m) × (slice_get members at ≡ Some m)
 named_at hosts packets members past name at is found = found_at hosts packets members past (is_named name) at is found
 
@@ -333,7 +333,7 @@ found_passes test (x ∷ xs) m found = either (test x) refl (λ rest. found_pass
     either false it rest = rest (sym (ap (λ (c : Bool). cond c (Some x) (find test xs)) it) ∙ found)
 
 -- the detector of the member of a name is after the events of that name
-pub named_after : (hosts : List Host) (packets : List Sent) (members : List Member) (past : List Happening) (name : List ℕ) (at : ℕ) (x : Host)
+pub named_after : (hosts : List Host) (packets : List SentPacket) (members : List Member) (past : List Happening) (name : List ℕ) (at : ℕ) (x : Host)
     → IsCluster hosts packets members past → Some at ≡ position (λ host. is_named name host.member) hosts → x ≡ get_or hosts at x
     → x.detector ≡ state_after (events_of name past)
 named_after hosts packets members past name at x is found read =
@@ -344,7 +344,7 @@ named_after hosts packets members past name at x is found read =
 
 -- ---- a delivery
 
-delivers : (now : ℕ) (o : Option Sent) (to : Addr) (e : Event) (members : List Member) → delivery_of now o ≡ Some (to, e)
+delivers : (now : ℕ) (o : Option SentPacket) (to : Addr) (e : Event) (members : List Member) → delivery_of now o ≡ Some (to, e)
     → delivered now o members ≡ option_map (λ (m : Member). record { member = m; event = e }) (member_at to members)
 delivers now None to e members is = absurd cc
 delivers now (Some p) to e members is =
@@ -360,7 +360,7 @@ pub leads_nobody : (cluster : Cluster) (text longer : List ℕ) (members : List 
 leads_nobody cluster text longer members past packet now to e is delivery nowhere lines =
     let none : member_at to members ≡ None = found_nowhere cluster.hosts.items cluster.sent.items members past (is_at to) is nowhere in
     let said : delivered now (packet_number packet (sent past)) members ≡ None =
-    ap (λ (ps : List Sent). delivered now (packet_number packet ps) members) (sym is.packets_are)
+    ap (λ (ps : List SentPacket). delivered now (packet_number packet ps) members) (sym is.packets_are)
     ∙ delivers now (packet_number packet cluster.sent.items) to e members delivery
     ∙ ap (λ (o : Option Member). option_map (λ (m : Member). record { member = m; event = e }) o) none in
     subst (λ (o : Option Happening). LedOn cluster cluster text longer members past o) (sym said) (record {
@@ -378,7 +378,7 @@ pub leads_delivery : (old new : Cluster) (text longer : List ℕ) (members : Lis
 leads_delivery old new text longer members past packet now to e at is delivery place leads =
     let found = found_at old.hosts.items old.sent.items members past (is_at to) at is place in
     let said : delivered now (packet_number packet (sent past)) members ≡ Some (record { member = found.0; event = e }) =
-    ap (λ (ps : List Sent). delivered now (packet_number packet ps) members) (sym is.packets_are)
+    ap (λ (ps : List SentPacket). delivered now (packet_number packet ps) members) (sym is.packets_are)
     ∙ delivers now (packet_number packet old.sent.items) to e members delivery
     ∙ ap (λ (o : Option Member). option_map (λ (m : Member). record { member = m; event = e }) o) found.1 in
     subst (λ (o : Option Happening). LedOn old new text longer members past o) (sym said) (leads found.0 found.2)

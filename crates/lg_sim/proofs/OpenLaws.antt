@@ -76,7 +76,7 @@ use Rattle.lg_sim.proofs.PlaceLaws.{find_placed, find_unplaced, placed_within}
 use Rattle.lg_sim.specs.declared.cluster.Cluster.{Cluster}
 use Rattle.lg_sim.specs.declared.host.Host.{Host}
 use Rattle.lg_sim.specs.declared.host.Member.{Member}
-use Rattle.lg_sim.specs.declared.host.Sent.{Sent}
+use Rattle.lg_sim.specs.declared.host.SentPacket.{SentPacket}
 
 -- ---- why a member can't be opened
 
@@ -90,7 +90,7 @@ some_mapped : {X Y : Type 0} (f : X → Y) (o : Option X) → is_some (option_ma
 some_mapped f None = refl
 some_mapped f (Some x) = refl
 
-some_host : (hosts : List Host) (packets : List Sent) (members : List Member) (past : List Happening) (test : Member → Bool) → IsCluster hosts packets members past
+some_host : (hosts : List Host) (packets : List SentPacket) (members : List Member) (past : List Happening) (test : Member → Bool) → IsCluster hosts packets members past
     → is_some (position (λ host. test host.member) hosts) ≡ is_some (find test members)
 some_host hosts packets members past test is =
     some_place (λ host. test host.member) hosts (position (λ host. test host.member) hosts) refl
@@ -100,7 +100,7 @@ some_host hosts packets members past test is =
 abbrev fault_by : Bool → Bool → Bool → ℕ → Option ScriptFault
 fault_by bad named placed n = cond bad (Some fault.Value) (cond (named || placed) (Some fault.Double) (cond (leb 16 n) (Some fault.Full) None))
 
-pub fault_in-is : (hosts : List Host) (packets : List Sent) (members : List Member) (past : List Happening) (config : Config) → IsCluster hosts packets members past
+pub fault_in-is : (hosts : List Host) (packets : List SentPacket) (members : List Member) (past : List Happening) (config : Config) → IsCluster hosts packets members past
     → fault_in config hosts ≡ opening_fault config members
 fault_in-is hosts packets members past config is =
     let bad = is_err (check_of config) in
@@ -166,7 +166,7 @@ no_events : (es : List Event) → is_begun es ≡ false → es ≡ []
 no_events [] e = refl
 no_events (x ∷ es) e = absurd cc
 
-pub new_events : (hosts : List Host) (packets : List Sent) (members : List Member) (past : List Happening) (name : List ℕ) → IsCluster hosts packets members past → member_named name members ≡ None
+pub new_events : (hosts : List Host) (packets : List SentPacket) (members : List Member) (past : List Happening) (name : List ℕ) → IsCluster hosts packets members past → member_named name members ≡ None
     → events_of name past ≡ []
 new_events hosts packets members past name is none =
     no_events (events_of name past) (sym (is.begun name) ∙ ap (λ (o : Option Member). is_some o) none)
@@ -179,7 +179,7 @@ none_more : (o : Option Member) → is_some (option_or o None) ≡ is_some o
 none_more None = refl
 none_more (Some x) = refl
 
-began : (hosts : List Host) (packets : List Sent) (members : List Member) (past : List Happening) (m : Member) (e : Event) (host : Host) (sends : List Sent)
+began : (hosts : List Host) (packets : List SentPacket) (members : List Member) (past : List Happening) (m : Member) (e : Event) (host : Host) (sends : List SentPacket)
     → IsCluster hosts packets members past → member_named m.name members ≡ None
     → host ≡ record { member = m; detector = state_after (e ∷ []) }
     → sends ≡ packets ++ sent_by (record { member = m; event = e }) past
@@ -195,7 +195,7 @@ began hosts packets members past m e host sends is none leads sent_more =
           ap (λ (hs : List Host). hs ++ host ∷ []) (is.hosts_are ∙ hosts_same past h members new)
           ∙ ap (λ (x : Host). map (host_after (h ∷ past)) members ++ x ∷ []) now
           ∙ sym (map-append (host_after (h ∷ past)) members (m ∷ []));
-      packets_are = sent_more ∙ ap (λ (ps : List Sent). ps ++ sent_by h past) is.packets_are;
+      packets_are = sent_more ∙ ap (λ (ps : List SentPacket). ps ++ sent_by h past) is.packets_are;
       distinct = distinct_more members m is.distinct new;
       begun = λ name. begun_on name (is_named name m) refl;
     }

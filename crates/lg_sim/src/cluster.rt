@@ -7,14 +7,14 @@ ghost use Rattle.lg_report.specs.Meaning.Records.{table_text};
 ghost use Rattle.lg_sim.specs.Meaning.Members.{Happening, events_of, is_at, is_named, member_named};
 ghost use Rattle.lg_sim.specs.Meaning.Members.{packet_number, sent};
 ghost use Rattle.lg_sim.specs.Meaning.Outcome.{naming_fault, opening_fault, packet_fault};
-ghost use Rattle.lg_sim.specs.Meaning.Past.{at_named, delivered, heard, new_member, opening, unset, with_number};
+ghost use Rattle.lg_sim.specs.Meaning.Past.{at_named, delivered, heard, new_member, opening_config, unset, with_number};
 ghost use Rattle.lg_sim.specs.Support.After.{IsCluster, IsReached, LedOn, StopsAt, delivery_of, fault_in};
 ghost use Rattle.lg_detector.specs.declared.event.Event.TheVariants as Happened;
 ghost use Rattle.lg_timing.specs.Meaning.Config.{IsChecked};
 ghost use Rattle.lg_sim.specs.declared.host.Member.{Member as OfMember};
-ghost use Rattle.lg_sim.specs.declared.cluster.Stop.TheVariants.{NoRoom};
+ghost use Rattle.lg_sim.specs.declared.cluster.Stop.TheVariants.{NoMemory};
 
-use crate::host::{Host, Member, Row, Sent, lead};
+use crate::host::{Host, Member, Row, SentPacket, lead};
 use arrayvec::ArrayVec;
 use lg_detector::{Detector, Event, NoMemory, Reply};
 use lg_report::put_table;
@@ -30,16 +30,16 @@ pub const MAX_CLUSTER: usize = 16;
 #[derive(Clone, Copy, Debug, PartialEq, Eq)]
 pub enum Stop {
     /// Memory was refused.
-    NoRoom,
+    NoMemory,
     /// The command is faulty.
     Faulty(ScriptFault),
 }
 
 impl From<AllocError> for Stop {
-    ghost from_gives = { λ _ stop. stop ≡ NoRoom };
+    ghost from_gives = { λ _ stop. stop ≡ NoMemory };
 
     fn from(_refused: AllocError) -> Stop {
-        Stop::NoRoom
+        Stop::NoMemory
     }
 }
 
@@ -51,7 +51,7 @@ pub struct Cluster {
     /// The members, in the order in which they were opened: at most [`MAX_CLUSTER`].
     hosts: Vec<Host>,
     /// The packets that they sent, in the order in which they were sent.
-    sent: Vec<Sent>,
+    sent: Vec<SentPacket>,
 }
 
 impl Cluster {
@@ -137,7 +137,7 @@ impl Cluster {
         ensures stops { (members : List OfMember) (past : List Happening)
             → IsCluster self.old.hosts.items self.old.sent.items members past
             → StopsAt result (naming_fault name.now members) }
-        ensures unchanged { IfErr result (λ stop. stop ≢ Stop.NoRoom
+        ensures unchanged { IfErr result (λ stop. stop ≢ Stop.NoMemory
             → (self.new ≡ self.old) × (text.new.items ≡ text.old.items)) }
         ensures leads { OnOk result ((members : List OfMember) (past : List Happening)
             → IsCluster self.old.hosts.items self.old.sent.items members past
@@ -150,9 +150,10 @@ impl Cluster {
         self.happen(at, event, reply, row, text)?;
         Ok(())
     }
+
     /// The configuration of a member of this name and port, with these seeds and the settings.
     fn config_of(&self, name: Name, port: u16, seeds: ArrayVec<Seed, MAX_SEEDS>) -> Config
-        ensures { result ≡ opening name port seeds self.now.settings }
+        ensures { result ≡ opening_config name port seeds self.now.settings }
     {
         Config {
             seeds,
@@ -222,15 +223,15 @@ impl Cluster {
     ) -> Result<(), Stop>
         ensures stops { (members : List OfMember) (past : List Happening)
             → IsCluster self.old.hosts.items self.old.sent.items members past
-            → StopsAt result (opening_fault (opening name port seeds self.old.settings) members) }
-        ensures unchanged { IfErr result (λ stop. stop ≢ Stop.NoRoom
+            → StopsAt result (opening_fault (opening_config name port seeds self.old.settings) members) }
+        ensures unchanged { IfErr result (λ stop. stop ≢ Stop.NoMemory
             → (self.new ≡ self.old) × (text.new.items ≡ text.old.items)) }
         ensures leads { OnOk result ((members : List OfMember) (past : List Happening)
             → IsCluster self.old.hosts.items self.old.sent.items members past
             → LedOn self.old self.new text.old.items text.new.items (members ++ new_member name port ∷ []) past
             (Some (record {
               member = new_member name port;
-              event = Happened.Open now (opening name port seeds self.old.settings);
+              event = Happened.Open now (opening_config name port seeds self.old.settings);
             }))) }
     {
         let config = self.config_of(name, port, seeds);
@@ -270,7 +271,7 @@ impl Cluster {
         ensures stops { (members : List OfMember) (past : List Happening)
             → IsCluster self.old.hosts.items self.old.sent.items members past
             → StopsAt result (packet_fault packet past) }
-        ensures unchanged { IfErr result (λ stop. stop ≢ Stop.NoRoom
+        ensures unchanged { IfErr result (λ stop. stop ≢ Stop.NoMemory
             → (self.new ≡ self.old) × (text.new.items ≡ text.old.items)) }
         ensures leads { OnOk result ((members : List OfMember) (past : List Happening)
             → IsCluster self.old.hosts.items self.old.sent.items members past
@@ -293,7 +294,7 @@ impl Cluster {
         ensures stops { (members : List OfMember) (past : List Happening)
             → IsCluster self.now.hosts.items self.now.sent.items members past
             → StopsAt result (naming_fault name.now members) }
-        ensures unchanged { IfErr result (λ stop. stop ≢ Stop.NoRoom → text.new.items ≡ text.old.items) }
+        ensures unchanged { IfErr result (λ stop. stop ≢ Stop.NoMemory → text.new.items ≡ text.old.items) }
         ensures text { OnOk result ((members : List OfMember) (past : List Happening)
             → IsCluster self.now.hosts.items self.now.sent.items members past
             → text.new.items ≡ text.old.items ++ table_text (view_after (events_of name.now past))) }

@@ -1,7 +1,7 @@
 //! Carries out the commands of a script.
 ghost use Rattle.std.specs.Prelude.{◌≡◌, ◌≢◌, IfErr, List, OnOk};
 ghost use Rattle.lg_script.specs.declared.command.Command.{Command as Commanded};
-ghost use Rattle.lg_sim.specs.Meaning.Outcome.{fault_of};
+ghost use Rattle.lg_sim.specs.Meaning.Outcome.{command_fault};
 ghost use Rattle.lg_sim.specs.Support.After.{IsAfter, IsReached, Ran, StopsAt};
 
 use crate::cluster::{Cluster, Stop};
@@ -23,8 +23,9 @@ pub fn run_command(
     text: &mut Vec<u8>,
 ) -> Result<(), Stop>
     requires { IsReached cluster.old }
-    ensures stops { (before : List Commanded) → IsAfter cluster.old before → StopsAt result (fault_of command before) }
-    ensures unchanged { IfErr result (λ stop. stop ≢ Stop.NoRoom
+    ensures stops { (before : List Commanded) → IsAfter cluster.old before
+        → StopsAt result (command_fault command before) }
+    ensures unchanged { IfErr result (λ stop. stop ≢ Stop.NoMemory
         → (cluster.new ≡ cluster.old) × (text.new.items ≡ text.old.items)) }
     ensures runs { OnOk result ((before : List Commanded) → IsAfter cluster.old before
         → Ran cluster.new text.old.items text.new.items before command) }

@@ -35,7 +35,7 @@ pub struct Host {
 
 /// A packet that a member sent.
 #[derive(Debug, Drop)]
-pub struct Sent {
+pub struct SentPacket {
     /// The address of the member that sent it.
     pub from: Addr,
     /// The packet, and where it goes.
@@ -59,12 +59,12 @@ impl Member {
 }
 
 /// Keeps copies of packets that a member at an address sends, behind those sent before.
-fn keep_sends(from: Addr, sends: &[Outgoing], sent: &mut Vec<Sent>) -> Result<(), NoMemory>
+fn keep_sends(from: Addr, sends: &[Outgoing], sent: &mut Vec<SentPacket>) -> Result<(), NoMemory>
     ensures { OnOk result (sent.new.items ≡ sent.old.items ++ map (sent_from from) sends.now) }
 {
     for outgoing in sends {
         let outgoing = outgoing.copy();
-        sent.push(Sent { from, outgoing })?;
+        sent.push(SentPacket { from, outgoing })?;
     }
     Ok(())
 }
@@ -76,7 +76,7 @@ fn keep_sends(from: Addr, sends: &[Outgoing], sent: &mut Vec<Sent>) -> Result<()
 pub fn lead(
     host: &mut Host,
     event: &Event,
-    sent: &mut Vec<Sent>,
+    sent: &mut Vec<SentPacket>,
     reply: &mut Reply,
     row: &mut Row,
     text: &mut Vec<u8>,

@@ -48,7 +48,7 @@ fn run_line(
     requires { IsReached cluster.old }
     ensures stops { (before : List Commanded) → IsAfter cluster.old before
         → StopsAt result (line_fault line.now before) }
-    ensures unchanged { IfErr result (λ stop. stop ≢ Stop.NoRoom
+    ensures unchanged { IfErr result (λ stop. stop ≢ Stop.NoMemory
         → (cluster.new ≡ cluster.old) × (text.new.items ≡ text.old.items)) }
     ensures runs { OnOk result ((before : List Commanded) → IsAfter cluster.old before
         → RanLine cluster.new text.old.items text.new.items before line.now) }
@@ -79,7 +79,7 @@ pub fn run_script(alloc: Global, input: &[u8]) -> Result<Written, NoMemory>
         let (line, after) = cut_line(rest);
         match run_line(alloc, line, &mut cluster, &mut reply, &mut row, &mut text) {
             Ok(()) => {}
-            Err(Stop::NoRoom) => return Err(AllocError),
+            Err(Stop::NoMemory) => return Err(AllocError),
             Err(Stop::Faulty(fault)) => {
                 put_fault(number, fault, &mut text)?;
                 let end = End::Faulty;

@@ -16,16 +16,17 @@ use std::io::{Read, Write};
 /// them, and each command gives lines of text. The members that are opened are at 127.0.0.1, at most [`MAX_CLUSTER`] of
 /// them; what a member sends is numbered from 1 over all members, and is heard only where a command delivers it, which
 /// may be never, again, and in any order. A packet whose destination no member has gives the line `nobody`. A line that
-/// is empty or begins with `#` is passed over. The first faulty line gives `fault LINE KIND` as the last line of the
-/// text, and the end is then [`End::Faulty`] (all this project's choice).
+/// is empty or begins with `#` is passed over, but counted. The first faulty line gives `fault LINE KIND` as the last
+/// line of the text, where lines count from 1 and `lg_script::ScriptFault` has the kinds, and the end is then
+/// [`End::Faulty`] (all this project's choice).
 ///
 /// [`MAX_CLUSTER`]: crate::MAX_CLUSTER
 ///
-/// The input has at most 1,048,576 bytes; a longer or endless one is [`RunFault::Read`], as is any error of the reader
-/// but an interruption; [`RunFault::Memory`] comes before that where memory is refused for what was read so far. The
-/// whole text is made before its first byte is written: with [`RunFault::Read`] or [`RunFault::Memory`] nothing is.
-/// [`RunFault::Write`] comes only once the whole input was read, and doesn't say how much stands written. Time and
-/// memory are in proportion to the input and the text.
+/// The input has at most 1,048,576 bytes; a longer or endless one is [`RunFault::Read`], found after at most 1,048,577
+/// bytes and 2,097,154 read calls, as is any error of the reader but an interruption; [`RunFault::Memory`] comes before
+/// that where memory is refused for what was read so far. The whole text is made before its first byte is written: with
+/// [`RunFault::Read`] or [`RunFault::Memory`] nothing is. [`RunFault::Write`] comes only once the whole input was read,
+/// and doesn't say how much stands written. Time and memory are in proportion to the input and the text.
 ///
 /// What is said of bytes holds for a reader and a writer that tell their bytes, as those over memory do.
 pub fn run<R: Read, W: Write>(

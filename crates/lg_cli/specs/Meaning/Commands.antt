@@ -76,13 +76,13 @@ abbrev pub text_in : List Row → Text → Text
 text_in rows id = unwrap_or (first_of id rows) []
 
 -- the number that a text spells, or 0 where it spells none of 64 bits
-abbrev pub number_of : Text → ℕ
-number_of text =
+abbrev pub option_number : Text → ℕ
+option_number text =
     if accepts false (Unsigned 0 18446744073709551615) text then digits_value 10 (without_leading_plus text) else 0
 
 -- the number of an option, or 0 where it has none
 abbrev pub number_in : List Row → Text → ℕ
-number_in rows id = option_map_or number_of (one_of id rows) 0
+number_in rows id = option_map_or option_number (one_of id rows) 0
 
 abbrev pub numbers_in : List Row → Numbers
 numbers_in rows = record {

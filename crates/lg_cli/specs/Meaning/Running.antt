@@ -37,21 +37,26 @@ abbrev pub status_of : End → ℕ
 status_of Done = 0
 status_of Faulty = 3
 
--- the same, with the status of its end
-pub record RunsAnswer (left rest held holds : Option (List ℕ)) (name : List ℕ) (status : ℕ) : Type 0 where
+-- the same, with the status of its end; nothing is reported
+pub record RunsAnswer (left rest held holds reported reports : Option (List ℕ)) (name : List ℕ) (status : ℕ)
+    : Type 0 where
   pub end : End
   pub is : status ≡ status_of end
+  pub silent : Appends reported reports []
   pub answers : AnswersInput left rest held holds name end
 
--- An input that isn't too long is read to its end, and the text of the script that it is is written.
-pub record RunsSim (left rest held holds : Option (List ℕ)) (status : ℕ) : Type 0 where
+-- An input that isn't too long is read to its end as a script, and its text is written; nothing is reported.
+pub record RunsSim (left rest held holds reported reports : Option (List ℕ)) (status : ℕ) : Type 0 where
   pub end : End
   pub is : status ≡ status_of end
+  pub silent : Appends reported reports []
   pub runs : RunsInput left rest held holds end
 
--- The timeouts for some numbers are written, and the status is 0.
-pub record RunsTimeouts (held holds : Option (List ℕ)) (numbers : Numbers) (status : ℕ) : Type 0 where
+-- The timeouts for some numbers are written, nothing is reported, and the status is 0.
+pub record RunsTimeouts (held holds reported reports : Option (List ℕ)) (numbers : Numbers) (status : ℕ)
+    : Type 0 where
   pub is : status ≡ 0
+  pub silent : Appends reported reports []
   pub written : Appends held holds (timeouts_text numbers)
 
 -- The choices are written, nothing is reported, and the status is 0.

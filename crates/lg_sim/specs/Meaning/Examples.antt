@@ -20,11 +20,12 @@ use Rattle.lg_script.specs.declared.fault.ScriptFault.TheVariants as fault
 use Rattle.lg_text.specs.Meaning.Lines.{newline}
 use Rattle.lg_text.specs.declared.end.End.TheVariants.{Done, Faulty}
 use Rattle.lg_sim.specs.Meaning.Members.{Happening, events_of, member_at, member_named, packet_number, sent}
-use Rattle.lg_sim.specs.Meaning.Outcome.{fault_of, happening_text, opening_fault, text_of}
-use Rattle.lg_sim.specs.Meaning.Past.{delivered, happening_of, happenings, new_member, opened, opening, settings, unset}
+use Rattle.lg_sim.specs.Meaning.Outcome.{command_fault, happening_text, opening_fault, text_of}
+use Rattle.lg_sim.specs.Meaning.Past.{delivered, happening_of, happenings, new_member, opened}
+use Rattle.lg_sim.specs.Meaning.Past.{opening_config, settings, unset}
 use Rattle.lg_sim.specs.Meaning.Text.{script_end, script_text}
 use Rattle.lg_sim.specs.declared.host.Member.{Member}
-use Rattle.lg_sim.specs.declared.host.Sent.{Sent}
+use Rattle.lg_sim.specs.declared.host.SentPacket.{SentPacket}
 
 -- the names of three members, of which a is at port 7001 and b at 7002
 abbrev a : List ℕ
@@ -58,8 +59,8 @@ latest-counts = refl
 
 -- a setting is for the members that are opened later
 set-between : happenings (open-b ∷ Set Beta 5 ∷ open-a ∷ [])
-    ≡ record { member = member-b; event = event.Open 0 (opening b 7002 no-seeds (record unset { beta = 5 })) }
-    ∷ record { member = member-a; event = event.Open 0 (opening a 7001 no-seeds unset) } ∷ []
+    ≡ record { member = member-b; event = event.Open 0 (opening_config b 7002 no-seeds (record unset { beta = 5 })) }
+    ∷ record { member = member-a; event = event.Open 0 (opening_config a 7001 no-seeds unset) } ∷ []
 set-between = refl
 
 -- ---- members
@@ -109,10 +110,10 @@ pinged = record { sender = a; body = Ping 1 b; claims = record { items = [] } }
 acked : Packet
 acked = record { sender = b; body = Ack 1; claims = record { items = [] } }
 
-ping : Sent
+ping : SentPacket
 ping = record { from = local 7001; outgoing = record { to = local 7002; packet = pinged } }
 
-ack : Sent
+ack : SentPacket
 ack = record { from = local 7002; outgoing = record { to = local 7001; packet = acked } }
 
 first-packet : packet_number 1 (ping ∷ ack ∷ []) ≡ Some ping
@@ -151,15 +152,15 @@ one-sent = refl
 
 -- ---- faults
 
-unmade : fault_of (Open a 7001 0 no-seeds) (Set IntervalMs 5 ∷ open-a ∷ []) ≡ Some fault.Value
+unmade : command_fault (Open a 7001 0 no-seeds) (Set IntervalMs 5 ∷ open-a ∷ []) ≡ Some fault.Value
 unfolding check_of
 unmade = refl
 
-name-taken : fault_of (Open a 7003 0 no-seeds) (open-a ∷ []) ≡ Some fault.Double
+name-taken : command_fault (Open a 7003 0 no-seeds) (open-a ∷ []) ≡ Some fault.Double
 unfolding check_of
 name-taken = refl
 
-port-taken : fault_of (Open z 7001 0 no-seeds) (open-a ∷ []) ≡ Some fault.Double
+port-taken : command_fault (Open z 7001 0 no-seeds) (open-a ∷ []) ≡ Some fault.Double
 unfolding check_of
 port-taken = refl
 
@@ -167,25 +168,25 @@ port-taken = refl
 sixteen : List Member
 sixteen = map (λ n. new_member ((97 + n) ∷ []) (7001 + n)) (range_with_len 0 16)
 
-seventeenth : opening_fault (opening z 7100 no-seeds unset) sixteen ≡ Some fault.Full
+seventeenth : opening_fault (opening_config z 7100 no-seeds unset) sixteen ≡ Some fault.Full
 unfolding check_of sixteen
 seventeenth = refl
 
-seventeenth-of-used-name : opening_fault (opening a 7100 no-seeds unset) sixteen ≡ Some fault.Double
+seventeenth-of-used-name : opening_fault (opening_config a 7100 no-seeds unset) sixteen ≡ Some fault.Double
 unfolding check_of sixteen
 seventeenth-of-used-name = refl
 
-can-be-opened : fault_of open-b (open-a ∷ []) ≡ None
+can-be-opened : command_fault open-b (open-a ∷ []) ≡ None
 unfolding check_of
 can-be-opened = refl
 
-not-open : fault_of (Table z) (open-a ∷ []) ≡ Some fault.Member
+not-open : command_fault (Table z) (open-a ∷ []) ≡ Some fault.Member
 not-open = refl
 
-never-sent : fault_of (Deliver 1 0) [] ≡ Some fault.Packet
+never-sent : command_fault (Deliver 1 0) [] ≡ Some fault.Packet
 never-sent = refl
 
-set-is-never-faulty : fault_of (Set IntervalMs 5) [] ≡ None
+set-is-never-faulty : command_fault (Set IntervalMs 5) [] ≡ None
 set-is-never-faulty = refl
 
 -- ---- texts

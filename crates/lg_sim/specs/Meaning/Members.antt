@@ -23,7 +23,7 @@ use Rattle.lg_detector.specs.Meaning.Step.{reply_after}
 use Rattle.lg_detector.specs.declared.event.Event.{Event}
 use Rattle.lg_detector.specs.declared.reply.Outgoing.{Outgoing}
 use Rattle.lg_sim.specs.declared.host.Member.{Member}
-use Rattle.lg_sim.specs.declared.host.Sent.{Sent}
+use Rattle.lg_sim.specs.declared.host.SentPacket.{SentPacket}
 
 -- a member has this name; it is at this address
 abbrev pub is_named : List ℕ → Member → Bool
@@ -50,19 +50,19 @@ events_of name [] = []
 events_of name (h ∷ past) = events_of name past ++ (if is_named name h.member then h.event ∷ [] else [])
 
 -- a packet, sent from this address
-abbrev pub sent_from : Addr → Outgoing → Sent
+abbrev pub sent_from : Addr → Outgoing → SentPacket
 sent_from addr outgoing = record { from = addr; outgoing = outgoing }
 
 -- the packets that the last happening sent, after those before it
-abbrev pub sent_by : Happening → List Happening → List Sent
+abbrev pub sent_by : Happening → List Happening → List SentPacket
 sent_by h past =
     map (sent_from h.member.addr) (reply_after (events_of h.member.name past) h.event).sends.items
 
 -- all packets that were sent, over all members, in the order in which they were sent
-abbrev pub sent : List Happening → List Sent
+abbrev pub sent : List Happening → List SentPacket
 sent [] = []
 sent (h ∷ past) = sent past ++ sent_by h past
 
 -- packet number k of those that were sent, counted from 1
-abbrev pub packet_number : ℕ → List Sent → Option Sent
+abbrev pub packet_number : ℕ → List SentPacket → Option SentPacket
 packet_number k packets = if k == 0 then None else slice_get packets (k - 1)

@@ -29,7 +29,7 @@ use Rattle.lg_script.specs.declared.command.Command.TheVariants.{Set, Open, Tick
 use Rattle.lg_script.specs.declared.fault.ScriptFault.{ScriptFault}
 use Rattle.lg_script.specs.declared.fault.ScriptFault.TheVariants as fault
 use Rattle.lg_sim.specs.Meaning.Members.{Happening, events_of, member_at, member_named, packet_number, sent}
-use Rattle.lg_sim.specs.Meaning.Past.{happening_of, happenings, opened, opening, settings}
+use Rattle.lg_sim.specs.Meaning.Past.{happening_of, happenings, opened, opening_config, settings}
 use Rattle.lg_sim.specs.declared.host.Member.{Member}
 
 -- at most 16 members are opened (this project's choice)
@@ -57,16 +57,16 @@ abbrev pub packet_fault : ℕ → List Happening → Option ScriptFault
 packet_fault k past = if is_some (packet_number k (sent past)) then None else Some fault.Packet
 
 -- why a command can't be carried out after the earlier ones
-abbrev pub fault_of : Command → List Command → Option ScriptFault
-fault_of (Set key number) before = None
-fault_of (Open name port now seeds) before =
-    opening_fault (opening name port seeds (settings before)) (opened before)
-fault_of (Tick name now words) before = naming_fault name (opened before)
-fault_of (Deliver packet now) before = packet_fault packet (happenings before)
-fault_of (Ask name now other) before = naming_fault name (opened before)
-fault_of (Health name now) before = naming_fault name (opened before)
-fault_of (Pull name now port) before = naming_fault name (opened before)
-fault_of (Table name) before = naming_fault name (opened before)
+abbrev pub command_fault : Command → List Command → Option ScriptFault
+command_fault (Set key number) before = None
+command_fault (Open name port now seeds) before =
+    opening_fault (opening_config name port seeds (settings before)) (opened before)
+command_fault (Tick name now words) before = naming_fault name (opened before)
+command_fault (Deliver packet now) before = packet_fault packet (happenings before)
+command_fault (Ask name now other) before = naming_fault name (opened before)
+command_fault (Health name now) before = naming_fault name (opened before)
+command_fault (Pull name now port) before = naming_fault name (opened before)
+command_fault (Table name) before = naming_fault name (opened before)
 
 -- the lines of what happened: the reply of the member, whose packets are numbered on from those sent before
 abbrev pub happening_text : Option Happening → List Happening → List ℕ

@@ -27,7 +27,7 @@ use Rattle.lg_script.specs.declared.command.Key.TheVariants.{
 }
 use Rattle.lg_sim.specs.Meaning.Members.{Happening, member_at, member_named, packet_number, sent}
 use Rattle.lg_sim.specs.declared.host.Member.{Member}
-use Rattle.lg_sim.specs.declared.host.Sent.{Sent}
+use Rattle.lg_sim.specs.declared.host.SentPacket.{SentPacket}
 
 -- a configuration with another number
 abbrev pub with_number : Key → ℕ → Config → Config
@@ -53,8 +53,8 @@ settings (Set key number ∷ before) = with_number key number (settings before)
 settings (_ ∷ before) = settings before
 
 -- the configuration of a member that is opened with these numbers
-abbrev pub opening : List ℕ → ℕ → ArrayVec Seed → Config → Config
-opening name port seeds numbers = record numbers { seeds = seeds; name = name; addr = local port }
+abbrev pub opening_config : List ℕ → ℕ → ArrayVec Seed → Config → Config
+opening_config name port seeds numbers = record numbers { seeds = seeds; name = name; addr = local port }
 
 abbrev pub new_member : List ℕ → ℕ → Member
 new_member name port = record { name = name; addr = local port }
@@ -70,10 +70,10 @@ abbrev pub at_named : List ℕ → Event → List Member → Option Happening
 at_named name e members = option_map (λ m. record { member = m; event = e }) (member_named name members)
 
 -- a packet is heard by the member at its destination, from the address of its sender
-abbrev pub heard : ℕ → Sent → Event
+abbrev pub heard : ℕ → SentPacket → Event
 heard now packet = event.Heard now packet.from packet.outgoing.packet
 
-abbrev pub delivered : ℕ → Option Sent → List Member → Option Happening
+abbrev pub delivered : ℕ → Option SentPacket → List Member → Option Happening
 delivered now None members = None
 delivered now (Some packet) members =
     option_map (λ m. record { member = m; event = heard now packet }) (member_at packet.outgoing.to members)
@@ -83,7 +83,7 @@ abbrev pub happening_after : Command → List Command → List Happening → Opt
 happening_after (Set key number) before past = None
 happening_after (Open name port now seeds) before past = Some record {
   member = new_member name port;
-  event = event.Open now (opening name port seeds (settings before));
+  event = event.Open now (opening_config name port seeds (settings before));
 }
 happening_after (Tick name now words) before past = at_named name (event.Tick now words) (opened before)
 happening_after (Deliver packet now) before past = delivered now (packet_number packet (sent past)) (opened before)

@@ -7,12 +7,12 @@ use Rattle.lg_script.specs.Meaning.Faults.{fault_word}
 use Rattle.lg_script.specs.Meaning.Lines.{command_of}
 use Rattle.lg_script.specs.declared.command.Command.{Command}
 use Rattle.lg_script.specs.declared.fault.ScriptFault.{ScriptFault}
-use Rattle.lg_sim.specs.Meaning.Outcome.{fault_of, text_of}
+use Rattle.lg_sim.specs.Meaning.Outcome.{command_fault, text_of}
 
 -- Why a line is faulty after the earlier commands: by its form, or by its command. A line without a command isn't.
 abbrev pub fault_said : Result (Option Command) ScriptFault → List Command → Option ScriptFault
 fault_said (Ok None) before = None
-fault_said (Ok (Some command)) before = fault_of command before
+fault_said (Ok (Some command)) before = command_fault command before
 fault_said (Err fault) before = Some fault
 
 abbrev pub line_fault : List ℕ → List Command → Option ScriptFault

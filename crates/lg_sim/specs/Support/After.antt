@@ -44,10 +44,10 @@ use Rattle.lg_sim.specs.Meaning.Past.{happenings, heard, opened, settings}
 use Rattle.lg_sim.specs.Meaning.Text.{line_text, with_line}
 use Rattle.lg_sim.specs.declared.cluster.Cluster.{Cluster}
 use Rattle.lg_sim.specs.declared.cluster.Stop.{Stop}
-use Rattle.lg_sim.specs.declared.cluster.Stop.TheVariants.{NoRoom, Faulty}
+use Rattle.lg_sim.specs.declared.cluster.Stop.TheVariants.{NoMemory, Faulty}
 use Rattle.lg_sim.specs.declared.host.Host.{Host}
 use Rattle.lg_sim.specs.declared.host.Member.{Member}
-use Rattle.lg_sim.specs.declared.host.Sent.{Sent}
+use Rattle.lg_sim.specs.declared.host.SentPacket.{SentPacket}
 
 -- a member with its detector after what happened
 abbrev pub host_after : List Happening → Member → Host
@@ -64,7 +64,7 @@ is_begun (e ∷ es) = true
 
 -- The hosts and the packets sent are those of some members after what happened at them. A name has events exactly where
 -- a member of that name is open.
-pub record IsCluster (hosts : List Host) (packets : List Sent) (members : List Member) (past : List Happening)
+pub record IsCluster (hosts : List Host) (packets : List SentPacket) (members : List Member) (past : List Happening)
     : Type 0 where
   pub hosts_are : hosts ≡ map (host_after past) members
   pub packets_are : packets ≡ sent past
@@ -93,7 +93,7 @@ pub record LedOn (old new : Cluster) (text longer : List ℕ) (members : List Me
 abbrev pub StopsAt : Result (Unit {0}) Stop → Option ScriptFault → Type 0
 StopsAt (Ok done) fault = fault ≡ None
 StopsAt (Err (Faulty found)) fault = fault ≡ Some found
-StopsAt (Err NoRoom) fault = ⊤
+StopsAt (Err NoMemory) fault = ⊤
 
 -- why a member can't be opened, by the hosts
 abbrev pub fault_in : Config → List Host → Option ScriptFault
@@ -104,7 +104,7 @@ fault_in config hosts =
     else (if nat_le most_opened (length hosts) then Some fault.Full else None))
 
 -- where a packet goes, and what happens there when it is delivered
-abbrev pub delivery_of : ℕ → Option Sent → Option (Addr × Event)
+abbrev pub delivery_of : ℕ → Option SentPacket → Option (Addr × Event)
 delivery_of now packet = option_map (λ p. (p.outgoing.to, heard now p)) packet
 
 -- A command was carried out after some others: the cluster is after it too, and what it gives is put behind a text.

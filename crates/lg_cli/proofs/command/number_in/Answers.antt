@@ -4,7 +4,7 @@ use Rattle.std.specs.Str.Parse.{ParsesUnsigned, ExplainsUnsignedError, HasUnsign
 use Rattle.clap.specs.Matches.{found_of, one_text}
 use Rattle.clap.specs.Walk.{Text}
 use Rattle.clap.proofs.WalkLemmas.{one_text-rows}
-use Rattle.lg_cli.specs.Meaning.Commands.{number_of}
+use Rattle.lg_cli.specs.Meaning.Commands.{option_number}
 use Rattle.lg_cli.proofs.CommandLaws.{number_read}
 use Rattle.lg_cli.proofs.command.number_in.Goals as goal
 
@@ -14,4 +14,4 @@ returns c =
     c.unwrap_or.ensures
     ∙ number_read (λ t r. ParsesUnsigned 64 10 t r × ExplainsUnsignedError 10 t r × HasUnsignedDigitsIfOk t r) (one_text found c.args.id.now) c.get_one.result
     c.get_one.ensures.none c.get_one.ensures.value (λ t x g. g.0)
-    ∙ ap (λ (o : Option Text). option_map_or number_of o 0) (one_text-rows found c.args.id.now)
+    ∙ ap (λ (o : Option Text). option_map_or option_number o 0) (one_text-rows found c.args.id.now)

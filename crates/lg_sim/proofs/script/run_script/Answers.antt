@@ -3,7 +3,7 @@ use Rattle.lg_script.specs.declared.fault.ScriptFault.{ScriptFault}
 use Rattle.lg_sim.specs.Meaning.Text.{fault_line, line_fault}
 use Rattle.lg_sim.specs.Support.After.{StopsAt}
 use Rattle.lg_sim.specs.declared.cluster.Stop.{Stop}
-use Rattle.lg_sim.specs.declared.cluster.Stop.TheVariants.{NoRoom, Faulty}
+use Rattle.lg_sim.specs.declared.cluster.Stop.TheVariants.{NoMemory, Faulty}
 use Rattle.lg_sim.proofs.ScriptLaws.{run_more, run_none, stopped_text}
 use Rattle.lg_sim.proofs.script.run_script.Goals as goal
 
@@ -17,7 +17,7 @@ returns-in-Err-Faulty-clause-text c =
     let fault = c.in-Err-Faulty.fault in
     let bad : line_fault line has.before ≡ Some fault =
     subst (λ (s : Stop). StopsAt (Err s) (line_fault line has.before)) c.in-Err-Faulty.field-0-is (c.in-Err-Faulty.ensures.stops has.before has.after) in
-    let differs : c.in-Err-Faulty.field-0 ≢ NoRoom = λ e. let no : Faulty fault ≡ NoRoom = sym c.in-Err-Faulty.field-0-is ∙ e in absurd cc in
+    let differs : c.in-Err-Faulty.field-0 ≢ NoMemory = λ e. let no : Faulty fault ≡ NoMemory = sym c.in-Err-Faulty.field-0-is ∙ e in absurd cc in
     let same : c.run_line.new.text.items ≡ c.lines.text.items = (c.in-Err-Faulty.ensures.unchanged differs).1 in
     let lines : c.put_fault.new.text.items ≡ c.run_line.new.text.items ++ fault_line c.lines.number fault =
     c.in_ok-put_fault-in-Err-Faulty.ensures ∙ ap (λ (f : ScriptFault). c.run_line.new.text.items ++ fault_line c.lines.number f) c.in-Err-Faulty.fault-is in

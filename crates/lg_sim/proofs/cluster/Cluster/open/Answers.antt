@@ -2,7 +2,7 @@ use Rattle.std.proofs.Common.{◌≡◌, ◌∷◌, ◌++◌, [], Some, None, sy
 use Rattle.lg_timing.specs.declared.config.Config.{Config}
 use Rattle.lg_detector.specs.declared.event.Event.TheVariants.{Open}
 use Rattle.lg_sim.specs.Meaning.Outcome.{opening_fault}
-use Rattle.lg_sim.specs.Meaning.Past.{opening}
+use Rattle.lg_sim.specs.Meaning.Past.{opening_config}
 use Rattle.lg_sim.specs.Support.After.{LedOn, fault_in}
 use Rattle.lg_sim.proofs.OpenLaws.{fault_in-is, opens_new}
 use Rattle.lg_sim.proofs.cluster.Cluster.open.Goals as goal
@@ -10,7 +10,7 @@ use Rattle.lg_sim.proofs.cluster.Cluster.open.Goals as goal
 pub returns-in-Some-clause-stops : goal.returns-in-Some-clause-stops
 returns-in-Some-clause-stops c = λ members past is.
     let hosts = c.args.self.now.hosts.items in
-    let config : Config = opening c.args.name c.args.port c.args.seeds c.args.self.now.settings in
+    let config : Config = opening_config c.args.name c.args.port c.args.seeds c.args.self.now.settings in
     sym (fault_in-is hosts c.args.self.now.sent.items members past config is)
     ∙ ap (λ (k : Config). fault_in k hosts) (sym c.config_of-config.ensures)
     ∙ sym c.opening_fault.ensures ∙ c.in-Some.is
@@ -18,7 +18,7 @@ returns-in-Some-clause-stops c = λ members past is.
 pub returns-clause-stops : goal.returns-clause-stops
 returns-clause-stops c = λ members past is.
     let hosts = c.args.self.now.hosts.items in
-    let config : Config = opening c.args.name c.args.port c.args.seeds c.args.self.now.settings in
+    let config : Config = opening_config c.args.name c.args.port c.args.seeds c.args.self.now.settings in
     sym (fault_in-is hosts c.args.self.now.sent.items members past config is)
     ∙ ap (λ (k : Config). fault_in k hosts) (sym c.config_of-config.ensures)
     ∙ sym c.opening_fault.ensures ∙ c.in_default.is
