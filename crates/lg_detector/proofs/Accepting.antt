@@ -4,78 +4,40 @@ use Rattle.std.specs.List.{list_any}
 use Rattle.std.specs.Prelude.{Result, Ok, Err, is_ok}
 use Rattle.std.proofs.lemmas.List.{length-reverse}
 use Rattle.std.proofs.lemmas.List.Folds.{list_any-append}
-use Rattle.lg_rules.specs.declared.addr.Addr.{Addr}
-use Rattle.lg_rules.specs.declared.claim.Claim.{Claim}
-use Rattle.lg_packet.specs.declared.packet.Body.{Body}
-use Rattle.lg_packet.specs.declared.packet.Body.TheVariants.{Ping, PingReq, Ack, Nack, Pull, Page}
 use Rattle.lg_timing.specs.declared.config.Config.{Config}
 use Rattle.lg_timing.specs.declared.config.ConfigFault.{ConfigFault}
 use Rattle.lg_timing.specs.Meaning.Config.{check_of, IsChecked}
 use Rattle.lg_timers.specs.declared.timer.Timer.{Timer}
-use Rattle.lg_membership.specs.declared.origin.Origin.{Origin}
-use Rattle.lg_membership.specs.declared.origin.Origin.TheVariants.{Seed, Group}
-use Rattle.lg_membership.specs.Meaning.Log as group
 use Rattle.lg_detector.specs.declared.event.Event.{Event}
 use Rattle.lg_detector.specs.declared.event.Event.TheVariants.{Open, Tick, Heard, Ask, Health, Pull as Pulls}
-use Rattle.lg_detector.specs.declared.message.Message.{Message}
-use Rattle.lg_detector.specs.Meaning.Log.{Log, Came, Fired, Relayed, OfGroup, events, group_log}
-use Rattle.lg_detector.specs.Meaning.Relaying.{relays}
-use Rattle.lg_detector.specs.Meaning.Send.{send, send_all}
+use Rattle.lg_detector.specs.Meaning.Log.{Log, Came, events}
 use Rattle.lg_detector.specs.Meaning.Timing.{due}
-use Rattle.lg_detector.specs.Meaning.Apply.{apply, apply_all}
-use Rattle.lg_detector.specs.Meaning.Open.{seed_claims}
-use Rattle.lg_detector.specs.Meaning.Hear.{hear_claims, response, note, is_relayed}
-use Rattle.lg_detector.specs.Meaning.Tick.{expire, claims_said, messages}
+use Rattle.lg_detector.specs.Meaning.Tick.{expire}
 use Rattle.lg_detector.specs.Meaning.Step.{log_of, is_open, opens_well, is_accepted, most_events}
 use Rattle.lg_detector.specs.Support.State.{State}
 use Rattle.lg_detector.specs.Support.Step.{state_after, accepts_of}
+use Rattle.lg_detector.proofs.Leaving.{IsLeft, left-open, left-hear, left-fire}
 
-events-apply_all : (origin : Origin) (cs : List Claim) (log : Log) → events (apply_all origin cs log) ≡ events log
-events-apply_all origin [] log = refl
-events-apply_all origin (c ∷ cs) log = events-apply_all origin cs (apply origin c log)
-
-events-send : (body : Body) (log : Log) → events (send body log) ≡ events log
-events-send (Ping number target) log = refl
-events-send (PingReq number target addr) log = refl
-events-send (Ack number) log = refl
-events-send (Nack number) log = refl
-events-send (Pull after) log = refl
-events-send Page log = refl
-
-events-send_all : (ms : List Message) (log : Log) → events (send_all ms log) ≡ events log
-events-send_all [] log = refl
-events-send_all (m ∷ ms) log = events-send_all ms (send m.body log) ∙ events-send m.body log
-
-events-relayed : (b : Bool) (target : List ℕ) (source : Addr) (k : ℕ) (log : Log) → events (cond b (Relayed target source k ∷ log) log) ≡ events log
-events-relayed true target source k log = refl
-events-relayed false target source k log = refl
-
-events-note : (source : Addr) (sender : List ℕ) (body : Body) (log : Log) → events (note source sender body log) ≡ events log
-events-note source sender (Ping k target) log = refl
-events-note source sender (PingReq k target addr) log = events-relayed (is_relayed (group.me (group_log log)) (relays log) target) target source k log
-events-note source sender (Ack k) log = refl
-events-note source sender (Nack k) log = refl
-events-note source sender (Pull after) log = refl
-events-note source sender Page log = refl
+events_left : IsLeft events
+events_left = record {
+  said = λ now origin c log. refl;
+  sent = λ taken log. refl;
+  acked = λ k sender log. refl;
+  nacked = λ k sender log. refl;
+  relayed = λ target source k log. refl;
+}
 
 events-expire : (o : Option Timer) (words : List ℕ) (log : Log) → events (expire o words log) ≡ events log
 events-expire None words log = refl
-events-expire (Some timer) words log =
-    events-send_all (messages timer.id words log) (apply_all Group (claims_said timer.id log) (Fired timer words ∷ log))
-    ∙ events-apply_all Group (claims_said timer.id log) (Fired timer words ∷ log)
+events-expire (Some timer) words log = left-fire events events_left timer words log
 
 one_more : (n m : ℕ) → n ≡ m → n + 1 ≡ suc m
 one_more n m e = omega arith
 
 events-log_of : (past : List Event) → events (log_of past) ≡ length past
 events-log_of [] = refl
-events-log_of (Open now opening ∷ past) =
-    events-apply_all Seed (seed_claims opening) (OfGroup (group.Opened opening) ∷ Came now ∷ log_of past) ∙ one_more _ _ (events-log_of past)
-events-log_of (Heard now source packet ∷ past) =
-    let heard = hear_claims now packet (log_of past) in
-    events-send_all (response source packet.sender packet.body heard) (note source packet.sender packet.body heard)
-    ∙ events-note source packet.sender packet.body heard
-    ∙ events-apply_all Group packet.claims.items (Came now ∷ log_of past) ∙ one_more _ _ (events-log_of past)
+events-log_of (Open now opening ∷ past) = left-open events events_left now opening (log_of past) ∙ one_more _ _ (events-log_of past)
+events-log_of (Heard now source packet ∷ past) = left-hear events events_left now source packet (log_of past) ∙ one_more _ _ (events-log_of past)
 events-log_of (Tick now words ∷ past) = events-expire (due (Came now ∷ log_of past)) words (Came now ∷ log_of past) ∙ one_more _ _ (events-log_of past)
 events-log_of (Ask now name ∷ past) = one_more _ _ (events-log_of past)
 events-log_of (Health now ∷ past) = one_more _ _ (events-log_of past)

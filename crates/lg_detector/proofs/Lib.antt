@@ -11,4 +11,8 @@ pub mod Ticking
 pub mod Sending
 pub mod StepLaws
 pub mod WindowLaws
+pub mod Leaving
 pub mod Accepting
+pub mod AcceptedLists
+pub mod Deadlines
+pub mod ChoiceLaws

@@ -20,8 +20,11 @@ pub mod Ask
 pub mod Joining
 -- all of them
 pub mod Step
+-- whom rounds chose, by the replies and by the list of events
+pub mod Choice
 -- worked events: Examples has the literals that the others use
 pub mod Examples
 pub mod ProbingExamples
 pub mod RelayingExamples
 pub mod JoiningExamples
+pub mod ChoiceExamples

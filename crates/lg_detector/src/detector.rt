@@ -1,13 +1,20 @@
 //! The detector: what it keeps, which events it accepts, and the two calls that lead it on by one, `step` and `absorb`.
 //! Each kind of event is a file of its own.
-ghost use Rattle.std.specs.Prelude.{◌≡◌, ℕ, ◌≤◌, ◌++◌, [], ◌∷◌, List, length, IfOk, IsTrue, true, false};
+ghost use Rattle.std.specs.Prelude.{◌≡◌, ℕ, ◌≤◌, ◌<◌, ◌+◌, ◌++◌, [], ◌∷◌, List, length};
+ghost use Rattle.std.specs.Prelude.{IfOk, IsTrue, true, false, is_some};
+ghost use Rattle.std.specs.Option.{option_to_list};
 ghost use Rattle.lg_rules.specs.Meaning.Rows.{name_cmp, is_among};
 ghost use Rattle.lg_probe.specs.Meaning.Order.{window};
+ghost use Rattle.lg_timing.specs.declared.config.Config.{Config as Configuration};
+ghost use Rattle.lg_timing.specs.Meaning.Config.{IsChecked};
 ghost use Rattle.lg_detector.specs.declared.event.Event.{Event as Happened};
+ghost use Rattle.lg_detector.specs.declared.event.Event.TheVariants.{Open as Opening};
 ghost use Rattle.lg_detector.specs.Meaning.Log.{Log};
 ghost use Rattle.lg_detector.specs.Meaning.Probing.{others};
 ghost use Rattle.lg_detector.specs.Meaning.Window.{targets, AreOthers};
-ghost use Rattle.lg_detector.specs.Meaning.Step.{is_accepted, is_open, opens_well, reply_after};
+ghost use Rattle.lg_detector.specs.Meaning.Step.{is_accepted, is_open, opens_well, begins_open};
+ghost use Rattle.lg_detector.specs.Meaning.Step.{reply_after, deadline_after};
+ghost use Rattle.lg_detector.specs.Meaning.Choice.{choice, targets_after};
 ghost use Rattle.lg_detector.specs.Support.Step as state;
 ghost use Rattle.lg_detector.specs.Support.Step.{accepts_at, accepts_of, state_after};
 
@@ -212,6 +219,29 @@ pub fn states_lead_on()
     ensures next { (f : List Happened) (e : Happened) → IsTrue (accepts_of (state_after f) e)
         → state.step (state_after f) e ≡ state_after (f ++ e ∷ []) }
     ensures reply { (f : List Happened) (e : Happened) → state.reply (state_after f) e ≡ reply_after f e }
+    // After an accepted list, an event is accepted exactly where the list with it is.
+    ensures accepts { (f : List Happened) (e : Happened) → is_accepted f ≡ true
+        → accepts_of (state_after f) e ≡ is_accepted (f ++ e ∷ []) }
+    ensures events { (f : List Happened) → (state_after f).events ≡ length f }
+    // After a list that begins with an opening a timer is always set: by its first event, and by the list.
+    ensures deadline { (x : Happened) (f : List Happened) → is_open x ≡ true
+        → is_some (deadline_after (x ∷ f)) ≡ true }
+    ensures timed { (f : List Happened) → begins_open f ≡ true → is_some (deadline_after f) ≡ true }
+    // Whom an event chose is told by the reply to it.
+    ensures chosen { (f : List Happened) (e : Happened)
+        → targets_after (f ++ e ∷ []) ≡ targets_after f ++ option_to_list (choice (reply_after f e)) }
+{}
+
+/// Which lists of events are accepted: they have at most 4,000,000,000 events, and the first is an opening. The list of
+/// an opening alone is, where its configuration passes the check, and so is one with a further event that is no
+/// opening, as long as there is room.
+pub fn accepted_lists()
+    ensures few { (f : List Happened) → is_accepted f ≡ true → length f ≤ MAX_EVENTS }
+    ensures opens { (x : Happened) (f : List Happened) → is_accepted (x ∷ f) ≡ true → is_open x ≡ true }
+    ensures more { (x : Happened) (f : List Happened) (e : Happened) → is_accepted (x ∷ f) ≡ true
+        → is_open e ≡ false → length f + 1 < MAX_EVENTS → is_accepted (x ∷ f ++ e ∷ []) ≡ true }
+    ensures opening { (now : ℕ) (opening : Configuration) → IsChecked opening
+        → is_accepted (Opening now opening ∷ []) ≡ true }
 {}
 
 /// While the others that haven't failed stay the same and have p names, any 2p - 1 rounds in a row that choose a target

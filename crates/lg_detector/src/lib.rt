@@ -15,7 +15,9 @@ mod event;
 mod message;
 mod reply;
 
-pub use detector::{Detector, MAX_EVENTS, NoMemory, states_lead_on, windows_have_each};
+pub use detector::{
+    Detector, MAX_EVENTS, NoMemory, accepted_lists, states_lead_on, windows_have_each,
+};
 pub use event::Event;
 pub use lg_rules::MAX_MEMBERS;
 pub use lg_timers::{Timer, TimerId};

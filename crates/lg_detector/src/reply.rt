@@ -1,11 +1,16 @@
 //! The reply to an event: what fired, what is to be sent, and what changed.
-ghost use Rattle.std.specs.Prelude.{◌≡◌, ◌<◌, ◌≤◌, length, [], None};
+ghost use Rattle.std.specs.Prelude.{◌≡◌, ◌<◌, ◌≤◌, ◌++◌, List, length, [], ◌∷◌, None};
+ghost use Rattle.std.specs.Option.{option_to_list};
 ghost use Rattle.arrayvec.specs.ArrayVec.{array_vec_len};
+ghost use Rattle.lg_detector.specs.declared.event.Event.{Event as Happened};
+ghost use Rattle.lg_detector.specs.Meaning.Probing.{is_round_start};
+ghost use Rattle.lg_detector.specs.Meaning.Step.{reply_after};
+ghost use Rattle.lg_detector.specs.Meaning.Choice.{choice, choice_by, first_pinged, targets_after};
 
 use arrayvec::ArrayVec;
-use lg_packet::Packet;
-use lg_rules::{Addr, Incarnation, MAX_CLAIMS, Record};
-use lg_timers::Timer;
+use lg_packet::{Body, Packet};
+use lg_rules::{Addr, Incarnation, MAX_CLAIMS, Name, Record};
+use lg_timers::{Timer, TimerId};
 
 /// The most packets that one event sends: the requests to 8 helpers (this project's choice).
 pub const MAX_SENDS: usize = 8;
@@ -116,7 +121,45 @@ fn copy_records(records: &[Record]) -> ArrayVec<Record, MAX_CHANGED>
     copies
 }
 
+/// The target of the first of some packets, where that is a Ping.
+fn first_pinged(sends: &[Outgoing]) -> Option<Name>
+    ensures { result ≡ first_pinged sends.now }
+{
+    match &sends.first()?.packet.body {
+        Body::Ping { target, .. } => Some(*target),
+        _ => None,
+    }
+}
+
+/// Whether a timer starts a round.
+fn is_round_start(timer: &Timer) -> bool
+    ensures { result ≡ is_round_start timer.now.id }
+{
+    matches!(timer.id, TimerId::RoundStart)
+}
+
+/// Whom the start of a round chose, by the timer that fired and the packets that it sent.
+fn choice_by(fired: &Option<Timer>, sends: &[Outgoing]) -> Option<Name>
+    ensures { result ≡ choice_by fired.now sends.now }
+{
+    match fired {
+        Some(timer) if is_round_start(timer) => first_pinged(sends),
+        _ => None,
+    }
+}
+
 impl Reply {
+    /// Whom the start of a round chose: the target of the Ping that it sent (SWIM, section 4.3). None where no start
+    /// of a round fired, or it chose nobody. It takes no memory.
+    pub fn chosen(&self) -> Option<Name>
+        ensures reply { result ≡ choice self.now }
+        // The reply to an event after a list of events says which target the event adds to those of the list.
+        ensures gained { (f : List Happened) (e : Happened) → self.now ≡ reply_after f e
+            → targets_after (f ++ e ∷ []) ≡ targets_after f ++ option_to_list result }
+    {
+        choice_by(&self.fired, self.sends.as_slice())
+    }
+
     /// Drops the timer, what was to be sent, what changed and the answer.
     pub(crate) fn say_nothing(&mut self)
         ensures { self.new ≡ record self.old {

@@ -1,11 +1,10 @@
 -- Worked Pulls and Pages of b.
-use Rattle.std.specs.Prelude.{◌≡◌, ℕ, Bool, true, false, List, [], ◌∷◌, Option, Some, None, refl}
+use Rattle.std.specs.Prelude.{◌≡◌, false, List, [], ◌∷◌, Some, None, refl}
 use Rattle.lg_rules.specs.declared.claim.Claim.{Claim}
 use Rattle.lg_packet.specs.declared.packet.Body.TheVariants.{Pull, Page}
-use Rattle.lg_detector.specs.declared.event.Event.{Event}
 use Rattle.lg_detector.specs.declared.event.Event.TheVariants.{Pull as Pulls}
 use Rattle.lg_detector.specs.Meaning.Joining.{sixth_of}
-use Rattle.lg_detector.specs.Meaning.Step.{log_of, is_accepted, reply_after}
+use Rattle.lg_detector.specs.Meaning.Step.{is_accepted, reply_after}
 use Rattle.lg_detector.specs.Meaning.Log.{events}
 use Rattle.lg_detector.specs.Meaning.Examples.{by_computing, a, b, c, d, at, alive, suspect, opening, says, nothing}
 use Rattle.lg_detector.specs.Meaning.Examples.{sent}

@@ -113,6 +113,11 @@ abbrev pub is_open : Event → Bool
 is_open (Open now opening) = true
 is_open _ = false
 
+-- whether a list of events begins with an opening
+abbrev pub begins_open : List Event → Bool
+begins_open [] = false
+begins_open (e ∷ es) = is_open e
+
 abbrev pub opens_well : Event → Bool
 opens_well (Open now opening) = is_ok (check_of opening)
 opens_well _ = false

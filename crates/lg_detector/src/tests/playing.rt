@@ -4,7 +4,7 @@ use super::{blank, letter, local, opening, ping, table_of, tick_at};
 use crate::{Answer, Detector, Event, Outgoing, Reply};
 use arrayvec::ArrayVec;
 use lg_packet::Body;
-use lg_rules::{Claim, MAX_CLAIMS};
+use lg_rules::{Claim, MAX_CLAIMS, Name};
 use lg_timers::Timer;
 use std::alloc::Global;
 use std::process::Abort;
@@ -33,6 +33,8 @@ pub(super) enum Step {
     Sent(usize, u16, Body, Claims),
     /// The first packet is a Ping of the member of a letter, with this number.
     Pings(u32, u8),
+    /// Whom a start of a round chose.
+    Chose(Option<Name>),
     /// The claim about the member of a letter that the first packet sends.
     Tells(u8, Option<Claim>),
     /// The records that changed.
@@ -171,6 +173,7 @@ impl Step {
                 sends(reply, *index, *port, body, claims.as_slice())
             }
             Step::Pings(number, member) => pings(reply, *number, *member),
+            Step::Chose(name) => reply.chosen() == *name,
             Step::Tells(member, claim) => told_of(reply, *member) == *claim,
             Step::Changed(records) => reply.changed.as_slice() == records.as_slice(),
             Step::Changes(count) => reply.changed.len() == *count,

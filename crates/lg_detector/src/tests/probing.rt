@@ -1,5 +1,5 @@
 //! Rounds of probing. b is opened at 0.
-use super::Step::{Answers, Changed, Fired, Known, Next, Pings, Sends, Sent, Takes, Ticks};
+use super::Step::{Answers, Changed, Chose, Fired, Known, Next, Pings, Sends, Sent, Takes, Ticks};
 use super::{
     Step, alive, ask_health, at, config, direct, failed, from, letter, local, opened, opening,
     ping, play, play_blank, play_on, round_end, round_start, said, suspect, suspicion,
@@ -55,6 +55,7 @@ fn probes_a_suspect(rt: HostRuntime) {
         Takes(ping(2000, 1, b'b', &[suspect(b'c', 0, b'd')])),
         first(2000),
         Fired(Some(round_start(0))),
+        Chose(Some(letter(b'c'))),
         Sends(1),
         Sent(0, 7000, ping_of(1, b'c'), record),
         Next(2500),
@@ -69,6 +70,8 @@ fn probes_a_suspect(rt: HostRuntime) {
             7000,
         ),
         Ticks(7000, Some(round_start(7000)), said(&[]), 9000),
+        // Nobody is left to be chosen.
+        Chose(None),
     ];
     play(&rt, rt.alloc(), "c is suspected at 2000", &steps);
     let later = [
@@ -344,6 +347,7 @@ fn a_target_that_failed(rt: HostRuntime) {
         first(500),
         Fired(Some(direct(500))),
         Sends(3),
+        Chose(None),
         // A helper that has failed meanwhile: its Ack counts.
         Takes(ping(550, 3, b'z', &[failed(b'e', 0)])),
         Takes(from(600, b'e', 7005, Body::Ack { number: 1 })),

@@ -1,5 +1,5 @@
 //! Relays. b is opened at 0, and its first round starts at 0 with nobody to choose.
-use super::Step::{Fired, Next, Pings, Sends, Takes};
+use super::Step::{Chose, Fired, Next, Pings, Sends, Takes};
 use super::{
     Step, alive, at, from, letter, local, opened, ping, play, play_on, round_end, said, sent,
     suspect, tick_at,
@@ -51,6 +51,8 @@ fn relays_and_nacks(rt: HostRuntime) {
         requested(510, 1, b'c'),
         Sends(1),
         sent(0, 7003, pinged(1)),
+        // The Ping is sent for a: nobody is chosen by it.
+        Chose(None),
         Next(0),
         Takes(tick_at(910)),
         Next(910),

@@ -1,0 +1,34 @@
+-- Whom the start of a round chose, by the reply alone, and all who were chosen, by the list of events (SWIM, section
+-- 4.3).
+use Rattle.std.specs.Prelude.{ℕ, List, [], ◌∷◌, reverse, Option, Some, None, if◌then◌else◌}
+use Rattle.lg_packet.specs.declared.packet.Body.{Body}
+use Rattle.lg_packet.specs.declared.packet.Body.TheVariants.{Ping}
+use Rattle.lg_timers.specs.declared.timer.Timer.{Timer}
+use Rattle.lg_detector.specs.declared.event.Event.{Event}
+use Rattle.lg_detector.specs.declared.reply.Outgoing.{Outgoing}
+use Rattle.lg_detector.specs.declared.reply.Reply.{Reply}
+use Rattle.lg_detector.specs.Meaning.Probing.{is_round_start}
+use Rattle.lg_detector.specs.Meaning.Window.{targets}
+use Rattle.lg_detector.specs.Meaning.Step.{log_of}
+
+-- the target of a packet that is a Ping, and that of the first of some packets
+abbrev pub pinged : Body → Option (List ℕ)
+pinged (Ping number target) = Some target
+pinged _ = None
+
+abbrev pub first_pinged : List Outgoing → Option (List ℕ)
+first_pinged [] = None
+first_pinged (sent ∷ rest) = pinged sent.packet.body
+
+-- By a reply: where a start of a round fired, the target of its Ping, if it sent one. A Ping that is sent for another
+-- member is none, since nothing fired then.
+abbrev pub choice_by : Option Timer → List Outgoing → Option (List ℕ)
+choice_by None sends = None
+choice_by (Some timer) sends = if is_round_start timer.id then first_pinged sends else None
+
+abbrev pub choice : Reply → Option (List ℕ)
+choice reply = choice_by reply.fired reply.sends.items
+
+-- by a list of events, the earliest first: the targets that its starts of rounds chose, in the order in which they did
+abbrev pub targets_after : List Event → List (List ℕ)
+targets_after f = targets (log_of (reverse f)) []
