@@ -1,0 +1,63 @@
+//! One entry of a history.
+ghost use Rattle.std.specs.Prelude.{◌≡◌};
+ghost use Rattle.lg_detector.specs.Meaning.Choice.{choice};
+
+use crate::event::StoredEvent;
+use crate::reply::StoredReply;
+use lg_detector::{Event, Reply};
+use lg_rules::Name;
+use std::marker::Model;
+
+/// One entry of a history: an event, the seat that made it, and the reply to it.
+///
+/// It takes the memory that the event and the reply need: with its part of the history's list at most 320 bytes for
+/// a tick that fires nothing, 512 for a Ping without claims and its Ack, and 2,560 for a packet of six claims that
+/// changes six records and is answered by six claims (this project's choice). Where memory was refused after the
+/// event, the reply is in a box for a whole one, some 5 KB.
+///
+/// A contract sees it as the record of the three.
+#[derive(Drop)]
+pub struct Entry {
+    pub(crate) seat: usize,
+    pub(crate) event: StoredEvent,
+    pub(crate) reply: StoredReply,
+}
+
+impl Model for Entry {
+    ghost use Rattle.lg_history.specs.Meaning.History.{Entry as Stored};
+
+    ghost Value = { Stored };
+
+    ghost view = { λ e. record { seat = e.seat; event = e.event; reply = e.reply } };
+}
+
+impl Entry {
+    /// The seat: 0 for the opening, else the place of the pass that made the call, from 1.
+    pub fn seat(&self) -> usize
+        ensures { result ≡ self.now.seat }
+    {
+        self.seat
+    }
+
+    /// The event, as a copy. It takes no memory.
+    pub fn event(&self) -> Event
+        ensures { result ≡ self.now.event }
+    {
+        self.event.event()
+    }
+
+    /// The reply, as a copy of some 5 KB. It takes no memory.
+    pub fn reply(&self) -> Reply
+        ensures { result ≡ self.now.reply }
+    {
+        self.reply.reply()
+    }
+
+    /// Whom the start of a round chose, by the reply: the target of the Ping that it sent (SWIM, section 4.3). None
+    /// where no start of a round fired, or it chose nobody. It takes no memory, and makes no copy of the reply.
+    pub fn chosen(&self) -> Option<Name>
+        ensures { result ≡ choice self.now.reply }
+    {
+        self.reply.chosen()
+    }
+}

@@ -1,0 +1,132 @@
+//! The history: its entries, and the one that is prepared.
+ghost use Rattle.std.specs.Prelude.{◌≡◌, [], length, Some, None, OnOk, OnErr};
+ghost use Rattle.lg_history.specs.Meaning.History.{completed};
+
+use crate::entry::Entry;
+use crate::event::StoredEvent;
+use crate::reply::StoredReply;
+use lg_detector::{Event, NoMemory, Reply};
+use std::alloc::Global;
+use std::marker::Model;
+
+/// An entry that waits for its reply. A contract sees it as its seat and its event.
+#[derive(Drop)]
+struct Waiting {
+    seat: usize,
+    event: StoredEvent,
+}
+
+impl Model for Waiting {
+    ghost use Rattle.lg_history.specs.Meaning.History.{Prepared};
+
+    ghost Value = { Prepared };
+
+    ghost view = { λ w. record { seat = w.seat; event = w.event } };
+}
+
+/// The entries of an agent's history, in the order in which they were made.
+///
+/// The list grows to twice its length when it is full. A contract sees the list of the entries, and the seat and the
+/// event of the entry that is prepared, if one is.
+#[derive(Drop)]
+pub struct History {
+    entries: Vec<Entry>,
+    prepared: Option<Waiting>,
+    // Room for any reply. It is had by the first `prepare`, and again after a reply had to be stored in it.
+    room: Option<Box<Reply>>,
+}
+
+impl Model for History {
+    ghost use Rattle.std.specs.Prelude.{◌≡◌, ◌<◌, length, is_some, true};
+    ghost use Rattle.std.specs.Vec.{vec_capacity};
+    ghost use Rattle.lg_history.specs.Meaning.History.{HistoryValue};
+
+    ghost Value = { HistoryValue };
+
+    ghost view = { λ h. record { entries = h.entries.items; prepared = h.prepared } };
+
+    // What is prepared has its place in the list, and room for its reply.
+    ghost invariant = { λ h. is_some h.prepared ≡ true
+        → (length h.entries.items < vec_capacity h.entries) × (is_some h.room ≡ true) };
+}
+
+impl History {
+    /// A history without entries, and nothing is prepared. It takes no memory.
+    pub fn new(alloc: Global) -> History
+        ensures { result ≡ record { entries = []; prepared = None } }
+    {
+        History {
+            entries: Vec::new(alloc),
+            prepared: None,
+            room: None,
+        }
+    }
+
+    /// How many entries there are.
+    pub fn len(&self) -> u64
+        ensures { result ≡ length self.now.entries }
+    {
+        self.entries.len() as u64
+    }
+
+    /// The entries, the earliest first.
+    pub fn entries(&self) -> &[Entry]
+        ensures { result.now ≡ self.now.entries }
+    {
+        self.entries.as_slice()
+    }
+
+    /// The entries, the earliest first. What is prepared is dropped.
+    pub fn into_entries(self) -> Vec<Entry>
+        ensures { result.items ≡ self.entries }
+    {
+        self.entries
+    }
+
+    /// Takes all memory that the entry of an event can need, whatever the reply: its place in the list, the event, and
+    /// a box for a whole reply, which is kept for the next entry where it isn't needed. The only error is that memory
+    /// was refused; then nothing is changed.
+    pub fn prepare(&mut self, alloc: Global, seat: usize, event: &Event) -> Result<(), NoMemory>
+        requires { self.old.prepared ≡ None }
+        ensures prepared { OnOk result (self.new ≡ record self.old {
+          prepared = Some (record { seat = seat; event = event.now });
+        }) }
+        ensures refused { OnErr result (self.new ≡ self.old) }
+    {
+        self.entries.reserve(1)?;
+        if self.room.is_none() {
+            self.room = Some(Box::new(alloc, Reply::default())?);
+        }
+        let event = StoredEvent::of(alloc, event)?;
+        self.prepared = Some(Waiting { seat, event });
+        Ok(())
+    }
+
+    /// Drops what is prepared, if anything is. The entries stay.
+    pub fn withdraw(&mut self)
+        ensures { self.new ≡ record self.old { prepared = None } }
+    {
+        self.prepared = None;
+    }
+
+    /// Adds the entry of what is prepared, with this reply, behind all others. Where nothing is prepared it changes
+    /// nothing.
+    ///
+    /// It always succeeds. It tries to take the memory that the reply needs; where that is refused the entry keeps the
+    /// box for a whole reply, some 5 KB.
+    pub fn complete(&mut self, alloc: Global, reply: &Reply)
+        ensures { self.new ≡ completed reply.now self.old }
+    {
+        let Some(waiting) = self.prepared.take() else {
+            return;
+        };
+        let room = self.room.take().unwrap();
+        let (reply, room) = StoredReply::of(alloc, room, reply);
+        self.room = room;
+        self.entries.push_reserved(Entry {
+            seat: waiting.seat,
+            event: waiting.event,
+            reply,
+        });
+    }
+}

@@ -1,0 +1,113 @@
+//! Packets, in the memory that their claims take.
+ghost use Rattle.std.specs.Prelude.{◌≡◌, IfOk};
+ghost use Rattle.lg_detector.specs.Meaning.Choice.{pinged};
+
+use arrayvec::ArrayVec;
+use lg_detector::{NoMemory, Outgoing};
+use lg_packet::{Body, Packet};
+use lg_rules::{Addr, Claim, Name};
+use std::alloc::Global;
+use std::marker::Model;
+
+/// A packet whose claims stand in a list of their number. A contract sees it as the packet.
+#[derive(Drop)]
+pub(crate) struct StoredPacket {
+    sender: Name,
+    body: Body,
+    claims: Vec<Claim>,
+}
+
+impl Model for StoredPacket {
+    ghost use Rattle.std.specs.Prelude.{◌≤◌, length};
+    ghost use Rattle.lg_packet.specs.declared.packet.Packet.{Packet};
+    ghost use Rattle.lg_rules.specs.declared.claim.TheConstants.{MAX_CLAIMS};
+
+    ghost Value = { Packet };
+
+    ghost view = { λ p. record { sender = p.sender; body = p.body; claims = record { items = p.claims.items } } };
+
+    ghost invariant = { λ p. length p.claims.items ≤ MAX_CLAIMS };
+}
+
+impl StoredPacket {
+    /// Stores a packet. It takes memory for its claims, where it has any.
+    pub(crate) fn of(alloc: Global, packet: &Packet) -> Result<StoredPacket, NoMemory>
+        ensures { IfOk result (λ stored. stored ≡ packet.now) }
+    {
+        let claims = Vec::from_slice(alloc, packet.claims.as_slice())?;
+        Ok(StoredPacket {
+            sender: packet.sender,
+            body: packet.body,
+            claims,
+        })
+    }
+
+    /// Its target, where it is a Ping.
+    fn pinged(&self) -> Option<Name>
+        ensures { result ≡ pinged self.now.body }
+    {
+        match &self.body {
+            Body::Ping { target, .. } => Some(*target),
+            _ => None,
+        }
+    }
+
+    /// The packet.
+    pub(crate) fn packet(&self) -> Packet
+        ensures { result ≡ self.now }
+    {
+        let mut claims = ArrayVec::new();
+        let copied = claims.try_extend_from_slice(self.claims.as_slice());
+        prove!(copied.is_ok());
+        Packet {
+            sender: self.sender,
+            body: self.body,
+            claims,
+        }
+    }
+}
+
+/// A packet to be sent, and where it goes. A contract sees it as the two.
+#[derive(Drop)]
+pub(crate) struct StoredOutgoing {
+    to: Addr,
+    packet: StoredPacket,
+}
+
+impl Model for StoredOutgoing {
+    ghost use Rattle.lg_detector.specs.declared.reply.Outgoing.{Outgoing};
+
+    ghost Value = { Outgoing };
+
+    ghost view = { λ o. record { to = o.to; packet = o.packet } };
+}
+
+impl StoredOutgoing {
+    /// Stores a packet to be sent. It takes memory for its claims, where it has any.
+    pub(crate) fn of(alloc: Global, outgoing: &Outgoing) -> Result<StoredOutgoing, NoMemory>
+        ensures { IfOk result (λ stored. stored ≡ outgoing.now) }
+    {
+        let packet = StoredPacket::of(alloc, &outgoing.packet)?;
+        Ok(StoredOutgoing {
+            to: outgoing.to,
+            packet,
+        })
+    }
+
+    /// The target of the packet, where it is a Ping.
+    pub(crate) fn pinged(&self) -> Option<Name>
+        ensures { result ≡ pinged self.now.packet.body }
+    {
+        self.packet.pinged()
+    }
+
+    /// The packet, and where it goes.
+    pub(crate) fn outgoing(&self) -> Outgoing
+        ensures { result ≡ self.now }
+    {
+        Outgoing {
+            to: self.to,
+            packet: self.packet.packet(),
+        }
+    }
+}

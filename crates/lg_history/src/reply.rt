@@ -1,0 +1,243 @@
+//! Replies, in the memory that they take.
+ghost use Rattle.std.specs.Prelude.{◌≡◌, ◌≤◌, length, option_map, IfOk};
+ghost use Rattle.lg_detector.specs.declared.reply.TheConstants.{MAX_SENDS};
+ghost use Rattle.lg_detector.specs.Meaning.Probing.{is_round_start};
+ghost use Rattle.lg_detector.specs.Meaning.Choice.{choice, first_pinged};
+
+use crate::packet::StoredOutgoing;
+use arrayvec::ArrayVec;
+use lg_detector::{Answer, MAX_SENDS, NoMemory, Outgoing, Reply, Timer, TimerId};
+use lg_rules::{Name, Record};
+use std::alloc::Global;
+use std::marker::Model;
+
+/// A reply whose packets and records stand in lists of their number. A contract sees it as the reply.
+#[derive(Drop)]
+pub(crate) struct ExactReply {
+    fired: Option<Box<Timer>>,
+    sends: Vec<StoredOutgoing>,
+    changed: Vec<Record>,
+    answer: Option<Box<Answer>>,
+    ousted: bool,
+    next: u64,
+}
+
+impl Model for ExactReply {
+    ghost use Rattle.std.specs.Prelude.{◌≤◌, length, option_map};
+    ghost use Rattle.lg_detector.specs.declared.reply.Reply.{Reply};
+    ghost use Rattle.lg_detector.specs.declared.reply.TheConstants.{MAX_SENDS, MAX_CHANGED};
+
+    ghost Value = { Reply };
+
+    ghost view = { λ r. record {
+      fired = option_map (λ it. it.value) r.fired;
+      sends = record { items = r.sends.items };
+      changed = record { items = r.changed.items };
+      answer = option_map (λ it. it.value) r.answer;
+      ousted = r.ousted;
+      next = r.next;
+    } };
+
+    ghost invariant = { λ r. (length r.sends.items ≤ MAX_SENDS) × (length r.changed.items ≤ MAX_CHANGED) };
+}
+
+/// Stores a timer, where there is one.
+fn store_timer(alloc: Global, timer: &Option<Timer>) -> Result<Option<Box<Timer>>, NoMemory>
+    ensures { IfOk result (λ stored. option_map (λ it. it.value) stored ≡ timer.now) }
+{
+    match timer {
+        Some(it) => Ok(Some(Box::new(alloc, *it)?)),
+        None => Ok(None),
+    }
+}
+
+/// The timer, where there is one.
+fn timer_in(stored: &Option<Box<Timer>>) -> Option<Timer>
+    ensures { result ≡ option_map (λ it. it.value) stored.now }
+{
+    match stored {
+        Some(it) => Some(**it),
+        None => None,
+    }
+}
+
+/// Whether a timer starts a round.
+fn is_round_start(timer: &Timer) -> bool
+    ensures { result ≡ is_round_start timer.now.id }
+{
+    matches!(timer.id, TimerId::RoundStart)
+}
+
+/// The target of the first of some packets, where that is a Ping.
+fn first_pinged(sends: &[StoredOutgoing]) -> Option<Name>
+    ensures { result ≡ first_pinged sends.now }
+{
+    sends.first()?.pinged()
+}
+
+/// Stores an answer, where there is one.
+fn store_answer(alloc: Global, answer: &Option<Answer>) -> Result<Option<Box<Answer>>, NoMemory>
+    ensures { IfOk result (λ stored. option_map (λ it. it.value) stored ≡ answer.now) }
+{
+    match answer {
+        Some(it) => Ok(Some(Box::new(alloc, *it)?)),
+        None => Ok(None),
+    }
+}
+
+/// The answer, where there is one.
+fn answer_in(stored: &Option<Box<Answer>>) -> Option<Answer>
+    ensures { result ≡ option_map (λ it. it.value) stored.now }
+{
+    match stored {
+        Some(it) => Some(**it),
+        None => None,
+    }
+}
+
+/// Stores the packets to be sent.
+fn store_sends(alloc: Global, sends: &[Outgoing]) -> Result<Vec<StoredOutgoing>, NoMemory>
+    ensures { IfOk result (λ stored. stored.items ≡ sends.now) }
+{
+    let mut stored = Vec::with_capacity(alloc, sends.len())?;
+    for outgoing in sends {
+        let one = StoredOutgoing::of(alloc, outgoing)?;
+        stored.push_reserved(one);
+    }
+    Ok(stored)
+}
+
+/// The packets to be sent.
+fn sends_in(stored: &[StoredOutgoing]) -> ArrayVec<Outgoing, MAX_SENDS>
+    requires { length stored.now ≤ MAX_SENDS }
+    ensures { result.items ≡ stored.now }
+{
+    let mut sends = ArrayVec::new();
+    for outgoing in stored {
+        sends.push(outgoing.outgoing());
+    }
+    sends
+}
+
+impl ExactReply {
+    /// Stores a reply. It takes memory for each part that it has.
+    fn of(alloc: Global, reply: &Reply) -> Result<ExactReply, NoMemory>
+        ensures { IfOk result (λ stored. stored ≡ reply.now) }
+    {
+        let fired = store_timer(alloc, &reply.fired)?;
+        let sends = store_sends(alloc, reply.sends.as_slice())?;
+        let changed = Vec::from_slice(alloc, reply.changed.as_slice())?;
+        let answer = store_answer(alloc, &reply.answer)?;
+        Ok(ExactReply {
+            fired,
+            sends,
+            changed,
+            answer,
+            ousted: reply.ousted,
+            next: reply.next,
+        })
+    }
+
+    /// Whom the start of a round chose.
+    fn chosen(&self) -> Option<Name>
+        ensures { result ≡ choice self.now }
+    {
+        match timer_in(&self.fired) {
+            Some(timer) if is_round_start(&timer) => first_pinged(self.sends.as_slice()),
+            _ => None,
+        }
+    }
+
+    /// The reply.
+    fn reply(&self) -> Reply
+        ensures { result ≡ self.now }
+    {
+        let mut changed = ArrayVec::new();
+        let copied = changed.try_extend_from_slice(self.changed.as_slice());
+        prove!(copied.is_ok());
+        Reply {
+            fired: timer_in(&self.fired),
+            sends: sends_in(self.sends.as_slice()),
+            changed,
+            answer: answer_in(&self.answer),
+            ousted: self.ousted,
+            next: self.next,
+        }
+    }
+}
+
+/// How a reply is stored.
+#[derive(Drop)]
+enum Form {
+    /// In the memory that it takes.
+    Exact(Box<ExactReply>),
+    /// In a box that has room for any reply, where memory was refused.
+    Whole(Box<Reply>),
+}
+
+/// A stored reply. A contract sees it as the reply.
+#[derive(Drop)]
+pub(crate) struct StoredReply {
+    form: Form,
+}
+
+impl Model for StoredReply {
+    ghost use Rattle.lg_detector.specs.declared.reply.Reply.{Reply};
+    ghost use Rattle.lg_history.specs.Support.Stored.{reply_in};
+
+    ghost Value = { Reply };
+
+    ghost view = { λ r. reply_in r.form };
+}
+
+/// Stores a reply in the memory that it takes.
+fn store_exactly(alloc: Global, reply: &Reply) -> Result<Box<ExactReply>, NoMemory>
+    ensures { IfOk result (λ stored. stored.value ≡ reply.now) }
+{
+    let exact = ExactReply::of(alloc, reply)?;
+    Ok(Box::new(alloc, exact)?)
+}
+
+impl StoredReply {
+    /// Stores a reply, and always succeeds. The box comes back, unless memory was refused and the reply is in it.
+    pub(crate) fn of(
+        alloc: Global,
+        room: Box<Reply>,
+        reply: &Reply,
+    ) -> (StoredReply, Option<Box<Reply>>)
+        ensures { result.0 ≡ reply.now }
+    {
+        match store_exactly(alloc, reply) {
+            Ok(exact) => {
+                let form = Form::Exact(exact);
+                (StoredReply { form }, Some(room))
+            }
+            Err(_refused) => {
+                let mut whole = room;
+                *whole = reply.copy();
+                let form = Form::Whole(whole);
+                (StoredReply { form }, None)
+            }
+        }
+    }
+
+    /// Whom the start of a round chose.
+    pub(crate) fn chosen(&self) -> Option<Name>
+        ensures { result ≡ choice self.now }
+    {
+        match &self.form {
+            Form::Exact(exact) => exact.chosen(),
+            Form::Whole(whole) => whole.chosen(),
+        }
+    }
+
+    /// The reply.
+    pub(crate) fn reply(&self) -> Reply
+        ensures { result ≡ self.now }
+    {
+        match &self.form {
+            Form::Exact(exact) => exact.reply(),
+            Form::Whole(whole) => whole.copy(),
+        }
+    }
+}

@@ -1,0 +1,28 @@
+//! How much memory an entry takes: its place in the history's list, which can be twice as long as the entries, and its
+//! boxes and lists. The bounds are this project's choice.
+use crate::entry::Entry;
+use crate::event::Hearing;
+use crate::packet::StoredOutgoing;
+use crate::reply::ExactReply;
+use lg_rules::{Claim, MAX_CLAIMS, Record};
+
+/// The place in the list, and the reply without packets, records and answer.
+const LEAST: usize = 2 * size_of::<Entry>() + size_of::<ExactReply>();
+
+/// The claims of a full packet, in a list.
+const CLAIMS: usize = MAX_CLAIMS * size_of::<Claim>();
+
+/// A tick that fires nothing: beside that its random words.
+const IDLE_TICK: usize = LEAST + size_of::<[u32; 8]>();
+
+/// A Ping without claims, and its Ack: the packet that was heard, and a list of one that is sent.
+const PING: usize = LEAST + size_of::<Hearing>() + size_of::<StoredOutgoing>();
+
+/// A Ping of six claims that change six records, and its Ack of six claims.
+const FULL_PING: usize = PING + 2 * CLAIMS + MAX_CLAIMS * size_of::<Record>();
+
+const _: () = prove!(IDLE_TICK <= 320);
+
+const _: () = prove!(PING <= 512);
+
+const _: () = prove!(FULL_PING <= 2560);
