@@ -1,0 +1,6 @@
+use Rattle.std.proofs.Common.{◌≡◌, ◌≤◌, take}
+use Rattle.std.specs.Vec.{vec_capacity}
+use Rattle.lg_view.proofs.look.reading.put_records.Given as goal
+
+abbrev pub invariant-loop-index : goal.invariant-loop-index
+invariant-loop-index g l = record { so_far : l.records.items ≡ take l.index l.row.items; room : 256 ≤ vec_capacity l.records }

@@ -1,0 +1,95 @@
+//! What a reader takes out of the published value while it reads it: an answer, and the front that the answer is of.
+//! Each of these enters, takes both, and leaves. Where the value isn't handed out, there is neither.
+ghost use Rattle.std.specs.Prelude.{◌≡◌, ◌≤◌, [], IfSome};
+ghost use Rattle.std.specs.Vec.{vec_capacity};
+ghost use Rattle.lg_rules.specs.Meaning.Claim.{name_of};
+ghost use Rattle.lg_rules.specs.Meaning.Rows.{name_cmp, row_at};
+ghost use Rattle.lg_detector.specs.Meaning.Step.{view_after, deadline_after};
+ghost use Rattle.lg_detector.specs.Meaning.Timing.{or_zero};
+
+use super::LookReader;
+use crate::book::PairName;
+use crate::front::Front;
+use crate::published::Published;
+use arrayvec::ArrayVec;
+use crossbeam_utils::rule::Unruled;
+use lg_rules::{Name, Record};
+
+/// The front alone.
+pub(super) fn read_front<P: PairName>(
+    reader: LookReader<P>,
+    _nothing: (),
+) -> (LookReader<P>, Option<Front<P>>) {
+    match reader.enter_as::<Unruled>() {
+        Ok(reading) => {
+            let front = reading.get().front().copy();
+            (reading.leave(), Some(front))
+        }
+        Err(reader) => (reader, None),
+    }
+}
+
+/// The record of a name.
+pub(super) fn read_status<P: PairName>(
+    reader: LookReader<P>,
+    name: Name,
+) -> (LookReader<P>, Option<(Option<Record>, Front<P>)>)
+    ensures { IfSome result.1 (λ taken. taken.0 ≡ row_at name_cmp name_of name (view_after taken.1)) }
+{
+    match reader.enter_as::<Unruled>() {
+        Ok(reading) => {
+            let record = reading.get().status_of(&name);
+            let front = reading.get().front().copy();
+            (reading.leave(), Some((record, front)))
+        }
+        Err(reader) => (reader, None),
+    }
+}
+
+/// The least deadline, where 0 stands for none.
+pub(super) fn read_deadline<P: PairName>(
+    reader: LookReader<P>,
+    _nothing: (),
+) -> (LookReader<P>, Option<(u64, Front<P>)>)
+    ensures { IfSome result.1 (λ taken. taken.0 ≡ or_zero (deadline_after taken.1)) }
+{
+    match reader.enter_as::<Unruled>() {
+        Ok(reading) => {
+            let deadline = reading.get().next_deadline().unwrap_or(0);
+            let front = reading.get().front().copy();
+            (reading.leave(), Some((deadline, front)))
+        }
+        Err(reader) => (reader, None),
+    }
+}
+
+/// The records of all members, in a list that has room for them.
+pub(super) fn read_members<P: PairName>(
+    reader: LookReader<P>,
+    mut records: Vec<Record>,
+) -> (LookReader<P>, Option<(Vec<Record>, Front<P>)>)
+    requires { (records.items ≡ []) × (256 ≤ vec_capacity records) }
+    ensures { IfSome result.1 (λ taken. taken.0.items ≡ view_after taken.1) }
+{
+    match reader.enter_as::<Unruled>() {
+        Ok(reading) => {
+            put_records(reading.get(), &mut records);
+            let front = reading.get().front().copy();
+            (reading.leave(), Some((records, front)))
+        }
+        Err(reader) => (reader, None),
+    }
+}
+
+/// Writes the records of all members into an empty list that has room for them.
+fn put_records<P: PairName>(published: &Published<P>, records: &mut Vec<Record>)
+    requires { (records.old.items ≡ []) × (256 ≤ vec_capacity records.old) }
+    ensures { records.new.items ≡ view_after published.now }
+{
+    let mut row = ArrayVec::new();
+    published.put_table(&mut row);
+    let count = row.len();
+    for index in 0..count {
+        records.push_reserved(row[index]);
+    }
+}

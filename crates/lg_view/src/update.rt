@@ -1,0 +1,40 @@
+//! What the writer hands to the published value.
+use crate::book::PairName;
+use crate::front::Front;
+use lg_detector::Event;
+use std::marker::Model;
+
+/// An event that was added to the book, with the front that ends with it.
+#[derive(Drop)]
+pub struct Added<P: PairName> {
+    pub(crate) event: Box<Event>,
+    pub(crate) front: Front<P>,
+}
+
+impl<P: PairName> Model for Added<P> {
+    ghost use Rattle.std.specs.Prelude.{◌≡◌, ◌++◌, ◌∷◌, [], List};
+    ghost use Rattle.lg_detector.specs.declared.event.Event.{Event};
+    ghost use Rattle.lg_view.specs.Support.Updates.{Addition};
+
+    ghost Value = { Addition };
+
+    ghost view = { λ a. record { events = a.front; event = a.event.value } };
+
+    ghost invariant = { λ a. (before : List Event) × (a.front ≡ before ++ a.event.value ∷ []) };
+}
+
+/// What leads the published value on by one event. One without an event changes nothing: it only makes room for one
+/// that has an event. The event stands on the heap, so that an update takes 24 bytes.
+#[derive(Drop)]
+pub struct Update<P: PairName> {
+    pub(crate) added: Option<Added<P>>,
+}
+
+impl<P: PairName> Model for Update<P> {
+    ghost use Rattle.std.specs.Prelude.{Option};
+    ghost use Rattle.lg_view.specs.Support.Updates.{Addition};
+
+    ghost Value = { Option Addition };
+
+    ghost view = { λ u. u.added };
+}
