@@ -1,0 +1,6 @@
+pub mod LedgerLaws
+pub mod PassLaws
+pub mod ClosingLaws
+pub mod CallSums
+pub mod ClosingSteps
+pub mod ChoiceSteps

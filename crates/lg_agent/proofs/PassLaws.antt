@@ -1,0 +1,90 @@
+-- What a pass has seen, before and after a call; and fresh passes.
+use Rattle.std.proofs.Common.{true, ◌≡◌, ℕ, ◌+◌, ◌<◌, ◌≤◌, List, [], ◌∷◌, ◌++◌, length, All, ap, sym, ◌∙◌, subst, arith, length-append}
+use Rattle.std.specs.Prelude.{Result, Ok, Err, IfOk}
+use mathlib.Core.List.{IsPrefix}
+use Rattle.std.proofs.lemmas.List.Elements.{All-nil, All-cons, All-head, All-tail, All-append}
+use Rattle.lg_detector.specs.declared.event.Event.{Event}
+use Rattle.lg_detector.specs.Meaning.Step.{is_accepted, is_open, reply_after}
+use Rattle.lg_history.specs.Meaning.History.{Entry, entry, events}
+use Rattle.lg_history.proofs.Legal.{events-append, length-events}
+use Rattle.lg_view.proofs.Fronts.{prefix_shorter}
+use Rattle.lg_view.specs.Meaning.Views.{begins_open}
+use Rattle.lg_agent.specs.declared.receipt.Receipt.{Receipt}
+use Rattle.lg_agent.specs.declared.refusal.Refusal.{Refusal}
+use Rattle.lg_agent.specs.Meaning.Ledger.{Ledger, Own}
+use Rattle.lg_agent.specs.Meaning.Calls.{with_entry, IsAnswered, IsCall, IsFresh, AreFresh}
+
+pub answered_by : (l : Ledger) (seat : ℕ) (seen : List Event) (e : Event) (r : Receipt) (now : List Event)
+    → length seen ≤ length l.history → r.place ≡ length l.history → r.reply ≡ reply_after (events l.history) e
+    → IsPrefix seen (events (with_entry l seat e).history) → now ≡ events (with_entry l seat e).history → is_accepted now ≡ true
+    → IsAnswered seen e r now
+answered_by l seat seen e r now short place reply begins all accepted =
+    let x : Entry = entry seat e (reply_after (events l.history) e) in
+    let are : events (l.history ++ x ∷ []) ≡ events l.history ++ e ∷ [] = events-append l.history x in
+    let long : length (events l.history) ≡ length l.history = length-events l.history in
+    record {
+      before = events l.history;
+      begins = prefix_shorter seen (events l.history) (events (l.history ++ x ∷ [])) begins (e ∷ [], sym are) (omega arith);
+      ends = all ∙ are;
+      accepted = accepted;
+      place = long ∙ sym place;
+      reply = reply;
+    }
+
+pub all_below : (m n : ℕ) (xs : List ℕ) → m ≤ n → All (λ k. k < m) xs → All (λ k. k < n) xs
+all_below m n xs le all k d at = let h = all k d at in omega arith
+
+pub fresh-append : (name : List ℕ) (n : ℕ) (passes : List Own) (p : Own) → AreFresh name n passes → IsFresh name (n + length passes + 1) p → AreFresh name n (passes ++ p ∷ [])
+fresh-append name n [] p fresh last = (record { name = last.name; seat = last.seat ∙ omega arith; seen = last.seen; mine = last.mine }, tt)
+fresh-append name n (x ∷ passes) p fresh last = (fresh.0, fresh-append name (n + 1) passes p fresh.1 (record { name = last.name; seat = last.seat ∙ omega arith; seen = last.seen; mine = last.mine }))
+
+pub all-front : {A : Type 0} (P : A → Type 0) (xs ys : List A) → All P (xs ++ ys) → All P xs
+all-front P [] ys a = All-nil P
+all-front P (x ∷ xs) ys a = All-cons P x xs (All-head P x (xs ++ ys) a) (all-front P xs ys (All-tail P x (xs ++ ys) a))
+
+pub all-last : {A : Type 0} (P : A → Type 0) (xs : List A) (x : A) → All P (xs ++ x ∷ []) → P x
+all-last P [] x a = All-head P x [] a
+all-last P (y ∷ xs) x a = all-last P xs x (All-tail P y (xs ++ x ∷ []) a)
+
+pub answered_if : (l : Ledger) (seat : ℕ) (seen : List Event) (e : Event) (result : Result Receipt Refusal) (after : Ledger) (now : List Event)
+    → length seen ≤ length l.history → IfOk result (λ r. (after ≡ with_entry l seat e) × (r.place ≡ length l.history) × (r.reply ≡ reply_after (events l.history) e))
+    → IsPrefix seen (events after.history) → now ≡ events after.history → is_accepted now ≡ true
+    → IfOk result (λ r. IsAnswered seen e r now)
+answered_if l seat seen e (Ok r) after now short done begins all accepted =
+    let is : after ≡ with_entry l seat e = done.0 in
+    answered_by l seat seen e r now short done.1 done.2 (subst (λ (k : Ledger). IsPrefix seen (events k.history)) is begins) (all ∙ ap (λ (k : Ledger). events k.history) is) accepted
+answered_if l seat seen e (Err f) after now short done begins all accepted = tt
+
+pub open_prefix : (xs ys : List Event) → IsPrefix xs ys → begins_open xs ≡ true → begins_open ys ≡ true
+open_prefix [] ys p opens = absurd cc
+open_prefix (x ∷ xs) [] p opens = absurd (cc (p.1))
+open_prefix (x ∷ xs) (y ∷ ys) p opens = let head : y ≡ x = cc (p.1) in ap is_open head ∙ opens
+
+pub all_one_more : (n x : ℕ) (xs : List ℕ) → All (λ k. k < n) xs → x < n → All (λ k. k < n) (xs ++ x ∷ [])
+all_one_more n x xs all low = All-append (λ (k : ℕ). k < n) xs (x ∷ []) all (All-cons (λ (k : ℕ). k < n) x [] low (All-nil (λ (k : ℕ). k < n)))
+
+-- a pass after an answered call has seen the opening, and all its calls
+pub keeps_up : (seen : List Event) (e : Event) (r : Receipt) (now : List Event) (mine more : List ℕ) → begins_open seen ≡ true → All (λ k. k < length seen) mine → IsAnswered seen e r now → more ≡ mine ++ r.place ∷ []
+    → (begins_open now ≡ true) × All (λ k. k < length now) more
+keeps_up seen e r now mine more opens below answered grown =
+    let step : length now ≡ length answered.before + 1 = ap length answered.ends ∙ length-append answered.before (e ∷ []) in
+    let front : length answered.before ≡ length seen + length answered.begins.0 = ap length (sym answered.begins.1) ∙ length-append seen answered.begins.0 in
+    let begins : IsPrefix answered.before now = (e ∷ [], sym answered.ends) in (
+      open_prefix answered.before now begins (open_prefix seen answered.before answered.begins opens),
+      rw grown (all_one_more (length now) r.place mine (all_below (length seen) (length now) mine (omega (arith, step, front)) below) (let place = answered.place in omega (arith, step, place))),
+    )
+
+pub call_of : (before after : Own) (e : Event) (r : Receipt) → All (λ k. k < length before.seen) before.mine → IsAnswered before.seen e r after.seen → after.mine ≡ before.mine ++ r.place ∷ [] → after.seat ≡ before.seat → after.name ≡ before.name → IsCall before e r after
+call_of before after e r below answered mine seat name =
+    let front : length answered.before ≡ length before.seen + length answered.begins.0 = ap length (sym answered.begins.1) ∙ length-append before.seen answered.begins.0 in
+    record {
+      answered = answered;
+      mine = mine;
+      later = all_below (length before.seen) r.place before.mine (let place = answered.place in omega (arith, front, place)) below;
+      seat = seat;
+      name = name;
+    }
+
+-- looks that were all told of one list, which begins with an opening
+pub all_begin : (f : List Event) (looks : List (List Event)) → begins_open f ≡ true → All (λ k. k ≡ f) looks → All (λ k. begins_open k ≡ true) looks
+all_begin f looks opens told k d at = ap begins_open (told k d at) ∙ opens

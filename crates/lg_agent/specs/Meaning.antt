@@ -1,0 +1,6 @@
+-- What is right: whoever wants to believe the contracts reads these.
+pub mod Ledger
+pub mod Numbers
+pub mod Calls
+pub mod Closing
+pub mod Examples

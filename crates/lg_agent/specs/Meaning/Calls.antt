@@ -1,0 +1,80 @@
+-- What calls and looks do, and which calls are refused.
+use Rattle.std.specs.Prelude.{◌≡◌, ℕ, ◌+◌, ◌<◌, true, ◌||◌, nat_lt, nat_le, ◌==◌}
+use Rattle.std.specs.Prelude.{if◌then◌else◌}
+use Rattle.std.specs.Prelude.{List, [], ◌∷◌, ◌++◌, length, Option, Some, None, All}
+use mathlib.Core.List.{IsPrefix}
+use Rattle.lg_detector.specs.declared.event.Event.{Event}
+use Rattle.lg_detector.specs.Meaning.Step.{is_accepted, reply_after}
+use Rattle.lg_history.specs.Meaning.History.{entry, events}
+use Rattle.lg_view.specs.Meaning.Views.{begins_open}
+use Rattle.lg_packet.specs.declared.fault.Fault.{Fault}
+use Rattle.lg_agent.specs.declared.receipt.Receipt.{Receipt}
+use Rattle.lg_agent.specs.declared.refusal.Refusal.{Refusal}
+use Rattle.lg_agent.specs.declared.refusal.Refusal.TheVariants.{BadPacket, NoMemory, HistoryFull}
+use Rattle.lg_agent.specs.declared.refusal.Refusal.TheVariants.{Behind, NoPlace, NoView}
+use Rattle.lg_agent.specs.Meaning.Ledger.{Ledger, Own}
+
+-- the ledger with one more entry: the seat's event, and the reply that the definitions give to it there
+abbrev pub with_entry : Ledger → ℕ → Event → Ledger
+with_entry l seat e = record l { history = l.history ++ entry seat e (reply_after (events l.history) e) ∷ [] }
+
+-- Why the ledger refuses a call of a seat, if it does: there is no such place, or the history is full.
+abbrev pub refusal_of : Ledger → ℕ → Option Refusal
+refusal_of l seat =
+    if (seat == 0) || nat_lt l.places seat
+    then Some NoPlace
+    else (if nat_le l.limit (length l.history) then Some (HistoryFull l.limit) else None)
+
+-- An answered call, by what its caller has seen before and after. There is an accepted list of events which begins
+-- with all that the caller had seen and ends with the call's event. The event stands at the receipt's place, and the
+-- reply is that of the definitions there. The caller has then seen the list.
+pub record IsAnswered (seen : List Event) (e : Event) (r : Receipt) (now : List Event) : Type 0 where
+  pub before : List Event
+  pub begins : IsPrefix seen before
+  pub ends : now ≡ before ++ e ∷ []
+  pub accepted : is_accepted now ≡ true
+  pub place : length before ≡ r.place
+  pub reply : r.reply ≡ reply_after before e
+
+-- An answered call of a pass: its place is one more of the pass's positions, and later than all of them.
+pub record IsCall (before : Own) (e : Event) (r : Receipt) (after : Own) : Type 0 where
+  pub answered : IsAnswered before.seen e r after.seen
+  pub mine : after.mine ≡ before.mine ++ r.place ∷ []
+  pub later : All (λ k. k < r.place) before.mine
+  pub seat : after.seat ≡ before.seat
+  pub name : after.name ≡ before.name
+
+-- What a call of a pass that has seen these events can be refused for: not for its bytes, and not for what looks are
+-- refused for. Behind tells that it has seen more events than there are.
+abbrev pub IsRefusal : List Event → Refusal → Type 0
+IsRefusal seen (BadPacket fault) = ⊥
+IsRefusal seen NoMemory = Unit {0}
+IsRefusal seen (HistoryFull limit) = Unit {0}
+IsRefusal seen (Behind before here) = (before ≡ length seen) × (here < before)
+IsRefusal seen NoPlace = Unit {0}
+IsRefusal seen NoView = ⊥
+
+-- a refusal for the bytes of a datagram
+abbrev pub IsBadPacket : Refusal → Type 0
+IsBadPacket r = (fault : Fault) × (r ≡ BadPacket fault)
+
+-- A look: what is seen afterwards is an accepted list of events that begins with all that was seen before. Nothing else
+-- changes.
+pub record IsLook (before after : Own) : Type 0 where
+  pub begins : IsPrefix before.seen after.seen
+  pub accepted : is_accepted after.seen ≡ true
+  pub mine : after.mine ≡ before.mine
+  pub seat : after.seat ≡ before.seat
+  pub name : after.name ≡ before.name
+
+-- A fresh pass of an agent with this name: it has seen the opening, and made no call.
+pub record IsFresh (agent : List ℕ) (place : ℕ) (pass : Own) : Type 0 where
+  pub name : pass.name ≡ agent
+  pub seat : pass.seat ≡ place
+  pub seen : begins_open pass.seen ≡ true
+  pub mine : pass.mine ≡ []
+
+-- fresh passes, in the order of their places, which follow n
+abbrev pub AreFresh : List ℕ → ℕ → List Own → Type 0
+AreFresh agent n [] = Unit {0}
+AreFresh agent n (pass ∷ passes) = IsFresh agent (n + 1) pass × AreFresh agent (n + 1) passes

@@ -1,0 +1,75 @@
+-- Worked refusals and faults of closing. b is opened at 0; the first pass made a call, then the second, then the first.
+use Rattle.std.specs.Prelude.{◌≡◌, ℕ, List, [], ◌∷◌, Some, None, refl}
+use Rattle.lg_detector.specs.declared.event.Event.TheVariants.{Health}
+use Rattle.lg_detector.specs.Meaning.Examples.{b, c, opening, nothing}
+use Rattle.lg_history.specs.Meaning.History.{Entry, entry, positions}
+use Rattle.lg_agent.specs.declared.refusal.Refusal.TheVariants.{HistoryFull, NoPlace}
+use Rattle.lg_agent.specs.declared.refusal.CloseFault.TheVariants.{Missing, Foreign, Differs}
+use Rattle.lg_agent.specs.Meaning.Ledger.{Ledger, Own, own_name}
+use Rattle.lg_agent.specs.Meaning.Calls.{refusal_of}
+use Rattle.lg_agent.specs.Meaning.Closing.{first_difference, close_fault}
+
+abbrev asked : ℕ → Entry
+asked seat = entry seat (Health 20) (nothing 0)
+
+abbrev history : List Entry
+history = entry 0 (opening 0) (nothing 0) ∷ asked 1 ∷ asked 2 ∷ asked 1 ∷ []
+
+it_is_the_history_of_b : own_name history ≡ b ∷ []
+it_is_the_history_of_b = refl
+
+-- There are two places, and four entries at the most.
+abbrev ledger : Ledger
+ledger = record { places = 2; limit = 4; history = history }
+
+nobody_is_at_zero : refusal_of ledger 0 ≡ Some NoPlace
+nobody_is_at_zero = refl
+
+nobody_is_at_three : refusal_of ledger 3 ≡ Some NoPlace
+nobody_is_at_three = refl
+
+it_is_full : refusal_of ledger 2 ≡ Some (HistoryFull 4)
+it_is_full = refl
+
+with_room_for_one : refusal_of (record ledger { limit = 5 }) 2 ≡ None
+with_room_for_one = refl
+
+-- What the passes left.
+abbrev left_by : List ℕ → ℕ → List ℕ → Own
+left_by name seat mine = record { name = name; seat = seat; seen = []; mine = mine }
+
+abbrev first : Own
+first = left_by (b ∷ []) 1 (1 ∷ 3 ∷ [])
+
+abbrev second : Own
+second = left_by (b ∷ []) 2 (2 ∷ [])
+
+they_agree_in_any_order : close_fault 2 history (second ∷ first ∷ []) ≡ None
+they_agree_in_any_order = refl
+
+the_second_is_missing : close_fault 2 history (first ∷ []) ≡ Some Missing
+the_second_is_missing = refl
+
+one_of_another_agent_is_foreign : close_fault 1 history (left_by (c ∷ []) 1 (1 ∷ 3 ∷ []) ∷ []) ≡ Some Foreign
+one_of_another_agent_is_foreign = refl
+
+a_place_that_is_not_there_is_foreign : close_fault 1 history (first ∷ second ∷ []) ≡ Some Foreign
+a_place_that_is_not_there_is_foreign = refl
+
+-- Nobody is at the second place either, but that comes after.
+a_place_twice_is_foreign : close_fault 2 history (first ∷ first ∷ []) ≡ Some Foreign
+a_place_twice_is_foreign = refl
+
+a_call_was_forgotten : close_fault 2 history (second ∷ left_by (b ∷ []) 1 (1 ∷ []) ∷ []) ≡ Some (Differs 1 1)
+a_call_was_forgotten = refl
+
+one_was_invented : close_fault 2 history (left_by (b ∷ []) 2 (2 ∷ 3 ∷ []) ∷ first ∷ []) ≡ Some (Differs 2 1)
+one_was_invented = refl
+
+of_two_the_lesser_place :
+    close_fault 2 history (left_by (b ∷ []) 2 [] ∷ left_by (b ∷ []) 1 (1 ∷ 2 ∷ []) ∷ [])
+    ≡ Some (Differs 1 1)
+of_two_the_lesser_place = refl
+
+they_are_the_same : first_difference 0 (1 ∷ 3 ∷ []) (positions 1 0 history) ≡ None
+they_are_the_same = refl

@@ -1,0 +1,167 @@
+//! The agent: the value under its lock, and the looks that wait for a pass.
+ghost use Rattle.std.specs.Prelude.{◌≡◌, ◌<◌, ◌≤◌, ◌+◌, ◌⊎◌, [], ◌∷◌, List, true};
+ghost use Rattle.std.specs.Prelude.{All, length, vec_len, IfOk, IfErr};
+ghost use Rattle.std.specs.Vec.{vec_capacity};
+ghost use Rattle.lg_timing.specs.Meaning.Config.{IsChecked};
+ghost use Rattle.lg_detector.specs.declared.event.Event.{Event as Happened};
+ghost use Rattle.lg_detector.specs.declared.event.Event.TheVariants.{Open};
+ghost use Rattle.lg_history.specs.Meaning.History.{events};
+ghost use Rattle.lg_view.specs.Meaning.Views.{begins_open};
+ghost use Rattle.lg_agent.specs.declared.refusal.Refusal.TheVariants.{NoMemory, NoPlace};
+ghost use Rattle.lg_agent.specs.Meaning.Calls.{AreFresh};
+
+use crate::kept::Kept;
+use crate::name::AgentName;
+use crate::pass::Pass;
+use crate::refusal::Refusal;
+use crate::spent::Spent;
+use left_right::Absorb;
+use lg_detector::{Event, NoMemory};
+use lg_rules::Name;
+use lg_timing::{Config, Moment};
+use lg_view::{Look, Published, UnnamedBook, Update};
+use std::alloc::Global;
+use std::marker::Model;
+use std::mem;
+use std::sync::{Mutex, Wait};
+
+/// What the threads of a service share. A contract sees the member's name, and for each
+/// place that waits for a pass the events that it was told of.
+///
+/// It isn't `Drop`: [`Agent::close`] or [`Agent::abandon`] ends it.
+pub struct Agent<A: AgentName>
+where
+    Published<A>: Absorb<Update<A>, State = [Event; 0]>,
+{
+    pub(crate) kept: Mutex<Kept<A>>,
+    pub(crate) name: Name,
+    /// The look of each place that waits for a pass.
+    pub(crate) waiting: Vec<Look<A>>,
+}
+
+impl<A: AgentName> Model for Agent<A>
+where
+    Published<A>: Absorb<Update<A>, State = [Event; 0]>,
+{
+    ghost use Rattle.std.specs.Prelude.{◌≡◌, true, All, length};
+    ghost use Rattle.lg_view.specs.Meaning.Views.{begins_open};
+    ghost use Rattle.lg_agent.specs.Meaning.Ledger.{Waiting};
+
+    ghost Value = { Waiting };
+
+    ghost view = { λ a. record { name = a.name; told = a.waiting.items } };
+
+    // Each look was told the opening.
+    ghost invariant = { λ a. All (λ look. begins_open look ≡ true) a.waiting.items };
+}
+
+impl<A: AgentName> Agent<A> {
+    /// Opens an agent with so many places, at a moment in milliseconds. The opening is published, and each place waits
+    /// for its pass.
+    ///
+    /// The book has to be the one that `A` names, the configuration checked, and the places 1 to 32, as many as `A`
+    /// names. It takes memory, and is refused with [`Refusal::NoMemory`] where that was refused, or with
+    /// [`Refusal::NoPlace`] where no reader could be had for a place.
+    pub fn open<R: Wait>(
+        rt: &R,
+        alloc: Global,
+        book: UnnamedBook,
+        now: Moment,
+        config: Config,
+        places: usize,
+    ) -> Result<Agent<A>, Refusal>
+        requires book { book.seen.book ≡ A.book }
+        requires config { IsChecked config }
+        requires places { (0 < places) × (places ≤ 32) × (places ≡ A.places) }
+        ensures name { IfOk result (λ a. a.name ≡ config.name) }
+        // Each place was told of this opening.
+        ensures told { IfOk result (λ a. (length a.told ≡ places)
+            × All (λ seen. seen ≡ Open now config ∷ []) a.told) }
+        ensures refused { IfErr result (λ e. (e ≡ NoMemory) ⊎ (e ≡ NoPlace)) }
+    {
+        let name = config.name;
+        let (kept, looks) = Kept::open(rt, alloc, book, now, config, places)?;
+        let mut waiting = looks;
+        tell_all(&kept, waiting.as_mut_slice());
+        Ok(Agent {
+            kept: Mutex::new(kept),
+            name,
+            waiting,
+        })
+    }
+
+    /// A fresh pass for each place that waits, in the order of the places. Then none waits. It takes memory for the
+    /// list of the passes, and no lock; it is no event. The only error is that memory was refused, and then nothing
+    /// has changed.
+    pub fn passes(&mut self, alloc: Global) -> Result<Vec<Pass<'_, A>>, NoMemory>
+        ensures count { IfOk result (λ passes. vec_len passes ≡ length self.old.told) }
+        ensures fresh { IfOk result (λ passes. AreFresh self.old.name 0 passes.items) }
+        // Where all places were told of the same, each pass has seen that.
+        ensures seen { (f : List Happened) → All (λ told. told ≡ f) self.old.told
+            → IfOk result (λ passes. All (λ pass. pass.seen ≡ f) passes.items) }
+    {
+        let passes = Vec::with_capacity(alloc, self.waiting.len())?;
+        let looks = mem::replace(&mut self.waiting, Vec::new(alloc));
+        Ok(hand_out(alloc, &self.kept, self.name, looks, passes))
+    }
+
+    /// Ends the agent, and forgets its history. It waits until no reader reads; from then on each look answers
+    /// [`Refusal::NoView`].
+    pub fn abandon<R: Wait>(self, rt: &R) {
+        let Agent {
+            kept,
+            name: _,
+            waiting: _,
+        } = self;
+        drop(kept.into_inner().into_history(rt));
+    }
+}
+
+/// A pass for each of these looks, put into a list with room for them.
+fn hand_out<'a, A: AgentName>(
+    alloc: Global,
+    kept: &'a Mutex<Kept<A>>,
+    name: Name,
+    looks: Vec<Look<A>>,
+    passes: Vec<Pass<'a, A>>,
+) -> Vec<Pass<'a, A>>
+    requires looks { All (λ look. begins_open look ≡ true) looks.items }
+    requires room { (passes.items ≡ []) × (vec_len looks ≤ vec_capacity passes) }
+    ensures count { vec_len result ≡ vec_len looks }
+    ensures fresh { AreFresh name 0 result.items }
+    ensures seen { (f : List Happened) → All (λ look. look ≡ f) looks.items
+        → All (λ pass. pass.seen ≡ f) result.items }
+{
+    let (mut looks, mut passes) = (looks, passes);
+    while let Some(look) = looks.pop() {
+        let own = Spent {
+            name,
+            seat: passes.len() + 1,
+            look,
+            mine: Vec::new(alloc),
+        };
+        passes.push_reserved(Pass { kept, own });
+    }
+    passes
+}
+
+/// Tells each look, none of which has seen anything, of the history.
+fn tell_all<A: AgentName>(kept: &Kept<A>, looks: &mut [Look<A>])
+    requires { All (λ look. look ≡ []) looks.old }
+    ensures told { All (λ look. look ≡ events kept.now.history) looks.new }
+    ensures count { length looks.new ≡ length looks.old }
+{
+    for look in looks {
+        kept.tell_first(look);
+    }
+}
+
+impl<A: AgentName> Kept<A> {
+    /// Tells a look that has seen nothing.
+    fn tell_first(&self, look: &mut Look<A>)
+        requires { look.old ≡ [] }
+        ensures { look.new ≡ events self.now.history }
+    {
+        self.tell(look);
+    }
+}

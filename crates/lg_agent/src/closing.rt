@@ -1,0 +1,231 @@
+//! Closing: what the passes left is compared with the history.
+ghost use Rattle.std.specs.Prelude.{◌≡◌, ◌≤◌, ◌==◌, All, OnOk, IfOk, IfErr, length, None};
+ghost use Rattle.std.specs.List.{list_any, find, range_with_len};
+ghost use mathlib.Core.List.{IsPrefix};
+ghost use Rattle.lg_history.specs.Meaning.History.{positions, events};
+ghost use Rattle.lg_agent.specs.Meaning.Ledger.{own_name};
+ghost use Rattle.lg_agent.specs.Meaning.Closing.{times, is_foreign, is_missing, first_difference};
+ghost use Rattle.lg_agent.specs.Meaning.Closing.{difference, difference_at, least_difference};
+ghost use Rattle.lg_agent.specs.Meaning.Closing.{close_fault, unless_fault, IsClosed};
+
+use crate::agent::Agent;
+use crate::closed::Closed;
+use crate::kept::Kept;
+use crate::name::AgentName;
+use crate::refusal::CloseFault;
+use crate::spent::Spent;
+use left_right::Absorb;
+use lg_detector::Event;
+use lg_history::Entry;
+use lg_view::{Published, Update};
+use std::sync::{Mutex, Wait};
+
+/// A refused closing hands everything back, unchanged.
+pub struct Unclosed<A: AgentName>
+where
+    Published<A>: Absorb<Update<A>, State = [Event; 0]>,
+{
+    /// Why it was refused.
+    pub fault: CloseFault,
+    /// The agent.
+    pub agent: Agent<A>,
+    /// What the passes left.
+    pub spents: Vec<Spent<A>>,
+}
+
+/// How many of these have a place.
+fn times<A: AgentName>(spents: &[Spent<A>], seat: usize) -> usize
+    ensures { result ≡ times spents.now seat }
+{
+    spents.iter().filter(|spent| spent.seat() == seat).count()
+}
+
+impl<A: AgentName> Spent<A> {
+    /// How its positions differ from those of its place in the history.
+    fn difference(&self, history: &[Entry]) -> Option<CloseFault>
+        ensures { result ≡ difference history.now self.now }
+    {
+        match self.first_difference(history) {
+            Some(index) => Some(CloseFault::Differs {
+                seat: self.seat,
+                index,
+            }),
+            None => None,
+        }
+    }
+
+    /// The first index at which they do.
+    fn first_difference(&self, history: &[Entry]) -> Option<u64>
+        ensures { result ≡ first_difference 0 self.now.mine (positions self.now.seat 0 history.now) }
+    {
+        let mut found = 0;
+        for place in 0..history.len() {
+            if history[place].seat() == self.seat {
+                if found >= self.mine.len() || self.mine[found] != place as u64 {
+                    return Some(found as u64);
+                }
+                found += 1;
+            }
+        }
+        if found < self.mine.len() {
+            return Some(found as u64);
+        }
+        None
+    }
+}
+
+impl<A: AgentName> Kept<A> {
+    /// Whether these are what the passes of this agent left: one of each place, which bears the agent's name, and whose
+    /// positions are those of its place in the history. Else it is the fault that is the first in the order
+    /// [`CloseFault::Foreign`], [`CloseFault::Missing`], [`CloseFault::Differs`]. It takes no memory.
+    pub fn audit(&self, spents: &[Spent<A>]) -> Result<(), CloseFault>
+        ensures { result ≡ unless_fault (close_fault self.now.places self.now.history spents.now) }
+    {
+        if self.has_foreign(spents) {
+            return Err(CloseFault::Foreign);
+        }
+        if self.lacks_one(spents) {
+            return Err(CloseFault::Missing);
+        }
+        match self.least_difference(spents) {
+            Some(fault) => Err(fault),
+            None => Ok(()),
+        }
+    }
+
+    /// Whether one of them doesn't belong here.
+    fn has_foreign(&self, spents: &[Spent<A>]) -> bool
+        ensures { result ≡ list_any (is_foreign (own_name self.now.history) self.now.places spents.now) spents.now }
+    {
+        for spent in spents {
+            if self.is_foreign(spents, spent) {
+                return true;
+            }
+        }
+        false
+    }
+
+    /// Whether this one of them doesn't.
+    fn is_foreign(&self, spents: &[Spent<A>], spent: &Spent<A>) -> bool
+        ensures { result ≡ is_foreign (own_name self.now.history) self.now.places spents.now spent.now }
+    {
+        let seat = spent.seat();
+        spent.name() != self.name() || seat == 0 || seat > self.places() || times(spents, seat) > 1
+    }
+
+    /// Whether none of them has some place.
+    fn lacks_one(&self, spents: &[Spent<A>]) -> bool
+        ensures { result ≡ list_any (is_missing spents.now) (range_with_len 1 self.now.places) }
+    {
+        for place in 0..self.places() {
+            if times(spents, place + 1) == 0 {
+                return true;
+            }
+        }
+        false
+    }
+
+    /// The difference of the least place that has one.
+    fn least_difference(&self, spents: &[Spent<A>]) -> Option<CloseFault>
+        ensures { result ≡ least_difference self.now.history spents.now (range_with_len 1 self.now.places) }
+    {
+        for place in 0..self.places() {
+            let fault = self.difference_at(spents, place + 1);
+            if fault.is_some() {
+                return fault;
+            }
+        }
+        None
+    }
+
+    /// The difference of a place, where it has one.
+    fn difference_at(&self, spents: &[Spent<A>], seat: usize) -> Option<CloseFault>
+        ensures { result ≡ difference_at self.now.history (find (λ s. s.seat == seat) spents.now) }
+    {
+        for spent in spents {
+            if spent.seat() == seat {
+                return spent.difference(self.history());
+            }
+        }
+        None
+    }
+
+    /// As [`Kept::audit`], and none of them has seen more events than the history has. No run meets that. It would be
+    /// told as a difference behind the last call.
+    fn judge(&self, spents: &[Spent<A>]) -> Result<(), CloseFault>
+        ensures audited { OnOk result (close_fault self.now.places self.now.history spents.now ≡ None) }
+        ensures short { OnOk result (All (λ s. length s.seen ≤ length self.now.history) spents.now) }
+    {
+        self.audit(spents)?;
+        for spent in spents {
+            if spent.seen() > self.count() {
+                return Err(CloseFault::Differs {
+                    seat: spent.seat(),
+                    index: spent.calls().len() as u64,
+                });
+            }
+        }
+        Ok(())
+    }
+
+    /// What each of them has seen begins the events of the history.
+    fn compare_all(&self, spents: &[Spent<A>])
+        requires { All (λ s. length s.seen ≤ length self.now.history) spents.now }
+        ensures { All (λ s. IsPrefix s.seen (events self.now.history)) spents.now }
+    {
+        for spent in spents {
+            self.compare_one(spent);
+        }
+    }
+
+    /// What this one has seen does.
+    fn compare_one(&self, spent: &Spent<A>)
+        requires { length spent.now.seen ≤ length self.now.history }
+        ensures { IsPrefix spent.now.seen (events self.now.history) }
+    {
+        self.compare(&spent.look);
+    }
+}
+
+impl<A: AgentName> Agent<A> {
+    /// Ends the agent, and gives its history. It waits until no reader reads, and takes no memory.
+    ///
+    /// It is handed what all passes left, in any order, and is refused with the fault that [`Kept::audit`] finds in
+    /// them, or with [`CloseFault::Differs`] behind the last call of one that has seen more than the history has, which
+    /// no test has met. Then everything is handed back. Two agents may have one name: that each [`Spent`] was finished
+    /// from a pass of this agent is seen to by `A`, which no two agents share.
+    pub fn close<R: Wait>(self, rt: &R, spents: Vec<Spent<A>>) -> Result<Closed, Unclosed<A>>
+        ensures closed { IfOk result (λ c. IsClosed A.places c spents.items) }
+        ensures back { IfErr result (λ u. (u.spents.items ≡ spents.items) × (u.agent ≡ self)) }
+    {
+        let Agent {
+            kept,
+            name,
+            waiting,
+        } = self;
+        let kept = kept.into_inner();
+        if let Err(fault) = kept.judge(spents.as_slice()) {
+            let agent = Agent {
+                kept: Mutex::new(kept),
+                name,
+                waiting,
+            };
+            return Err(Unclosed {
+                fault,
+                agent,
+                spents,
+            });
+        }
+        Ok(closed(rt, kept, spents))
+    }
+}
+
+/// The history of an agent whose passes agree with it.
+fn closed<A: AgentName, R: Wait>(rt: &R, kept: Kept<A>, spents: Vec<Spent<A>>) -> Closed
+    requires audited { close_fault kept.places kept.history spents.items ≡ None }
+    requires short { All (λ s. length s.seen ≤ length kept.history) spents.items }
+    ensures { IsClosed A.places result spents.items }
+{
+    kept.compare_all(spents.as_slice());
+    Closed::over(kept.into_history(rt))
+}

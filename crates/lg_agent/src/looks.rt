@@ -1,0 +1,116 @@
+//! What a pass reads without the lock: each look answers from what was published last, and waits for nobody.
+ghost use Rattle.std.specs.Prelude.{◌≡◌, ◌⊎◌, length, Some, MatchResult};
+ghost use Rattle.lg_rules.specs.Meaning.Claim.{name_of};
+ghost use Rattle.lg_rules.specs.Meaning.Rows.{name_cmp, row_at};
+ghost use Rattle.lg_detector.specs.Meaning.Step.{view_after, deadline_after};
+ghost use Rattle.lg_agent.specs.declared.refusal.Refusal.TheVariants.{NoView, NoMemory};
+ghost use Rattle.lg_agent.specs.Meaning.Calls.{IsLook};
+
+use crate::name::AgentName;
+use crate::pass::Pass;
+use crate::refusal::Refusal;
+use crate::spent::Spent;
+use lg_rules::{Name, Record};
+use lg_view::MembersFault;
+use std::alloc::Global;
+
+impl<'a, A: AgentName> Pass<'a, A> {
+    /// The record of a name, the own one included, where it is known. It takes no memory and no lock. The only refusal
+    /// is [`Refusal::NoView`].
+    pub fn status_of(&mut self, name: &Name) -> Result<Option<Record>, Refusal>
+        ensures { MatchResult result
+            (λ r. (r ≡ row_at name_cmp name_of name.now (view_after self.new.seen)) × IsLook self.old self.new)
+            (λ e. (e ≡ NoView) × (self.new ≡ self.old)) }
+    {
+        self.own.status_of(name)
+    }
+
+    /// The least deadline of the timers that are set, in milliseconds. It takes no memory and no lock. The only refusal
+    /// is [`Refusal::NoView`].
+    pub fn next_deadline(&mut self) -> Result<u64, Refusal>
+        ensures { MatchResult result (λ n. (deadline_after self.new.seen ≡ Some n) × IsLook self.old self.new)
+            (λ e. (e ≡ NoView) × (self.new ≡ self.old)) }
+    {
+        self.own.next_deadline()
+    }
+
+    /// How many events the published value is after; after the opening it is 1. It takes no memory and no lock. The
+    /// only refusal is [`Refusal::NoView`].
+    pub fn version(&mut self) -> Result<u64, Refusal>
+        ensures { MatchResult result (λ n. (n ≡ length self.new.seen) × IsLook self.old self.new)
+            (λ e. (e ≡ NoView) × (self.new ≡ self.old)) }
+    {
+        self.own.version()
+    }
+
+    /// The records of all members, the own one included, in the order of their names. It takes memory for 256 records,
+    /// and no lock. It is refused with [`Refusal::NoMemory`] where that was refused, else with [`Refusal::NoView`].
+    pub fn members(&mut self, alloc: Global) -> Result<Vec<Record>, Refusal>
+        ensures { MatchResult result
+            (λ records. (records.items ≡ view_after self.new.seen) × IsLook self.old self.new)
+            (λ e. ((e ≡ NoView) ⊎ (e ≡ NoMemory)) × (self.new ≡ self.old)) }
+    {
+        self.own.members(alloc)
+    }
+}
+
+impl<A: AgentName> Spent<A> {
+    /// As [`Pass::status_of`].
+    fn status_of(&mut self, name: &Name) -> Result<Option<Record>, Refusal>
+        ensures { MatchResult result
+            (λ r. (r ≡ row_at name_cmp name_of name.now (view_after self.new.seen)) × IsLook self.old self.new)
+            (λ e. (e ≡ NoView) × (self.new ≡ self.old)) }
+    {
+        let answer = self.look.status_of(name);
+        // What was seen is an accepted list.
+        let _seen = self.look.seen();
+        match answer {
+            Ok(record) => Ok(record),
+            Err(_) => Err(Refusal::NoView),
+        }
+    }
+
+    /// As [`Pass::next_deadline`].
+    fn next_deadline(&mut self) -> Result<u64, Refusal>
+        ensures { MatchResult result (λ n. (deadline_after self.new.seen ≡ Some n) × IsLook self.old self.new)
+            (λ e. (e ≡ NoView) × (self.new ≡ self.old)) }
+    {
+        let answer = self.look.next_deadline();
+        // What was seen is an accepted list.
+        let _seen = self.look.seen();
+        match answer {
+            Ok(deadline) => Ok(deadline),
+            Err(_) => Err(Refusal::NoView),
+        }
+    }
+
+    /// As [`Pass::version`].
+    fn version(&mut self) -> Result<u64, Refusal>
+        ensures { MatchResult result (λ n. (n ≡ length self.new.seen) × IsLook self.old self.new)
+            (λ e. (e ≡ NoView) × (self.new ≡ self.old)) }
+    {
+        let answer = self.look.version();
+        // What was seen is an accepted list.
+        let _seen = self.look.seen();
+        match answer {
+            Ok(events) => Ok(events),
+            Err(_) => Err(Refusal::NoView),
+        }
+    }
+
+    /// As [`Pass::members`].
+    fn members(&mut self, alloc: Global) -> Result<Vec<Record>, Refusal>
+        ensures { MatchResult result
+            (λ records. (records.items ≡ view_after self.new.seen) × IsLook self.old self.new)
+            (λ e. ((e ≡ NoView) ⊎ (e ≡ NoMemory)) × (self.new ≡ self.old)) }
+    {
+        let answer = self.look.members(alloc);
+        // What was seen is an accepted list.
+        let _seen = self.look.seen();
+        match answer {
+            Ok(records) => Ok(records),
+            Err(MembersFault::NoView) => Err(Refusal::NoView),
+            Err(MembersFault::NoMemory) => Err(Refusal::NoMemory),
+        }
+    }
+}

@@ -1,0 +1,161 @@
+//! A pass and its calls. Each call takes the lock once.
+ghost use Rattle.std.specs.Prelude.{◌≡◌, ◌⊎◌, Ok, Err, false, MatchResult, IfOk, IfErr, OnErr};
+ghost use Rattle.lg_packet.specs.declared.fault.Fault.{Fault as Broken};
+ghost use Rattle.lg_packet.specs.declared.packet.Packet.{Packet as Read};
+ghost use Rattle.lg_packet.specs.Meaning.Reading.{packet_of};
+ghost use Rattle.lg_detector.specs.declared.event.Event.TheVariants.{Tick, Heard, Ask, Health, Pull};
+ghost use Rattle.lg_detector.specs.Meaning.Step.{is_open};
+ghost use Rattle.lg_agent.specs.declared.refusal.Refusal.TheVariants.{BadPacket};
+ghost use Rattle.lg_agent.specs.Meaning.Calls.{IsCall, IsRefusal, IsBadPacket};
+
+use crate::kept::Kept;
+use crate::name::AgentName;
+use crate::receipt::Receipt;
+use crate::refusal::Refusal;
+use crate::spent::Spent;
+use left_right::Absorb;
+use lg_detector::Event;
+use lg_packet::decode;
+use lg_rules::{Addr, Name};
+use lg_timing::Moment;
+use lg_view::{Published, Update};
+use std::alloc::Global;
+use std::marker::Model;
+use std::sync::{Mutex, Wait};
+
+/// A thread's access to the agent. A contract sees the name of its agent, its place, the events that it has seen, and
+/// the positions of its answered calls.
+///
+/// Each call takes the lock, and may wait for it. An answered one makes one entry of the history, and its reply is the
+/// one that the definitions give to its event after a list of events which begins with all that the pass had seen. A
+/// refused one makes none, and changes nothing.
+#[derive(Drop)]
+pub struct Pass<'a, A: AgentName>
+where
+    Published<A>: Absorb<Update<A>, State = [Event; 0]>,
+{
+    pub(crate) kept: &'a Mutex<Kept<A>>,
+    pub(crate) own: Spent<A>,
+}
+
+impl<'a, A: AgentName> Model for Pass<'a, A>
+where
+    Published<A>: Absorb<Update<A>, State = [Event; 0]>,
+{
+    ghost use Rattle.lg_agent.specs.Meaning.Ledger.{Own};
+
+    ghost Value = { Own };
+
+    ghost view = { λ p. p.own };
+}
+
+impl<'a, A: AgentName> Pass<'a, A> {
+    /// One event, under the lock.
+    fn call<R: Wait>(&mut self, rt: &R, alloc: Global, event: &Event) -> Result<Receipt, Refusal>
+        requires { is_open event.now ≡ false }
+        ensures answered { MatchResult result (λ r. IsCall self.old event.now r self.new)
+            (λ _. self.new ≡ self.old) }
+        ensures refusal { IfErr result (IsRefusal self.old.seen) }
+    {
+        self.own.call(self.kept, rt, alloc, event)
+    }
+
+    /// Time has passed: the first timer that is due fires, if one is. The moment is in milliseconds, and the words are
+    /// random.
+    pub fn tick<R: Wait>(
+        &mut self,
+        rt: &R,
+        alloc: Global,
+        now: Moment,
+        words: [u32; 8],
+    ) -> Result<Receipt, Refusal>
+        ensures answered { MatchResult result (λ r. IsCall self.old (Tick now words) r self.new)
+            (λ _. self.new ≡ self.old) }
+        ensures refusal { IfErr result (IsRefusal self.old.seen) }
+    {
+        self.call(rt, alloc, &Event::Tick { now, words })
+    }
+
+    /// A datagram came from an address. [`Refusal::BadPacket`] comes exactly where its bytes are no packet, with their
+    /// fault; else the packet that they spell is heard.
+    pub fn datagram<R: Wait>(
+        &mut self,
+        rt: &R,
+        alloc: Global,
+        now: Moment,
+        source: Addr,
+        bytes: &[u8],
+    ) -> Result<Receipt, Refusal>
+        ensures answered { IfOk result (λ r. (p : Read) × (packet_of bytes.now ≡ Ok p)
+            × IsCall self.old (Heard now source p) r self.new) }
+        ensures refused { OnErr result (self.new ≡ self.old) }
+        ensures bad { (f : Broken) → packet_of bytes.now ≡ Err f → result ≡ Err (BadPacket f) }
+        ensures only { (f : Broken) → result ≡ Err (BadPacket f) → packet_of bytes.now ≡ Err f }
+        ensures refusal { IfErr result (λ e. IsBadPacket e ⊎ IsRefusal self.old.seen e) }
+    {
+        match decode(bytes) {
+            Ok(packet) => self.call(
+                rt,
+                alloc,
+                &Event::Heard {
+                    now,
+                    source,
+                    packet,
+                },
+            ),
+            Err(fault) => Err(Refusal::BadPacket(fault)),
+        }
+    }
+
+    /// Asks for the record of a name.
+    pub fn ask<R: Wait>(
+        &mut self,
+        rt: &R,
+        alloc: Global,
+        now: Moment,
+        name: &Name,
+    ) -> Result<Receipt, Refusal>
+        ensures answered { MatchResult result (λ r. IsCall self.old (Ask now name.now) r self.new)
+            (λ _. self.new ≡ self.old) }
+        ensures refusal { IfErr result (IsRefusal self.old.seen) }
+    {
+        self.call(rt, alloc, &Event::Ask { now, name: *name })
+    }
+
+    /// Asks for the health score, the own incarnation and the number of members.
+    pub fn health<R: Wait>(
+        &mut self,
+        rt: &R,
+        alloc: Global,
+        now: Moment,
+    ) -> Result<Receipt, Refusal>
+        ensures answered { MatchResult result (λ r. IsCall self.old (Health now) r self.new)
+            (λ _. self.new ≡ self.old) }
+        ensures refusal { IfErr result (IsRefusal self.old.seen) }
+    {
+        self.call(rt, alloc, &Event::Health { now })
+    }
+
+    /// Asks another member, at this address, for its table.
+    pub fn pull<R: Wait>(
+        &mut self,
+        rt: &R,
+        alloc: Global,
+        now: Moment,
+        peer: Addr,
+    ) -> Result<Receipt, Refusal>
+        ensures answered { MatchResult result (λ r. IsCall self.old (Pull now peer) r self.new)
+            (λ _. self.new ≡ self.old) }
+        ensures refusal { IfErr result (IsRefusal self.old.seen) }
+    {
+        self.call(rt, alloc, &Event::Pull { now, peer })
+    }
+
+    /// What the pass leaves.
+    pub fn finish(self) -> Spent<A>
+        ensures { result ≡ self.entry }
+    {
+        let Pass { kept: _, own } = self;
+        own
+    }
+}

@@ -1,0 +1,11 @@
+//! What an answered call gives.
+use lg_detector::Reply;
+
+/// What an answered call gives.
+#[derive(Debug, Drop)]
+pub struct Receipt {
+    /// The position of the call's entry in the history, from 1; the opening has 0.
+    pub place: u64,
+    /// The reply to the call's event.
+    pub reply: Reply,
+}

@@ -1,0 +1,76 @@
+//! Why a call or a look is refused, and why an agent isn't closed.
+ghost use Rattle.std.specs.Prelude.{◌≡◌};
+ghost use Rattle.lg_agent.specs.Meaning.Numbers.{refusal_number, close_fault_number};
+
+use lg_packet::Fault;
+
+/// Why a call or a look was refused. It then has changed nothing, and made no entry.
+///
+/// Where several are due, a call is refused by the first in this order: `BadPacket`, `NoMemory` for the pass's own
+/// list, `Behind`, `NoPlace`, `HistoryFull`, `NoMemory` for the history and the publication.
+#[derive(Clone, Copy, Debug, PartialEq, Eq)]
+pub enum Refusal {
+    /// The bytes are no packet.
+    BadPacket(Fault),
+    /// Memory was refused.
+    NoMemory,
+    /// The history has as many entries as it may have: this limit of the configuration.
+    HistoryFull(u64),
+    /// The pass has seen more events than are published. No run meets this.
+    Behind {
+        /// How many events the pass has seen.
+        seen: u64,
+        /// How many are published.
+        here: u64,
+    },
+    /// There is no such place, or at an opening no reader could be had for one.
+    NoPlace,
+    /// At a look: the published value wasn't handed out. While the agent is open, this doesn't come.
+    NoView,
+}
+
+impl Refusal {
+    /// The number of the refusal: 1 to 6, in the order of the variants.
+    pub fn number(&self) -> u8
+        ensures { result ≡ refusal_number self.now }
+    {
+        match self {
+            Refusal::BadPacket(_) => 1,
+            Refusal::NoMemory => 2,
+            Refusal::HistoryFull(_) => 3,
+            Refusal::Behind { .. } => 4,
+            Refusal::NoPlace => 5,
+            Refusal::NoView => 6,
+        }
+    }
+}
+
+/// Why an agent wasn't closed. Where several are due it is the first in the order `Foreign`, `Missing`, `Differs`.
+#[derive(Clone, Copy, Debug, PartialEq, Eq)]
+pub enum CloseFault {
+    /// Some place from 1 to the number of places has no [`Spent`](crate::Spent).
+    Missing,
+    /// Some [`Spent`](crate::Spent) bears another agent's name, or has a place that isn't there, or one that another
+    /// has as well.
+    Foreign,
+    /// The positions that a [`Spent`](crate::Spent) lists aren't those that its place has in the history.
+    Differs {
+        /// The least such place.
+        seat: usize,
+        /// The first index at which the two lists differ; one of them may end there.
+        index: u64,
+    },
+}
+
+impl CloseFault {
+    /// The number of the fault: 1 to 3, in the order of the variants.
+    pub fn number(&self) -> u8
+        ensures { result ≡ close_fault_number self.now }
+    {
+        match self {
+            CloseFault::Missing => 1,
+            CloseFault::Foreign => 2,
+            CloseFault::Differs { .. } => 3,
+        }
+    }
+}

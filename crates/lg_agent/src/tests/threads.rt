@@ -1,0 +1,188 @@
+//! Threads that share an agent. A number that a refused call or look doesn't give is 99.
+use super::playing::{Case, Left, Told, handed_in, told, two_of};
+use super::rows::{answer_of, place_of};
+use super::{alive_c, at, letter, local};
+use crate::{Agent, AgentName, Pass, Receipt, Refusal, Spent};
+use lg_detector::{Answer, TimerId};
+use lg_rules::Record;
+use std::alloc::Global;
+use std::sync::Wait;
+use std::test::Fail;
+use std::thread::{Threads, join};
+
+/// A Ping of a for b, numbered 7, that says that c is alive at 127.0.0.1:7003 with the number 0.
+const PING: [u8; 26] = [
+    0x53, 0x4c, 1, 1, 1, b'a', 0, 0, 0, 7, 1, b'b', 1, 1, 1, b'c', 127, 0, 0, 1, 0x1b, 0x5b, 0, 0,
+    0, 0,
+];
+
+/// Whether a look shows c alive, with the number 0.
+fn shows_c(answer: &Result<Option<Record>, Refusal>) -> bool {
+    match answer {
+        Ok(record) => *record == Some(alive_c()),
+        Err(_) => false,
+    }
+}
+
+/// What this pass sees of c, after what another pass heard: the version, whether c is alive with the number 0, and the
+/// place of a question that is answered so.
+fn sees_c<A: AgentName, R: Wait>(rt: &R, alloc: Global, pass: Pass<'_, A>) -> (Spent<A>, [u64; 3]) {
+    let mut pass = pass;
+    let version = pass.version().unwrap_or(99);
+    let shown = shows_c(&pass.status_of(&letter(b'c')));
+    let asked = pass.ask(rt, alloc, at(20), &letter(b'c'));
+    let same = answer_of(&asked) == Some(Answer::Status(Some(alive_c())));
+    let seen = [version, u64::from(shown && same), place_of(&asked)];
+    (pass.finish(), seen)
+}
+
+/// One pass hears of c: the place of the datagram, then whether it sees c alive with the number 0, and the version.
+fn hears_of_c<A: AgentName, R: Wait>(
+    rt: &R,
+    alloc: Global,
+    pass: Pass<'_, A>,
+) -> (Spent<A>, [u64; 3]) {
+    let mut pass = pass;
+    let place = place_of(&pass.datagram(rt, alloc, at(10), local(1), &PING));
+    let shown = u64::from(shows_c(&pass.status_of(&letter(b'c'))));
+    let version = pass.version().unwrap_or(99);
+    (pass.finish(), [place, shown, version])
+}
+
+/// One pass hears of c, and then another looks and asks, in another thread.
+fn one_after_the_other<A: AgentName + Send + Sync, R: Threads + Wait + Sync>(
+    rt: &R,
+    alloc: Global,
+    one: Pass<'_, A>,
+    two: Pass<'_, A>,
+) -> (Spent<A>, Spent<A>, Told) {
+    let (first, heard) = hears_of_c(rt, alloc, one);
+    let (back, other) = join(rt, move || first, move || sees_c(rt, alloc, two));
+    let (second, seen) = other;
+    let numbers = [
+        heard[0], heard[1], heard[2], seen[0], seen[1], seen[2], 0, 0,
+    ];
+    (back, second, numbers)
+}
+
+/// One pass hears of c, and then another thread looks and asks.
+pub(super) fn seen_by_another<A: AgentName + Send + Sync, R: Threads + Wait + Sync>(
+    rt: &R,
+    alloc: Global,
+    agent: &mut Agent<A>,
+) -> Option<Left<A>> {
+    let (one, two) = two_of(alloc, agent)?;
+    let (first, second, numbers) = one_after_the_other(rt, alloc, one, two);
+    handed_in(alloc, first, Some(second), numbers)
+}
+
+/// So many calls, and a look before and after each. It counts what isn't as it should be: a call that is refused or
+/// stands before what was seen, and a look that misses the call.
+fn calls<A: AgentName, R: Wait>(
+    rt: &R,
+    alloc: Global,
+    pass: Pass<'_, A>,
+    count: u64,
+) -> (Spent<A>, u64) {
+    let mut pass = pass;
+    let mut wrong = 0u64;
+    for turn in 0..count {
+        let seen = pass.version().unwrap_or(0);
+        let answer = pass.health(rt, alloc, at(turn));
+        let later = pass.version().unwrap_or(0);
+        if answer.is_err() || place_of(&answer) < seen || later <= place_of(&answer) {
+            wrong = wrong.wrapping_add(1);
+        }
+    }
+    (pass.finish(), wrong)
+}
+
+/// Two threads, which make 50 calls and none.
+fn fifty_and_none<A: AgentName + Send + Sync, R: Threads + Wait + Sync>(
+    rt: &R,
+    alloc: Global,
+    two: Pass<'_, A>,
+    three: Pass<'_, A>,
+) -> ((Spent<A>, u64), (Spent<A>, u64)) {
+    join(
+        rt,
+        move || calls(rt, alloc, two, 50),
+        move || calls(rt, alloc, three, 0),
+    )
+}
+
+/// Three threads, which make 100, 50 and 0 calls.
+pub(super) fn three_threads<A: AgentName + Send + Sync, R: Threads + Wait + Sync>(
+    rt: &R,
+    alloc: Global,
+    agent: &mut Agent<A>,
+) -> Option<Left<A>> {
+    let mut passes = agent.passes(alloc).ok()?;
+    let three = passes.pop()?;
+    let two = passes.pop()?;
+    let one = passes.pop()?;
+    let (first, (second, third)) = join(
+        rt,
+        move || calls(rt, alloc, one, 100),
+        move || fifty_and_none(rt, alloc, two, three),
+    );
+    let wrong = first.1.wrapping_add(second.1).wrapping_add(third.1);
+    let mut all = handed_in(alloc, first.0, Some(second.0), [wrong, 0, 0, 0, 0, 0, 0, 0])?;
+    all.spents.push(third.0).ok()?;
+    Some(all)
+}
+
+/// Whether a round starts with one packet, and the next deadline.
+fn round_of(answer: &Result<Receipt, Refusal>) -> (bool, u64) {
+    match answer {
+        Ok(receipt) => {
+            let starts = match &receipt.reply.fired {
+                Some(timer) => timer.id == TimerId::RoundStart,
+                None => false,
+            };
+            (starts && receipt.reply.sends.len() == 1, receipt.reply.next)
+        }
+        Err(_) => (false, 99),
+    }
+}
+
+/// A tick at an earlier moment.
+fn ticks<A: AgentName, R: Wait>(
+    rt: &R,
+    alloc: Global,
+    pass: Pass<'_, A>,
+) -> (Spent<A>, (bool, u64)) {
+    let mut pass = pass;
+    let round = round_of(&pass.tick(rt, alloc, at(4000), [0; 8]));
+    (pass.finish(), round)
+}
+
+/// A call at 5000, and then one at 4000 in another thread. The agent knows c.
+pub(super) fn earlier_moment<A: AgentName + Send + Sync, R: Threads + Wait + Sync>(
+    rt: &R,
+    alloc: Global,
+    agent: &mut Agent<A>,
+) -> Option<Left<A>> {
+    let (mut one, two) = two_of(alloc, agent)?;
+    let place = place_of(&one.health(rt, alloc, at(5000)));
+    let (first, (second, round)) = join(rt, move || one.finish(), move || ticks(rt, alloc, two));
+    let numbers = [place, u64::from(round.0), round.1, 0, 0, 0, 0, 0];
+    handed_in(alloc, first, Some(second), numbers)
+}
+
+#[test]
+fn threads(rt: HostRuntime) -> Result<(), Fail> {
+    let cases = [
+        (Case::SeenByAnother, 2, [1, 1, 2, 2, 1, 2, 0, 3]),
+        (Case::ThreeThreads, 3, [0, 0, 0, 0, 0, 0, 0, 151]),
+        (Case::EarlierMoment, 2, [1, 1, 5500, 0, 0, 0, 0, 3]),
+    ];
+    for (case, places, want) in cases {
+        assert_eq!(rt;
+            told(&rt, rt.alloc(), case, places, 20000),
+            Some(want),
+            "{case:?}"
+        );
+    }
+    Ok(())
+}
