@@ -58,7 +58,7 @@ impl Closed {
     pub fn choices(&self, alloc: Global, from: u64, to: u64) -> Result<Vec<Name>, NoMemory>
         ensures gained { IfOk result (λ names. from ≤ to
             → targets_after (take to (events self.now))
-                ≡ targets_after (take from (events self.now)) ++ names.items) }
+            ≡ targets_after (take from (events self.now)) ++ names.items) }
         ensures none { IfOk result (λ names. to ≤ from → names.items ≡ []) }
     {
         let mut names = Vec::new(alloc);

@@ -122,7 +122,7 @@ impl<A: AgentName> Kept<A> {
         // Which refusal it is.
         ensures exact { MatchResult result (λ _. refusal_of self.old seat ≡ None)
             (λ e. (refusal_of self.old seat ≡ Some e)
-                ⊎ ((e ≡ NoMemory) × (refusal_of self.old seat ≡ None))) }
+            ⊎ ((e ≡ NoMemory) × (refusal_of self.old seat ≡ None))) }
     {
         if seat == 0 || seat > self.places {
             return Err(Refusal::NoPlace);
