@@ -17,8 +17,8 @@ lacks_one f all before e begins ends long =
     ends ∙ ap (λ (l : List Event). l ++ e ∷ []) (sym same)
 
 -- such an event is accepted
-pub accepts_next : (f all : List Event) (e : Event) → all ≡ f ++ e ∷ [] → is_accepted f ≡ true → is_accepted all ≡ true → accepts_of (state_after f) e ≡ true
-accepts_next f all e are was good = accepts-after f e was ∙ (ap is_accepted (sym are) ∙ good)
+pub accepts_next : (f all before : List Event) (e : Event) → IsPrefix f all → all ≡ before ++ e ∷ [] → length f + 1 ≡ length all → is_accepted f ≡ true → is_accepted all ≡ true → accepts_of (state_after f) e ≡ true
+accepts_next f all before e begins ends long was good = accepts-after f e was ∙ (ap is_accepted (sym (lacks_one f all before e begins ends long)) ∙ good)
 
 -- and a state that it was led on by is that after the longer front
 pub after_next : (s : State) (f all : List Event) (e same : Event) → s ≡ state_after (f ++ same ∷ []) → same ≡ e → all ≡ f ++ e ∷ [] → s ≡ state_after all

@@ -22,9 +22,9 @@ pub enum PairFault {
 }
 
 /// Makes a feed and so many looks, at least one and fewer than 2^32, over a book that has no events. Nothing is
-/// published yet, and each look has seen nothing. It takes memory for the looks, for two detectors and for what the
-/// threads share; where that is refused, it fails with [`PairFault::NoMemory`]. It fails with [`PairFault::NoPlace`]
-/// where a reader isn't given.
+/// published yet, and each look has seen nothing. It takes memory for the looks, for two detectors, each with some 5 KB
+/// for a reply, and for what the threads share; where that is refused, it fails with [`PairFault::NoMemory`]. It fails
+/// with [`PairFault::NoPlace`] where a reader isn't given.
 pub fn pair<P: PairName, R: Wait>(
     rt: &R,
     alloc: Global,

@@ -10,18 +10,22 @@ use crate::front::Front;
 use crate::update::{Added, Update};
 use arrayvec::ArrayVec;
 use left_right::Absorb;
-use lg_detector::{Detector, Event, MAX_MEMBERS, NoMemory};
+use lg_detector::{Detector, Event, MAX_MEMBERS, NoMemory, Reply};
 use lg_rules::{Name, Record};
 use std::alloc::{AllocError, Global};
 use std::marker::Model;
 
 /// A detector beside the front of the book that it is after. A contract sees it as that front.
 ///
-/// `left_right` keeps two of them: readers read the one while the writer leads the other on.
+/// `left_right` keeps two of them: readers read the one while the writer leads the other on. Each takes the memory of a
+/// detector, and some 5 KB for a reply.
 #[derive(Drop)]
 pub struct Published<P: PairName> {
     detector: Detector,
     front: Front<P>,
+    // A place for the replies to the events, which nobody reads. It is kept, since to make one for each event would
+    // take longer than most events do.
+    unread: Box<Reply>,
 }
 
 impl<P: PairName> Model for Published<P> {
@@ -37,7 +41,8 @@ impl<P: PairName> Model for Published<P> {
 }
 
 impl<P: PairName> Published<P> {
-    /// A detector before any event. It takes the detector's memory; the only error is that memory was refused.
+    /// A detector before any event. It takes the detector's memory, and a box for a reply; the only error is that
+    /// memory was refused.
     pub(crate) fn blank(alloc: Global, front: Front<P>) -> Result<Published<P>, NoMemory>
         requires { front ≡ [] }
         ensures { IfOk result (λ published. published ≡ front) }
@@ -45,6 +50,7 @@ impl<P: PairName> Published<P> {
         Ok(Published {
             detector: Detector::blank(alloc)?,
             front,
+            unread: Box::new(alloc, Reply::default())?,
         })
     }
 
@@ -82,7 +88,7 @@ impl<P: PairName> Published<P> {
     {
         if self.front.len() + 1 == added.front.len() {
             self.front.begins(&added.front);
-            self.detector.absorb(&added.event);
+            self.detector.step(&added.event, &mut self.unread);
             self.front = added.front.copy();
         }
     }
