@@ -1,5 +1,5 @@
 //! The history: its entries, and the one that is prepared.
-ghost use Rattle.std.specs.Prelude.{◌≡◌, [], length, Some, None, OnOk, OnErr};
+ghost use Rattle.std.specs.Prelude.{◌≡◌, [], length, false, Some, None, IfOk, OnOk, OnErr};
 ghost use Rattle.lg_history.specs.Meaning.History.{completed};
 
 use crate::entry::Entry;
@@ -22,6 +22,23 @@ impl Model for Waiting {
     ghost Value = { Prepared };
 
     ghost view = { λ w. record { seat = w.seat; event = w.event } };
+}
+
+/// A box for a whole reply, which says nothing yet. It isn't inlined: a function that makes a reply of its own pays for
+/// its size at each call, also where it makes none.
+#[cold]
+#[inline(never)]
+fn reply_room(alloc: Global) -> Result<Box<Reply>, NoMemory>
+    ensures { IfOk result (λ room. room.value ≡ record {
+      fired = None;
+      sends = record { items = [] };
+      changed = record { items = [] };
+      answer = None;
+      ousted = false;
+      next = 0;
+    }) }
+{
+    Ok(Box::new(alloc, Reply::default())?)
 }
 
 /// The entries of an agent's history, in the order in which they were made.
@@ -95,7 +112,7 @@ impl History {
     {
         self.entries.reserve(1)?;
         if self.room.is_none() {
-            self.room = Some(Box::new(alloc, Reply::default())?);
+            self.room = Some(reply_room(alloc)?);
         }
         let event = StoredEvent::of(alloc, event)?;
         self.prepared = Some(Waiting { seat, event });

@@ -198,6 +198,18 @@ fn store_exactly(alloc: Global, reply: &Reply) -> Result<Box<ExactReply>, NoMemo
     Ok(Box::new(alloc, exact)?)
 }
 
+/// Stores a reply in a box that has room for any. It isn't inlined: a function that copies a reply pays for its size at
+/// each call, also where it copies none.
+#[cold]
+#[inline(never)]
+fn store_whole(room: Box<Reply>, reply: &Reply) -> Box<Reply>
+    ensures { result.value ≡ reply.now }
+{
+    let mut whole = room;
+    *whole = reply.copy();
+    whole
+}
+
 impl StoredReply {
     /// Stores a reply, and always succeeds. The box comes back, unless memory was refused and the reply is in it.
     pub(crate) fn of(
@@ -213,9 +225,7 @@ impl StoredReply {
                 (StoredReply { form }, Some(room))
             }
             Err(_refused) => {
-                let mut whole = room;
-                *whole = reply.copy();
-                let form = Form::Whole(whole);
+                let form = Form::Whole(store_whole(room, reply));
                 (StoredReply { form }, None)
             }
         }
