@@ -1,6 +1,6 @@
 -- How legal histories begin and grow.
-use Rattle.std.proofs.Common.{◌≡◌, ℕ, zero, suc, ◌+◌, ◌<◌, ◌≤◌, Bool, true, false, ◌&&◌, not, List, [], ◌∷◌, ◌++◌, length, All, refl, ap, sym, ◌∙◌, arith, append_assoc, append-nil, length-append}
-use Rattle.std.specs.List.{list_any}
+use Rattle.std.proofs.Common.{◌≡◌, ℕ, zero, suc, ◌+◌, ◌<◌, ◌≤◌, Bool, true, false, ◌&&◌, not, List, [], ◌∷◌, ◌++◌, length, All, refl, ap, sym, ◌∙◌, arith, append_assoc, append-nil, length-append, take, Some}
+use Rattle.std.specs.List.{list_any, slice_get}
 use Rattle.std.proofs.lemmas.List.Elements.{All-append, All-nil}
 use Rattle.std.proofs.lemmas.List.Folds.{list_any-append}
 use Rattle.lg_timing.specs.declared.config.Config.{Config}
@@ -24,6 +24,16 @@ answered-append f [] x answered is = (is ∙ ap (λ (l : List Event). reply_afte
 answered-append f (y ∷ h) x answered is =
     let further : x.reply ≡ reply_after ((f ++ y.event ∷ []) ++ events h) x.event = is ∙ ap (λ (l : List Event). reply_after l x.event) (sym (append_assoc f (y.event ∷ []) (events h))) in
     (answered.0, answered-append (f ++ y.event ∷ []) h x answered.1 further)
+
+-- the reply at each place, by the events before it
+pub answered-at : (f : List Event) (h : List Entry) (n : ℕ) (x : Entry) → Answered f h → slice_get h n ≡ Some x → x.reply ≡ reply_after (f ++ take n (events h)) x.event
+answered-at f [] n x answered is = absurd cc
+answered-at f (y ∷ h) zero x answered is =
+    let same : y ≡ x = cc is in
+    rw (← same, append-nil f) answered.0
+answered-at f (y ∷ h) (suc n) x answered is =
+    answered-at (f ++ y.event ∷ []) h n x answered.1 is
+    ∙ ap (λ (l : List Event). reply_after l x.event) (append_assoc f (y.event ∷ []) (take n (events h)))
 
 pub all_one : {A : Type 0} (P : A → Type 0) (x : A) → P x → All P (x ∷ [])
 all_one P x p zero d h = p

@@ -1,5 +1,6 @@
 //! Laws of legal histories.
-ghost use Rattle.std.specs.Prelude.{◌≡◌, ℕ, ◌<◌, ◌≤◌, ◌++◌, [], ◌∷◌, List, length, false};
+ghost use Rattle.std.specs.Prelude.{◌≡◌, ℕ, ◌<◌, ◌≤◌, ◌++◌, [], ◌∷◌, List, length, take};
+ghost use Rattle.std.specs.Prelude.{slice_get, Some, false};
 ghost use Rattle.lg_timing.specs.declared.config.Config.{Config};
 ghost use Rattle.lg_timing.specs.Meaning.Config.{IsChecked};
 ghost use Rattle.lg_detector.specs.declared.event.Event.{Event};
@@ -18,4 +19,11 @@ pub fn histories_grow()
     // Its events grow by that one event, and it has as many events as entries.
     ensures events { (h : List Entry) (x : Entry) → events (h ++ x ∷ []) ≡ events h ++ x.event ∷ [] }
     ensures counted { (h : List Entry) → length (events h) ≡ length h }
+{}
+
+/// A legal history by its places: at each of them the reply of the entry is the one that the definitions give to its
+/// event after the events of the entries before it.
+pub fn replies_by_place()
+    ensures { (places n : ℕ) (h : List Entry) (x : Entry) → IsLegal places h → slice_get h n ≡ Some x
+        → x.reply ≡ reply_after (take n (events h)) x.event }
 {}

@@ -6,7 +6,8 @@
 //! it with its reply, and always succeeds. So a detector that is stepped between the two is never ahead of its history.
 //!
 //! Which histories are legal, those that a single thread could have made with one detector, `IsLegal` of
-//! `specs/Meaning/History.antt` says; how they grow, [`histories_grow`].
+//! `specs/Meaning/History.antt` says; how they grow, [`histories_grow`]; and what the reply at each place of one is,
+//! [`replies_by_place`].
 #![tactic(auto)]
 
 mod entry;
@@ -19,7 +20,7 @@ mod sizes;
 
 pub use entry::Entry;
 pub use history::History;
-pub use laws::histories_grow;
+pub use laws::{histories_grow, replies_by_place};
 pub use lg_detector::NoMemory;
 
 #[cfg(test)]
