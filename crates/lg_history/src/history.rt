@@ -101,10 +101,9 @@ impl History {
     }
 
     /// Takes all memory that the entry of an event can need, whatever the reply: its place in the list, the event, and
-    /// a box for a whole reply, which is kept for the next entry where it isn't needed. The only error is that memory
-    /// was refused; then nothing is changed.
+    /// a box for a whole reply, which is kept for the next entry where it isn't needed. What was prepared before, if
+    /// anything was, is dropped. The only error is that memory was refused; then nothing is changed.
     pub fn prepare(&mut self, alloc: Global, seat: usize, event: &Event) -> Result<(), NoMemory>
-        requires { self.old.prepared ≡ None }
         ensures prepared { OnOk result (self.new ≡ record self.old {
           prepared = Some (record { seat = seat; event = event.now });
         }) }

@@ -1,6 +1,4 @@
 //! Entries that are stored and read back, also where memory is refused once: then a second try succeeds.
-ghost use Rattle.std.specs.Prelude.{◌≡◌, None};
-
 use super::comparing::{is_same_event, is_same_reply};
 use super::rows::{Row, all, opening, ping, question};
 use crate::{Entry, History};
@@ -16,9 +14,7 @@ fn is_of(entry: &Entry, seat: usize, row: &Row) -> bool {
 
 /// Prepares the event of a row. Where memory is refused nothing is prepared and no entry is added, and a second try is
 /// made. Returns whether that was so, and one of the two succeeded.
-fn is_prepared(history: &mut History, alloc: Global, seat: usize, row: &Row) -> bool
-    requires { history.old.prepared ≡ None }
-{
+fn is_prepared(history: &mut History, alloc: Global, seat: usize, row: &Row) -> bool {
     let before = history.len();
     match history.prepare(alloc, seat, &row.event) {
         Ok(()) => history.len() == before,
@@ -30,10 +26,7 @@ fn is_prepared(history: &mut History, alloc: Global, seat: usize, row: &Row) -> 
 }
 
 /// Adds the entry of a row, and reads it back. Returns whether it is the last one, and one more.
-fn is_added(history: &mut History, alloc: Global, seat: usize, row: &Row) -> bool
-    requires { history.old.prepared ≡ None }
-    ensures { history.new.prepared ≡ None }
-{
+fn is_added(history: &mut History, alloc: Global, seat: usize, row: &Row) -> bool {
     let count = history.len().checked_add(1);
     let prepared = is_prepared(history, alloc, seat, row);
     history.complete(alloc, &row.reply);
