@@ -4,3 +4,4 @@ pub mod ClosingLaws
 pub mod CallSums
 pub mod ClosingSteps
 pub mod ChoiceSteps
+pub mod UnclosedLaws

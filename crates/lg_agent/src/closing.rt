@@ -1,5 +1,5 @@
 //! Closing: what the passes left is compared with the history.
-ghost use Rattle.std.specs.Prelude.{◌≡◌, ◌≤◌, ◌==◌, All, OnOk, IfOk, IfErr, length, None};
+ghost use Rattle.std.specs.Prelude.{◌≡◌, ◌≤◌, ◌==◌, All, Any, OnOk, IfOk, IfErr, IsErrAnd, length, None};
 ghost use Rattle.std.specs.List.{list_any, find, range_with_len};
 ghost use mathlib.Core.List.{IsPrefix};
 ghost use Rattle.lg_history.specs.Meaning.History.{positions, events};
@@ -7,6 +7,8 @@ ghost use Rattle.lg_agent.specs.Meaning.Ledger.{own_name};
 ghost use Rattle.lg_agent.specs.Meaning.Closing.{times, is_foreign, is_missing, first_difference};
 ghost use Rattle.lg_agent.specs.Meaning.Closing.{difference, difference_at, least_difference};
 ghost use Rattle.lg_agent.specs.Meaning.Closing.{close_fault, unless_fault, IsClosed};
+ghost use Rattle.lg_agent.specs.Meaning.Closing.{IsRefusedClosing, LacksOne, IsMisplaced};
+ghost use Rattle.lg_agent.specs.declared.refusal.CloseFault.TheVariants.{Missing, Foreign};
 
 use crate::agent::Agent;
 use crate::closed::Closed;
@@ -155,10 +157,13 @@ impl<A: AgentName> Kept<A> {
     fn judge(&self, spents: &[Spent<A>]) -> Result<(), CloseFault>
         ensures audited { OnOk result (close_fault self.now.places self.now.history spents.now ≡ None) }
         ensures short { OnOk result (All (λ s. length s.seen ≤ length self.now.history) spents.now) }
+        ensures refused { IfErr result (IsRefusedClosing self.now.places spents.now) }
+        ensures named { self.now.places ≡ A.places }
     {
+        let entries = self.history().len() as u64;
         self.audit(spents)?;
         for spent in spents {
-            if spent.seen() > self.count() {
+            if spent.seen() > entries {
                 return Err(CloseFault::Differs {
                     seat: spent.seat(),
                     index: spent.calls().len() as u64,
@@ -192,10 +197,22 @@ impl<A: AgentName> Agent<A> {
     ///
     /// It is handed what all passes left, in any order, and is refused with the fault that [`Kept::audit`] finds in
     /// them, or with [`CloseFault::Differs`] behind the last call of one that has seen more than the history has, which
-    /// no test has met. Then everything is handed back. Two agents may have one name: that each [`Spent`] was finished
-    /// from a pass of this agent is seen to by `A`, which no two agents share.
+    /// no test has met. Then everything is handed back.
+    ///
+    /// A contract can't see the history that a refused agent goes on with, and says that there is a legal one with this
+    /// fault. What the list alone settles is said of the list: where one of it has a place that isn't from 1 to the
+    /// number of places, or a place that another has as well, the fault is [`CloseFault::Foreign`], and it is
+    /// [`CloseFault::Missing`] only where some place has none.
+    ///
+    /// Two agents may have one name: that each [`Spent`] was finished from a pass of this agent is seen to by `A`, which
+    /// no two agents share.
     pub fn close<R: Wait>(self, rt: &R, spents: Vec<Spent<A>>) -> Result<Closed, Unclosed<A>>
         ensures closed { IfOk result (λ c. IsClosed A.places c spents.items) }
+        ensures fault { IfErr result (λ u. IsRefusedClosing A.places spents.items u.fault) }
+        // What is so with any history.
+        ensures missing { IfErr result (λ u. u.fault ≡ Missing → LacksOne A.places spents.items) }
+        ensures foreign { Any (IsMisplaced A.places spents.items) spents.items
+            → IsErrAnd result (λ u. u.fault ≡ Foreign) }
         ensures back { IfErr result (λ u. (u.spents.items ≡ spents.items) × (u.agent ≡ self)) }
     {
         let Agent {

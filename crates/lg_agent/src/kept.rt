@@ -68,12 +68,13 @@ where
 }
 
 impl<A: AgentName> Kept<A> {
-    /// The history: in every state it is one that a single thread could have made.
+    /// The history: in every state it is one that a single thread could have made, with the places that `A` names.
     pub fn history(&self) -> &[Entry]
         ensures same { result.now ≡ self.now.history }
         ensures legal { IsLegal self.now.places self.now.history }
         // It is full where it has as many entries as its opening allows.
         ensures limit { self.now.limit ≡ own_limit self.now.history }
+        ensures named { self.now.places ≡ A.places }
     {
         self.history.entries()
     }

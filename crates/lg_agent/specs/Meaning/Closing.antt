@@ -1,7 +1,7 @@
 -- Which fault closing finds, and what is known of an agent that is closed.
-use Rattle.std.specs.Prelude.{◌≡◌, ℕ, ◌+◌, ◌<◌, ◌≤◌, ◌==◌, Bool, ◌||◌, not}
+use Rattle.std.specs.Prelude.{◌≡◌, ◌⊎◌, ℕ, ◌+◌, ◌<◌, ◌≤◌, ◌==◌, Bool, ◌||◌, not}
 use Rattle.std.specs.Prelude.{nat_eq, nat_lt, if◌then◌else◌}
-use Rattle.std.specs.Prelude.{List, [], ◌∷◌, length, Option, Some, None, Result, Ok, Err, option_map, All}
+use Rattle.std.specs.Prelude.{List, [], ◌∷◌, length, Option, Some, None, Result, Ok, Err, option_map, All, Any}
 use Rattle.std.specs.List.{count_by, sum_by, list_any, find, range_with_len}
 use Rattle.std.specs.Option.{option_or}
 use Rattle.std.specs.Cmp.Lexicographic.{pointwise}
@@ -58,6 +58,28 @@ close_fault places h all =
 abbrev pub unless_fault : Option CloseFault → Result (Unit {0}) CloseFault
 unless_fault None = Ok tt
 unless_fault (Some fault) = Err fault
+
+-- One of the passes has seen more events than the history has, and the fault is told as a difference behind its last
+-- call.
+pub record SawMore (h : List Entry) (fault : CloseFault) (s : Own) : Type 0 where
+  pub more : length h < length s.seen
+  pub behind : fault ≡ Differs s.seat (length s.mine)
+
+-- A closing is refused with this fault: there is a legal history by which it is the fault of closing, or by which there
+-- is none, and one of the passes has seen more events than that history has.
+pub record IsRefusedClosing (places : ℕ) (all : List Own) (fault : CloseFault) : Type 0 where
+  pub history : List Entry
+  pub legal : IsLegal places history
+  pub found : (close_fault places history all ≡ Some fault)
+      ⊎ ((close_fault places history all ≡ None) × Any (SawMore history fault) all)
+
+-- whatever the history: some place has none of the passes
+abbrev pub LacksOne : ℕ → List Own → Type 0
+LacksOne places all = (p : ℕ) × (0 < p) × (p ≤ places) × (times all p ≡ 0)
+
+-- whatever the history: a pass has a place that isn't from 1 to `places`, or one that another has as well
+abbrev pub IsMisplaced : ℕ → List Own → Own → Type 0
+IsMisplaced places all s = (s.seat ≡ 0) ⊎ (places < s.seat) ⊎ (1 < times all s.seat)
 
 -- A pass agrees with the history: it bears its name and has one of its places, its positions are those of its place,
 -- and what it has seen begins the events.

@@ -1,13 +1,16 @@
 -- Worked refusals and faults of closing. b is opened at 0; the first pass made a call, then the second, then the first.
 use Rattle.std.specs.Prelude.{◌≡◌, ℕ, List, [], ◌∷◌, Some, None, refl}
+use Rattle.std.proofs.Common.{inl, inr}
+use Rattle.std.proofs.Math.Nat.{zero-lt-suc, lt-suc_self, le_refl}
+use Rattle.std.proofs.lemmas.List.Elements.{All-nil}
 use Rattle.lg_detector.specs.declared.event.Event.TheVariants.{Health}
-use Rattle.lg_detector.specs.Meaning.Examples.{b, c, opening, nothing}
-use Rattle.lg_history.specs.Meaning.History.{Entry, entry, positions}
+use Rattle.lg_detector.specs.Meaning.Examples.{by_computing, b, c, opening, nothing}
+use Rattle.lg_history.specs.Meaning.History.{Entry, entry, positions, IsSeat, IsLegal}
 use Rattle.lg_agent.specs.declared.refusal.Refusal.TheVariants.{HistoryFull, NoPlace}
 use Rattle.lg_agent.specs.declared.refusal.CloseFault.TheVariants.{Missing, Foreign, Differs}
 use Rattle.lg_agent.specs.Meaning.Ledger.{Ledger, Own, own_name}
 use Rattle.lg_agent.specs.Meaning.Calls.{refusal_of}
-use Rattle.lg_agent.specs.Meaning.Closing.{first_difference, close_fault}
+use Rattle.lg_agent.specs.Meaning.Closing.{first_difference, close_fault, IsRefusedClosing, LacksOne, IsMisplaced}
 
 abbrev asked : ℕ → Entry
 asked seat = entry seat (Health 20) (nothing 0)
@@ -73,3 +76,35 @@ of_two_the_lesser_place = refl
 
 they_are_the_same : first_difference 0 (1 ∷ 3 ∷ []) (positions 1 0 history) ≡ None
 they_are_the_same = refl
+
+-- The history before any call is legal.
+abbrev fresh : List Entry
+fresh = entry 0 (opening 0) (nothing 0) ∷ []
+
+it_is_legal : (places : ℕ) → IsLegal places fresh
+unfolding by_computing
+it_is_legal places = record { accepted = refl; seated = (refl, All-nil (IsSeat places)); answered = (refl, tt) }
+
+abbrev idle : Own
+idle = left_by (b ∷ []) 1 []
+
+one_of_two_alone_is_refused : IsRefusedClosing 2 (idle ∷ []) Missing
+one_of_two_alone_is_refused = record { history = fresh; legal = it_is_legal 2; found = inl refl }
+
+nobody_has_the_second_place : LacksOne 2 (idle ∷ [])
+nobody_has_the_second_place = (2, zero-lt-suc 1, le_refl 2, refl)
+
+the_first_place_is_there_twice : IsMisplaced 2 (idle ∷ idle ∷ []) idle
+the_first_place_is_there_twice = inr (inr (lt-suc_self 1))
+
+-- A pass that made no call, and has seen an event more than there is.
+abbrev ahead : Own
+ahead = record idle { seen = opening 0 ∷ Health 20 ∷ [] }
+
+what_it_saw_is_told_behind_its_calls : IsRefusedClosing 1 (ahead ∷ []) (Differs 1 0)
+what_it_saw_is_told_behind_its_calls =
+    record {
+      history = fresh;
+      legal = it_is_legal 1;
+      found = inr (refl, (0, ahead, zero-lt-suc 0, refl, record { more = lt-suc_self 1; behind = refl }));
+    }
