@@ -25,8 +25,8 @@ use std::marker::Model;
 use std::mem;
 use std::sync::{Mutex, Wait};
 
-/// What the threads of a service share. A contract sees the member's name, and for each
-/// place that waits for a pass the events that it was told of.
+/// What the threads of a service share. A contract sees the member's name, and for each place that waits for a pass the
+/// events that it was told of.
 ///
 /// It isn't `Drop`: [`Agent::close`] or [`Agent::abandon`] ends it.
 pub struct Agent<A: AgentName>

@@ -43,7 +43,7 @@ fn times<A: AgentName>(spents: &[Spent<A>], seat: usize) -> usize
 }
 
 impl<A: AgentName> Spent<A> {
-    /// How its positions differ from those of its place in the history.
+    /// The fault that its positions aren't those of its place in the history, if they aren't.
     fn difference(&self, history: &[Entry]) -> Option<CloseFault>
         ensures { result ≡ difference history.now self.now }
     {
@@ -56,7 +56,7 @@ impl<A: AgentName> Spent<A> {
         }
     }
 
-    /// The first index at which they do.
+    /// The first index at which its positions differ from those of its place in the history, if they do.
     fn first_difference(&self, history: &[Entry]) -> Option<u64>
         ensures { result ≡ first_difference 0 self.now.mine (positions self.now.seat 0 history.now) }
     {
@@ -107,7 +107,7 @@ impl<A: AgentName> Kept<A> {
         false
     }
 
-    /// Whether this one of them doesn't.
+    /// Whether this one of them doesn't belong here.
     fn is_foreign(&self, spents: &[Spent<A>], spent: &Spent<A>) -> bool
         ensures { result ≡ is_foreign (own_name self.now.history) self.now.places spents.now spent.now }
     {
@@ -127,7 +127,7 @@ impl<A: AgentName> Kept<A> {
         false
     }
 
-    /// The difference of the least place that has one.
+    /// The difference at the least place that has one.
     fn least_difference(&self, spents: &[Spent<A>]) -> Option<CloseFault>
         ensures { result ≡ least_difference self.now.history spents.now (range_with_len 1 self.now.places) }
     {
@@ -140,7 +140,7 @@ impl<A: AgentName> Kept<A> {
         None
     }
 
-    /// The difference of a place, where it has one.
+    /// The difference at a place, if there is one.
     fn difference_at(&self, spents: &[Spent<A>], seat: usize) -> Option<CloseFault>
         ensures { result ≡ difference_at self.now.history (find (λ s. s.seat == seat) spents.now) }
     {
@@ -152,8 +152,8 @@ impl<A: AgentName> Kept<A> {
         None
     }
 
-    /// As [`Kept::audit`], and none of them has seen more events than the history has. No run meets that. It would be
-    /// told as a difference behind the last call.
+    /// As [`Kept::audit`], and where that finds nothing, whether one of them has seen more events than the history has.
+    /// No run meets that; it would be told as a difference behind the last call.
     fn judge(&self, spents: &[Spent<A>]) -> Result<(), CloseFault>
         ensures audited { OnOk result (close_fault self.now.places self.now.history spents.now ≡ None) }
         ensures short { OnOk result (All (λ s. length s.seen ≤ length self.now.history) spents.now) }
@@ -183,7 +183,7 @@ impl<A: AgentName> Kept<A> {
         }
     }
 
-    /// What this one has seen does.
+    /// What this one has seen begins the events of the history.
     fn compare_one(&self, spent: &Spent<A>)
         requires { length spent.now.seen ≤ length self.now.history }
         ensures { IsPrefix spent.now.seen (events self.now.history) }
@@ -199,9 +199,9 @@ impl<A: AgentName> Agent<A> {
     /// them, or with [`CloseFault::Differs`] behind the last call of one that has seen more than the history has, which
     /// no test has met. Then everything is handed back.
     ///
-    /// A contract can't see the history that a refused agent goes on with, and says that there is a legal one with this
-    /// fault. What the list alone settles is said of the list: where one of it has a place that isn't from 1 to the
-    /// number of places, or a place that another has as well, the fault is [`CloseFault::Foreign`], and it is
+    /// A contract can't see the history that a refused agent goes on with, and says that there is a legal one by which
+    /// this is the fault. What the list alone settles is said of the list: where one of it has a place that isn't from 1
+    /// to the number of places, or a place that another has as well, the fault is [`CloseFault::Foreign`], and it is
     /// [`CloseFault::Missing`] only where some place has none.
     ///
     /// Two agents may have one name: that each [`Spent`] was finished from a pass of this agent is seen to by `A`, which

@@ -33,7 +33,7 @@ where
     places: usize,
     limit: u64,
     /// How many entries there are.
-    book: u64,
+    count: u64,
     name: Name,
     history: History,
     detector: Detector,
@@ -58,7 +58,7 @@ where
         × (k.detector ≡ state_after (events k.history.entries))
         × (k.feed.events ≡ events k.history.entries)
         × (k.feed.waiting ≡ [])
-        × (k.book ≡ length k.history.entries)
+        × (k.count ≡ length k.history.entries)
         × (k.name ≡ own_name k.history.entries)
         × (k.limit ≡ own_limit k.history.entries)
         × (k.limit ≤ 4000000000)
@@ -83,7 +83,7 @@ impl<A: AgentName> Kept<A> {
     pub fn count(&self) -> u64
         ensures { result ≡ length self.now.history }
     {
-        self.book
+        self.count
     }
 
     /// How many places there are, 1 to 32.
@@ -128,7 +128,7 @@ impl<A: AgentName> Kept<A> {
         if seat == 0 || seat > self.places {
             return Err(Refusal::NoPlace);
         }
-        if self.book >= self.limit {
+        if self.count >= self.limit {
             return Err(Refusal::HistoryFull(self.limit));
         }
         if self.history.prepare(alloc, seat, event).is_err() {
@@ -143,8 +143,8 @@ impl<A: AgentName> Kept<A> {
         self.detector.step(event, &mut reply);
         self.history.complete(alloc, &reply);
         self.feed.publish(rt);
-        let place = self.book;
-        self.book += 1;
+        let place = self.count;
+        self.count += 1;
         Ok(Receipt { place, reply })
     }
 
@@ -209,7 +209,7 @@ impl<A: AgentName> Kept<A> {
         let Kept {
             places: _,
             limit: _,
-            book: _,
+            count: _,
             name: _,
             history,
             detector: _,

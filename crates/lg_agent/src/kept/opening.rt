@@ -1,10 +1,10 @@
 //! How the value under the lock begins: with the entry of the opening, which is published.
 ghost use Rattle.std.specs.Prelude.{◌≡◌, ◌<◌, ◌≤◌, ◌⊎◌, [], ◌∷◌};
-ghost use Rattle.std.specs.Prelude.{All, IfOk, IfErr, vec_len, Some};
+ghost use Rattle.std.specs.Prelude.{All, IfOk, IfErr, OnOk, IsTrue, vec_len, None, true};
 ghost use Rattle.lg_timing.specs.Meaning.Config.{IsChecked};
 ghost use Rattle.lg_detector.specs.declared.event.Event.TheVariants.{Open};
-ghost use Rattle.lg_detector.specs.Meaning.Step.{reply_after};
-ghost use Rattle.lg_detector.specs.Support.Step.{state_after};
+ghost use Rattle.lg_detector.specs.Meaning.Step.{is_accepted, reply_after};
+ghost use Rattle.lg_detector.specs.Support.Step.{accepts_of, state_after};
 ghost use Rattle.lg_history.specs.Meaning.History.{entry};
 ghost use Rattle.lg_agent.specs.declared.refusal.Refusal.TheVariants.{NoMemory, NoPlace};
 
@@ -52,7 +52,8 @@ impl<A: AgentName> Kept<A> {
         Ok((kept, looks))
     }
 
-    /// The same, over a feed that nothing was appended to. Where memory is refused the feed is ended.
+    /// A history of the opening's entry, which is published by a feed that nothing was appended to. Where memory is
+    /// refused the feed is ended.
     fn over<R: Wait>(
         rt: &R,
         alloc: Global,
@@ -74,22 +75,15 @@ impl<A: AgentName> Kept<A> {
         let mut feed = feed;
         let (name, limit) = (config.name, config.history_limit);
         let event = Event::Open { now, config };
-        let Ok((mut detector, mut history)) = begin(alloc, &event) else {
+        let Ok((detector, history)) = happen(alloc, &mut feed, &event) else {
             feed.end(rt);
             return Err(Refusal::NoMemory);
         };
-        if feed.append(alloc, &event).is_err() {
-            feed.end(rt);
-            return Err(Refusal::NoMemory);
-        }
-        let mut reply = Reply::default();
-        detector.step(&event, &mut reply);
-        history.complete(alloc, &reply);
         feed.publish(rt);
         Ok(Kept {
             places,
             limit,
-            book: 1,
+            count: 1,
             name,
             history,
             detector,
@@ -98,16 +92,29 @@ impl<A: AgentName> Kept<A> {
     }
 }
 
-/// A detector to which nothing has happened, and a history without entries in which an opening is prepared.
-fn begin(alloc: Global, event: &Event) -> Result<(Detector, History), NoMemory>
-    ensures detector { IfOk result (λ r. r.0 ≡ state_after []) }
+/// The opening happens: a detector that it opened, a history of its entry, and a feed on which it waits to be
+/// published. The only error is that memory was refused.
+fn happen<A: AgentName>(
+    alloc: Global,
+    feed: &mut Feed<A>,
+    event: &Event,
+) -> Result<(Detector, History), NoMemory>
+    requires feed { (feed.old.events ≡ []) × (feed.old.waiting ≡ []) }
+    requires accepts { IsTrue (accepts_of (state_after []) event.now) }
+    requires accepted { is_accepted (event.now ∷ []) ≡ true }
+    ensures waits { OnOk result (feed.new ≡ record feed.old { waiting = event.now ∷ [] }) }
+    ensures detector { IfOk result (λ r. r.0 ≡ state_after (event.now ∷ [])) }
     ensures history { IfOk result (λ r. r.1 ≡ record {
-      entries = [];
-      prepared = Some (record { seat = 0; event = event.now });
+      entries = entry 0 event.now (reply_after [] event.now) ∷ [];
+      prepared = None;
     }) }
 {
-    let detector = Detector::blank(alloc)?;
+    let mut detector = Detector::blank(alloc)?;
     let mut history = History::new(alloc);
     history.prepare(alloc, 0, event)?;
+    feed.append(alloc, event)?;
+    let mut reply = Reply::default();
+    detector.step(event, &mut reply);
+    history.complete(alloc, &reply);
     Ok((detector, history))
 }
