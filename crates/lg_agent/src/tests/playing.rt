@@ -1,6 +1,5 @@
-//! Agents that are opened, called and closed. A case names what is done between. It tells six numbers, of which the
-//! last two are the seat and the index of a difference that closing finds; then the number of the fault of closing; and
-//! then how many entries there were at the end, or 0 where there was no end.
+//! Agents that are opened, called and closed. A case names what is done between, and tells what was seen and how its
+//! agent ended.
 ghost use Rattle.std.specs.Prelude.{◌≡◌, ◌<◌, ◌≤◌};
 
 use super::rows::{
@@ -9,7 +8,7 @@ use super::rows::{
 };
 use super::threads::{earlier_moment, seen_by_another, three_threads};
 use super::{at, config};
-use crate::{Agent, AgentName, CloseFault, Pass, Spent, Unclosed};
+use crate::{Agent, AgentName, CloseFault, Pass, Refusal, Spent, Unclosed};
 use lg_view::UnnamedBook;
 use std::alloc::Global;
 use std::marker::Brand;
@@ -33,8 +32,72 @@ pub(super) enum Case {
     EarlierMoment,
 }
 
+/// What was seen before the agent is closed. What a refused call or look would have given is none.
+#[derive(Clone, Copy, Debug, PartialEq, Eq)]
+pub(super) enum Seen {
+    /// What isn't looked at.
+    Nothing,
+    /// A call that fills the history, and one more.
+    Full {
+        place: Option<u64>,
+        healthy: bool,
+        refusal: Option<Refusal>,
+    },
+    /// The places of two passes, and how many passes were given out after them.
+    Places {
+        first: usize,
+        second: usize,
+        later: usize,
+    },
+    /// Calls of the seats 0 and 2.
+    NoSuchPlace {
+        zero: Option<Refusal>,
+        two: Option<Refusal>,
+    },
+    /// A datagram that is no packet.
+    BadPacket(Option<Refusal>),
+    /// Looks, the first before a call and the others after it.
+    Looks {
+        opened: Option<u64>,
+        place: Option<u64>,
+        version: Option<u64>,
+        deadline: Option<u64>,
+        members: Option<usize>,
+        knows_b: bool,
+    },
+    /// What two passes see of c.
+    OfC {
+        first: OfC,
+        second: OfC,
+    },
+    /// How many calls and looks weren't as they should be.
+    Wrong(u64),
+    /// A call, and then a tick at an earlier moment.
+    Tick {
+        place: Option<u64>,
+        starts_round: bool,
+        next: Option<u64>,
+    },
+}
+
+/// What a pass sees of c: the place of its call, whether c is alive with the number 0, and the version.
+#[derive(Clone, Copy, Debug, PartialEq, Eq)]
+pub(super) struct OfC {
+    pub(super) place: Option<u64>,
+    pub(super) alive: bool,
+    pub(super) version: Option<u64>,
+}
+
 /// What a case tells.
-pub(super) type Told = [u64; 8];
+#[derive(Clone, Copy, Debug, PartialEq, Eq)]
+pub(super) struct Outcome {
+    /// What was seen.
+    pub(super) seen: Seen,
+    /// Why the agent wasn't closed at first, if it wasn't.
+    pub(super) fault: Option<CloseFault>,
+    /// How many entries there were when it was closed, if it was.
+    pub(super) entries: Option<u64>,
+}
 
 /// What the calls of a case leave.
 #[derive(Drop)]
@@ -43,8 +106,8 @@ pub(super) struct Left<A: AgentName> {
     pub(super) spents: Vec<Spent<A>>,
     /// What is handed in where that is refused.
     pub(super) later: Option<Spent<A>>,
-    /// What is told.
-    pub(super) told: Told,
+    /// What was seen.
+    pub(super) seen: Seen,
 }
 
 /// One or two of what passes left, in this order.
@@ -52,7 +115,7 @@ pub(super) fn handed_in<A: AgentName>(
     alloc: Global,
     first: Spent<A>,
     second: Option<Spent<A>>,
-    told: Told,
+    seen: Seen,
 ) -> Option<Left<A>> {
     let mut spents = Vec::with_capacity(alloc, 2).ok()?;
     spents.push_reserved(first);
@@ -62,7 +125,7 @@ pub(super) fn handed_in<A: AgentName>(
     Some(Left {
         spents,
         later: None,
-        told,
+        seen,
     })
 }
 
@@ -110,47 +173,49 @@ fn calls<A: AgentName + Send + Sync, R: Threads + Wait + Sync>(
 }
 
 /// Closes an agent, a second time with what comes later where the first is refused.
-fn end<A: AgentName, R: Wait>(rt: &R, agent: Agent<A>, left: Left<A>) -> Told {
+fn end<A: AgentName, R: Wait>(rt: &R, agent: Agent<A>, left: Left<A>) -> Outcome {
     let Left {
         spents,
         later,
-        mut told,
+        seen,
     } = left;
     match agent.close(rt, spents) {
-        Ok(closed) => told[7] = closed.count(),
+        Ok(closed) => Outcome {
+            seen,
+            fault: None,
+            entries: Some(closed.count()),
+        },
         Err(unclosed) => {
             let Unclosed {
                 fault,
                 agent,
                 spents,
             } = unclosed;
-            if let CloseFault::Differs { seat, index } = fault {
-                told[4] = seat as u64;
-                told[5] = index;
+            Outcome {
+                seen,
+                fault: Some(fault),
+                entries: end_again(rt, agent, spents, later),
             }
-            told[6] = u64::from(fault.number());
-            told[7] = end_again(rt, agent, spents, later);
         }
     }
-    told
 }
 
-/// Closes an agent with one more of what the passes left.
+/// Closes an agent with one more of what the passes left. Returns how many entries there are, if it is closed.
 fn end_again<A: AgentName, R: Wait>(
     rt: &R,
     agent: Agent<A>,
     spents: Vec<Spent<A>>,
     later: Option<Spent<A>>,
-) -> u64 {
+) -> Option<u64> {
     let mut spents = spents;
     if let Some(spent) = later {
         if spents.push(spent).is_err() {
             agent.abandon(rt);
-            return 0;
+            return None;
         }
     }
     match agent.close(rt, spents) {
-        Ok(closed) => closed.count(),
+        Ok(closed) => Some(closed.count()),
         Err(unclosed) => {
             let Unclosed {
                 fault: _,
@@ -158,7 +223,7 @@ fn end_again<A: AgentName, R: Wait>(
                 spents: _,
             } = unclosed;
             agent.abandon(rt);
-            0
+            None
         }
     }
 }
@@ -171,7 +236,7 @@ fn play<A: AgentName + Send + Sync, R: Threads + Wait + Sync>(
     places: usize,
     limit: u64,
     case: Case,
-) -> Option<Told>
+) -> Option<Outcome>
     requires book { book.seen.book ≡ A.book }
     requires places { (places ≡ A.places) × (0 < places) × (places ≤ 32) }
 {
@@ -194,7 +259,7 @@ pub(super) fn told<R: Threads + Wait + Sync>(
     case: Case,
     places: usize,
     limit: u64,
-) -> Option<Told> {
+) -> Option<Outcome> {
     if places == 0 || places > 32 {
         return None;
     }

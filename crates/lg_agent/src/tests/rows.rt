@@ -1,18 +1,19 @@
-//! One thread. A number that a refused call or look doesn't give is 99.
-use super::playing::{Case, Left, Told, handed_in, one_of, told, two_of};
+//! One thread.
+use super::playing::{Case, Left, Outcome, Seen, handed_in, one_of, told, two_of};
 use super::{at, letter, local};
-use crate::{Agent, AgentName, Pass, Receipt, Refusal, Spent};
+use crate::{Agent, AgentName, CloseFault, Pass, Receipt, Refusal, Spent};
 use lg_detector::{Answer, Event};
+use lg_packet::Fault;
 use lg_rules::Incarnation;
 use std::alloc::Global;
 use std::sync::{MutexGuard, Wait};
 use std::test::Fail;
 
 /// The place of an answered call.
-pub(super) fn place_of(answer: &Result<Receipt, Refusal>) -> u64 {
+pub(super) fn place_of(answer: &Result<Receipt, Refusal>) -> Option<u64> {
     match answer {
-        Ok(receipt) => receipt.place,
-        Err(_) => 99,
+        Ok(receipt) => Some(receipt.place),
+        Err(_) => None,
     }
 }
 
@@ -24,16 +25,16 @@ pub(super) fn answer_of(answer: &Result<Receipt, Refusal>) -> Option<Answer> {
     }
 }
 
-/// The number of a refusal.
-fn number_of(answer: &Result<Receipt, Refusal>) -> u64 {
+/// Why a call was refused.
+fn refusal_of(answer: &Result<Receipt, Refusal>) -> Option<Refusal> {
     match answer {
-        Ok(_) => 99,
-        Err(refusal) => u64::from(refusal.number()),
+        Ok(_) => None,
+        Err(refusal) => Some(*refusal),
     }
 }
 
 /// One call.
-fn call<A: AgentName, R: Wait>(rt: &R, alloc: Global, pass: &mut Pass<'_, A>) -> u64 {
+fn call<A: AgentName, R: Wait>(rt: &R, alloc: Global, pass: &mut Pass<'_, A>) -> Option<u64> {
     place_of(&pass.health(rt, alloc, at(1)))
 }
 
@@ -51,19 +52,19 @@ fn three_calls<A: AgentName, R: Wait>(
 }
 
 /// A call that is answered, and one for which the history has no room.
-fn calls_until_full<A: AgentName, R: Wait>(rt: &R, alloc: Global, pass: &mut Pass<'_, A>) -> Told {
+fn calls_until_full<A: AgentName, R: Wait>(rt: &R, alloc: Global, pass: &mut Pass<'_, A>) -> Seen {
     let answered = pass.health(rt, alloc, at(1));
     let healthy = Answer::Health {
         score: 0,
         number: Incarnation::new(0).unwrap_or_default(),
         members: 1,
     };
-    let same = u64::from(answer_of(&answered) == Some(healthy));
-    let limit = match pass.health(rt, alloc, at(2)) {
-        Err(Refusal::HistoryFull(limit)) => limit,
-        _ => 99,
-    };
-    [place_of(&answered), same, limit, 0, 0, 0, 0, 0]
+    let refused = pass.health(rt, alloc, at(2));
+    Seen::Full {
+        place: place_of(&answered),
+        healthy: answer_of(&answered) == Some(healthy),
+        refusal: refusal_of(&refused),
+    }
 }
 
 /// The history has two entries at the most.
@@ -73,8 +74,8 @@ pub(super) fn full<A: AgentName, R: Wait>(
     agent: &mut Agent<A>,
 ) -> Option<Left<A>> {
     let mut pass = one_of(alloc, agent)?;
-    let numbers = calls_until_full(rt, alloc, &mut pass);
-    handed_in(alloc, pass.finish(), None, numbers)
+    let seen = calls_until_full(rt, alloc, &mut pass);
+    handed_in(alloc, pass.finish(), None, seen)
 }
 
 /// Two passes, of which the second is handed in first.
@@ -84,7 +85,7 @@ pub(super) fn two_passes<A: AgentName, R: Wait>(
     agent: &mut Agent<A>,
 ) -> Option<Left<A>> {
     let (first, second) = three_calls(rt, alloc, agent)?;
-    handed_in(alloc, second, Some(first), [0; 8])
+    handed_in(alloc, second, Some(first), Seen::Nothing)
 }
 
 /// The first alone is handed in, and then both.
@@ -94,7 +95,7 @@ pub(super) fn one_missing<A: AgentName, R: Wait>(
     agent: &mut Agent<A>,
 ) -> Option<Left<A>> {
     let (first, second) = three_calls(rt, alloc, agent)?;
-    let mut all = handed_in(alloc, first, None, [0; 8])?;
+    let mut all = handed_in(alloc, first, None, Seen::Nothing)?;
     all.later = Some(second);
     Some(all)
 }
@@ -107,7 +108,7 @@ pub(super) fn another_name<A: AgentName, R: Wait>(
 ) -> Option<Left<A>> {
     let (mut first, second) = three_calls(rt, alloc, agent)?;
     first.name = letter(b'x');
-    handed_in(alloc, first, Some(second), [0; 8])
+    handed_in(alloc, first, Some(second), Seen::Nothing)
 }
 
 /// What the first left has lost its positions.
@@ -118,33 +119,32 @@ pub(super) fn differs<A: AgentName, R: Wait>(
 ) -> Option<Left<A>> {
     let (mut first, second) = three_calls(rt, alloc, agent)?;
     first.mine = Vec::new(alloc);
-    handed_in(alloc, first, Some(second), [0; 8])
+    handed_in(alloc, first, Some(second), Seen::Nothing)
 }
 
 /// Passes are asked for twice.
 pub(super) fn passes_twice<A: AgentName>(alloc: Global, agent: &mut Agent<A>) -> Option<Left<A>> {
     let (first, second) = two_of(alloc, agent)?;
     let (first, second) = (first.finish(), second.finish());
-    let again = agent.passes(alloc).ok()?.len() as u64;
-    let numbers = [
-        first.seat() as u64,
-        second.seat() as u64,
-        again,
-        0,
-        0,
-        0,
-        0,
-        0,
-    ];
-    handed_in(alloc, first, Some(second), numbers)
+    let seen = Seen::Places {
+        first: first.seat(),
+        second: second.seat(),
+        later: agent.passes(alloc).ok()?.len(),
+    };
+    handed_in(alloc, first, Some(second), seen)
 }
 
-/// The number of the refusal of a seat's call.
-fn refused<A: AgentName, R: Wait>(rt: &R, alloc: Global, agent: &Agent<A>, seat: usize) -> u64 {
+/// Why the call of a seat is refused.
+fn refused<A: AgentName, R: Wait>(
+    rt: &R,
+    alloc: Global,
+    agent: &Agent<A>,
+    seat: usize,
+) -> Option<Refusal> {
     let mut guard = agent.kept.lock(rt);
     let answer = guard.apply(rt, alloc, seat, &Event::Health { now: at(1) });
     MutexGuard::unlock(guard);
-    number_of(&answer)
+    refusal_of(&answer)
 }
 
 /// Calls of the seats 0 and 2, where there is the place 1.
@@ -153,20 +153,12 @@ pub(super) fn no_such_place<A: AgentName, R: Wait>(
     alloc: Global,
     agent: &mut Agent<A>,
 ) -> Option<Left<A>> {
-    let zero = refused(rt, alloc, agent, 0);
-    let two = refused(rt, alloc, agent, 2);
-    let pass = one_of(alloc, agent)?;
-    handed_in(alloc, pass.finish(), None, [zero, two, 0, 0, 0, 0, 0, 0])
-}
-
-/// A datagram of one byte: the number of the refusal, and that of the fault.
-fn hears_one_byte<A: AgentName, R: Wait>(rt: &R, alloc: Global, pass: &mut Pass<'_, A>) -> Told {
-    let answer = pass.datagram(rt, alloc, at(1), local(1), &[0x53]);
-    let fault = match &answer {
-        Err(Refusal::BadPacket(fault)) => *fault as u64,
-        _ => 99,
+    let seen = Seen::NoSuchPlace {
+        zero: refused(rt, alloc, agent, 0),
+        two: refused(rt, alloc, agent, 2),
     };
-    [number_of(&answer), fault, 0, 0, 0, 0, 0, 0]
+    let pass = one_of(alloc, agent)?;
+    handed_in(alloc, pass.finish(), None, seen)
 }
 
 /// A datagram of one byte.
@@ -176,25 +168,43 @@ pub(super) fn short_bytes<A: AgentName, R: Wait>(
     agent: &mut Agent<A>,
 ) -> Option<Left<A>> {
     let mut pass = one_of(alloc, agent)?;
-    let numbers = hears_one_byte(rt, alloc, &mut pass);
-    handed_in(alloc, pass.finish(), None, numbers)
+    let answer = pass.datagram(rt, alloc, at(1), local(1), &[0x53]);
+    handed_in(
+        alloc,
+        pass.finish(),
+        None,
+        Seen::BadPacket(refusal_of(&answer)),
+    )
 }
 
-/// The version after the opening, a call, the version after it, and what the other looks give.
-fn looks<A: AgentName, R: Wait>(rt: &R, alloc: Global, pass: &mut Pass<'_, A>) -> Told {
-    let opened = pass.version().unwrap_or(99);
+/// How many members there are.
+fn members_of<A: AgentName>(alloc: Global, pass: &mut Pass<'_, A>) -> Option<usize> {
+    match pass.members(alloc) {
+        Ok(members) => Some(members.len()),
+        Err(_) => None,
+    }
+}
+
+/// Whether b is known.
+fn knows_b<A: AgentName>(pass: &mut Pass<'_, A>) -> bool {
+    match pass.status_of(&letter(b'b')) {
+        Ok(record) => record.is_some(),
+        Err(_) => false,
+    }
+}
+
+/// The version after the opening, a call, and what each look gives after it.
+fn looks<A: AgentName, R: Wait>(rt: &R, alloc: Global, pass: &mut Pass<'_, A>) -> Seen {
+    let opened = pass.version().ok();
     let place = call(rt, alloc, pass);
-    let version = pass.version().unwrap_or(99);
-    let deadline = pass.next_deadline().unwrap_or(99);
-    let members = match pass.members(alloc) {
-        Ok(members) => members.len() as u64,
-        Err(_) => 99,
-    };
-    let known = match pass.status_of(&letter(b'b')) {
-        Ok(record) => u64::from(record.is_some()),
-        Err(_) => 99,
-    };
-    [opened, place, version, deadline, members, known, 0, 0]
+    Seen::Looks {
+        opened,
+        place,
+        version: pass.version().ok(),
+        deadline: pass.next_deadline().ok(),
+        members: members_of(alloc, pass),
+        knows_b: knows_b(pass),
+    }
 }
 
 /// One pass calls and looks.
@@ -204,26 +214,82 @@ pub(super) fn views<A: AgentName, R: Wait>(
     agent: &mut Agent<A>,
 ) -> Option<Left<A>> {
     let mut pass = one_of(alloc, agent)?;
-    let numbers = looks(rt, alloc, &mut pass);
-    handed_in(alloc, pass.finish(), None, numbers)
+    let seen = looks(rt, alloc, &mut pass);
+    handed_in(alloc, pass.finish(), None, seen)
+}
+
+/// An agent that was closed at once, with so many entries.
+pub(super) fn closed(seen: Seen, entries: u64) -> Outcome {
+    Outcome {
+        seen,
+        fault: None,
+        entries: Some(entries),
+    }
+}
+
+/// An agent that wasn't closed at first, and what came of the second time.
+fn unclosed(fault: CloseFault, entries: Option<u64>) -> Outcome {
+    Outcome {
+        seen: Seen::Nothing,
+        fault: Some(fault),
+        entries,
+    }
 }
 
 #[test]
-fn one_thread(rt: HostRuntime) -> Result<(), Fail> {
+fn one_pass(rt: HostRuntime) -> Result<(), Fail> {
+    let full = Seen::Full {
+        place: Some(1),
+        healthy: true,
+        refusal: Some(Refusal::HistoryFull(2)),
+    };
+    let no_such_place = Seen::NoSuchPlace {
+        zero: Some(Refusal::NoPlace),
+        two: Some(Refusal::NoPlace),
+    };
+    let looks = Seen::Looks {
+        opened: Some(1),
+        place: Some(1),
+        version: Some(2),
+        deadline: Some(0),
+        members: Some(1),
+        knows_b: true,
+    };
+    let short = Seen::BadPacket(Some(Refusal::BadPacket(Fault::Short)));
     let cases = [
-        (Case::Full, 1, 2, [1, 1, 2, 0, 0, 0, 0, 2]),
-        (Case::TwoPasses, 2, 20000, [0, 0, 0, 0, 0, 0, 0, 4]),
-        (Case::OneMissing, 2, 20000, [0, 0, 0, 0, 0, 0, 1, 4]),
-        (Case::AnotherName, 2, 20000, [0, 0, 0, 0, 0, 0, 2, 0]),
-        (Case::Differs, 2, 20000, [0, 0, 0, 0, 1, 0, 3, 0]),
-        (Case::PassesTwice, 2, 20000, [1, 2, 0, 0, 0, 0, 0, 1]),
-        (Case::NoSuchPlace, 1, 20000, [5, 5, 0, 0, 0, 0, 0, 1]),
-        (Case::ShortBytes, 1, 20000, [1, 1, 0, 0, 0, 0, 0, 1]),
-        (Case::Views, 1, 20000, [1, 1, 2, 0, 1, 1, 0, 2]),
+        (Case::Full, 2, closed(full, 2)),
+        (Case::NoSuchPlace, 20000, closed(no_such_place, 1)),
+        (Case::ShortBytes, 20000, closed(short, 1)),
+        (Case::Views, 20000, closed(looks, 2)),
     ];
-    for (case, places, limit, want) in cases {
+    for (case, limit, want) in cases {
         assert_eq!(rt;
-            told(&rt, rt.alloc(), case, places, limit),
+            told(&rt, rt.alloc(), case, 1, limit),
+            Some(want),
+            "{case:?}"
+        );
+    }
+    Ok(())
+}
+
+#[test]
+fn two_passes_of_one_thread(rt: HostRuntime) -> Result<(), Fail> {
+    let places = Seen::Places {
+        first: 1,
+        second: 2,
+        later: 0,
+    };
+    let lost = CloseFault::Differs { seat: 1, index: 0 };
+    let cases = [
+        (Case::TwoPasses, closed(Seen::Nothing, 4)),
+        (Case::OneMissing, unclosed(CloseFault::Missing, Some(4))),
+        (Case::AnotherName, unclosed(CloseFault::Foreign, None)),
+        (Case::Differs, unclosed(lost, None)),
+        (Case::PassesTwice, closed(places, 1)),
+    ];
+    for (case, want) in cases {
+        assert_eq!(rt;
+            told(&rt, rt.alloc(), case, 2, 20000),
             Some(want),
             "{case:?}"
         );

@@ -1,6 +1,6 @@
-//! Threads that share an agent. A number that a refused call or look doesn't give is 99.
-use super::playing::{Case, Left, Told, handed_in, told, two_of};
-use super::rows::{answer_of, place_of};
+//! Threads that share an agent.
+use super::playing::{Case, Left, OfC, Seen, handed_in, told, two_of};
+use super::rows::{answer_of, closed, place_of};
 use super::{alive_c, at, letter, local};
 use crate::{Agent, AgentName, Pass, Receipt, Refusal, Spent};
 use lg_detector::{Answer, TimerId};
@@ -24,29 +24,31 @@ fn shows_c(answer: &Result<Option<Record>, Refusal>) -> bool {
     }
 }
 
-/// What this pass sees of c, after what another pass heard: the version, whether c is alive with the number 0, and the
-/// place of a question that is answered so.
-fn sees_c<A: AgentName, R: Wait>(rt: &R, alloc: Global, pass: Pass<'_, A>) -> (Spent<A>, [u64; 3]) {
+/// What this pass sees of c, after what another pass heard: a look at the version and at c, and then a question.
+fn sees_c<A: AgentName, R: Wait>(rt: &R, alloc: Global, pass: Pass<'_, A>) -> (Spent<A>, OfC) {
     let mut pass = pass;
-    let version = pass.version().unwrap_or(99);
+    let version = pass.version().ok();
     let shown = shows_c(&pass.status_of(&letter(b'c')));
     let asked = pass.ask(rt, alloc, at(20), &letter(b'c'));
     let same = answer_of(&asked) == Some(Answer::Status(Some(alive_c())));
-    let seen = [version, u64::from(shown && same), place_of(&asked)];
+    let seen = OfC {
+        place: place_of(&asked),
+        alive: shown && same,
+        version,
+    };
     (pass.finish(), seen)
 }
 
-/// One pass hears of c: the place of the datagram, then whether it sees c alive with the number 0, and the version.
-fn hears_of_c<A: AgentName, R: Wait>(
-    rt: &R,
-    alloc: Global,
-    pass: Pass<'_, A>,
-) -> (Spent<A>, [u64; 3]) {
+/// What one pass sees of c: a datagram, and then a look at c and at the version.
+fn hears_of_c<A: AgentName, R: Wait>(rt: &R, alloc: Global, pass: Pass<'_, A>) -> (Spent<A>, OfC) {
     let mut pass = pass;
     let place = place_of(&pass.datagram(rt, alloc, at(10), local(1), &PING));
-    let shown = u64::from(shows_c(&pass.status_of(&letter(b'c'))));
-    let version = pass.version().unwrap_or(99);
-    (pass.finish(), [place, shown, version])
+    let seen = OfC {
+        place,
+        alive: shows_c(&pass.status_of(&letter(b'c'))),
+        version: pass.version().ok(),
+    };
+    (pass.finish(), seen)
 }
 
 /// One pass hears of c, and then another looks and asks, in another thread.
@@ -55,14 +57,15 @@ fn one_after_the_other<A: AgentName + Send + Sync, R: Threads + Wait + Sync>(
     alloc: Global,
     one: Pass<'_, A>,
     two: Pass<'_, A>,
-) -> (Spent<A>, Spent<A>, Told) {
+) -> (Spent<A>, Spent<A>, Seen) {
     let (first, heard) = hears_of_c(rt, alloc, one);
     let (back, other) = join(rt, move || first, move || sees_c(rt, alloc, two));
     let (second, seen) = other;
-    let numbers = [
-        heard[0], heard[1], heard[2], seen[0], seen[1], seen[2], 0, 0,
-    ];
-    (back, second, numbers)
+    let both = Seen::OfC {
+        first: heard,
+        second: seen,
+    };
+    (back, second, both)
 }
 
 /// One pass hears of c, and then another thread looks and asks.
@@ -72,8 +75,8 @@ pub(super) fn seen_by_another<A: AgentName + Send + Sync, R: Threads + Wait + Sy
     agent: &mut Agent<A>,
 ) -> Option<Left<A>> {
     let (one, two) = two_of(alloc, agent)?;
-    let (first, second, numbers) = one_after_the_other(rt, alloc, one, two);
-    handed_in(alloc, first, Some(second), numbers)
+    let (first, second, seen) = one_after_the_other(rt, alloc, one, two);
+    handed_in(alloc, first, Some(second), seen)
 }
 
 /// So many calls, and a look before and after each. It counts what isn't as it should be: a call that is refused or
@@ -90,11 +93,19 @@ fn calls<A: AgentName, R: Wait>(
         let seen = pass.version().unwrap_or(0);
         let answer = pass.health(rt, alloc, at(turn));
         let later = pass.version().unwrap_or(0);
-        if answer.is_err() || place_of(&answer) < seen || later <= place_of(&answer) {
+        if !is_between(seen, &answer, later) {
             wrong = wrong.wrapping_add(1);
         }
     }
     (pass.finish(), wrong)
+}
+
+/// Whether a call is answered behind what was seen before it, and is itself seen later.
+fn is_between(seen: u64, answer: &Result<Receipt, Refusal>, later: u64) -> bool {
+    match answer {
+        Ok(receipt) => seen <= receipt.place && receipt.place < later,
+        Err(_) => false,
+    }
 }
 
 /// Two threads, which make 50 calls and none.
@@ -127,34 +138,48 @@ pub(super) fn three_threads<A: AgentName + Send + Sync, R: Threads + Wait + Sync
         move || fifty_and_none(rt, alloc, two, three),
     );
     let wrong = first.1.wrapping_add(second.1).wrapping_add(third.1);
-    let mut all = handed_in(alloc, first.0, Some(second.0), [wrong, 0, 0, 0, 0, 0, 0, 0])?;
+    let mut all = handed_in(alloc, first.0, Some(second.0), Seen::Wrong(wrong))?;
     all.spents.push(third.0).ok()?;
     Some(all)
 }
 
-/// Whether a round starts with one packet, and the next deadline.
-fn round_of(answer: &Result<Receipt, Refusal>) -> (bool, u64) {
+/// Whether a round starts with one packet.
+fn starts_round(answer: &Result<Receipt, Refusal>) -> bool {
     match answer {
         Ok(receipt) => {
             let starts = match &receipt.reply.fired {
                 Some(timer) => timer.id == TimerId::RoundStart,
                 None => false,
             };
-            (starts && receipt.reply.sends.len() == 1, receipt.reply.next)
+            starts && receipt.reply.sends.len() == 1
         }
-        Err(_) => (false, 99),
+        Err(_) => false,
     }
 }
 
-/// A tick at an earlier moment.
+/// The next deadline.
+fn next_of(answer: &Result<Receipt, Refusal>) -> Option<u64> {
+    match answer {
+        Ok(receipt) => Some(receipt.reply.next),
+        Err(_) => None,
+    }
+}
+
+/// A tick at 4000, after a call that has this place.
 fn ticks<A: AgentName, R: Wait>(
     rt: &R,
     alloc: Global,
     pass: Pass<'_, A>,
-) -> (Spent<A>, (bool, u64)) {
+    place: Option<u64>,
+) -> (Spent<A>, Seen) {
     let mut pass = pass;
-    let round = round_of(&pass.tick(rt, alloc, at(4000), [0; 8]));
-    (pass.finish(), round)
+    let answer = pass.tick(rt, alloc, at(4000), [0; 8]);
+    let seen = Seen::Tick {
+        place,
+        starts_round: starts_round(&answer),
+        next: next_of(&answer),
+    };
+    (pass.finish(), seen)
 }
 
 /// A call at 5000, and then one at 4000 in another thread. The agent knows c.
@@ -165,17 +190,37 @@ pub(super) fn earlier_moment<A: AgentName + Send + Sync, R: Threads + Wait + Syn
 ) -> Option<Left<A>> {
     let (mut one, two) = two_of(alloc, agent)?;
     let place = place_of(&one.health(rt, alloc, at(5000)));
-    let (first, (second, round)) = join(rt, move || one.finish(), move || ticks(rt, alloc, two));
-    let numbers = [place, u64::from(round.0), round.1, 0, 0, 0, 0, 0];
-    handed_in(alloc, first, Some(second), numbers)
+    let (first, (second, seen)) = join(
+        rt,
+        move || one.finish(),
+        move || ticks(rt, alloc, two, place),
+    );
+    handed_in(alloc, first, Some(second), seen)
 }
 
 #[test]
 fn threads(rt: HostRuntime) -> Result<(), Fail> {
+    let of_c = Seen::OfC {
+        first: OfC {
+            place: Some(1),
+            alive: true,
+            version: Some(2),
+        },
+        second: OfC {
+            place: Some(2),
+            alive: true,
+            version: Some(2),
+        },
+    };
+    let tick = Seen::Tick {
+        place: Some(1),
+        starts_round: true,
+        next: Some(5500),
+    };
     let cases = [
-        (Case::SeenByAnother, 2, [1, 1, 2, 2, 1, 2, 0, 3]),
-        (Case::ThreeThreads, 3, [0, 0, 0, 0, 0, 0, 0, 151]),
-        (Case::EarlierMoment, 2, [1, 1, 5500, 0, 0, 0, 0, 3]),
+        (Case::SeenByAnother, 2, closed(of_c, 3)),
+        (Case::ThreeThreads, 3, closed(Seen::Wrong(0), 151)),
+        (Case::EarlierMoment, 2, closed(tick, 3)),
     ];
     for (case, places, want) in cases {
         assert_eq!(rt;
