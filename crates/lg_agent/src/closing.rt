@@ -1,5 +1,6 @@
 //! Closing: what the passes left is compared with the history.
-ghost use Rattle.std.specs.Prelude.{◌≡◌, ◌≤◌, ◌==◌, All, Any, OnOk, IfOk, IfErr, IsErrAnd, length, None};
+ghost use Rattle.std.specs.Prelude.{◌≡◌, ◌≤◌, ◌==◌, All, Any, length, None};
+ghost use Rattle.std.specs.Prelude.{OnOk, IfOk, IfErr, IsErrAnd};
 ghost use Rattle.std.specs.List.{list_any, find, range_with_len};
 ghost use mathlib.Core.List.{IsPrefix};
 ghost use Rattle.lg_history.specs.Meaning.History.{positions, events};
@@ -200,12 +201,12 @@ impl<A: AgentName> Agent<A> {
     /// no test has met. Then everything is handed back.
     ///
     /// A contract can't see the history that a refused agent goes on with, and says that there is a legal one by which
-    /// this is the fault. What the list alone settles is said of the list: where one of it has a place that isn't from 1
-    /// to the number of places, or a place that another has as well, the fault is [`CloseFault::Foreign`], and it is
-    /// [`CloseFault::Missing`] only where some place has none.
+    /// this is the fault. What the list alone settles is said of the list: where one of it has a place that isn't
+    /// from 1 to the number of places, or a place that another has as well, the fault is [`CloseFault::Foreign`], and
+    /// it is [`CloseFault::Missing`] only where some place has none.
     ///
-    /// Two agents may have one name: that each [`Spent`] was finished from a pass of this agent is seen to by `A`, which
-    /// no two agents share.
+    /// Two agents may have one name: that each [`Spent`] was finished from a pass of this agent is seen to by `A`,
+    /// which no two agents share.
     pub fn close<R: Wait>(self, rt: &R, spents: Vec<Spent<A>>) -> Result<Closed, Unclosed<A>>
         ensures closed { IfOk result (λ c. IsClosed A.places c spents.items) }
         ensures fault { IfErr result (λ u. IsRefusedClosing A.places spents.items u.fault) }
