@@ -19,12 +19,26 @@ pub const MAX_SENDS: usize = 8;
 pub const MAX_CHANGED: usize = MAX_CLAIMS;
 
 /// A packet to be sent.
-#[derive(Debug, Drop, Default)]
+#[derive(Debug, Drop)]
 pub struct Outgoing {
     /// Where it goes.
     pub to: Addr,
     /// What it is.
     pub packet: Packet,
+}
+
+/// A place for a packet to be sent.
+impl Default for Outgoing {
+    ghost is_default = { λ _. Unit {0} };
+
+    // A row has eight of these. Inlined eight times, they are more code than a processor's cache of instructions holds.
+    #[inline(never)]
+    fn default() -> Self {
+        Outgoing {
+            to: Addr::default(),
+            packet: Packet::default(),
+        }
+    }
 }
 
 impl Outgoing {
