@@ -1,0 +1,4 @@
+pub mod KeyLaws
+pub mod SeedLaws
+pub mod TextLaws
+pub mod MeaningLaws

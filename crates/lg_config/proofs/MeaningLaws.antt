@@ -1,0 +1,117 @@
+-- What settings mean, by those with the first of their seeds.
+use Rattle.std.proofs.Common.{◌≡◌, ℕ, ◌<◌, ◌≤◌, Bool, true, false, List, [], ◌∷◌, ◌++◌, length, take, leb, Option, Some, None, option_and_then, option_map, Result, Ok, Err, refl, ap, sym, ◌∙◌, arith}
+use Rattle.std.proofs.lemmas.Bool.{leb-false, leb-true}
+use Rattle.std.proofs.lemmas.Bool.Decides.{nat_tests}
+use Rattle.std.proofs.lemmas.List.{take_all}
+use Rattle.std.proofs.lemmas.Option.{same_Some}
+use Rattle.lg_rules.specs.declared.addr.Addr.{Addr}
+use Rattle.lg_timing.specs.Meaning.Bounds.{most_seeds}
+use Rattle.lg_timing.specs.Meaning.Config.{are_good_seeds, check_of, defaults, first_broken, rules_of, unless_broken}
+use Rattle.lg_timing.specs.declared.config.Config.{Config}
+use Rattle.lg_timing.specs.declared.config.ConfigFault.{ConfigFault}
+use Rattle.lg_timing.specs.declared.config.ConfigFault.TheVariants.{Seeds}
+use Rattle.lg_timing.specs.declared.config.Seed.{Seed}
+use Rattle.toml.specs.Data.{Members}
+use Rattle.toml.specs.View.{items_view}
+use Rattle.toml.specs.declared.value.Value.{Value}
+use Rattle.lg_config.specs.declared.fault.FileFault.TheVariants as fault
+use Rattle.lg_config.specs.declared.node.NodeConfig.{NodeConfig}
+use Rattle.lg_config.specs.Meaning.Answer.{meaning_of, unless_config, unless_value}
+use Rattle.lg_config.specs.Meaning.Keys.{are_right_keys}
+use Rattle.lg_config.specs.Meaning.Settings.{addr_in, dice_in, name_in, seeds_at, seeds_of, settings_of, with_numbers, with_seeds}
+use Rattle.lg_config.specs.Support.Reading.{kept, with_first_seeds}
+use Rattle.lg_config.proofs.SeedLaws.{seeds-counted}
+
+-- ---- the check, where the last rule is broken
+
+abbrev or_seeds : Result (Unit {0}) ConfigFault → Result (Unit {0}) ConfigFault
+or_seeds (Ok passed) = Err Seeds
+or_seeds (Err broken) = Err broken
+
+last-broken : (rules : List (Bool × ConfigFault)) (good : Bool)
+    → unless_broken (first_broken (rules ++ (false, Seeds) ∷ [])) ≡ or_seeds (unless_broken (first_broken (rules ++ (good, Seeds) ∷ [])))
+last-broken [] true = refl
+last-broken [] false = refl
+last-broken (rule ∷ rules) good = step rule.0 refl (last-broken rules good)
+  where
+    step : (holds : Bool) → rule.0 ≡ holds → unless_broken (first_broken (rules ++ (false, Seeds) ∷ [])) ≡ or_seeds (unless_broken (first_broken (rules ++ (good, Seeds) ∷ [])))
+        → unless_broken (first_broken (rule ∷ rules ++ (false, Seeds) ∷ [])) ≡ or_seeds (unless_broken (first_broken (rule ∷ rules ++ (good, Seeds) ∷ [])))
+    step true e rest = rw e rest
+    step false e rest = rw e refl
+
+-- too many seeds are the last fault
+many-seeds : (c : Config) (seeds : List Seed) → most_seeds < length seeds → check_of (with_seeds seeds c) ≡ or_seeds (check_of (with_seeds (kept seeds) c))
+unfolding check_of
+many-seeds c seeds many =
+    let past : leb (length seeds) most_seeds ≡ false = grind (arith, nat_tests) in
+    rw past (last-broken (take 10 (rules_of c)) (are_good_seeds c.name (kept seeds)))
+
+-- ---- the seeds that settings have
+
+settings-seeds : (m : Members) (node : NodeConfig) → settings_of m ≡ Some node → seeds_of (seeds_at m) ≡ Some node.config.seeds.items
+unfolding settings_of
+settings-seeds m node is = go (name_in m) (addr_in m) (dice_in m) (seeds_of (seeds_at m)) is
+  where
+    go : (name : Option (List ℕ)) (addr : Option Addr) (dice : Option ℕ) (seeds : Option (List Seed))
+        → option_and_then (λ n. option_and_then (λ a. option_and_then (λ d. option_and_then (λ ss. Some (let made : NodeConfig = record { config = with_seeds ss (with_numbers m (defaults n a)); dice = d } in made)) seeds) dice) addr) name ≡ Some node
+        → seeds ≡ Some node.config.seeds.items
+    go None addr dice seeds e = absurd cc
+    go (Some n) None dice seeds e = absurd cc
+    go (Some n) (Some a) None seeds e = absurd cc
+    go (Some n) (Some a) (Some d) None e = absurd cc
+    go (Some n) (Some a) (Some d) (Some ss) e = ap (option_map (λ made. made.config.seeds.items)) e
+
+settings-counted : (m : Members) (node : NodeConfig) (vs : List Value) → items_view vs ≡ seeds_at m → settings_of m ≡ Some node → length node.config.seeds.items ≡ length vs
+settings-counted m node vs same is = seeds-counted vs node.config.seeds.items (ap seeds_of same ∙ settings-seeds m node is)
+
+-- ---- what settings mean
+
+-- the first seeds are all, where they are few
+few-kept : (node : NodeConfig) → length node.config.seeds.items ≤ most_seeds → with_first_seeds node ≡ node
+few-kept node few = ap (λ seeds. record node { config = with_seeds seeds node.config }) (take_all most_seeds node.config.seeds.items few)
+
+few-checked : (node : NodeConfig) → length node.config.seeds.items ≤ most_seeds → check_of (with_first_seeds node).config ≡ check_of node.config
+few-checked node few = ap (λ n. check_of n.config) (few-kept node few)
+
+many-checked : (node : NodeConfig) → most_seeds < length node.config.seeds.items → check_of node.config ≡ or_seeds (check_of (with_first_seeds node).config)
+many-checked node many = many-seeds node.config node.config.seeds.items many
+
+-- a fault of the settings with the first seeds is one of all
+broken-whole : (node : NodeConfig) (broken : ConfigFault) → check_of (with_first_seeds node).config ≡ Err broken → check_of node.config ≡ Err broken
+broken-whole node broken is = step (leb (length node.config.seeds.items) most_seeds) refl
+  where
+    step : (few : Bool) → leb (length node.config.seeds.items) most_seeds ≡ few → check_of node.config ≡ Err broken
+    step true e = sym (few-checked node (leb-true (length node.config.seeds.items) most_seeds e)) ∙ is
+    step false e = many-checked node (leb-false (length node.config.seeds.items) most_seeds e) ∙ ap or_seeds is
+
+checked-kept : (first : NodeConfig) (node : NodeConfig) (r : Result (Unit {0}) ConfigFault) → Some first ≡ Some (with_first_seeds node) → check_of first.config ≡ r → check_of (with_first_seeds node).config ≡ r
+checked-kept first node r same is = ap (λ n. check_of n.config) (sym (same_Some _ _ same)) ∙ is
+
+pub judged-broken : (m : Members) (first : NodeConfig) (broken : ConfigFault) → are_right_keys m ≡ true → Some first ≡ option_map with_first_seeds (settings_of m) → check_of first.config ≡ Err broken
+    → Err (fault.Config broken) ≡ meaning_of m
+judged-broken m first broken right found is = rw right (go (settings_of m) found)
+  where
+    go : (settings : Option NodeConfig) → Some first ≡ option_map with_first_seeds settings → Err (fault.Config broken) ≡ unless_value settings
+    go None e = absurd cc
+    go (Some node) e = ap (unless_config node) (sym (broken-whole node broken (checked-kept first node (Err broken) e is)))
+
+pub judged-many : (m : Members) (first : NodeConfig) (vs : List Value) → are_right_keys m ≡ true → Some first ≡ option_map with_first_seeds (settings_of m) → check_of first.config ≡ Ok tt
+    → items_view vs ≡ seeds_at m → most_seeds < length vs → Err (fault.Config Seeds) ≡ meaning_of m
+judged-many m first vs right found is same many = rw right (go (settings_of m) refl found)
+  where
+    go : (settings : Option NodeConfig) → settings_of m ≡ settings → Some first ≡ option_map with_first_seeds settings → Err (fault.Config Seeds) ≡ unless_value settings
+    go None s e = absurd cc
+    go (Some node) s e =
+        let past : most_seeds < length node.config.seeds.items = omega (arith, many, settings-counted m node vs same s) in
+        ap (unless_config node) (sym (many-checked node past ∙ ap or_seeds (checked-kept first node (Ok tt) e is)))
+
+pub judged-good : (m : Members) (first : NodeConfig) (vs : List Value) → are_right_keys m ≡ true → Some first ≡ option_map with_first_seeds (settings_of m) → check_of first.config ≡ Ok tt
+    → items_view vs ≡ seeds_at m → length vs ≤ most_seeds → Ok first ≡ meaning_of m
+judged-good m first vs right found is same few = rw right (go (settings_of m) refl found)
+  where
+    go : (settings : Option NodeConfig) → settings_of m ≡ settings → Some first ≡ option_map with_first_seeds settings → Ok first ≡ unless_value settings
+    go None s e = absurd cc
+    go (Some node) s e =
+        let within : length node.config.seeds.items ≤ most_seeds = omega (arith, few, settings-counted m node vs same s) in
+        let whole : first ≡ node = same_Some _ _ e ∙ few-kept node within in
+        ap Ok whole ∙ ap (unless_config node) (sym (sym (few-checked node within) ∙ checked-kept first node (Ok tt) e is))

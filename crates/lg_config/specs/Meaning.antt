@@ -1,0 +1,8 @@
+-- What is right: whoever wants to believe the contracts reads these.
+pub mod Answer
+pub mod Bounds
+pub mod Examples
+pub mod Faults
+pub mod Keys
+pub mod Settings
+pub mod Texts

@@ -1,0 +1,32 @@
+-- The least and the greatest numbers of a configuration file, and what stands for a key that it lacks (this project's
+-- choice).
+use Rattle.std.specs.Prelude.{ℕ, ◌^◌, ◌-◌, List, codes}
+
+-- the bytes of a file
+abbrev pub most_bytes : ℕ
+most_bytes = 65536
+
+-- a port: no member is reached at 0, and 65535 is the last number of 16 bits
+abbrev pub least_port : ℕ
+least_port = 1
+
+abbrev pub most_port : ℕ
+most_port = 65535
+
+-- each of the four numbers of an address
+abbrev pub most_octet : ℕ
+most_octet = 255
+
+-- what stands for a number that is negative, which no key takes: the last number of 64 bits
+abbrev pub out_of_range : ℕ
+out_of_range = 2 ^ 64 - 1
+
+-- by default
+abbrev pub default_address : List ℕ
+default_address = codes "127.0.0.1"
+
+abbrev pub default_port : ℕ
+default_port = 7946
+
+abbrev pub default_dice : ℕ
+default_dice = 1

@@ -1,0 +1,216 @@
+-- Worked files.
+use Rattle.std.specs.Prelude.{⊤, ◌≡◌, ℕ, ◌++◌, List, [], ◌∷◌, Result, Ok, Err, Some, None, codes, refl, replicate}
+use Rattle.std.specs.List.{flat_map}
+use Rattle.std.specs.Str.{chars, is_utf8}
+use Rattle.toml.proofs.OnLiterals.{toml_on_literals}
+use Rattle.lg_rules.specs.declared.addr.Addr.{Addr}
+use Rattle.lg_timing.specs.declared.config.Config.{Config}
+use Rattle.lg_timing.specs.declared.config.ConfigFault.TheVariants.{Interval, Lambda, History, Seeds}
+use Rattle.lg_timing.specs.Meaning.Config.{check_of, defaults}
+use Rattle.lg_config.specs.declared.fault.FileFault.{FileFault}
+use Rattle.lg_config.specs.declared.fault.FileFault.TheVariants as fault
+use Rattle.lg_config.specs.declared.node.NodeConfig.{NodeConfig}
+use Rattle.lg_config.specs.Meaning.Answer.{answer_of}
+use Rattle.lg_config.specs.Meaning.Keys.{kind_of}
+use Rattle.lg_config.specs.Meaning.Settings.{addr_in, dice_in, name_in, settings_of, with_numbers}
+use Rattle.lg_config.specs.Meaning.Texts.{before, behind, octets_of, address_of, seed_of}
+
+-- what the rows unfold
+unfoldable on_files : ⊤
+unfolding toml_on_literals answer_of is_utf8 chars kind_of settings_of name_in addr_in dice_in with_numbers octets_of address_of seed_of before behind check_of
+on_files = tt
+
+-- a file of the member b with these lines
+abbrev b-with : List ℕ → List ℕ
+b-with lines = codes "name = \"b\"\n" ++ lines
+
+-- 127.0.0.1 with a port
+abbrev local : ℕ → Addr
+local port = record { octets = 127 ∷ 0 ∷ 0 ∷ 1 ∷ []; port = port }
+
+-- the member b with the default numbers
+abbrev b-by-default : Config
+b-by-default = defaults (98 ∷ []) (local 7946)
+
+-- a file that means this configuration, with the default dice
+abbrev means : Config → Result NodeConfig FileFault
+means config = Ok record { config = config; dice = 1 }
+
+-- ---- files that mean a configuration
+
+name-alone : answer_of (codes "name = \"b\"") ≡ means b-by-default
+unfolding on_files
+name-alone = refl
+
+all-keys :
+    answer_of (b-with
+    (codes "address = \"10.0.0.007\"\nport = 1\ndice = 9223372036854775807\ninterval_ms = 200\ntimeout_ms = 50\nindirect = 0\nmax_score = 1\nalpha = 2\nbeta = 3\nconfirmations = 4\nlambda = 5\nnack_thousandths = 6\nhistory_limit = 7\nseeds = [\"c@127.0.0.1:7001\"]\n"))
+    ≡ Ok record {
+      config =
+          record {
+            interval_ms = 200;
+            timeout_ms = 50;
+            indirect = 0;
+            max_score = 1;
+            alpha = 2;
+            beta = 3;
+            confirmations = 4;
+            lambda = 5;
+            nack_thousandths = 6;
+            history_limit = 7;
+            seeds = record { items = record { name = 99 ∷ []; addr = local 7001 } ∷ [] };
+            name = 98 ∷ [];
+            addr = record { octets = 10 ∷ 0 ∷ 0 ∷ 7 ∷ []; port = 1 };
+          };
+      dice = 9223372036854775807;
+    }
+unfolding on_files
+all-keys = refl
+
+-- ---- files that are no document
+
+unended-text : answer_of (codes "name = \"b") ≡ Err fault.Syntax
+unfolding on_files
+unended-text = refl
+
+key-twice : answer_of (b-with (codes "name = \"b\"")) ≡ Err fault.Syntax
+unfolding on_files
+key-twice = refl
+
+past-64-bits : answer_of (b-with (codes "port = 9223372036854775808")) ≡ Err fault.Syntax
+unfolding on_files
+past-64-bits = refl
+
+-- also in a comment
+not-utf8 : answer_of (b-with (35 ∷ 255 ∷ [])) ≡ Err fault.Syntax
+unfolding on_files
+not-utf8 = refl
+
+-- ---- files whose keys are wrong
+
+nothing : answer_of [] ≡ Err fault.Key
+unfolding on_files
+nothing = refl
+
+no-name : answer_of (codes "port = 1") ≡ Err fault.Key
+unfolding on_files
+no-name = refl
+
+unknown-key : answer_of (b-with (codes "colour = 1")) ≡ Err fault.Key
+unfolding on_files
+unknown-key = refl
+
+text-for-number : answer_of (b-with (codes "interval_ms = \"5\"")) ≡ Err fault.Key
+unfolding on_files
+text-for-number = refl
+
+number-for-text : answer_of (codes "name = 1") ≡ Err fault.Key
+unfolding on_files
+number-for-text = refl
+
+number-in-seeds : answer_of (b-with (codes "seeds = [\"c@127.0.0.1:1\", 1]")) ≡ Err fault.Key
+unfolding on_files
+number-in-seeds = refl
+
+-- a key is known at the top of a file alone
+key-in-table : answer_of (codes "[b]\nname = \"b\"") ≡ Err fault.Key
+unfolding on_files
+key-in-table = refl
+
+-- the port is no fault where a key is unknown
+keys-before-values : answer_of (b-with (codes "port = 0\ncolour = 1")) ≡ Err fault.Key
+unfolding on_files
+keys-before-values = refl
+
+-- ---- files with a value out of its form
+
+empty-name : answer_of (codes "name = \"\"") ≡ Err fault.Value
+unfolding on_files
+empty-name = refl
+
+seed-without-port : answer_of (b-with (codes "seeds = [\"c@127.0.0.1\"]")) ≡ Err fault.Value
+unfolding on_files
+seed-without-port = refl
+
+negative-dice : answer_of (b-with (codes "dice = -1")) ≡ Err fault.Value
+unfolding on_files
+negative-dice = refl
+
+negative-port : answer_of (b-with (codes "port = -1")) ≡ Err fault.Value
+unfolding on_files
+negative-port = refl
+
+-- the port is looked at before the interval
+values-before-ranges : answer_of (b-with (codes "interval_ms = 5\nport = 0")) ≡ Err fault.Value
+unfolding on_files
+values-before-ranges = refl
+
+-- ---- files whose configuration fails its check
+
+short-interval : answer_of (b-with (codes "interval_ms = 5")) ≡ Err (fault.Config Interval)
+unfolding on_files
+short-interval = refl
+
+negative-interval : answer_of (b-with (codes "interval_ms = -1")) ≡ Err (fault.Config Interval)
+unfolding on_files
+negative-interval = refl
+
+great-limit : answer_of (b-with (codes "history_limit = 9223372036854775807")) ≡ Err (fault.Config History)
+unfolding on_files
+great-limit = refl
+
+own-name-among-seeds : answer_of (b-with (codes "seeds = [\"b@127.0.0.1:1\"]")) ≡ Err (fault.Config Seeds)
+unfolding on_files
+own-name-among-seeds = refl
+
+-- 17 seeds
+abbrev many-seeds : List ℕ
+many-seeds = codes "seeds = [" ++ flat_map (λ seed. seed) (replicate 17 (codes "\"c@127.0.0.1:1\", ")) ++ codes "]\n"
+
+seeds-17 : answer_of (b-with many-seeds) ≡ Err (fault.Config Seeds)
+unfolding on_files
+seeds-17 = refl
+
+-- the numbers are judged before the seeds
+seeds-17-and-lambda : answer_of (b-with (many-seeds ++ codes "lambda = 0")) ≡ Err (fault.Config Lambda)
+unfolding on_files
+seeds-17-and-lambda = refl
+
+-- ---- texts
+
+zeros-first : octets_of (codes "0000000000000001.002.3.255") ≡ Some (1 ∷ 2 ∷ 3 ∷ 255 ∷ [])
+unfolding on_files
+zeros-first = refl
+
+octet-256 : octets_of (codes "1.2.3.256") ≡ None
+unfolding on_files
+octet-256 = refl
+
+three-numbers : octets_of (codes "1.2.3") ≡ None
+unfolding on_files
+three-numbers = refl
+
+five-numbers : octets_of (codes "1.2.3.4.5") ≡ None
+unfolding on_files
+five-numbers = refl
+
+empty-number : octets_of (codes "1..3.4") ≡ None
+unfolding on_files
+empty-number = refl
+
+c-at-65535 : seed_of (codes "c@1.2.3.4:65535")
+    ≡ Some record { name = 99 ∷ []; addr = record { octets = 1 ∷ 2 ∷ 3 ∷ 4 ∷ []; port = 65535 } }
+unfolding on_files
+c-at-65535 = refl
+
+port-65536 : seed_of (codes "c@1.2.3.4:65536") ≡ None
+unfolding on_files
+port-65536 = refl
+
+two-at-signs : seed_of (codes "c@d@1.2.3.4:1") ≡ None
+unfolding on_files
+two-at-signs = refl
+
+no-at-sign : seed_of (codes "1.2.3.4:1") ≡ None
+unfolding on_files
+no-at-sign = refl

@@ -1,0 +1,68 @@
+-- The keys of a configuration file, and of which TOML type the value of each is.
+use Rattle.std.specs.Prelude.{ℕ, Bool, true, false, ◌&&◌, List, [], ◌∷◌, codes, Option, Some, None, is_some}
+use Rattle.std.specs.Prelude.{if◌then◌else◌}
+use Rattle.std.specs.List.{list_any}
+use Rattle.std.specs.Str.{bytes_eq}
+use Rattle.toml.specs.Data.{Data, Items, no_items, item, Members, no_members, member, get_member}
+use Rattle.toml.specs.Data.{as_str, as_integer, as_array}
+use Rattle.lg_config.specs.declared.keys.Kind.{Kind}
+use Rattle.lg_config.specs.declared.keys.Kind.TheVariants.{Text, Number, Texts}
+
+-- the keys whose value is a text
+abbrev pub text_keys : List (List ℕ)
+text_keys = codes "name" ∷ codes "address" ∷ []
+
+-- the keys whose value is a whole number
+abbrev pub number_keys : List (List ℕ)
+number_keys =
+    codes "port" ∷ codes "dice" ∷ codes "interval_ms" ∷ codes "timeout_ms" ∷ codes "indirect" ∷ codes "max_score"
+    ∷ codes "alpha" ∷ codes "beta" ∷ codes "confirmations" ∷ codes "lambda" ∷ codes "nack_thousandths"
+    ∷ codes "history_limit" ∷ []
+
+-- the key whose value is an array of texts
+abbrev pub texts_key : List ℕ
+texts_key = codes "seeds"
+
+-- a key is one of these
+abbrev pub is_among : List (List ℕ) → List ℕ → Bool
+is_among keys key = list_any (λ known. bytes_eq key known) keys
+
+-- of which kind the value of a key is; none where the key is unknown
+unfoldable pub kind_of : List ℕ → Option Kind
+kind_of key =
+    if is_among text_keys key then Some Text
+    else if is_among number_keys key then Some Number
+    else if bytes_eq key texts_key then Some Texts
+    else None
+
+abbrev pub is_text : Data → Bool
+is_text value = is_some (as_str value)
+
+abbrev pub is_whole_number : Data → Bool
+is_whole_number value = is_some (as_integer value)
+
+-- each element of an array is a text
+abbrev pub are_texts : Items → Bool
+are_texts no_items = true
+are_texts (item value others) = is_text value && are_texts others
+
+-- an array, and nothing else, is of texts
+abbrev pub is_array_of_texts : Option Items → Bool
+is_array_of_texts None = false
+is_array_of_texts (Some items) = are_texts items
+
+-- a value is of the kind that its key wants
+abbrev pub is_of_kind : Option Kind → Data → Bool
+is_of_kind None value = false
+is_of_kind (Some Text) value = is_text value
+is_of_kind (Some Number) value = is_whole_number value
+is_of_kind (Some Texts) value = is_array_of_texts (as_array value)
+
+-- each key is known, and its value of its kind
+abbrev pub are_known : Members → Bool
+are_known no_members = true
+are_known (member key value others) = is_of_kind (kind_of key) value && are_known others
+
+-- and the name isn't missing
+abbrev pub are_right_keys : Members → Bool
+are_right_keys members = is_some (get_member (codes "name") members) && are_known members

@@ -1,0 +1,93 @@
+-- The configuration that the members of a document mean; none where a value is out of its form. Their keys are right.
+use Rattle.std.specs.Prelude.{ℕ, ℤ, pos, negsuc, List, [], ◌∷◌, codes, Option, Some, None, option_and_then, unwrap_or}
+use Rattle.std.specs.Option.{option_map}
+use Rattle.toml.specs.Data.{Data, Items, no_items, item, Members, get_member, as_str, as_integer, as_array}
+use Rattle.lg_rules.specs.declared.addr.Addr.{Addr}
+use Rattle.lg_timing.specs.Meaning.Config.{defaults}
+use Rattle.lg_timing.specs.declared.config.Config.{Config}
+use Rattle.lg_timing.specs.declared.config.Seed.{Seed}
+use Rattle.lg_config.specs.declared.node.NodeConfig.{NodeConfig}
+use Rattle.lg_config.specs.Meaning.Bounds.{out_of_range, default_address, default_port, default_dice}
+use Rattle.lg_config.specs.Meaning.Keys.{texts_key}
+use Rattle.lg_config.specs.Meaning.Texts.{◌>>=◌, port_among, octets_of, member_name_of, seed_of}
+
+-- the text and the whole number at a key, if there is one
+abbrev pub text_at : List ℕ → Members → Option (List ℕ)
+text_at key members = option_and_then as_str (get_member key members)
+
+abbrev pub integer_at : List ℕ → Members → Option ℤ
+integer_at key members = option_and_then as_integer (get_member key members)
+
+-- what stands for a whole number where none can be negative
+abbrev pub natural : ℤ → ℕ
+natural (pos n) = n
+natural (negsuc n) = out_of_range
+
+-- the number at a key, or what it is by default
+abbrev pub number_at : List ℕ → ℕ → Members → ℕ
+number_at key default members = unwrap_or (option_map natural (integer_at key members)) default
+
+-- the seed that an element of an array is: that of its text
+abbrev pub seed_of_value : Data → Option Seed
+seed_of_value value = option_and_then seed_of (as_str value)
+
+-- the seeds that the elements of an array are, in their order; none where one of them is no seed
+abbrev pub seeds_of : Items → Option (List Seed)
+seeds_of no_items = Some []
+seeds_of (item value others) = do
+  seed ← seed_of_value value
+  seeds ← seeds_of others
+  Some (seed ∷ seeds)
+
+-- the elements at the key of the seeds, if there are any
+abbrev pub seeds_at : Members → Items
+seeds_at members = unwrap_or (option_and_then as_array (get_member texts_key members)) no_items
+
+-- the member's own name
+unfoldable pub name_in : Members → Option (List ℕ)
+name_in members = member_name_of (unwrap_or (text_at (codes "name") members) [])
+
+-- where the member is reached
+unfoldable pub addr_in : Members → Option Addr
+addr_in members = do
+  octets ← octets_of (unwrap_or (text_at (codes "address") members) default_address)
+  port ← port_among (number_at (codes "port") default_port members)
+  Some record { octets = octets; port = port }
+
+-- a whole number that isn't negative
+abbrev pub unless_negative : ℤ → Option ℕ
+unless_negative (pos n) = Some n
+unless_negative (negsuc n) = None
+
+-- where the dice start
+unfoldable pub dice_in : Members → Option ℕ
+dice_in members = unless_negative (unwrap_or (integer_at (codes "dice") members) (pos default_dice))
+
+-- a configuration with the numbers of a document, and its own where the document gives none
+unfoldable pub with_numbers : Members → Config → Config
+with_numbers members usual =
+    record usual {
+      interval_ms = number_at (codes "interval_ms") usual.interval_ms members;
+      timeout_ms = number_at (codes "timeout_ms") usual.timeout_ms members;
+      indirect = number_at (codes "indirect") usual.indirect members;
+      max_score = number_at (codes "max_score") usual.max_score members;
+      alpha = number_at (codes "alpha") usual.alpha members;
+      beta = number_at (codes "beta") usual.beta members;
+      confirmations = number_at (codes "confirmations") usual.confirmations members;
+      lambda = number_at (codes "lambda") usual.lambda members;
+      nack_thousandths = number_at (codes "nack_thousandths") usual.nack_thousandths members;
+      history_limit = number_at (codes "history_limit") usual.history_limit members;
+    }
+
+-- a configuration with these seeds
+abbrev pub with_seeds : List Seed → Config → Config
+with_seeds seeds config = record config { seeds = record { items = seeds } }
+
+-- all that a document says. It may have too many seeds, or numbers out of their ranges: that is judged later
+unfoldable pub settings_of : Members → Option NodeConfig
+settings_of members = do
+  name ← name_in members
+  addr ← addr_in members
+  dice ← dice_in members
+  seeds ← seeds_of (seeds_at members)
+  Some record { config = with_seeds seeds (with_numbers members (defaults name addr)); dice = dice }

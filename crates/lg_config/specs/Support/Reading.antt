@@ -1,0 +1,38 @@
+-- What the functions inside the reading of a file give.
+use Rattle.std.specs.Prelude.{◌≡◌, ℕ, List, Option, Some, None, Result, Ok, Err, take, if◌then◌else◌}
+use Rattle.std.specs.Prelude.{String}
+use Rattle.std.specs.BTreeMap.{BTreeMap}
+use Rattle.std.specs.declared.alloc.Global.{Global}
+use Rattle.std.specs.Option.{option_map}
+use Rattle.toml.specs.Data.{Items}
+use Rattle.toml.specs.View.{table_view}
+use Rattle.toml.specs.declared.value.Value.{Value}
+use Rattle.lg_timing.specs.declared.config.Seed.{Seed}
+use Rattle.lg_timing.specs.Meaning.Bounds.{most_seeds}
+use Rattle.lg_config.specs.declared.fault.FileFault.TheVariants as fault
+use Rattle.lg_config.specs.declared.fault.ReadFault.{ReadFault}
+use Rattle.lg_config.specs.declared.fault.ReadFault.TheVariants.{NoMemory, File}
+use Rattle.lg_config.specs.declared.node.NodeConfig.{NodeConfig}
+use Rattle.lg_config.specs.Meaning.Answer.{is_text_file, document_of, TakesMemory}
+use Rattle.lg_config.specs.Meaning.Settings.{seeds_of, with_seeds}
+
+-- the text that bytes are
+abbrev pub text_of : List ℕ → Option (List ℕ)
+text_of bytes = if is_text_file bytes then Some bytes else None
+
+-- what parsing bytes gives
+abbrev pub IsParsed : List ℕ → Result (BTreeMap (String Global) Value) ReadFault → Type 0
+IsParsed bytes (Ok table) = document_of bytes ≡ Some (table_view table)
+IsParsed bytes (Err NoMemory) = TakesMemory bytes
+IsParsed bytes (Err (File found)) = (found ≡ fault.Syntax) × (document_of bytes ≡ None)
+
+-- as many seeds as a configuration holds
+abbrev pub kept : List Seed → List Seed
+kept seeds = take most_seeds seeds
+
+abbrev pub first_seeds : Items → Option (List Seed)
+first_seeds values = option_map kept (seeds_of values)
+
+-- a configuration with the first of its seeds
+abbrev pub with_first_seeds : NodeConfig → NodeConfig
+with_first_seeds node = record node { config = with_seeds (kept node.config.seeds.items) node.config }

@@ -1,0 +1,51 @@
+//! Why a file means no configuration.
+ghost use Rattle.std.specs.Prelude.{◌≡◌};
+ghost use Rattle.lg_config.specs.Meaning.Faults.{fault_number};
+ghost use Rattle.lg_config.specs.declared.fault.ReadFault.TheVariants.{File};
+
+use lg_timing::ConfigFault;
+
+/// Why a file means no configuration (this project's choice).
+#[derive(Clone, Copy, Debug, PartialEq, Eq)]
+pub enum FileFault {
+    /// A number is out of its range, or the seeds are too many, share a name or have the own one. Of several such
+    /// faults it is the first in the order of [`ConfigFault`].
+    Config(ConfigFault),
+    /// The file has more than 65,536 bytes, isn't UTF-8 or isn't TOML.
+    Syntax,
+    /// A key is unknown, the name is missing, or a value is of another TOML type than its key wants.
+    Key,
+    /// A name, an address, a port or a seed is out of its form, or the dice are negative.
+    Value,
+}
+
+impl FileFault {
+    /// The number of the fault: 1 to 11 for those of [`ConfigFault`], and 12, 13 and 14 for the others.
+    pub fn number(self) -> u8
+        ensures { result ≡ fault_number self }
+    {
+        match self {
+            FileFault::Config(fault) => fault as u8,
+            FileFault::Syntax => 12,
+            FileFault::Key => 13,
+            FileFault::Value => 14,
+        }
+    }
+}
+
+/// Why a file wasn't read.
+#[derive(Clone, Copy, Debug, PartialEq, Eq)]
+pub enum ReadFault {
+    /// Memory was refused, so nothing is known of the file.
+    NoMemory,
+    /// The file means no configuration.
+    File(FileFault),
+}
+
+impl From<FileFault> for ReadFault {
+    ghost from_gives = { λ fault told. told ≡ File fault };
+
+    fn from(fault: FileFault) -> ReadFault {
+        ReadFault::File(fault)
+    }
+}

@@ -1,0 +1,80 @@
+//! The keys of a file, and the TOML type of the value of each.
+ghost use Rattle.std.specs.Prelude.{◌≡◌};
+ghost use Rattle.std.specs.List.{list_all};
+ghost use Rattle.toml.specs.View.{view, items_view, table_view};
+ghost use Rattle.lg_config.specs.Meaning.Keys.{are_right_keys, are_texts, is_of_kind, kind_of};
+
+use toml::{Table, Value};
+
+/// Of which kind the value of a key is.
+#[derive(Clone, Copy, Debug, PartialEq, Eq)]
+pub(crate) enum Kind {
+    /// A text.
+    Text,
+    /// A whole number.
+    Number,
+    /// An array of texts.
+    Texts,
+}
+
+/// The key of the member's own name.
+pub(crate) const NAME: &str = "name";
+
+/// The key of whom it knows from the start.
+pub(crate) const SEEDS: &str = "seeds";
+
+/// Of which kind the value of a key is; none where the key is unknown.
+#[tactic(auto, unfolding(crate::specs::Meaning::Keys::kind_of))]
+fn kind_of(key: &str) -> Option<Kind>
+    ensures { result ≡ kind_of key.now }
+{
+    match key {
+        "name" | "address" => Some(Kind::Text),
+        "port"
+        | "dice"
+        | "interval_ms"
+        | "timeout_ms"
+        | "indirect"
+        | "max_score"
+        | "alpha"
+        | "beta"
+        | "confirmations"
+        | "lambda"
+        | "nack_thousandths"
+        | "history_limit" => Some(Kind::Number),
+        "seeds" => Some(Kind::Texts),
+        _ => None,
+    }
+}
+
+/// Whether each of some values is a text.
+fn are_texts(values: &[Value]) -> bool
+    ensures { result ≡ are_texts (items_view values.now) }
+{
+    values.iter().all(|value| value.is_str())
+}
+
+/// Whether a value is of the kind that its key wants.
+fn is_of_kind(kind: Option<Kind>, value: &Value) -> bool
+    ensures { result ≡ is_of_kind kind (view value.now) }
+{
+    match kind {
+        Some(Kind::Text) => value.is_str(),
+        Some(Kind::Number) => value.is_integer(),
+        Some(Kind::Texts) => match value.as_array() {
+            Some(values) => are_texts(values),
+            None => false,
+        },
+        None => false,
+    }
+}
+
+/// Whether each key is known and its value of its kind, and the name isn't missing.
+pub(crate) fn are_right_keys(table: &Table) -> bool
+    ensures { result ≡ are_right_keys (table_view table.now) }
+{
+    table.contains_key(NAME)
+        && table
+            .iter()
+            .all(|(key, value)| is_of_kind(kind_of(key.as_str()), value))
+}

@@ -1,0 +1,21 @@
+//! The configuration file of a node: the configuration that its bytes mean, or why they mean none.
+//!
+//! [`NodeConfig::read`] reads the bytes of a file, which are TOML. Clauses of other crates cite `IsAnswer` and
+//! `answer_of` (`specs/Meaning/Answer.antt`) and `fault_number` (`Faults.antt`).
+#![tactic(auto)]
+
+mod document;
+mod fault;
+mod keys;
+mod lookup;
+mod node;
+mod seeds;
+mod settings;
+#[cfg(test)]
+mod tests;
+mod texts;
+
+pub use document::MAX_FILE;
+pub use fault::{FileFault, ReadFault};
+pub use node::NodeConfig;
+pub use settings::{DEFAULT_ADDRESS, DEFAULT_DICE, DEFAULT_PORT};

@@ -1,0 +1,58 @@
+//! Looks values up in the table of a file, whose keys are right.
+ghost use Rattle.std.specs.Prelude.{◌≡◌};
+ghost use Rattle.std.specs.Option.{option_map};
+ghost use Rattle.toml.specs.View.{items_view, table_view};
+ghost use Rattle.lg_config.specs.Meaning.Settings.{integer_at, natural, number_at, seeds_at, text_at};
+
+use crate::keys::SEEDS;
+use toml::{Table, Value};
+
+/// The text at a key, if there is one.
+pub(crate) fn text_at<'a>(table: &'a Table, key: &str) -> Option<&'a str>
+    ensures { option_map (λ text. text.now) result ≡ text_at key.now (table_view table.now) }
+{
+    match table.get(key) {
+        Some(value) => value.as_str(),
+        None => None,
+    }
+}
+
+/// The whole number at a key, if there is one.
+pub(crate) fn integer_at(table: &Table, key: &str) -> Option<i64>
+    ensures { result ≡ integer_at key.now (table_view table.now) }
+{
+    match table.get(key) {
+        Some(value) => value.as_integer(),
+        None => None,
+    }
+}
+
+/// A whole number as a number that isn't negative; for a negative one the greatest, which is out of each range.
+fn natural(number: i64) -> u64
+    ensures { result ≡ natural number }
+{
+    u64::try_from(number).unwrap_or(u64::MAX)
+}
+
+/// The number at a key, or what it is by default.
+pub(crate) fn number_at(table: &Table, key: &str, default: u64) -> u64
+    ensures { result ≡ number_at key.now default (table_view table.now) }
+{
+    match integer_at(table, key) {
+        Some(number) => natural(number),
+        None => default,
+    }
+}
+
+/// The elements at the key of the seeds; none where it is missing.
+pub(crate) fn seeds_at(table: &Table) -> &[Value]
+    ensures { items_view result.now ≡ seeds_at (table_view table.now) }
+{
+    let Some(value) = table.get(SEEDS) else {
+        return &[];
+    };
+    match value.as_array() {
+        Some(values) => values.as_slice(),
+        None => &[],
+    }
+}

@@ -1,0 +1,59 @@
+//! The configuration of a node.
+ghost use Rattle.std.specs.Prelude.{◌≡◌, IfOk};
+ghost use Rattle.toml.specs.View.{table_view};
+ghost use Rattle.lg_timing.specs.Meaning.Config.{IsChecked};
+ghost use Rattle.lg_config.specs.Meaning.Answer.{meaning_of, IsAnswer};
+
+use crate::document::table_in;
+use crate::fault::{FileFault, ReadFault};
+use crate::keys::are_right_keys;
+use crate::lookup::seeds_at;
+use crate::settings::settings_in;
+use lg_timing::{Config, ConfigFault, MAX_SEEDS};
+use std::alloc::Global;
+use toml::Table;
+
+/// What the configuration file of a node says.
+#[derive(Debug, Drop)]
+pub struct NodeConfig {
+    /// The configuration of its member. It passes its check.
+    pub config: Config,
+    /// Where the dice start that choose members: 0 to 9,223,372,036,854,775,807.
+    pub dice: u64,
+}
+
+/// The configuration that a table means, or its fault.
+fn meaning_in(table: &Table) -> Result<NodeConfig, FileFault>
+    ensures { result ≡ meaning_of (table_view table.now) }
+{
+    if !are_right_keys(table) {
+        return Err(FileFault::Key);
+    }
+    let node = settings_in(table).ok_or(FileFault::Value)?;
+    if let Err(fault) = node.config.check() {
+        return Err(FileFault::Config(fault));
+    }
+    if seeds_at(table).len() > MAX_SEEDS {
+        return Err(FileFault::Config(ConfigFault::Seeds));
+    }
+    Ok(node)
+}
+
+impl NodeConfig {
+    /// The configuration that the bytes of a file mean.
+    ///
+    /// The file is TOML. Its keys are `name`, which it must have, `address`, `port`, `dice`, `seeds` and the ten
+    /// numbers of [`Config`], by the names of their fields. The error is [`ReadFault::File`] with the first of these:
+    /// [`FileFault::Syntax`], [`FileFault::Key`], [`FileFault::Value`] and [`FileFault::Config`]; or it is
+    /// [`ReadFault::NoMemory`], and then nothing is known of the file.
+    ///
+    /// The memory taken is that of the table which the file is, and is given back. A file of more than
+    /// [`MAX_FILE`](crate::MAX_FILE) bytes takes none.
+    pub fn read(alloc: Global, bytes: &[u8]) -> Result<NodeConfig, ReadFault>
+        ensures answer { IsAnswer bytes.now result }
+        ensures checked { IfOk result (λ node. IsChecked node.config) }
+    {
+        let table = table_in(alloc, bytes)?;
+        Ok(meaning_in(&table)?)
+    }
+}

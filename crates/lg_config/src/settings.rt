@@ -1,0 +1,88 @@
+//! What the table of a file says, whose keys are right.
+ghost use Rattle.std.specs.Prelude.{◌≡◌};
+ghost use Rattle.std.specs.Option.{option_map};
+ghost use Rattle.toml.specs.View.{table_view};
+ghost use Rattle.lg_config.specs.Meaning.Settings.{addr_in, dice_in, name_in, settings_of, with_numbers};
+ghost use Rattle.lg_config.specs.Support.Reading.{with_first_seeds};
+
+use crate::keys::NAME;
+use crate::lookup::{integer_at, number_at, seeds_at, text_at};
+use crate::node::NodeConfig;
+use crate::seeds::first_seeds;
+use crate::texts::{name_in, octets_in, port_among};
+use lg_rules::{Addr, Name};
+use lg_timing::Config;
+use toml::Table;
+
+/// Where a member is reached, if its file doesn't say it (this project's choice).
+pub const DEFAULT_ADDRESS: &str = "127.0.0.1";
+
+/// The port at which a member is reached, if its file doesn't say it (this project's choice).
+pub const DEFAULT_PORT: u16 = 7946;
+
+/// Where the dice start, if the file doesn't say it (this project's choice).
+pub const DEFAULT_DICE: u64 = 1;
+
+/// The member's own name, where it is one.
+#[tactic(auto, unfolding(crate::specs::Meaning::Settings::name_in))]
+fn name_at(table: &Table) -> Option<Name>
+    ensures { result ≡ name_in (table_view table.now) }
+{
+    name_in(text_at(table, NAME).unwrap_or("").as_bytes())
+}
+
+/// Where the member is reached, where its address and its port are of their form.
+#[tactic(auto, unfolding(crate::specs::Meaning::Settings::addr_in))]
+fn addr_at(table: &Table) -> Option<Addr>
+    ensures { result ≡ addr_in (table_view table.now) }
+{
+    let address = text_at(table, "address").unwrap_or(DEFAULT_ADDRESS);
+    let octets = octets_in(address.as_bytes())?;
+    let port = port_among(number_at(table, "port", u64::from(DEFAULT_PORT)))?;
+    Some(Addr { octets, port })
+}
+
+/// Where the dice start, which aren't negative.
+#[tactic(auto, unfolding(crate::specs::Meaning::Settings::dice_in))]
+fn dice_at(table: &Table) -> Option<u64>
+    ensures { result ≡ dice_in (table_view table.now) }
+{
+    match integer_at(table, "dice") {
+        Some(dice) => u64::try_from(dice).ok(),
+        None => Some(DEFAULT_DICE),
+    }
+}
+
+/// A configuration with the numbers of a table, and its own where the table gives none.
+#[tactic(auto, unfolding(crate::specs::Meaning::Settings::with_numbers))]
+fn with_numbers(table: &Table, usual: Config) -> Config
+    ensures { result ≡ with_numbers (table_view table.now) usual }
+{
+    Config {
+        interval_ms: number_at(table, "interval_ms", usual.interval_ms),
+        timeout_ms: number_at(table, "timeout_ms", usual.timeout_ms),
+        indirect: number_at(table, "indirect", usual.indirect),
+        max_score: number_at(table, "max_score", usual.max_score),
+        alpha: number_at(table, "alpha", usual.alpha),
+        beta: number_at(table, "beta", usual.beta),
+        confirmations: number_at(table, "confirmations", usual.confirmations),
+        lambda: number_at(table, "lambda", usual.lambda),
+        nack_thousandths: number_at(table, "nack_thousandths", usual.nack_thousandths),
+        history_limit: number_at(table, "history_limit", usual.history_limit),
+        ..usual
+    }
+}
+
+/// All that a table says, with the first 16 seeds alone; none where a value is out of its form.
+#[tactic(auto, unfolding(crate::specs::Meaning::Settings::settings_of))]
+pub(crate) fn settings_in(table: &Table) -> Option<NodeConfig>
+    ensures { result ≡ option_map with_first_seeds (settings_of (table_view table.now)) }
+{
+    let name = name_at(table)?;
+    let addr = addr_at(table)?;
+    let dice = dice_at(table)?;
+    let seeds = first_seeds(seeds_at(table))?;
+    let config = with_numbers(table, Config::new(name, addr));
+    let config = Config { seeds, ..config };
+    Some(NodeConfig { config, dice })
+}

@@ -1,0 +1,3 @@
+//! Files: the configuration that each means, or its fault.
+
+mod rows;
