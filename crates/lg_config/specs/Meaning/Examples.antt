@@ -1,5 +1,6 @@
 -- Worked files.
-use Rattle.std.specs.Prelude.{⊤, ◌≡◌, ℕ, ◌++◌, List, [], ◌∷◌, Result, Ok, Err, Some, None, codes, refl, replicate}
+use Rattle.std.specs.Prelude.{⊤, ◌≡◌, ℕ, ◌++◌, List, [], ◌∷◌, replicate, codes, refl}
+use Rattle.std.specs.Prelude.{Some, None, Result, Ok, Err}
 use Rattle.std.specs.List.{flat_map}
 use Rattle.std.specs.Str.{chars, is_utf8}
 use Rattle.toml.proofs.OnLiterals.{toml_on_literals}
@@ -15,9 +16,13 @@ use Rattle.lg_config.specs.Meaning.Keys.{kind_of}
 use Rattle.lg_config.specs.Meaning.Settings.{addr_in, dice_in, name_in, settings_of, with_numbers}
 use Rattle.lg_config.specs.Meaning.Texts.{before, behind, octets_of, address_of, seed_of}
 
--- what the rows unfold
+-- what the rows of texts and those of files unfold
+unfoldable on_texts : ⊤
+unfolding is_utf8 chars before behind octets_of address_of seed_of
+on_texts = tt
+
 unfoldable on_files : ⊤
-unfolding toml_on_literals answer_of is_utf8 chars kind_of settings_of name_in addr_in dice_in with_numbers octets_of address_of seed_of before behind check_of
+unfolding toml_on_literals on_texts answer_of kind_of settings_of name_in addr_in dice_in with_numbers check_of
 on_files = tt
 
 -- a file of the member b with these lines
@@ -42,9 +47,18 @@ name-alone : answer_of (codes "name = \"b\"") ≡ means b-by-default
 unfolding on_files
 name-alone = refl
 
+-- lines of all the other keys
+abbrev addressed : List ℕ
+addressed = codes "address = \"10.0.0.007\"\nport = 1\ndice = 9223372036854775807\nseeds = [\"c@127.0.0.1:7001\"]\n"
+
+abbrev timed : List ℕ
+timed = codes "interval_ms = 200\ntimeout_ms = 50\nalpha = 2\nbeta = 3\nnack_thousandths = 6\n"
+
+abbrev counted : List ℕ
+counted = codes "indirect = 0\nmax_score = 1\nconfirmations = 4\nlambda = 5\nhistory_limit = 7\n"
+
 all-keys :
-    answer_of (b-with
-    (codes "address = \"10.0.0.007\"\nport = 1\ndice = 9223372036854775807\ninterval_ms = 200\ntimeout_ms = 50\nindirect = 0\nmax_score = 1\nalpha = 2\nbeta = 3\nconfirmations = 4\nlambda = 5\nnack_thousandths = 6\nhistory_limit = 7\nseeds = [\"c@127.0.0.1:7001\"]\n"))
+    answer_of (b-with (addressed ++ timed ++ counted))
     ≡ Ok record {
       config =
           record {
@@ -179,38 +193,38 @@ seeds-17-and-lambda = refl
 -- ---- texts
 
 zeros-first : octets_of (codes "0000000000000001.002.3.255") ≡ Some (1 ∷ 2 ∷ 3 ∷ 255 ∷ [])
-unfolding on_files
+unfolding on_texts
 zeros-first = refl
 
 octet-256 : octets_of (codes "1.2.3.256") ≡ None
-unfolding on_files
+unfolding on_texts
 octet-256 = refl
 
 three-numbers : octets_of (codes "1.2.3") ≡ None
-unfolding on_files
+unfolding on_texts
 three-numbers = refl
 
 five-numbers : octets_of (codes "1.2.3.4.5") ≡ None
-unfolding on_files
+unfolding on_texts
 five-numbers = refl
 
 empty-number : octets_of (codes "1..3.4") ≡ None
-unfolding on_files
+unfolding on_texts
 empty-number = refl
 
 c-at-65535 : seed_of (codes "c@1.2.3.4:65535")
     ≡ Some record { name = 99 ∷ []; addr = record { octets = 1 ∷ 2 ∷ 3 ∷ 4 ∷ []; port = 65535 } }
-unfolding on_files
+unfolding on_texts
 c-at-65535 = refl
 
 port-65536 : seed_of (codes "c@1.2.3.4:65536") ≡ None
-unfolding on_files
+unfolding on_texts
 port-65536 = refl
 
 two-at-signs : seed_of (codes "c@d@1.2.3.4:1") ≡ None
-unfolding on_files
+unfolding on_texts
 two-at-signs = refl
 
 no-at-sign : seed_of (codes "1.2.3.4:1") ≡ None
-unfolding on_files
+unfolding on_texts
 no-at-sign = refl

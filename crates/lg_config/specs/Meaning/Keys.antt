@@ -15,9 +15,9 @@ text_keys = codes "name" ∷ codes "address" ∷ []
 -- the keys whose value is a whole number
 abbrev pub number_keys : List (List ℕ)
 number_keys =
-    codes "port" ∷ codes "dice" ∷ codes "interval_ms" ∷ codes "timeout_ms" ∷ codes "indirect" ∷ codes "max_score"
-    ∷ codes "alpha" ∷ codes "beta" ∷ codes "confirmations" ∷ codes "lambda" ∷ codes "nack_thousandths"
-    ∷ codes "history_limit" ∷ []
+    codes "port" ∷ codes "dice" ∷ codes "interval_ms" ∷ codes "timeout_ms" ∷ codes "indirect"
+    ∷ codes "max_score" ∷ codes "alpha" ∷ codes "beta" ∷ codes "confirmations" ∷ codes "lambda"
+    ∷ codes "nack_thousandths" ∷ codes "history_limit" ∷ []
 
 -- the key whose value is an array of texts
 abbrev pub texts_key : List ℕ
