@@ -1,0 +1,2 @@
+pub mod SendingLaws
+pub mod TurnLaws

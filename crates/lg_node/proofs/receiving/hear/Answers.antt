@@ -1,0 +1,52 @@
+use Rattle.std.proofs.Common.{◌∷◌, ◌++◌, [], ap, sym, ◌∙◌, refl, arith, append_assoc, List, inl, inr}
+use Rattle.std.specs.Prelude.{Err}
+use Rattle.lg_node.specs.Meaning.Links.{LinkEvent, handed}
+use Rattle.lg_node.specs.Meaning.Links.LinkEvent.{Received}
+use Rattle.lg_node.specs.Meaning.Turns.Turn.{Heard, Dropped, Unheard}
+use Rattle.lg_node.proofs.receiving.hear.Goals as goal
+
+pub returns-in-Ok : goal.returns-in-Ok
+returns-in-Ok g c = λ log came.
+    let a = c.in-Ok.ensures.answered in
+    let h = c.of.ensures.handed in
+    let rest : List LinkEvent = handed c.in-Ok.receipt.reply.sends.items h.sent in
+    record {
+      turn = Heard c.args.now c.args.source c.args.bytes.now a.0 c.in-Ok.receipt h.sent;
+      kind_is = refl;
+      is = (a.1, a.2, h.each);
+      told = λ yes. h.told yes ∙ (ap (λ (l : List LinkEvent). l ++ rest) (came yes) ∙ append_assoc log (Received c.args.source c.args.bytes.now ∷ []) rest);
+      failed = omega (arith, h.failed_is, h.unsent_is);
+      why = sym c.of.ensures.why;
+      dropped = c.of.ensures.dropped;
+      unsent = h.unsent_is;
+      few_dropped = omega (arith, c.of.ensures.dropped);
+      few_unsent = c.of.ensures.few;
+    }
+
+pub returns-in-BadPacket : goal.returns-in-BadPacket
+returns-in-BadPacket g c = λ log came. let e = c.in-Err in let b = c.in-BadPacket in let end = c.dropped.ensures in record {
+  turn = Dropped c.args.source c.args.bytes.now;
+  kind_is = refl;
+  is = (e.ensures.refused, (b.field-0, e.ensures.only b.field-0 (ap Err b.is)));
+  told = came;
+  failed = omega arith;
+  why = sym end.why;
+  dropped = end.dropped;
+  unsent = end.unsent;
+  few_dropped = omega (arith, end.dropped);
+  few_unsent = omega (arith, end.unsent);
+}
+
+pub returns-in_default : goal.returns-in_default
+returns-in_default g c = λ log came. let e = c.in-Err in let end = c.end.ensures in record {
+  turn = Unheard c.args.now c.args.source c.args.bytes.now e.refusal;
+  kind_is = refl;
+  is = (e.ensures.refused, elim e.ensures.refusal [ inl bad ↦ absurd (c.in_default.not-BadPacket bad.0 bad.1) | inr other ↦ other ]);
+  told = came;
+  failed = omega arith;
+  why = sym end.why;
+  dropped = end.dropped;
+  unsent = end.unsent;
+  few_dropped = omega (arith, end.dropped);
+  few_unsent = omega (arith, end.unsent);
+}

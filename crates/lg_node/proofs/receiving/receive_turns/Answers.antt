@@ -1,0 +1,20 @@
+use Rattle.std.proofs.Common.{arith}
+use Rattle.lg_node.specs.Meaning.Turns.{receives}
+use Rattle.lg_node.proofs.TurnLaws.{on, over}
+use Rattle.lg_node.proofs.receiving.receive_turns.Goals as goal
+
+pub returns-in-Some : goal.returns-in-Some
+returns-in-Some g c =
+    let took = c.receive_turn-turned.ensures in
+    over receives g.L.Link.tells c.args.bound _ _ _ c.args.pass.now c.loop-turns.pass c.receive_turn-turned.new.pass c.loop-turns.dropped c.loop-turns.unsent c.loop-turns.turns
+    c.receive_turn-turned.result c.in-Some.why c.loop-turns.invariant.going took c.in-Some.is
+
+pub loop-turns-preserved : goal.loop-turns-preserved
+loop-turns-preserved g c =
+    let took = c.receive_turn-turned.ensures in
+    record {
+      dropped = omega (arith, took.few_dropped, c.loop-turns.invariant.dropped);
+      unsent = omega (arith, took.few_unsent, c.loop-turns.invariant.unsent);
+      going = on receives g.L.Link.tells _ _ _ c.args.pass.now c.loop-turns.pass c.receive_turn-turned.new.pass c.loop-turns.dropped c.loop-turns.unsent c.loop-turns.turns
+          c.receive_turn-turned.result c.loop-turns.invariant.going took c.in_default.is;
+    }

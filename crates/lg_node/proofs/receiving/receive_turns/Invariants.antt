@@ -1,0 +1,11 @@
+use Rattle.std.proofs.Common.{◌≤◌, ◌*◌}
+use Rattle.lg_node.specs.Meaning.Turns.{line, receives}
+use Rattle.lg_node.proofs.TurnLaws.{Going}
+use Rattle.lg_node.proofs.receiving.receive_turns.Given as goal
+
+abbrev pub invariant-loop-turns : goal.invariant-loop-turns
+invariant-loop-turns g l = record {
+  dropped : l.dropped ≤ l.turns;
+  unsent : l.unsent ≤ 8 * l.turns;
+  going : Going receives g.L.Link.tells (line (g.L.Link.log l.fn.link) (g.L.Link.failed l.fn.link)) (line (g.L.Link.log l.link) (g.L.Link.failed l.link)) l.fn.pass l.pass l.dropped l.unsent l.turns;
+}

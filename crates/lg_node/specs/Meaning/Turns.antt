@@ -1,0 +1,179 @@
+-- What a loop does, turn by turn, and how it ends.
+use Rattle.std.specs.Prelude.{◌≡◌, ℕ, ◌+◌, ◌<◌, ◌≤◌, Bool, true, false, nat_lt, if◌then◌else◌}
+use Rattle.std.specs.Prelude.{List, [], ◌∷◌, ◌++◌, length, All, Option, Some, None, Ok, Err}
+use Rattle.std.specs.List.{flat_map, sum_by}
+use Rattle.lg_rules.specs.declared.addr.Addr.{Addr}
+use Rattle.lg_packet.specs.declared.fault.Fault.{Fault}
+use Rattle.lg_packet.specs.declared.packet.Packet.{Packet}
+use Rattle.lg_packet.specs.Meaning.Reading.{packet_of}
+use Rattle.lg_detector.specs.declared.event.Event.{Event}
+use Rattle.lg_detector.specs.declared.event.Event.TheVariants as events
+use Rattle.lg_detector.specs.Meaning.Step.{deadline_after}
+use Rattle.lg_agent.specs.declared.receipt.Receipt.{Receipt}
+use Rattle.lg_agent.specs.declared.refusal.Refusal.{Refusal}
+use Rattle.lg_agent.specs.declared.refusal.Refusal.TheVariants.{NoView}
+use Rattle.lg_agent.specs.Meaning.Ledger.{Own}
+use Rattle.lg_agent.specs.Meaning.Calls.{IsCall, IsLook, IsRefusal}
+use Rattle.lg_node.specs.declared.ending.End.{End}
+use Rattle.lg_node.specs.declared.ending.Why.{Why}
+use Rattle.lg_node.specs.declared.ending.Why.TheVariants.{Stopped, Ousted, LinkFailed, Refused, ReadBound}
+use Rattle.lg_node.specs.Meaning.Links.{LinkEvent, handed, lost}
+use Rattle.lg_node.specs.Meaning.Links.LinkEvent.{Received, Silent, Failed}
+
+-- One turn of a loop. A turn of receiving:
+--   no datagram came; receiving failed;
+--   a datagram with these bytes came from an address, and was dropped, since the bytes are no packet;
+--   it was heard at a moment as a packet, with this receipt, and of the reply's packets these were sent;
+--   or the call for it was refused.
+-- A turn of ticking:
+--   nothing was due at a moment;
+--   there was a tick at a moment with random words, with this receipt, and of the reply's packets these were sent;
+--   the call for it was refused; or the look at the next deadline was.
+pub data Turn : Type 0 where
+  Quiet : Turn
+  Broken : Turn
+  Dropped : Addr → List ℕ → Turn
+  Heard : ℕ → Addr → List ℕ → Packet → Receipt → List Bool → Turn
+  Unheard : ℕ → Addr → List ℕ → Refusal → Turn
+  Paused : ℕ → Turn
+  Ticked : ℕ → List ℕ → Receipt → List Bool → Turn
+  Unticked : ℕ → List ℕ → Refusal → Turn
+  Unseen : Refusal → Turn
+
+-- a turn of receiving
+abbrev pub receives : Turn → Bool
+receives Quiet = true
+receives Broken = true
+receives (Dropped source bytes) = true
+receives (Heard now source bytes p r sent) = true
+receives (Unheard now source bytes e) = true
+receives _ = false
+
+-- a turn of ticking, at a moment before this one
+abbrev pub ticks_before : ℕ → Turn → Bool
+ticks_before until (Paused now) = nat_lt now until
+ticks_before until (Ticked now words r sent) = nat_lt now until
+ticks_before until (Unticked now words e) = nat_lt now until
+ticks_before until (Unseen e) = true
+ticks_before until _ = false
+
+-- What the link did in a turn: first the datagram is received, then the packets of the reply are handed over, once each
+-- and in order, to the addresses that the reply gives them.
+abbrev pub deeds : Turn → List LinkEvent
+deeds Quiet = Silent ∷ []
+deeds Broken = Failed ∷ []
+deeds (Dropped source bytes) = Received source bytes ∷ []
+deeds (Heard now source bytes p r sent) = Received source bytes ∷ handed r.reply.sends.items sent
+deeds (Unheard now source bytes e) = Received source bytes ∷ []
+deeds (Ticked now words r sent) = handed r.reply.sends.items sent
+deeds _ = []
+
+-- the datagrams dropped, the packets not sent, and how often the link failed
+abbrev pub drops : Turn → ℕ
+drops (Dropped source bytes) = 1
+drops _ = 0
+
+abbrev pub losses : Turn → ℕ
+losses (Heard now source bytes p r sent) = lost sent
+losses (Ticked now words r sent) = lost sent
+losses _ = 0
+
+abbrev pub breaks : Turn → ℕ
+breaks Broken = 1
+breaks t = losses t
+
+-- after these events the next deadline is this
+abbrev pub IsDeadline : List Event → ℕ → Type 0
+IsDeadline seen due = deadline_after seen ≡ Some due
+
+-- a look of a pass at the next deadline, which has come at this moment
+pub record SeesDue (p : Own) (now : ℕ) (q : Own) : Type 0 where
+  pub look : IsLook p q
+  pub due : ℕ
+  pub deadline : IsDeadline q.seen due
+  pub come : due ≤ now
+
+-- and one at a deadline that hasn't
+pub record SeesNoneDue (p : Own) (now : ℕ) (q : Own) : Type 0 where
+  pub look : IsLook p q
+  pub due : ℕ
+  pub deadline : IsDeadline q.seen due
+  pub later : now < due
+
+-- What a turn does with the pass: where a datagram is a packet, it is heard; where the next deadline has come, there is
+-- a tick. Each packet of the reply was sent or not.
+abbrev pub IsTurn : Own → Turn → Own → Type 0
+IsTurn p Quiet q = q ≡ p
+IsTurn p Broken q = q ≡ p
+IsTurn p (Dropped source bytes) q = (q ≡ p) × ((fault : Fault) × (packet_of bytes ≡ Err fault))
+IsTurn p (Heard now source bytes k r sent) q =
+    (packet_of bytes ≡ Ok k) × IsCall p (events.Heard now source k) r q × (length sent ≡ length r.reply.sends.items)
+IsTurn p (Unheard now source bytes e) q = (q ≡ p) × IsRefusal p.seen e
+IsTurn p (Paused now) q = SeesNoneDue p now q
+IsTurn p (Ticked now words r sent) q =
+    (m : Own) × SeesDue p now m × IsCall m (events.Tick now words) r q × (length sent ≡ length r.reply.sends.items)
+IsTurn p (Unticked now words e) q = SeesDue p now q × IsRefusal q.seen e
+IsTurn p (Unseen e) q = (q ≡ p) × (e ≡ NoView)
+
+-- what some turns, one after another, do with the pass
+abbrev pub Follows : Own → List Turn → Own → Type 0
+Follows p [] q = q ≡ p
+Follows p (t ∷ turns) q = (m : Own) × IsTurn p t m × Follows m turns q
+
+-- why a turn ends the loop, if it does
+abbrev pub stops : Turn → Option Why
+stops Broken = Some LinkFailed
+stops (Heard now source bytes p r sent) = if r.reply.ousted then Some Ousted else None
+stops (Unheard now source bytes e) = Some (Refused e)
+stops (Ticked now words r sent) = if r.reply.ousted then Some Ousted else None
+stops (Unticked now words e) = Some (Refused e)
+stops (Unseen e) = Some (Refused e)
+stops _ = None
+
+abbrev pub goes_on : Turn → Type 0
+goes_on t = stops t ≡ None
+
+-- the last of some turns ends the loop, and no other does
+pub record EndsBy (turns : List Turn) (why : Why) : Type 0 where
+  pub before : List Turn
+  pub last : Turn
+  pub are : turns ≡ before ++ last ∷ []
+  pub went_on : All goes_on before
+  pub ended : stops last ≡ Some why
+
+-- Why a loop ended after these turns: it was stopped, or made as many turns as it may, and no turn ended it; or else
+-- the last one did.
+abbrev pub Ends : ℕ → List Turn → Why → Type 0
+Ends bound turns Stopped = All goes_on turns
+Ends bound turns ReadBound = All goes_on turns × (length turns ≡ bound)
+Ends bound turns why = EndsBy turns why
+
+-- What a link is told by its contracts: what it did, and how often it failed.
+pub record Line : Type 0 where
+  pub log : List LinkEvent
+  pub failed : ℕ
+
+abbrev pub line : List LinkEvent → ℕ → Line
+line log failed = record { log = log; failed = failed }
+
+-- Some turns, all of one kind, led a pass and a link from one state to another: each turn is what it is of the pass,
+-- the link did what the turns do, in order and nothing else, and its failures were counted. A link that tells nothing
+-- has no log.
+pub record Made (kind : Turn → Bool) (tells : Bool) (turns : List Turn) (k k' : Line) (p q : Own) : Type 0 where
+  pub kinds : All (λ t. kind t ≡ true) turns
+  pub follows : Follows p turns q
+  pub told : tells ≡ true → k'.log ≡ k.log ++ flat_map deeds turns
+  pub failed : k'.failed ≡ k.failed + sum_by breaks turns
+
+-- what a loop's end counts of its turns
+pub record Counts (turns : List Turn) (dropped unsent made : ℕ) : Type 0 where
+  pub dropped_is : dropped ≡ sum_by drops turns
+  pub unsent_is : unsent ≡ sum_by losses turns
+  pub turns_is : made ≡ length turns
+
+-- A run of a loop: there are turns that it made, by which it ended.
+pub record Ran (kind : Turn → Bool) (tells : Bool) (bound : ℕ) (k k' : Line) (p q : Own) (end : End) : Type 0 where
+  pub turns : List Turn
+  pub made : Made kind tells turns k k' p q
+  pub counts : Counts turns end.dropped end.unsent end.turns
+  pub why : Ends bound turns end.why

@@ -1,0 +1,42 @@
+//! How a loop ends.
+
+use lg_agent::{AgentName, Refusal, Spent};
+
+/// Why a loop ended.
+#[derive(Clone, Copy, Debug, PartialEq, Eq)]
+pub enum Why {
+    /// It was told to stop, or the moment came until which it was to run.
+    Stopped,
+    /// A claim about the own member came that nothing can refute. The packets of that reply were handed over first.
+    Ousted,
+    /// Receiving failed.
+    LinkFailed,
+    /// A call or a look of the pass was refused, for another reason than that bytes are no packet.
+    Refused(Refusal),
+    /// It made as many turns as it may.
+    ReadBound,
+}
+
+/// How a loop ended.
+#[derive(Clone, Copy, Debug, PartialEq, Eq)]
+pub struct End {
+    /// Why.
+    pub why: Why,
+    /// How many datagrams were dropped, since their bytes are no packet.
+    pub dropped: u64,
+    /// How many packets were handed to the link and not sent.
+    pub unsent: u64,
+    /// How many turns it made.
+    pub turns: u64,
+}
+
+/// What a loop gives back.
+#[derive(Drop)]
+pub struct Ended<L, A: AgentName> {
+    /// Its link.
+    pub link: L,
+    /// What its pass left.
+    pub spent: Spent<A>,
+    /// How it ended.
+    pub end: End,
+}

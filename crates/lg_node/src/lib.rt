@@ -1,0 +1,16 @@
+//! A node: two loops over an agent.
+#![tactic(auto)]
+
+mod clock;
+mod dice;
+mod ending;
+mod link;
+mod receiving;
+mod sending;
+mod turned;
+
+pub use clock::Clock;
+pub use dice::Dice;
+pub use ending::{End, Ended, Why};
+pub use link::{Link, LinkFault, MAX_DATAGRAM};
+pub use receiving::receive_loop;

@@ -1,0 +1,147 @@
+//! The receiving loop.
+ghost use Rattle.std.specs.Prelude.{◌≡◌, ◌≤◌, ◌+◌, ◌∷◌, ◌++◌, [], List, length, true};
+ghost use Rattle.lg_node.specs.Meaning.Links.{LinkEvent};
+ghost use Rattle.lg_node.specs.Meaning.Links.LinkEvent.{Received};
+ghost use Rattle.lg_node.specs.Meaning.Turns.{line, receives, Ran};
+ghost use Rattle.lg_node.specs.Support.Took.{Took};
+
+use crate::clock::Clock;
+use crate::ending::{End, Ended, Why};
+use crate::link::{Link, MAX_DATAGRAM};
+use crate::turned::Turned;
+use lg_agent::{AgentName, Pass, Refusal};
+use lg_rules::Addr;
+use lg_timing::Moment;
+use std::alloc::Global;
+use std::sync::Wait;
+use std::sync::atomic::AtomicBool;
+use std::sync::atomic::Ordering::SeqCst;
+
+/// How long one turn waits for a datagram, in milliseconds.
+const WAIT_MS: u64 = 20;
+
+/// A datagram came: it is heard, or dropped where its bytes are no packet.
+fn hear<A: AgentName, R: Wait, L: Link>(
+    rt: &R,
+    alloc: Global,
+    pass: &mut Pass<'_, A>,
+    link: &mut L,
+    now: Moment,
+    source: Addr,
+    bytes: &[u8],
+) -> Turned
+    // The link told that it came, and before that a log.
+    ensures { (log : List LinkEvent)
+        → (L.tells ≡ true → L.log link.old ≡ log ++ Received source bytes.now ∷ [])
+        → Took receives L.tells (line log (L.failed link.old)) (line (L.log link.new) (L.failed link.new))
+        pass.old pass.new result }
+{
+    match pass.datagram(rt, alloc, now, source, bytes) {
+        Ok(receipt) => Turned::of(link, &receipt),
+        Err(refusal) => match refusal {
+            Refusal::BadPacket(_) => Turned::dropped(),
+            _ => Turned::end(Why::Refused(refusal)),
+        },
+    }
+}
+
+/// One turn: it waits for a datagram, and hears it.
+fn receive_turn<A: AgentName, R: Wait, L: Link, C: Clock>(
+    rt: &R,
+    alloc: Global,
+    pass: &mut Pass<'_, A>,
+    link: &mut L,
+    clock: &C,
+    buffer: &mut [u8; MAX_DATAGRAM],
+) -> Turned
+    ensures { Took receives L.tells (line (L.log link.old) (L.failed link.old))
+        (line (L.log link.new) (L.failed link.new)) pass.old pass.new result }
+{
+    match link.receive(buffer, WAIT_MS) {
+        Ok(None) => Turned::on(),
+        Ok(Some((source, length))) => hear(
+            rt,
+            alloc,
+            pass,
+            link,
+            clock.now(),
+            source,
+            &buffer[..length],
+        ),
+        Err(_) => Turned::end(Why::LinkFailed),
+    }
+}
+
+/// The turns of the loop, until one ends it.
+fn receive_turns<A: AgentName, R: Wait, L: Link, C: Clock>(
+    rt: &R,
+    alloc: Global,
+    pass: &mut Pass<'_, A>,
+    link: &mut L,
+    clock: &C,
+    stop: &AtomicBool,
+    bound: u64,
+) -> End
+    requires { bound ≤ 1_000_000_000 }
+    ensures { Ran receives L.tells bound (line (L.log link.old) (L.failed link.old))
+        (line (L.log link.new) (L.failed link.new)) pass.old pass.new result }
+{
+    let mut buffer = [0; MAX_DATAGRAM];
+    let (mut dropped, mut unsent) = (0, 0);
+    for turns in 0..bound {
+        if stop.load(SeqCst) {
+            return End {
+                why: Why::Stopped,
+                dropped,
+                unsent,
+                turns,
+            };
+        }
+        let turned = receive_turn(rt, alloc, pass, link, clock, &mut buffer);
+        dropped += turned.dropped;
+        unsent += turned.unsent;
+        if let Some(why) = turned.why {
+            return End {
+                why,
+                dropped,
+                unsent,
+                turns: turns + 1,
+            };
+        }
+    }
+    End {
+        why: Why::ReadBound,
+        dropped,
+        unsent,
+        turns: bound,
+    }
+}
+
+/// Hears the datagrams that come over a link, and hands the packets of the replies to it, until it is told to stop.
+///
+/// It makes at most so many turns, each of which waits 20 ms for a datagram. A datagram whose bytes are no packet is
+/// dropped, a packet that isn't sent is lost, and both are counted. It ends with [`Why::LinkFailed`] where receiving
+/// failed, with [`Why::Refused`] where a call was refused for another reason than the bytes, and with [`Why::Ousted`]
+/// behind a reply that says so. Whatever its end is, it tells the others to stop.
+pub fn receive_loop<A: AgentName, R: Wait, L: Link, C: Clock>(
+    rt: &R,
+    alloc: Global,
+    pass: Pass<'_, A>,
+    link: L,
+    clock: &C,
+    stop: &AtomicBool,
+    bound: u64,
+) -> Ended<L, A>
+    requires { bound ≤ 1_000_000_000 }
+    ensures { Ran receives L.tells bound (line (L.log link) (L.failed link))
+        (line (L.log result.link) (L.failed result.link)) pass.entry result.spent result.end }
+{
+    let (mut pass, mut link) = (pass, link);
+    let end = receive_turns(rt, alloc, &mut pass, &mut link, clock, stop, bound);
+    stop.store(true, SeqCst);
+    Ended {
+        link,
+        spent: pass.finish(),
+        end,
+    }
+}

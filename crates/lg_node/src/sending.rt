@@ -1,0 +1,25 @@
+//! The packets of a reply are handed to a link.
+ghost use Rattle.std.specs.Prelude.{◌≤◌, length};
+ghost use Rattle.lg_node.specs.Meaning.Links.{WereHanded};
+
+use crate::link::Link;
+use arrayvec::ArrayVec;
+use lg_detector::{MAX_SENDS, Outgoing};
+use lg_packet::encode;
+
+/// Hands each packet to the link once, in order, and goes on where one isn't sent. It says how many were not.
+pub(crate) fn send_all<L: Link>(link: &mut L, sends: &[Outgoing]) -> u64
+    requires { length sends.now ≤ MAX_SENDS }
+    ensures { WereHanded L.tells (L.log link.old) (L.log link.new) (L.failed link.old) (L.failed link.new)
+        sends.now result }
+{
+    let mut unsent = 0;
+    let mut bytes = ArrayVec::new();
+    for outgoing in sends {
+        encode(&outgoing.packet, &mut bytes);
+        if link.send(outgoing.to, &bytes).is_err() {
+            unsent += 1;
+        }
+    }
+    unsent
+}

@@ -1,0 +1,83 @@
+//! What one turn tells its loop.
+ghost use Rattle.std.specs.Prelude.{◌≡◌, ◌≤◌, None, Some, if◌then◌else◌};
+ghost use Rattle.lg_node.specs.declared.ending.Why.TheVariants.{Ousted};
+ghost use Rattle.lg_node.specs.Meaning.Links.{WereHanded};
+
+use crate::ending::Why;
+use crate::link::Link;
+use crate::sending::send_all;
+use lg_agent::Receipt;
+
+/// What one turn tells its loop.
+#[derive(Drop)]
+pub(crate) struct Turned {
+    /// Why the loop ends, if it does.
+    pub(crate) why: Option<Why>,
+    /// How many datagrams were dropped.
+    pub(crate) dropped: u64,
+    /// How many packets weren't sent.
+    pub(crate) unsent: u64,
+}
+
+impl Turned {
+    /// The loop goes on, and nothing is counted.
+    pub(crate) fn on() -> Turned
+        ensures why { result.why ≡ None }
+        ensures dropped { result.dropped ≡ 0 }
+        ensures unsent { result.unsent ≡ 0 }
+    {
+        Turned {
+            why: None,
+            dropped: 0,
+            unsent: 0,
+        }
+    }
+
+    /// A datagram was dropped, and the loop goes on.
+    pub(crate) fn dropped() -> Turned
+        ensures why { result.why ≡ None }
+        ensures dropped { result.dropped ≡ 1 }
+        ensures unsent { result.unsent ≡ 0 }
+    {
+        Turned {
+            why: None,
+            dropped: 1,
+            unsent: 0,
+        }
+    }
+
+    /// The loop ends, and nothing is counted.
+    pub(crate) fn end(why: Why) -> Turned
+        ensures why { result.why ≡ Some why }
+        ensures dropped { result.dropped ≡ 0 }
+        ensures unsent { result.unsent ≡ 0 }
+    {
+        Turned {
+            why: Some(why),
+            dropped: 0,
+            unsent: 0,
+        }
+    }
+
+    /// A call was answered: the packets of its reply are handed to the link, and then the loop ends where the member
+    /// was ousted.
+    pub(crate) fn of<L: Link>(link: &mut L, receipt: &Receipt) -> Turned
+        ensures handed { WereHanded L.tells (L.log link.old) (L.log link.new) (L.failed link.old) (L.failed link.new)
+            receipt.now.reply.sends.items result.unsent }
+        ensures few { result.unsent ≤ 8 }
+        ensures why { result.why ≡ (if receipt.now.reply.ousted then Some Ousted else None) }
+        ensures dropped { result.dropped ≡ 0 }
+    {
+        let unsent = send_all(link, receipt.reply.sends.as_slice());
+        let why = if receipt.reply.ousted {
+            Some(Why::Ousted)
+        } else {
+            None
+        };
+        Turned {
+            why,
+            dropped: 0,
+            unsent,
+        }
+    }
+}
