@@ -1,6 +1,7 @@
 -- One more turn of a loop.
-use Rattle.std.proofs.Common.{◌≡◌, ℕ, ◌+◌, Bool, true, false, List, [], ◌∷◌, ◌++◌, All, refl, ap, sym, ◌∙◌, subst, arith, append_assoc, append-nil, length-append}
-use Rattle.std.specs.Prelude.{Option, Some, None, if◌then◌else◌}
+use Rattle.std.proofs.Common.{◌≡◌, ℕ, ◌+◌, Bool, true, false, List, [], ◌∷◌, ◌++◌, length, All, refl, ap, sym, ◌∙◌, subst, arith, append_assoc, append-nil, length-append}
+use Rattle.std.specs.Prelude.{◌<◌, nat_lt, Option, Some, None, if◌then◌else◌}
+use Rattle.std.proofs.lemmas.Bool.Decides.{nat_tests}
 use Rattle.std.specs.List.{flat_map}
 use Rattle.std.proofs.lemmas.List.Elements.{All-nil, All-cons, All-append}
 use Rattle.std.proofs.lemmas.List.Sums.{sum_by-append}
@@ -10,7 +11,7 @@ use Rattle.lg_node.specs.Meaning.Links.{LinkEvent}
 use Rattle.lg_node.specs.declared.ending.Why.{Why}
 use Rattle.lg_node.specs.declared.ending.Why.TheVariants.{Stopped, Ousted, LinkFailed, Refused, ReadBound}
 use Rattle.lg_node.specs.declared.turned.Turned.{Turned}
-use Rattle.lg_node.specs.Meaning.Turns.{Turn, deeds, drops, losses, breaks, stops, goes_on, IsTurn, Follows, Line, Made, Counts, Ends, Ran}
+use Rattle.lg_node.specs.Meaning.Turns.{Turn, deeds, drops, losses, breaks, stops, goes_on, IsTurn, Follows, Line, Made, Counts, Ends, Ran, Threw, words_in}
 use Rattle.lg_node.specs.Meaning.Turns.Turn.{Quiet, Broken, Dropped, Heard, Unheard, Paused, Ticked, Unticked, Unseen}
 use Rattle.lg_node.specs.Support.Took.{Took}
 
@@ -65,7 +66,7 @@ stops_of_turn (Unseen e) = refl
 of_turn : (t : Turn) (why : Why) → stops t ≡ Some why → is_of_turn why ≡ true
 of_turn t why is = sym (ap are_of_turn is) ∙ stops_of_turn t
 
-ends_by : (bound : ℕ) (before : List Turn) (t : Turn) (why : Why) → All goes_on before → stops t ≡ Some why → Ends bound (before ++ t ∷ []) why
+pub ends_by : (bound : ℕ) (before : List Turn) (t : Turn) (why : Why) → All goes_on before → stops t ≡ Some why → Ends bound (before ++ t ∷ []) why
 ends_by bound before t Stopped on is = absurd (let e = of_turn t Stopped is in cc)
 ends_by bound before t ReadBound on is = absurd (let e = of_turn t ReadBound is in cc)
 ends_by bound before t Ousted on is = record { before = before; last = t; are = refl; went_on = on; ended = is }
@@ -79,7 +80,7 @@ pub record Going (kind : Turn → Bool) (tells : Bool) (a b : Line) (p q : Own) 
   pub counts : Counts turns dropped unsent n
   pub went_on : All goes_on turns
 
-pub none_yet : (kind : Turn → Bool) (tells : Bool) (a : Line) (p : Own) → Going kind tells a a p p 0 0 0
+unfoldable pub none_yet : (kind : Turn → Bool) (tells : Bool) (a : Line) (p : Own) → Going kind tells a a p p 0 0 0
 none_yet kind tells a p = record {
   turns = [];
   made = record { kinds = All-nil (λ s. kind s ≡ true); follows = refl; told = λ yes. sym (append-nil a.log); failed = omega arith };
@@ -88,7 +89,7 @@ none_yet kind tells a p = record {
 }
 
 -- a turn more, which doesn't end the loop
-pub on : (kind : Turn → Bool) (tells : Bool) (a b c : Line) (p m q : Own) (dropped unsent n : ℕ) (turned : Turned)
+unfoldable pub on : (kind : Turn → Bool) (tells : Bool) (a b c : Line) (p m q : Own) (dropped unsent n : ℕ) (turned : Turned)
     → Going kind tells a b p m dropped unsent n → Took kind tells b c m q turned → turned.why ≡ None
     → Going kind tells a c p q (dropped + turned.dropped) (unsent + turned.unsent) (n + 1)
 on kind tells a b c p m q dropped unsent n turned going took none = record {
@@ -99,7 +100,7 @@ on kind tells a b c p m q dropped unsent n turned going took none = record {
 }
 
 -- a turn more, which ends it
-pub over : (kind : Turn → Bool) (tells : Bool) (bound : ℕ) (a b c : Line) (p m q : Own) (dropped unsent n : ℕ) (turned : Turned) (why : Why)
+unfoldable pub over : (kind : Turn → Bool) (tells : Bool) (bound : ℕ) (a b c : Line) (p m q : Own) (dropped unsent n : ℕ) (turned : Turned) (why : Why)
     → Going kind tells a b p m dropped unsent n → Took kind tells b c m q turned → turned.why ≡ Some why
     → Ran kind tells bound a c p q (record { why = why; dropped = dropped + turned.dropped; unsent = unsent + turned.unsent; turns = n + 1 })
 over kind tells bound a b c p m q dropped unsent n turned why going took some = record {
@@ -110,10 +111,31 @@ over kind tells bound a b c p m q dropped unsent n turned why going took some = 
 }
 
 -- it was stopped, or made as many turns as it may
-pub stopped : (kind : Turn → Bool) (tells : Bool) (bound : ℕ) (a b : Line) (p q : Own) (dropped unsent n : ℕ) → Going kind tells a b p q dropped unsent n
+unfoldable pub stopped : (kind : Turn → Bool) (tells : Bool) (bound : ℕ) (a b : Line) (p q : Own) (dropped unsent n : ℕ) → Going kind tells a b p q dropped unsent n
     → Ran kind tells bound a b p q (record { why = Stopped; dropped = dropped; unsent = unsent; turns = n })
 stopped kind tells bound a b p q dropped unsent n going = record { turns = going.turns; made = going.made; counts = going.counts; why = going.went_on }
 
-pub bounded : (kind : Turn → Bool) (tells : Bool) (bound : ℕ) (a b : Line) (p q : Own) (dropped unsent : ℕ) → Going kind tells a b p q dropped unsent bound
+unfoldable pub bounded : (kind : Turn → Bool) (tells : Bool) (bound : ℕ) (a b : Line) (p q : Own) (dropped unsent n : ℕ) → n ≡ bound → Going kind tells a b p q dropped unsent n
     → Ran kind tells bound a b p q (record { why = ReadBound; dropped = dropped; unsent = unsent; turns = bound })
-bounded kind tells bound a b p q dropped unsent going = record { turns = going.turns; made = going.made; counts = going.counts; why = (going.went_on, sym going.counts.turns_is) }
+bounded kind tells bound a b p q dropped unsent n is going =
+    let all : bound ≡ length going.turns = sym is ∙ going.counts.turns_is in
+    record {
+      turns = going.turns;
+      made = going.made;
+      counts = record { dropped_is = going.counts.dropped_is; unsent_is = going.counts.unsent_is; turns_is = all };
+      why = (going.went_on, sym all);
+    }
+
+pub before_until : (now until : ℕ) → now < until → nat_lt now until ≡ true
+before_until now until low = grind (arith, nat_tests)
+
+-- more words
+pub threw-append : {D : Type 0} (throws : D → List ℕ → D → Type 0) (d m e : D) (ws vs : List (List ℕ)) → Threw throws d ws m → Threw throws m vs e → Threw throws d (ws ++ vs) e
+threw-append throws d m e [] vs before last = subst (λ x. Threw throws x vs e) before last
+threw-append throws d m e (w ∷ ws) vs before last = (before.0, before.1, threw-append throws before.0 m e ws vs before.2 last)
+
+pub threw_more : {D : Type 0} (throws : D → List ℕ → D → Type 0) (d m e : D) (turns : List Turn) (t : Turn) → Threw throws d (flat_map words_in turns) m → Threw throws m (words_in t) e
+    → Threw throws d (flat_map words_in (turns ++ t ∷ [])) e
+threw_more throws d m e turns t before last =
+    let is : flat_map words_in (turns ++ t ∷ []) ≡ flat_map words_in turns ++ words_in t = flat_map-append words_in turns (t ∷ []) ∙ ap (λ (l : List (List ℕ)). flat_map words_in turns ++ l) (append-nil (words_in t)) in
+    rw is (threw-append throws d m e (flat_map words_in turns) (words_in t) before last)

@@ -1,4 +1,5 @@
 //! How a loop ends.
+ghost use Rattle.std.specs.Prelude.{◌≡◌};
 
 use lg_agent::{AgentName, Refusal, Spent};
 
@@ -28,6 +29,20 @@ pub struct End {
     pub unsent: u64,
     /// How many turns it made.
     pub turns: u64,
+}
+
+impl End {
+    /// An end of these parts.
+    pub(crate) fn of(why: Why, dropped: u64, unsent: u64, turns: u64) -> End
+        ensures { result ≡ record { why = why; dropped = dropped; unsent = unsent; turns = turns } }
+    {
+        End {
+            why,
+            dropped,
+            unsent,
+            turns,
+        }
+    }
 }
 
 /// What a loop gives back.

@@ -7,6 +7,7 @@ mod ending;
 mod link;
 mod receiving;
 mod sending;
+mod ticking;
 mod turned;
 
 pub use clock::Clock;
@@ -14,3 +15,4 @@ pub use dice::Dice;
 pub use ending::{End, Ended, Why};
 pub use link::{Link, LinkFault, MAX_DATAGRAM};
 pub use receiving::receive_loop;
+pub use ticking::tick_loop;

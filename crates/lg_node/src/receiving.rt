@@ -90,31 +90,16 @@ fn receive_turns<A: AgentName, R: Wait, L: Link, C: Clock>(
     let (mut dropped, mut unsent) = (0, 0);
     for turns in 0..bound {
         if stop.load(SeqCst) {
-            return End {
-                why: Why::Stopped,
-                dropped,
-                unsent,
-                turns,
-            };
+            return End::of(Why::Stopped, dropped, unsent, turns);
         }
         let turned = receive_turn(rt, alloc, pass, link, clock, &mut buffer);
         dropped += turned.dropped;
         unsent += turned.unsent;
         if let Some(why) = turned.why {
-            return End {
-                why,
-                dropped,
-                unsent,
-                turns: turns + 1,
-            };
+            return End::of(why, dropped, unsent, turns + 1);
         }
     }
-    End {
-        why: Why::ReadBound,
-        dropped,
-        unsent,
-        turns: bound,
-    }
+    End::of(Why::ReadBound, dropped, unsent, bound)
 }
 
 /// Hears the datagrams that come over a link, and hands the packets of the replies to it, until it is told to stop.

@@ -82,6 +82,17 @@ abbrev pub breaks : Turn → ℕ
 breaks Broken = 1
 breaks t = losses t
 
+-- the random words of a tick
+abbrev pub words_in : Turn → List (List ℕ)
+words_in (Ticked now words r sent) = words ∷ []
+words_in (Unticked now words e) = words ∷ []
+words_in _ = []
+
+-- dice gave these words, one throw after another
+abbrev pub Threw : {D : Type 0} → (D → List ℕ → D → Type 0) → D → List (List ℕ) → D → Type 0
+Threw throws d [] e = e ≡ d
+Threw throws d (words ∷ more) e = (m : _) × throws d words m × Threw throws m more e
+
 -- after these events the next deadline is this
 abbrev pub IsDeadline : List Event → ℕ → Type 0
 IsDeadline seen due = deadline_after seen ≡ Some due

@@ -6,8 +6,8 @@ use Rattle.lg_node.proofs.receiving.receive_turns.Goals as goal
 pub returns-in-Some : goal.returns-in-Some
 returns-in-Some g c =
     let took = c.receive_turn-turned.ensures in
-    over receives g.L.Link.tells c.args.bound _ _ _ c.args.pass.now c.loop-turns.pass c.receive_turn-turned.new.pass c.loop-turns.dropped c.loop-turns.unsent c.loop-turns.turns
-    c.receive_turn-turned.result c.in-Some.why c.loop-turns.invariant.going took c.in-Some.is
+    rw c.of-in-Some.ensures (over receives g.L.Link.tells c.args.bound _ _ _ c.args.pass.now c.loop-turns.pass c.receive_turn-turned.new.pass c.loop-turns.dropped c.loop-turns.unsent c.loop-turns.turns
+    c.receive_turn-turned.result c.in-Some.why c.loop-turns.invariant.going took c.in-Some.is)
 
 pub loop-turns-preserved : goal.loop-turns-preserved
 loop-turns-preserved g c =

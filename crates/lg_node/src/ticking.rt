@@ -1,0 +1,131 @@
+//! The ticking loop.
+ghost use Rattle.std.specs.Prelude.{◌≡◌, ◌≤◌, ◌<◌, ℕ, IfSome};
+ghost use Rattle.std.specs.List.{flat_map};
+ghost use Rattle.lg_node.specs.Meaning.Turns.{line, ticks_before, words_in, Ran, Threw};
+ghost use Rattle.lg_node.specs.Support.Took.{Took};
+
+use crate::clock::Clock;
+use crate::dice::Dice;
+use crate::ending::{End, Ended, Why};
+use crate::link::Link;
+use crate::turned::Turned;
+use lg_agent::{AgentName, Pass};
+use lg_timing::Moment;
+use std::alloc::Global;
+use std::sync::Wait;
+use std::sync::atomic::AtomicBool;
+use std::sync::atomic::Ordering::SeqCst;
+
+/// How long one turn pauses at most, in milliseconds.
+const PAUSE_MS: u64 = 20;
+
+/// One turn at a moment: it ticks where the next deadline has come, and else pauses.
+fn tick_turn<A: AgentName, R: Wait, L: Link, C: Clock, D: Dice>(
+    rt: &R,
+    alloc: Global,
+    pass: &mut Pass<'_, A>,
+    link: &mut L,
+    clock: &C,
+    dice: &mut D,
+    now: Moment,
+) -> Turned
+    ensures { (until : ℕ) → now < until
+        → (took : Took (ticks_before until) L.tells (line (L.log link.old) (L.failed link.old))
+        (line (L.log link.new) (L.failed link.new)) pass.old pass.new result)
+        × Threw D.throws dice.old (words_in took.turn) dice.new }
+{
+    let deadline = match pass.next_deadline() {
+        Ok(deadline) => deadline,
+        Err(refusal) => return Turned::end(Why::Refused(refusal)),
+    };
+    let moment = now.milliseconds();
+    if moment < deadline {
+        clock.pause((deadline - moment).min(PAUSE_MS));
+        return Turned::on();
+    }
+    match pass.tick(rt, alloc, now, dice.words()) {
+        Ok(receipt) => Turned::of(link, &receipt),
+        Err(refusal) => Turned::end(Why::Refused(refusal)),
+    }
+}
+
+/// The moment of the next turn, or none where the loop is to stop.
+fn next_moment<C: Clock>(clock: &C, until: Moment, stop: &AtomicBool) -> Option<Moment>
+    ensures { IfSome result (λ now. now < until) }
+{
+    if stop.load(SeqCst) {
+        return None;
+    }
+    let now = clock.now();
+    if now.milliseconds() < until.milliseconds() {
+        Some(now)
+    } else {
+        None
+    }
+}
+
+/// The turns of the loop, until one ends it, or the moment comes until which it runs.
+fn tick_turns<A: AgentName, R: Wait, L: Link, C: Clock, D: Dice>(
+    rt: &R,
+    alloc: Global,
+    pass: &mut Pass<'_, A>,
+    link: &mut L,
+    clock: &C,
+    dice: &mut D,
+    until: Moment,
+    stop: &AtomicBool,
+    bound: u64,
+) -> End
+    requires { bound ≤ 1_000_000_000 }
+    ensures { (ran : Ran (ticks_before until) L.tells bound (line (L.log link.old) (L.failed link.old))
+        (line (L.log link.new) (L.failed link.new)) pass.old pass.new result)
+        × Threw D.throws dice.old (flat_map words_in ran.turns) dice.new }
+{
+    let (mut dropped, mut unsent) = (0, 0);
+    for turns in 0..bound {
+        let Some(now) = next_moment(clock, until, stop) else {
+            return End::of(Why::Stopped, dropped, unsent, turns);
+        };
+        let turned = tick_turn(rt, alloc, pass, link, clock, dice, now);
+        dropped += turned.dropped;
+        unsent += turned.unsent;
+        if let Some(why) = turned.why {
+            return End::of(why, dropped, unsent, turns + 1);
+        }
+    }
+    End::of(Why::ReadBound, dropped, unsent, bound)
+}
+
+/// Ticks whenever the next deadline has come, and hands the packets of the replies to a link, until it is told to stop,
+/// or a moment comes.
+///
+/// It makes at most so many turns. One that doesn't tick pauses to the deadline, but 20 ms at most. A packet that isn't
+/// sent is lost, and counted. It ends with [`Why::Refused`] where a call or a look was refused, and with
+/// [`Why::Ousted`] behind a reply that says so. Whatever its end is, it tells the others to stop.
+pub fn tick_loop<A: AgentName, R: Wait, L: Link, C: Clock, D: Dice + Drop>(
+    rt: &R,
+    alloc: Global,
+    pass: Pass<'_, A>,
+    link: L,
+    clock: &C,
+    dice: D,
+    until: Moment,
+    stop: &AtomicBool,
+    bound: u64,
+) -> Ended<L, A>
+    requires { bound ≤ 1_000_000_000 }
+    ensures { (ran : Ran (ticks_before until) L.tells bound (line (L.log link) (L.failed link))
+        (line (L.log result.link) (L.failed result.link)) pass.entry result.spent result.end)
+        × ((rest : D) × Threw D.throws dice (flat_map words_in ran.turns) rest) }
+{
+    let (mut pass, mut link, mut dice) = (pass, link, dice);
+    let end = tick_turns(
+        rt, alloc, &mut pass, &mut link, clock, &mut dice, until, stop, bound,
+    );
+    stop.store(true, SeqCst);
+    Ended {
+        link,
+        spent: pass.finish(),
+        end,
+    }
+}
