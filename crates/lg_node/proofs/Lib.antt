@@ -1,2 +1,3 @@
 pub mod SendingLaws
 pub mod TurnLaws
+pub mod WordLaws

@@ -1,4 +1,5 @@
 -- What is right: whoever wants to believe the contracts reads these.
 pub mod Links
+pub mod Words
 pub mod Turns
 pub mod Examples

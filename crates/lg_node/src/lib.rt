@@ -9,10 +9,12 @@ mod receiving;
 mod sending;
 mod ticking;
 mod turned;
+mod udp;
 
-pub use clock::Clock;
-pub use dice::Dice;
+pub use clock::{Clock, MachineClock};
+pub use dice::{Dice, PcgDice};
 pub use ending::{End, Ended, Why};
 pub use link::{Link, LinkFault, MAX_DATAGRAM};
 pub use receiving::receive_loop;
 pub use ticking::tick_loop;
+pub use udp::UdpLink;

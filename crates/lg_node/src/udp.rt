@@ -1,0 +1,104 @@
+//! A link over a UDP socket.
+ghost use Rattle.std.specs.Prelude.{◌≡◌, ◌+◌, MatchBool};
+
+use crate::link::{Link, LinkFault, MAX_DATAGRAM};
+use lg_rules::Addr;
+use std::io;
+use std::io::ErrorKind;
+use std::net::{Ipv4Addr, SocketAddr, UdpSocket};
+use std::time::Duration;
+
+/// A link over a socket that others may use too. It tells how often it failed, and nothing of the bytes.
+///
+/// The failures are counted up to 2^64 - 1, and later ones aren't told.
+#[derive(Drop)]
+pub struct UdpLink<'a> {
+    socket: &'a UdpSocket,
+    /// How long the socket waits, in milliseconds; 0 where that isn't known.
+    limit_ms: u64,
+    failures: u64,
+}
+
+impl<'a> UdpLink<'a> {
+    /// A link over a socket, which hasn't failed yet.
+    pub fn new(socket: &'a UdpSocket) -> UdpLink<'a> {
+        UdpLink {
+            socket,
+            limit_ms: 0,
+            failures: 0,
+        }
+    }
+
+    /// Has the socket wait so long, 1 ms at least. The system is told only where that changes.
+    fn limit(&mut self, limit_ms: u64) -> io::Result<()>
+        ensures { self.new.failures ≡ self.old.failures }
+    {
+        let limit_ms = limit_ms.max(1);
+        if self.limit_ms != limit_ms {
+            let limit = Duration::from_millis(limit_ms);
+            self.socket.set_read_timeout(Some(limit))?;
+            self.limit_ms = limit_ms;
+        }
+        Ok(())
+    }
+
+    /// Counts a failure, where there is a number for it.
+    fn count(&mut self) -> bool
+        ensures { MatchBool result (self.new.failures ≡ self.old.failures + 1)
+            (self.new.failures ≡ self.old.failures) }
+    {
+        if self.failures == u64::MAX {
+            return false;
+        }
+        self.failures += 1;
+        true
+    }
+}
+
+/// No datagram came in time, or a signal came.
+fn is_nothing(kind: ErrorKind) -> bool {
+    matches!(kind, ErrorKind::WouldBlock | ErrorKind::Interrupted)
+}
+
+impl<'a> Link for UdpLink<'a> {
+    ghost use Rattle.std.specs.Prelude.{false, []};
+
+    ghost tells = { false };
+
+    ghost log = { λ l. [] };
+
+    ghost failed = { λ l. l.failures };
+
+    fn send(&mut self, to: Addr, bytes: &[u8]) -> Result<(), LinkFault> {
+        let address = (Ipv4Addr::from_octets(to.octets), to.port);
+        if self.socket.send_to(bytes, address).is_err() && self.count() {
+            return Err(LinkFault);
+        }
+        Ok(())
+    }
+
+    /// A datagram from an address that isn't of IPv4 is taken as none, and so is a signal.
+    fn receive(
+        &mut self,
+        buffer: &mut [u8; MAX_DATAGRAM],
+        limit_ms: u64,
+    ) -> Result<Option<(Addr, usize)>, LinkFault> {
+        let received = match self.limit(limit_ms) {
+            Ok(()) => self.socket.recv_from(buffer),
+            Err(fault) => Err(fault),
+        };
+        match received {
+            Ok((length, SocketAddr::V4(from))) => {
+                let source = Addr::new(from.ip().octets(), from.port());
+                Ok(Some((source, length)))
+            }
+            Ok((_, SocketAddr::V6(_))) => Ok(None),
+            Err(fault) if is_nothing(fault.kind()) || !self.count() => Ok(None),
+            Err(_) => Err(LinkFault),
+        }
+    }
+
+    fn failures(&self) -> u64 {
+        self.failures
+    }
+}
