@@ -11,7 +11,7 @@ use Rattle.lg_detector.specs.declared.event.Event.TheVariants as events
 use Rattle.lg_detector.specs.Meaning.Step.{deadline_after}
 use Rattle.lg_agent.specs.declared.receipt.Receipt.{Receipt}
 use Rattle.lg_agent.specs.declared.refusal.Refusal.{Refusal}
-use Rattle.lg_agent.specs.declared.refusal.Refusal.TheVariants.{NoView}
+use Rattle.lg_agent.specs.declared.refusal.Refusal.TheVariants.{NoMemory, NoView}
 use Rattle.lg_agent.specs.Meaning.Ledger.{Own}
 use Rattle.lg_agent.specs.Meaning.Calls.{IsCall, IsLook, IsRefusal}
 use Rattle.lg_node.specs.declared.ending.End.{End}
@@ -188,3 +188,9 @@ pub record Ran (kind : Turn → Bool) (tells : Bool) (bound : ℕ) (k k' : Line)
   pub made : Made kind tells turns k k' p q
   pub counts : Counts turns end.dropped end.unsent end.turns
   pub why : Ends bound turns end.why
+
+-- A loop that no thread could be had for: it was told to stop before it began, and its end says that memory was refused.
+pub record HadNoThread (kind : Turn → Bool) (tells : Bool) (bound : ℕ) (k k' : Line) (p q : Own) (end : End) : Type 0 where
+  pub was : Why
+  pub ran : Ran kind tells bound k k' p q (record end { why = was })
+  pub why : end.why ≡ Refused NoMemory

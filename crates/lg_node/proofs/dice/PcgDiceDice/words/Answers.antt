@@ -1,4 +1,4 @@
-use Rattle.std.proofs.Common.{◌≡◌, ℕ, List, [], ◌∷◌, refl}
+use Rattle.std.proofs.Common.{ℕ, List, [], ◌∷◌, refl}
 use Rattle.rand_pcg.specs.Lcg.{Lcg}
 use Rattle.lg_node.specs.Meaning.Words.{Draws}
 use Rattle.lg_node.proofs.WordLaws.{drawn}

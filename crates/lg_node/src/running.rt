@@ -1,0 +1,195 @@
+//! Both loops at once, each in a thread of its own.
+ghost use Rattle.std.specs.Prelude.{◌≡◌, ◌≤◌, ◌⊎◌};
+ghost use Rattle.std.specs.List.{flat_map};
+ghost use Rattle.lg_node.specs.declared.ending.Why.TheVariants.{Stopped};
+ghost use Rattle.lg_node.specs.Meaning.Turns.{line, receives, ticks_before, words_in};
+ghost use Rattle.lg_node.specs.Meaning.Turns.{Ran, Threw, HadNoThread};
+
+use crate::clock::Clock;
+use crate::dice::Dice;
+use crate::ending::{End, Ended, Why};
+use crate::link::Link;
+use crate::receiving::receive_loop;
+use crate::ticking::tick_loop;
+use left_right::Absorb;
+use lg_agent::{AgentName, Pass, Refusal};
+use lg_detector::Event;
+use lg_timing::Moment;
+use lg_view::{Published, Update};
+use std::alloc::Global;
+use std::marker::{Brand, PhantomData};
+use std::sync::Wait;
+use std::sync::atomic::AtomicBool;
+use std::sync::atomic::Ordering::SeqCst;
+use std::thread;
+use std::thread::{Promise, Threads};
+
+/// What a loop works with: the pass that it calls, and its link.
+#[derive(Drop)]
+pub struct Side<'a, L, A: AgentName>
+where
+    Published<A>: Absorb<Update<A>, State = [Event; 0]>,
+{
+    /// The pass.
+    pub pass: Pass<'a, A>,
+    /// The link.
+    pub link: L,
+}
+
+/// Names from where a loop starts, and how many turns it may make.
+trait Start {
+    ghost use Rattle.std.specs.Prelude.{ℕ};
+    ghost use Rattle.lg_agent.specs.Meaning.Ledger.{Own};
+    ghost use Rattle.lg_node.specs.Meaning.Turns.{Line};
+
+    ghost own: { Own };
+
+    ghost line: { Line };
+
+    ghost bound: { ℕ };
+}
+
+impl Start for Brand {
+    ghost use Rattle.std.specs.Prelude.{[]};
+
+    ghost own = { record { name = []; seat = 0; seen = []; mine = [] } };
+
+    ghost line = { record { log = []; failed = 0 } };
+
+    ghost bound = { 0 };
+}
+
+/// What the receiving loop promises of its end, where it starts from there.
+#[derive(Drop)]
+struct Receives<S: Start> {
+    start: PhantomData<S>,
+}
+
+impl<S: Start, L: Link, A: AgentName> Promise<Ended<L, A>> for Receives<S> {
+    ghost kept_by = { λ p r. Ran receives L.tells S.bound S.line (line (L.log r.link) (L.failed r.link))
+        S.own r.spent r.end };
+}
+
+/// The end of a ticking loop that makes no turn.
+fn unstarted<L: Link, A: AgentName>(side: Side<'_, L, A>) -> Ended<L, A>
+    ensures link { result.link ≡ side.entry.link }
+    ensures spent { result.spent ≡ side.entry.pass }
+    ensures end { result.end ≡ record { why = Stopped; dropped = 0; unsent = 0; turns = 0 } }
+{
+    let Side { pass, link } = side;
+    Ended {
+        link,
+        spent: pass.finish(),
+        end: End::of(Why::Stopped, 0, 0, 0),
+    }
+}
+
+fn run_from<S, A, R, L, C, D>(
+    rt: &R,
+    alloc: Global,
+    receiver: Side<'_, L, A>,
+    ticker: Side<'_, L, A>,
+    clock: &C,
+    dice: D,
+    until: Moment,
+    stop: &AtomicBool,
+    bound: u64,
+) -> (Ended<L, A>, Ended<L, A>)
+where
+    S: Start,
+    A: AgentName + Send + Sync,
+    R: Wait + Threads + Sync,
+    L: Link + Send + Drop,
+    C: Clock + Sync,
+    D: Dice + Drop,
+    requires bound { (bound ≤ 1_000_000_000) × (bound ≡ S.bound) }
+    requires start { (receiver.pass ≡ S.own) × (line (L.log receiver.link) (L.failed receiver.link) ≡ S.line) }
+    ensures received { Ran receives L.tells S.bound S.line (line (L.log result.0.link) (L.failed result.0.link))
+        S.own result.0.spent result.0.end
+        ⊎ (HadNoThread receives L.tells S.bound S.line (line (L.log result.0.link) (L.failed result.0.link))
+        S.own result.0.spent result.0.end
+        × (result.1.end ≡ record { why = Stopped; dropped = 0; unsent = 0; turns = 0 })) }
+    ensures ticked { (ran : Ran (ticks_before until) L.tells bound
+        (line (L.log ticker.entry.link) (L.failed ticker.entry.link))
+        (line (L.log result.1.link) (L.failed result.1.link)) ticker.entry.pass result.1.spent result.1.end)
+        × ((rest : D) × Threw D.throws dice (flat_map words_in ran.turns) rest) }
+{
+    let promise: Receives<S> = Receives { start: PhantomData };
+    let Side { pass, link } = receiver;
+    thread::scope(
+        thread::scope_env(),
+        rt,
+        move |scope| -> (Ended<L, A>, Ended<L, A>)
+            requires bound { (bound ≤ 1_000_000_000) × (bound ≡ S.bound) }
+            requires start { (pass ≡ S.own) × (line (L.log link) (L.failed link) ≡ S.line) }
+            ensures received { Ran receives L.tells S.bound S.line
+                (line (L.log result.0.link) (L.failed result.0.link)) S.own result.0.spent result.0.end
+                ⊎ (HadNoThread receives L.tells S.bound S.line
+                (line (L.log result.0.link) (L.failed result.0.link)) S.own result.0.spent result.0.end
+                × (result.1.end ≡ record { why = Stopped; dropped = 0; unsent = 0; turns = 0 })) }
+            ensures ticked { (ran : Ran (ticks_before until) L.tells bound
+                (line (L.log ticker.entry.link) (L.failed ticker.entry.link))
+                (line (L.log result.1.link) (L.failed result.1.link)) ticker.entry.pass result.1.spent result.1.end)
+                × ((rest : D) × Threw D.throws dice (flat_map words_in ran.turns) rest) }
+        {
+            let spawned = scope.spawn_with(
+                promise,
+                move || -> Ended<L, A>
+                    requires { bound ≤ 1_000_000_000 }
+                    ensures { Ran receives L.tells bound (line (L.log link) (L.failed link))
+                        (line (L.log result.link) (L.failed result.link)) pass.entry result.spent result.end }
+                { receive_loop(rt, alloc, pass, link, clock, stop, bound) },
+            );
+            let child = match spawned {
+                Ok(child) => child,
+                Err(refused) => {
+                    stop.store(true, SeqCst);
+                    let mut received = (refused.value)();
+                    received.end.why = Why::Refused(Refusal::NoMemory);
+                    return (received, unstarted(ticker));
+                }
+            };
+            let Side { pass, link } = ticker;
+            let ticked = tick_loop(rt, alloc, pass, link, clock, dice, until, stop, bound);
+            (child.join(rt), ticked)
+        },
+    )
+}
+
+/// Runs both loops at once, the receiving one in a thread of its own and the ticking one in this thread, until one of
+/// them ends: then the other one ends with the turn that it is in.
+///
+/// It gives both ends, the receiving loop's first. Where no thread can be had, neither makes a turn: the receiving loop
+/// ends with [`Why::Refused`] since memory was refused, and the ticking one with [`Why::Stopped`].
+pub fn run_loops<A, R, L, C, D>(
+    rt: &R,
+    alloc: Global,
+    receiver: Side<'_, L, A>,
+    ticker: Side<'_, L, A>,
+    clock: &C,
+    dice: D,
+    until: Moment,
+    stop: &AtomicBool,
+    bound: u64,
+) -> (Ended<L, A>, Ended<L, A>)
+where
+    A: AgentName + Send + Sync,
+    R: Wait + Threads + Sync,
+    L: Link + Send + Drop,
+    C: Clock + Sync,
+    D: Dice + Drop,
+    requires { bound ≤ 1_000_000_000 }
+    ensures received { Ran receives L.tells bound
+        (line (L.log receiver.entry.link) (L.failed receiver.entry.link))
+        (line (L.log result.0.link) (L.failed result.0.link)) receiver.entry.pass result.0.spent result.0.end
+        ⊎ (HadNoThread receives L.tells bound
+        (line (L.log receiver.entry.link) (L.failed receiver.entry.link))
+        (line (L.log result.0.link) (L.failed result.0.link)) receiver.entry.pass result.0.spent result.0.end
+        × (result.1.end ≡ record { why = Stopped; dropped = 0; unsent = 0; turns = 0 })) }
+    ensures ticked { (ran : Ran (ticks_before until) L.tells bound
+        (line (L.log ticker.entry.link) (L.failed ticker.entry.link))
+        (line (L.log result.1.link) (L.failed result.1.link)) ticker.entry.pass result.1.spent result.1.end)
+        × ((rest : D) × Threw D.throws dice (flat_map words_in ran.turns) rest) }
+{
+    run_from::<Brand, A, R, L, C, D>(rt, alloc, receiver, ticker, clock, dice, until, stop, bound)
+}
