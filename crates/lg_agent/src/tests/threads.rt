@@ -123,6 +123,21 @@ fn fifty_and_none<A: AgentName + Send + Sync, R: Threads + Wait + Sync>(
 }
 
 /// Three threads, which make 100, 50 and 0 calls.
+fn hundred_and_others<A: AgentName + Send + Sync, R: Threads + Wait + Sync>(
+    rt: &R,
+    alloc: Global,
+    one: Pass<'_, A>,
+    two: Pass<'_, A>,
+    three: Pass<'_, A>,
+) -> ((Spent<A>, u64), ((Spent<A>, u64), (Spent<A>, u64))) {
+    join(
+        rt,
+        move || calls(rt, alloc, one, 100),
+        move || fifty_and_none(rt, alloc, two, three),
+    )
+}
+
+/// The calls of three threads, and what they leave.
 pub(super) fn three_threads<A: AgentName + Send + Sync, R: Threads + Wait + Sync>(
     rt: &R,
     alloc: Global,
@@ -132,11 +147,8 @@ pub(super) fn three_threads<A: AgentName + Send + Sync, R: Threads + Wait + Sync
     let three = passes.pop()?;
     let two = passes.pop()?;
     let one = passes.pop()?;
-    let (first, (second, third)) = join(
-        rt,
-        move || calls(rt, alloc, one, 100),
-        move || fifty_and_none(rt, alloc, two, three),
-    );
+    let (first, others) = hundred_and_others(rt, alloc, one, two, three);
+    let (second, third) = others;
     let wrong = first.1.wrapping_add(second.1).wrapping_add(third.1);
     let mut all = handed_in(alloc, first.0, Some(second.0), Seen::Wrong(wrong))?;
     all.spents.push(third.0).ok()?;
