@@ -6,7 +6,7 @@ use super::rows::{
     another_name, differs, full, no_such_place, one_missing, passes_twice, short_bytes, two_passes,
     views,
 };
-use super::threads::{earlier_moment, seen_by_another, three_threads};
+use super::threads::{earlier_moment, seen_by_another};
 use super::{at, config};
 use crate::{Agent, AgentName, CloseFault, Pass, Refusal, Spent, Unclosed};
 use lg_view::UnnamedBook;
@@ -28,7 +28,6 @@ pub(super) enum Case {
     ShortBytes,
     Views,
     SeenByAnother,
-    ThreeThreads,
     EarlierMoment,
 }
 
@@ -70,8 +69,6 @@ pub(super) enum Seen {
         first: OfC,
         second: OfC,
     },
-    /// How many calls and looks weren't as they should be.
-    Wrong(u64),
     /// A call, and then a tick at an earlier moment.
     Tick {
         place: Option<u64>,
@@ -167,7 +164,6 @@ fn calls<A: AgentName + Send + Sync, R: Threads + Wait + Sync>(
         Case::ShortBytes => short_bytes(rt, alloc, agent),
         Case::Views => views(rt, alloc, agent),
         Case::SeenByAnother => seen_by_another(rt, alloc, agent),
-        Case::ThreeThreads => three_threads(rt, alloc, agent),
         Case::EarlierMoment => earlier_moment(rt, alloc, agent),
     }
 }

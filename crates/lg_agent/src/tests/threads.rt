@@ -79,82 +79,6 @@ pub(super) fn seen_by_another<A: AgentName + Send + Sync, R: Threads + Wait + Sy
     handed_in(alloc, first, Some(second), seen)
 }
 
-/// So many calls, and a look before and after each. It counts what isn't as it should be: a call that is refused or
-/// stands before what was seen, and a look that misses the call.
-fn calls<A: AgentName, R: Wait>(
-    rt: &R,
-    alloc: Global,
-    pass: Pass<'_, A>,
-    count: u64,
-) -> (Spent<A>, u64) {
-    let mut pass = pass;
-    let mut wrong = 0u64;
-    for turn in 0..count {
-        let seen = pass.version().unwrap_or(0);
-        let answer = pass.health(rt, alloc, at(turn));
-        let later = pass.version().unwrap_or(0);
-        if !is_between(seen, &answer, later) {
-            wrong = wrong.wrapping_add(1);
-        }
-    }
-    (pass.finish(), wrong)
-}
-
-/// Whether a call is answered behind what was seen before it, and is itself seen later.
-fn is_between(seen: u64, answer: &Result<Receipt, Refusal>, later: u64) -> bool {
-    match answer {
-        Ok(receipt) => seen <= receipt.place && receipt.place < later,
-        Err(_) => false,
-    }
-}
-
-/// Two threads, which make 50 calls and none.
-fn fifty_and_none<A: AgentName + Send + Sync, R: Threads + Wait + Sync>(
-    rt: &R,
-    alloc: Global,
-    two: Pass<'_, A>,
-    three: Pass<'_, A>,
-) -> ((Spent<A>, u64), (Spent<A>, u64)) {
-    join(
-        rt,
-        move || calls(rt, alloc, two, 50),
-        move || calls(rt, alloc, three, 0),
-    )
-}
-
-/// Three threads, which make 100, 50 and 0 calls.
-fn hundred_and_others<A: AgentName + Send + Sync, R: Threads + Wait + Sync>(
-    rt: &R,
-    alloc: Global,
-    one: Pass<'_, A>,
-    two: Pass<'_, A>,
-    three: Pass<'_, A>,
-) -> ((Spent<A>, u64), ((Spent<A>, u64), (Spent<A>, u64))) {
-    join(
-        rt,
-        move || calls(rt, alloc, one, 100),
-        move || fifty_and_none(rt, alloc, two, three),
-    )
-}
-
-/// The calls of three threads, and what they leave.
-pub(super) fn three_threads<A: AgentName + Send + Sync, R: Threads + Wait + Sync>(
-    rt: &R,
-    alloc: Global,
-    agent: &mut Agent<A>,
-) -> Option<Left<A>> {
-    let mut passes = agent.passes(alloc).ok()?;
-    let three = passes.pop()?;
-    let two = passes.pop()?;
-    let one = passes.pop()?;
-    let (first, others) = hundred_and_others(rt, alloc, one, two, three);
-    let (second, third) = others;
-    let wrong = first.1.wrapping_add(second.1).wrapping_add(third.1);
-    let mut all = handed_in(alloc, first.0, Some(second.0), Seen::Wrong(wrong))?;
-    all.spents.push(third.0).ok()?;
-    Some(all)
-}
-
 /// Whether a round starts with one packet.
 fn starts_round(answer: &Result<Receipt, Refusal>) -> bool {
     match answer {
@@ -231,7 +155,6 @@ fn threads(rt: HostRuntime) -> Result<(), Fail> {
     };
     let cases = [
         (Case::SeenByAnother, 2, closed(of_c, 3)),
-        (Case::ThreeThreads, 3, closed(Seen::Wrong(0), 151)),
         (Case::EarlierMoment, 2, closed(tick, 3)),
     ];
     for (case, places, want) in cases {
