@@ -1,6 +1,6 @@
-//! Eight threads make calls and look at once. Then a fresh detector is given the events of the history, and has to give
-//! its replies.
-ghost use Rattle.std.specs.Prelude.{◌≡◌, ◌<◌, ◌≤◌};
+//! Threads make calls and look at once. Then a fresh detector is given the events of the history, and has to give its
+//! replies.
+ghost use Rattle.std.specs.Prelude.{◌≡◌, ◌<◌, ◌≤◌, length};
 
 use super::{at, letter, local};
 use crate::{Agent, AgentName, Closed, Pass, Receipt, Refusal, Spent, Unclosed};
@@ -14,11 +14,6 @@ use std::alloc::Global;
 use std::marker::Brand;
 use std::sync::{Mutex, Wait};
 use std::thread::{Threads, scope, scope_env};
-
-const THREADS: usize = 8;
-
-/// How many calls each thread makes.
-const CALLS: u32 = 2000;
 
 /// A Ping of a for b, which says that one of sixteen members is alive, from time to time at a greater incarnation.
 fn ping(turn: u32) -> ArrayVec<u8, MAX_PACKET> {
@@ -59,57 +54,83 @@ fn call<A: AgentName, R: Wait>(
     }
 }
 
-/// Whether a call is answered between two looks that don't go back: the first has seen no more than what came before
-/// it, the second the call at least.
+/// The place of a call that is answered between two looks that don't go back: the first has seen no more than what came
+/// before it, the second the call at least.
 fn calls_and_looks<A: AgentName, R: Wait>(
     rt: &R,
     alloc: Global,
     pass: &mut Pass<'_, A>,
     turn: u32,
-) -> bool {
+) -> Option<u64> {
     let Ok(before) = pass.version() else {
-        return false;
+        return None;
     };
     let Ok(receipt) = call(rt, alloc, pass, turn) else {
-        return false;
+        return None;
     };
     let Ok(Some(_own)) = pass.status_of(&letter(b'b')) else {
-        return false;
+        return None;
     };
     let Ok(after) = pass.version() else {
-        return false;
+        return None;
     };
-    before <= receipt.place && receipt.place < after
+    let place = receipt.place;
+    (before <= place && place < after).then_some(place)
 }
 
-/// What the threads leave, and how many calls or looks went wrong.
+/// What the threads leave, and how many things went wrong.
 #[derive(Drop)]
 struct Done<A: AgentName> {
     spents: Vec<Spent<A>>,
     wrong: u64,
 }
 
-/// All calls of one thread.
-fn work<A: AgentName, R: Wait>(rt: &R, alloc: Global, pass: Pass<'_, A>, done: &Mutex<Done<A>>) {
-    let mut pass = pass;
+/// So many calls of one thread. Returns how many of them went wrong, or have no place above that of the call before.
+fn wrong_of<A: AgentName, R: Wait>(
+    rt: &R,
+    alloc: Global,
+    pass: &mut Pass<'_, A>,
+    calls: u32,
+) -> u64 {
     let mut wrong: u64 = 0;
-    for turn in 0..CALLS {
-        if !calls_and_looks(rt, alloc, &mut pass, turn) {
-            wrong = wrong.wrapping_add(1);
+    // The opening's place.
+    let mut last: u64 = 0;
+    for turn in 0..calls {
+        match calls_and_looks(rt, alloc, pass, turn) {
+            Some(place) if last < place => last = place,
+            _ => wrong = wrong.wrapping_add(1),
         }
+    }
+    wrong
+}
+
+/// All calls of one thread, and what it leaves, which has to have one position for each.
+fn work<A: AgentName, R: Wait>(
+    rt: &R,
+    alloc: Global,
+    pass: Pass<'_, A>,
+    calls: u32,
+    done: &Mutex<Done<A>>,
+) {
+    let mut pass = pass;
+    let mut wrong = wrong_of(rt, alloc, &mut pass, calls);
+    let spent = pass.finish();
+    if spent.calls().len() != calls as usize {
+        wrong = wrong.wrapping_add(1);
     }
     let mut done = done.lock(rt);
     done.wrong = done.wrong.wrapping_add(wrong);
-    if done.spents.push(pass.finish()).is_err() {
+    if done.spents.push(spent).is_err() {
         done.wrong = done.wrong.wrapping_add(1);
     }
 }
 
-/// A thread for each pass.
+/// A thread for each pass, each with its number of calls.
 fn work_all<A: AgentName + Send + Sync, R: Threads + Wait + Sync>(
     rt: &R,
     alloc: Global,
     agent: &mut Agent<A>,
+    calls: &[u32],
 ) -> Done<A> {
     let done = Mutex::new(Done {
         spents: Vec::new(alloc),
@@ -118,8 +139,10 @@ fn work_all<A: AgentName + Send + Sync, R: Threads + Wait + Sync>(
     let shared = &done;
     if let Ok(passes) = agent.passes(alloc) {
         scope(scope_env(), rt, |scope| {
-            for pass in passes {
-                let _refused = scope.spawn(move || work(rt, alloc, pass, shared)).is_err();
+            for (pass, &calls) in passes.into_iter().zip(calls) {
+                let _refused = scope
+                    .spawn(move || work(rt, alloc, pass, calls, shared))
+                    .is_err();
             }
         });
     }
@@ -166,23 +189,36 @@ fn replayed(alloc: Global, closed: &Closed) -> Option<u64> {
     Some(same)
 }
 
-/// How many calls and looks went wrong, how many entries there are, and how many replies are a fresh detector's.
-type Outcome = (u64, u64, Option<u64>);
+/// What came of all calls.
+#[derive(Clone, Copy, Debug, PartialEq, Eq)]
+struct Outcome {
+    /// How many things went wrong.
+    wrong: u64,
+    /// How many entries there are.
+    entries: u64,
+    /// How many of the replies are those of a fresh detector.
+    replayed: Option<u64>,
+}
 
+/// Plays an agent with a thread for each of these numbers of calls.
 fn play<A: AgentName + Send + Sync, R: Threads + Wait + Sync>(
     rt: &R,
     alloc: Global,
     book: UnnamedBook,
-    places: usize,
+    calls: &[u32],
 ) -> Option<Outcome>
     requires book { book.seen.book ≡ A.book }
-    requires places { (0 < places) × (places ≤ 32) × (places ≡ A.places) }
+    requires calls { (0 < length calls.now) × (length calls.now ≤ 32) × (length calls.now ≡ A.places) }
 {
     let config = Config::new(letter(b'b'), local(7000));
-    let mut agent = Agent::<A>::open(rt, alloc, book, at(0), config, places).ok()?;
-    let Done { spents, wrong } = work_all(rt, alloc, &mut agent);
+    let mut agent = Agent::<A>::open(rt, alloc, book, at(0), config, calls.len()).ok()?;
+    let Done { spents, wrong } = work_all(rt, alloc, &mut agent, calls);
     match agent.close(rt, spents) {
-        Ok(closed) => Some((wrong, closed.count(), replayed(alloc, &closed))),
+        Ok(closed) => Some(Outcome {
+            wrong,
+            entries: closed.count(),
+            replayed: replayed(alloc, &closed),
+        }),
         Err(refused) => {
             let Unclosed {
                 fault: _,
@@ -195,12 +231,30 @@ fn play<A: AgentName + Send + Sync, R: Threads + Wait + Sync>(
     }
 }
 
-fn play_branded<R: Threads + Wait + Sync>(rt: &R, alloc: Global) -> Option<Outcome> {
-    play::<Brand, R>(rt, alloc, UnnamedBook::new(), THREADS)
+fn play_branded<R: Threads + Wait + Sync>(rt: &R, alloc: Global, calls: &[u32]) -> Option<Outcome>
+    requires { (0 < length calls.now) × (length calls.now ≤ 32) }
+{
+    play::<Brand, R>(rt, alloc, UnnamedBook::new(), calls)
+}
+
+/// All is well, with so many entries.
+fn well(entries: u64) -> Outcome {
+    Outcome {
+        wrong: 0,
+        entries,
+        replayed: Some(entries),
+    }
 }
 
 #[test]
 fn eight_threads_make_one_history(rt: HostRuntime) {
-    let all = (0, 16_001, Some(16_001));
-    assert_eq!(rt; play_branded(&rt, rt.alloc()), Some(all));
+    let calls = [2000; 8];
+    assert_eq!(rt; play_branded(&rt, rt.alloc(), &calls), Some(well(16_001)));
+}
+
+// The third thread ends with no call made.
+#[test]
+fn three_threads_make_one_history(rt: HostRuntime) {
+    let calls = [100, 50, 0];
+    assert_eq!(rt; play_branded(&rt, rt.alloc(), &calls), Some(well(151)));
 }
