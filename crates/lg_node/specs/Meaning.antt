@@ -2,4 +2,5 @@
 pub mod Links
 pub mod Words
 pub mod Turns
+pub mod Nodes
 pub mod Examples

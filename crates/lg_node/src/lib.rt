@@ -1,13 +1,16 @@
 //! A node: two loops over an agent.
 #![tactic(auto)]
 
+mod asking;
 mod clock;
 mod dice;
 mod ending;
 mod link;
+mod node;
 mod receiving;
 mod running;
 mod sending;
+mod serving;
 mod ticking;
 mod turned;
 mod udp;
@@ -16,6 +19,7 @@ pub use clock::{Clock, MachineClock};
 pub use dice::{Dice, PcgDice};
 pub use ending::{End, Ended, Why};
 pub use link::{Link, LinkFault, MAX_DATAGRAM};
+pub use node::{NodeEnd, NodeFault, run_node};
 pub use receiving::receive_loop;
 pub use running::{Side, run_loops};
 pub use ticking::tick_loop;

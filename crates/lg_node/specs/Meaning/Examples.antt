@@ -20,8 +20,8 @@ use Rattle.lg_agent.specs.Meaning.Calls.{IsCall}
 use Rattle.lg_node.specs.declared.ending.Why.TheVariants.{Ousted, LinkFailed, Refused}
 use Rattle.lg_node.specs.Meaning.Links.{handed, lost}
 use Rattle.lg_node.specs.Meaning.Links.LinkEvent.{Received, Silent, Handed}
-use Rattle.lg_node.specs.Meaning.Turns.{Turn, deeds, drops, losses, stops, Follows, SeesDue, SeesNoneDue}
-use Rattle.lg_node.specs.Meaning.Turns.Turn.{Quiet, Broken, Dropped, Heard, Unheard, Ticked}
+use Rattle.lg_node.specs.Meaning.Turns.{Turn, deeds, drops, losses, peers_in, stops, Follows, SeesDue, SeesNoneDue}
+use Rattle.lg_node.specs.Meaning.Turns.Turn.{Quiet, Broken, Dropped, Heard, Unheard, Ticked, Pulled}
 
 -- a Ping of a for b, numbered 7, and the Ack to it
 abbrev ping : Packet
@@ -149,3 +149,13 @@ none_is_due = record {
 nothing_is_sent : deeds (Ticked 0 (0 ∷ 1 ∷ 2 ∷ 3 ∷ 4 ∷ 5 ∷ 6 ∷ 7 ∷ []) started []) ≡ []
 unfolding by_computing
 nothing_is_sent = refl
+
+-- Two seeds are asked, in order, and the second packet isn't sent.
+abbrev two_asked : List Turn
+two_asked = Pulled 0 (at 1) started (true ∷ []) ∷ Pulled 0 (at 2) started (false ∷ []) ∷ []
+
+both_were_asked : flat_map peers_in two_asked ≡ at 1 ∷ at 2 ∷ []
+both_were_asked = refl
+
+one_was_lost : sum_by losses two_asked ≡ 1
+one_was_lost = refl

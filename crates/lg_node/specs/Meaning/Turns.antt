@@ -29,6 +29,8 @@ use Rattle.lg_node.specs.Meaning.Links.LinkEvent.{Received, Silent, Failed}
 --   nothing was due at a moment;
 --   there was a tick at a moment with random words, with this receipt, and of the reply's packets these were sent;
 --   the call for it was refused; or the look at the next deadline was.
+-- A turn of asking: a member at an address was asked at a moment for its table, with this receipt, and of the reply's
+-- packets these were sent.
 pub data Turn : Type 0 where
   Quiet : Turn
   Broken : Turn
@@ -39,6 +41,7 @@ pub data Turn : Type 0 where
   Ticked : ℕ → List ℕ → Receipt → List Bool → Turn
   Unticked : ℕ → List ℕ → Refusal → Turn
   Unseen : Refusal → Turn
+  Pulled : ℕ → Addr → Receipt → List Bool → Turn
 
 -- a turn of receiving
 abbrev pub receives : Turn → Bool
@@ -57,6 +60,11 @@ ticks_before until (Unticked now words e) = nat_lt now until
 ticks_before until (Unseen e) = true
 ticks_before until _ = false
 
+-- a turn of asking
+abbrev pub pulls : Turn → Bool
+pulls (Pulled now peer r sent) = true
+pulls _ = false
+
 -- What the link did in a turn: first the datagram is received, then the packets of the reply are handed over, once each
 -- and in order, to the addresses that the reply gives them.
 abbrev pub deeds : Turn → List LinkEvent
@@ -66,6 +74,7 @@ deeds (Dropped source bytes) = Received source bytes ∷ []
 deeds (Heard now source bytes p r sent) = Received source bytes ∷ handed r.reply.sends.items sent
 deeds (Unheard now source bytes e) = Received source bytes ∷ []
 deeds (Ticked now words r sent) = handed r.reply.sends.items sent
+deeds (Pulled now peer r sent) = handed r.reply.sends.items sent
 deeds _ = []
 
 -- the datagrams dropped, the packets not sent, and how often the link failed
@@ -76,6 +85,7 @@ drops _ = 0
 abbrev pub losses : Turn → ℕ
 losses (Heard now source bytes p r sent) = lost sent
 losses (Ticked now words r sent) = lost sent
+losses (Pulled now peer r sent) = lost sent
 losses _ = 0
 
 abbrev pub breaks : Turn → ℕ
@@ -87,6 +97,11 @@ abbrev pub words_in : Turn → List (List ℕ)
 words_in (Ticked now words r sent) = words ∷ []
 words_in (Unticked now words e) = words ∷ []
 words_in _ = []
+
+-- the address that was asked
+abbrev pub peers_in : Turn → List Addr
+peers_in (Pulled now peer r sent) = peer ∷ []
+peers_in _ = []
 
 -- dice gave these words, one throw after another
 abbrev pub Threw : {D : Type 0} → (D → List ℕ → D → Type 0) → D → List (List ℕ) → D → Type 0
@@ -125,6 +140,7 @@ IsTurn p (Ticked now words r sent) q =
     (m : Own) × SeesDue p now m × IsCall m (events.Tick now words) r q × (length sent ≡ length r.reply.sends.items)
 IsTurn p (Unticked now words e) q = SeesDue p now q × IsRefusal q.seen e
 IsTurn p (Unseen e) q = (q ≡ p) × (e ≡ NoView)
+IsTurn p (Pulled now peer r sent) q = IsCall p (events.Pull now peer) r q × (length sent ≡ length r.reply.sends.items)
 
 -- what some turns, one after another, do with the pass
 abbrev pub Follows : Own → List Turn → Own → Type 0

@@ -1,0 +1,83 @@
+-- What a node does from its opening to its end.
+use Rattle.std.specs.Prelude.{◌≡◌, ◌<◌, ◌⊎◌, ℕ, ◌+◌, ◌^◌, Bool, List, [], ◌∷◌, map}
+use Rattle.std.specs.Prelude.{MatchResult}
+use Rattle.std.specs.List.{flat_map, sum_by}
+use Rattle.lg_rules.specs.declared.addr.Addr.{Addr}
+use Rattle.lg_timing.specs.declared.config.Config.{Config}
+use Rattle.lg_timing.specs.declared.config.Seed.{Seed}
+use Rattle.lg_detector.specs.declared.event.Event.TheVariants.{Open}
+use Rattle.lg_detector.specs.Meaning.Step.{view_after}
+use Rattle.lg_agent.specs.declared.refusal.Refusal.TheVariants.{BadPacket, NoMemory, NoView}
+use Rattle.lg_agent.specs.Meaning.Ledger.{Own}
+use Rattle.lg_agent.specs.Meaning.Calls.{IsLook}
+use Rattle.lg_agent.specs.Meaning.Closing.{IsClosed, IsRefusedClosing}
+use Rattle.lg_node.specs.declared.ending.End.{End}
+use Rattle.lg_node.specs.declared.ending.Why.TheVariants.{Stopped}
+use Rattle.lg_node.specs.declared.node.NodeEnd.{NodeEnd}
+use Rattle.lg_node.specs.declared.node.NodeFault.{NodeFault}
+use Rattle.lg_node.specs.declared.node.NodeFault.TheVariants.{Refused}
+use Rattle.lg_node.specs.Meaning.Turns.{Turn, Line, Made, Ran, HadNoThread, Threw}
+use Rattle.lg_node.specs.Meaning.Turns.{pulls, receives, ticks_before, losses, peers_in, words_in}
+
+-- where the seeds are reached
+abbrev pub addrs : List Seed → List Addr
+addrs seeds = map (λ s. s.addr) seeds
+
+-- Seeds were asked for their tables: each one once, in order. So many of the packets weren't sent.
+pub record Asked (tells : Bool) (seeds : List Seed) (k k' : Line) (p q : Own) (unsent : ℕ) : Type 0 where
+  pub turns : List Turn
+  pub made : Made pulls tells turns k k' p q
+  pub each : flat_map peers_in turns ≡ addrs seeds
+  pub unsent_is : unsent ≡ sum_by losses turns
+
+-- the pass at a place of an agent that was opened at a moment: it has seen the opening, and made no call
+abbrev pub fresh : Config → ℕ → ℕ → Own
+fresh config start place = record { name = config.name; seat = place; seen = Open start config ∷ []; mine = [] }
+
+-- the end of a loop that makes no turn
+abbrev pub unstarted : End
+unstarted = record { why = Stopped; dropped = 0; unsent = 0; turns = 0 }
+
+-- The seeds were asked with one pass, and then both loops ran, each with a pass of its own; the ticking one over the
+-- link with which the seeds were asked. Where no thread could be had, neither made a turn.
+pub record HasServed
+    {D : Type 0} (throws : D → List ℕ → D → Type 0) (dice : D) (tells : Bool) (bound : ℕ) (config : Config)
+    (until start : ℕ) (hears hears' sends sends' : Line) (received ticked : End) (receiver ticker asker : Own)
+    : Type 0 where
+  pub between : Line
+  -- how many packets weren't sent to the seeds, and how many later
+  pub unsent : ℕ
+  pub later : ℕ
+  pub asked : Asked tells config.seeds.items sends between (fresh config start 3) asker unsent
+  pub received_so : Ran receives tells bound hears hears' (fresh config start 1) receiver received
+      ⊎ (HadNoThread receives tells bound hears hears' (fresh config start 1) receiver received
+      × (record ticked { unsent = later } ≡ unstarted))
+  pub ticked_so :
+      (ran : Ran (ticks_before until) tells bound between sends' (fresh config start 2) ticker
+      (record ticked { unsent = later }))
+      × ((rest : D) × Threw throws dice (flat_map words_in ran.turns) rest)
+  pub counted : later + unsent < 2 ^ 64 → ticked.unsent ≡ later + unsent
+
+-- A node ran. It opened an agent with three places, which asked its seeds and ran its loops. Then the pass that had
+-- asked the seeds read the members, and the agent was closed with what the three passes left.
+pub record IsRun
+    {D : Type 0} (throws : D → List ℕ → D → Type 0) (dice : D) (tells : Bool) (bound : ℕ) (config : Config)
+    (until : ℕ) (hears hears' sends sends' : Line) (e : NodeEnd) : Type 0 where
+  pub start : ℕ
+  pub receiver : Own
+  pub ticker : Own
+  pub asker : Own
+  pub reader : Own
+  pub served : HasServed throws dice tells bound config until start hears hears' sends sends' e.received e.ticked
+      receiver ticker asker
+  pub members : MatchResult e.members (λ records. (records.items ≡ view_after reader.seen) × IsLook asker reader)
+      (λ r. ((r ≡ NoView) ⊎ (r ≡ NoMemory)) × (reader ≡ asker))
+  pub closed : MatchResult e.closed (λ c. IsClosed 3 c (receiver ∷ ticker ∷ reader ∷ []))
+      (λ f. IsRefusedClosing 3 (receiver ∷ ticker ∷ reader ∷ []) f)
+
+-- what a node can be refused for before its loops: not for bytes that are no packet, and not for what looks are refused
+-- for
+abbrev pub IsEarly : NodeFault → Type 0
+IsEarly (Refused (BadPacket fault)) = ⊥
+IsEarly (Refused NoView) = ⊥
+IsEarly _ = Unit {0}

@@ -1,0 +1,38 @@
+//! The seeds are asked for their tables.
+ghost use Rattle.std.specs.Prelude.{◌≤◌, ◌*◌, length, IfOk, IfErr};
+ghost use Rattle.lg_agent.specs.Meaning.Ledger.{Own};
+ghost use Rattle.lg_agent.specs.Meaning.Calls.{IsRefusal};
+ghost use Rattle.lg_node.specs.Meaning.Turns.{line};
+ghost use Rattle.lg_node.specs.Meaning.Nodes.{Asked};
+
+use crate::clock::Clock;
+use crate::link::Link;
+use crate::turned::Turned;
+use lg_agent::{AgentName, Pass, Refusal};
+use lg_timing::{MAX_SEEDS, Seed};
+use std::alloc::Global;
+use std::sync::Wait;
+
+/// Asks each seed for its table, in order, and goes on where a packet isn't sent. It says how many weren't sent. The
+/// error is the refusal of the first call that is refused.
+pub(crate) fn ask_each<A: AgentName, R: Wait, L: Link, C: Clock>(
+    rt: &R,
+    alloc: Global,
+    pass: &mut Pass<'_, A>,
+    link: &mut L,
+    clock: &C,
+    seeds: &[Seed],
+) -> Result<u64, Refusal>
+    requires { length seeds.now ≤ MAX_SEEDS }
+    ensures asked { IfOk result (Asked L.tells seeds.now (line (L.log link.old) (L.failed link.old))
+        (line (L.log link.new) (L.failed link.new)) pass.old pass.new) }
+    ensures few { IfOk result (λ unsent. unsent ≤ 8 * MAX_SEEDS) }
+    ensures refused { IfErr result (λ e. (p : Own) × IsRefusal p.seen e) }
+{
+    let mut unsent = 0;
+    for seed in seeds {
+        let receipt = pass.pull(rt, alloc, clock.now(), seed.addr)?;
+        unsent += Turned::of(link, &receipt).unsent;
+    }
+    Ok(unsent)
+}
