@@ -24,3 +24,6 @@ pub use receiving::receive_loop;
 pub use running::{Side, run_loops};
 pub use ticking::tick_loop;
 pub use udp::UdpLink;
+
+#[cfg(test)]
+mod tests;
