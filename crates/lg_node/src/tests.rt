@@ -1,4 +1,5 @@
 //! Loops of b at 127.0.0.1:7000, which is opened at 0, over links, clocks and dice in memory.
+mod asking;
 mod both_loops;
 mod clocks;
 mod dice;

@@ -26,6 +26,10 @@ const ACK_8: &[u8; 11] = b"SL\x01\x03\x01b\x00\x00\x00\x08\x00";
 /// The Ping of b for c with its first number.
 const PING_OF_C: &[u8; 13] = b"SL\x01\x01\x01b\x00\x00\x00\x01\x01c\x00";
 
+/// The Pull of b at 127.0.0.1:7000 for the first records.
+const PULL_OF_B: &[u8; 21] =
+    b"SL\x01\x05\x01b\x00\x01\x01\x01b\x7f\x00\x00\x01\x1b\x58\x00\x00\x00\x00";
+
 /// What comes over a link.
 #[derive(Clone, Copy, Debug, PartialEq, Eq)]
 pub(super) enum Coming {
@@ -60,6 +64,7 @@ pub(super) enum Spelled {
     Ack7,
     Ack8,
     PingOfC,
+    PullOfB,
     Other,
 }
 
@@ -72,6 +77,8 @@ impl Spelled {
             Spelled::Ack8
         } else if bytes == &PING_OF_C[..] {
             Spelled::PingOfC
+        } else if bytes == &PULL_OF_B[..] {
+            Spelled::PullOfB
         } else {
             Spelled::Other
         }
