@@ -88,8 +88,8 @@ impl Spelled {
 /// One call of a link.
 #[derive(Clone, Copy, Debug, PartialEq, Eq)]
 pub(super) enum Call {
-    /// It waited for a datagram.
-    Receive,
+    /// It waited for a datagram, at most so many milliseconds.
+    Receive { limit_ms: u64 },
     /// A packet was handed over for an address, and was sent or not.
     Send { what: Spelled, to: Addr, sent: bool },
 }
@@ -98,7 +98,7 @@ impl Default for Call {
     ghost is_default = { λ _. Unit {0} };
 
     fn default() -> Self {
-        Call::Receive
+        Call::Receive { limit_ms: 0 }
     }
 }
 
@@ -219,11 +219,11 @@ impl<'a> Link for MemoryLink<'a> {
     fn receive(
         &mut self,
         buffer: &mut [u8; MAX_DATAGRAM],
-        _limit_ms: u64,
+        limit_ms: u64,
     ) -> Result<Option<(Addr, usize)>, LinkFault> {
         let coming = self.next();
         let fails = self.fails();
-        self.keep(Call::Receive);
+        self.keep(Call::Receive { limit_ms });
         if fails {
             return Err(LinkFault);
         }

@@ -6,6 +6,9 @@ use crate::{End, Why};
 use lg_agent::Refusal;
 use std::test::Fail;
 
+/// A turn waits 20 ms for a datagram.
+const RECEIVE: Call = Call::Receive { limit_ms: 20 };
+
 /// A link over which this comes, and which tells the loop to stop with one of its receivings.
 fn comes(first: Coming, second: Coming, third: Coming, stops_at: u64) -> Script {
     Script {
@@ -41,12 +44,7 @@ fn a_ping_is_answered(rt: HostRuntime) -> Result<(), Fail> {
         (outcome.end, outcome.received, outcome.entries),
         (end, 3, Some(2))
     );
-    let calls = [
-        Call::Receive,
-        Call::Receive,
-        Call::Receive,
-        ack(Spelled::Ack7, true),
-    ];
+    let calls = [RECEIVE, RECEIVE, RECEIVE, ack(Spelled::Ack7, true)];
     assert_eq!(rt; outcome.calls.as_slice(), calls.as_slice());
     Ok(())
 }
@@ -82,9 +80,9 @@ fn a_lost_ack_ends_nothing(rt: HostRuntime) -> Result<(), Fail> {
     script.fails_at = 2;
     let outcome = told(&rt, rt.alloc(), Run::receiving(script)).ok_or("not run")?;
     let calls = [
-        Call::Receive,
+        RECEIVE,
         ack(Spelled::Ack7, false),
-        Call::Receive,
+        RECEIVE,
         ack(Spelled::Ack8, true),
     ];
     assert_eq!(rt; outcome.calls.as_slice(), calls.as_slice());
@@ -125,7 +123,7 @@ fn a_claim_ousts_the_member(rt: HostRuntime) -> Result<(), Fail> {
         (outcome.end, outcome.entries, outcome.stop),
         (end, Some(2), true)
     );
-    let calls = [Call::Receive, ack(Spelled::Ack7, true)];
+    let calls = [RECEIVE, ack(Spelled::Ack7, true)];
     assert_eq!(rt; outcome.calls.as_slice(), calls.as_slice());
     Ok(())
 }
@@ -147,7 +145,7 @@ fn a_full_history_ends_the_loop(rt: HostRuntime) -> Result<(), Fail> {
         (outcome.end, outcome.entries, outcome.stop),
         (end, Some(2), true)
     );
-    let calls = [Call::Receive, ack(Spelled::Ack7, true), Call::Receive];
+    let calls = [RECEIVE, ack(Spelled::Ack7, true), RECEIVE];
     assert_eq!(rt; outcome.calls.as_slice(), calls.as_slice());
     Ok(())
 }

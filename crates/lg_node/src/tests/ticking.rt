@@ -77,7 +77,7 @@ fn a_round_pings_c(rt: HostRuntime) -> Result<(), Fail> {
 /// Whether the call at this place was sent.
 fn was_sent(calls: &[Call], place: usize) -> Option<bool> {
     match calls.get(place)? {
-        Call::Receive => None,
+        Call::Receive { .. } => None,
         Call::Send { sent, .. } => Some(*sent),
     }
 }
