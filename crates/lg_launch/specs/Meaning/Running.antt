@@ -1,0 +1,136 @@
+-- How a node of a configuration is run: what is told of its end, and what is written.
+use Rattle.std.specs.Prelude.{◌≡◌, ⊤, ◌⊎◌, ℕ, Bool, true, false, List, if◌then◌else◌, unwrap_or}
+use Rattle.std.specs.Prelude.{Option, Some, None, Result, Ok, Err, MatchResult}
+use Rattle.std.specs.Option.{option_map}
+use Rattle.std.specs.Result.{result_ok}
+use Rattle.std.specs.Io.KnownBytes.{Appends}
+use Rattle.lg_rules.specs.declared.claim.Claim.{Claim}
+use Rattle.lg_text.specs.Meaning.Running.{AppendsFront}
+use Rattle.lg_text.specs.declared.fault.RunFault.{RunFault}
+use Rattle.lg_text.specs.declared.fault.RunFault.TheVariants as fault
+use Rattle.lg_report.specs.Meaning.Records.{table_text}
+use Rattle.lg_agent.specs.declared.refusal.Refusal.{Refusal}
+use Rattle.lg_config.specs.declared.fault.ReadFault.{ReadFault}
+use Rattle.lg_config.specs.declared.fault.ReadFault.TheVariants.{NoMemory, File}
+use Rattle.lg_config.specs.declared.node.NodeConfig.{NodeConfig}
+use Rattle.lg_config.specs.Meaning.Answer.{IsAnswer}
+use Rattle.lg_node.specs.declared.ending.Why.{Why}
+use Rattle.lg_node.specs.declared.ending.Why.TheVariants as why
+use Rattle.lg_node.specs.declared.node.NodeEnd.{NodeEnd}
+use Rattle.lg_node.specs.declared.node.NodeFault.{NodeFault}
+use Rattle.lg_node.specs.declared.node.NodeFault.TheVariants as node
+use Rattle.lg_node.specs.Meaning.Nodes.{IsRun, IsEarly}
+use Rattle.lg_node.specs.Meaning.Turns.{Line}
+use Rattle.lg_node.specs.Meaning.Words.{seeded, DrawsEight}
+use Rattle.lg_launch.specs.declared.told.Told.{Told}
+use Rattle.lg_launch.specs.declared.told.Told.TheVariants.{Done, Memory, Read, Turns, Refused, Close, Config, Ousted, Link}
+use Rattle.lg_launch.specs.Meaning.Telling.{fault_told, line_of, refusal_told, status_of}
+
+-- the first end that isn't Stopped, the receiving loop's before the ticking loop's
+abbrev pub first_end : Why → Why → Why
+first_end why.Stopped ticked = ticked
+first_end received ticked = received
+
+-- whether the table is written after such an end
+abbrev pub wants_table : Why → Bool
+wants_table why.Stopped = true
+wants_table why.Ousted = true
+wants_table why.LinkFailed = false
+wants_table (why.Refused refusal) = false
+wants_table why.ReadBound = false
+
+-- what is told of such an end
+abbrev pub end_told : Why → Told
+end_told why.Stopped = Done
+end_told why.Ousted = Ousted
+end_told why.LinkFailed = Link
+end_told (why.Refused refusal) = refusal_told refusal
+end_told why.ReadBound = Turns
+
+-- what went wrong after the loops, the first of these: the members were refused, their table wasn't written, the agent
+-- wasn't closed
+abbrev pub late_fault : {M C F : Type 0} → Result M Refusal → Result (Unit {0}) RunFault → Result C F → Option Told
+late_fault (Err refusal) written closed = Some (refusal_told refusal)
+late_fault (Ok members) (Err fault) closed = Some (fault_told fault)
+late_fault (Ok members) (Ok done) (Err fault) = Some Close
+late_fault (Ok members) (Ok done) (Ok closed) = None
+
+-- what is told of a node that began its loops, by how its table was written
+abbrev pub node_told : NodeEnd → Result (Unit {0}) RunFault → Told
+node_told e written =
+    let first = first_end e.received.why e.ticked.why in
+    if wants_table first then unwrap_or (late_fault e.members written e.closed) (end_told first) else end_told first
+
+-- what is told of a node that was run
+abbrev pub run_told : Result NodeEnd NodeFault → Result (Unit {0}) RunFault → Told
+run_told (Ok e) written = node_told e written
+run_told (Err node.Socket) written = Link
+run_told (Err node.Clock) written = Refused
+run_told (Err (node.Refused refusal)) written = refusal_told refusal
+
+-- the records of the table that is to be written, if one is
+abbrev pub table_of : Result NodeEnd NodeFault → Option (List Claim)
+table_of (Ok e) =
+    if wants_table (first_end e.received.why e.ticked.why) then option_map (λ v. v.items) (result_ok e.members) else None
+table_of (Err fault) = None
+
+-- A table is written, if there is one: the whole text, unless writing failed, which doesn't say how much of it. Nothing
+-- is, where memory for the text was refused.
+abbrev pub Writes :
+    {W : Type 0} → (before after : W) (held holds : Option (List ℕ)) → Option (List Claim) → Result (Unit {0}) RunFault → Type 0
+Writes before after held holds None written = (after ≡ before) × (written ≡ Ok tt)
+Writes before after held holds (Some records) (Ok done) = Appends held holds (table_text records)
+Writes before after held holds (Some records) (Err fault.Memory) = after ≡ before
+Writes before after held holds (Some records) (Err fault.Read) = ⊥
+Writes before after held holds (Some records) (Err fault.Write) = ⊤
+
+-- the node of a configuration ran until a moment, over links that tell their failures alone, with at most this many turns
+-- a loop
+abbrev pub HasRun : NodeConfig → ℕ → NodeEnd → Type 0
+HasRun n until e = (hears : Line) × (hears' : Line) × (sends : Line) × (sends' : Line)
+    × IsRun DrawsEight (seeded n.dice) false 1000000000 n.config until hears hears' sends sends' e
+
+-- The node of a configuration ran, or ended before its loops. Its table was written, if it was to be, and what is told of
+-- it was reported, as far as the report was taken.
+pub record RunsNode
+    {W : Type 0} (before after : W) (held holds reported reports : Option (List ℕ)) (n : NodeConfig) (until status : ℕ)
+    : Type 0 where
+  pub ran : Result NodeEnd NodeFault
+  pub written : Result (Unit {0}) RunFault
+  pub run : MatchResult ran (HasRun n until) IsEarly
+  pub table : Writes before after held holds (table_of ran) written
+  pub line : AppendsFront reported reports (line_of (run_told ran written))
+  pub is : status ≡ status_of (run_told ran written)
+
+-- Nothing is written, and this is told, as far as the report is taken.
+pub record TellsAlone
+    {W : Type 0} (before after : W) (reported reports : Option (List ℕ)) (told : Told) (status : ℕ) : Type 0 where
+  pub unwritten : after ≡ before
+  pub line : AppendsFront reported reports (line_of told)
+  pub is : status ≡ status_of told
+
+-- A configuration that was read is run; why none was read is told.
+abbrev pub RunsAnswer :
+    {W : Type 0} → (before after : W) (held holds reported reports : Option (List ℕ)) → Result NodeConfig ReadFault
+    → (until status : ℕ) → Type 0
+RunsAnswer before after held holds reported reports (Ok n) until status =
+    RunsNode before after held holds reported reports n until status
+RunsAnswer before after held holds reported reports (Err NoMemory) until status =
+    TellsAlone before after reported reports Memory status
+RunsAnswer before after held holds reported reports (Err (File fault)) until status =
+    TellsAlone before after reported reports (Config fault) status
+
+-- The bytes of a file are read as a configuration, and that is run.
+pub record RunsBytes
+    {W : Type 0} (before after : W) (held holds reported reports : Option (List ℕ)) (bytes : List ℕ) (until status : ℕ)
+    : Type 0 where
+  pub answer : Result NodeConfig ReadFault
+  pub read : IsAnswer bytes answer
+  pub runs : RunsAnswer before after held holds reported reports answer until status
+
+-- A file gives some bytes, and these are run; or it can't be read, or memory is refused for it, and that is told.
+abbrev pub RunsFile :
+    {W : Type 0} → (before after : W) (held holds reported reports : Option (List ℕ)) (until status : ℕ) → Type 0
+RunsFile before after held holds reported reports until status =
+    TellsAlone before after reported reports Read status ⊎ TellsAlone before after reported reports Memory status
+    ⊎ ((bytes : List ℕ) × RunsBytes before after held holds reported reports bytes until status)

@@ -1,0 +1,99 @@
+//! What is told of how a node ended.
+ghost use Rattle.std.specs.Prelude.{◌≡◌};
+ghost use Rattle.std.specs.Option.{option_map};
+ghost use Rattle.lg_launch.specs.Meaning.Running.{end_told, first_end, late_fault, node_told, run_told, table_of, wants_table};
+
+use crate::told::Told;
+use lg_node::{NodeEnd, NodeFault, Why};
+use lg_rules::Record;
+use lg_text::RunFault;
+
+/// The first end that isn't [`Why::Stopped`], the receiving loop's before the ticking loop's.
+fn first_end(end: &NodeEnd) -> Why
+    ensures { result ≡ first_end end.now.received.why end.now.ticked.why }
+{
+    match end.received.why {
+        Why::Stopped => end.ticked.why,
+        why => why,
+    }
+}
+
+/// Whether the table is written after such an end.
+fn wants_table(why: Why) -> bool
+    ensures { result ≡ wants_table why }
+{
+    matches!(why, Why::Stopped | Why::Ousted)
+}
+
+/// The records of the table that is to be written, if one is.
+pub(crate) fn table_of(ran: &Result<NodeEnd, NodeFault>) -> Option<&[Record]>
+    ensures { option_map (λ records. records.now) result ≡ table_of ran.now }
+{
+    let Ok(end) = ran else {
+        return None;
+    };
+    if !wants_table(first_end(end)) {
+        return None;
+    }
+    match &end.members {
+        Ok(records) => Some(records.as_slice()),
+        Err(_) => None,
+    }
+}
+
+/// What went wrong after the loops, if anything did: the members were refused, their table wasn't written, or the agent
+/// wasn't closed.
+fn late_fault(end: &NodeEnd, written: Result<(), RunFault>) -> Option<Told>
+    ensures { result ≡ late_fault end.now.members written end.now.closed }
+{
+    match (&end.members, written, &end.closed) {
+        (Err(refusal), _, _) => Some(Told::from(*refusal)),
+        (Ok(_), Err(fault), _) => Some(Told::from(fault)),
+        (Ok(_), Ok(()), Err(_)) => Some(Told::Close),
+        (Ok(_), Ok(()), Ok(_)) => None,
+    }
+}
+
+/// What is told of an end, where nothing went wrong after it.
+fn end_told(why: Why) -> Told
+    ensures { result ≡ end_told why }
+{
+    match why {
+        Why::Stopped => Told::Done,
+        Why::Ousted => Told::Ousted,
+        Why::LinkFailed => Told::Link,
+        Why::Refused(refusal) => Told::from(refusal),
+        Why::ReadBound => Told::Turns,
+    }
+}
+
+impl Told {
+    /// What is told of a node that was run, by how its table was written, which counts only where it was to be.
+    ///
+    /// The first end that isn't [`Why::Stopped`] is told, the receiving loop's before the ticking loop's. Where there
+    /// is none, or it is [`Why::Ousted`], the table was to be written, and the first of these is told before that: that
+    /// the members were refused, that the writing failed, that the agent wasn't closed. A node that ended before its
+    /// loops is told as [`Told::Link`] where its socket couldn't be bound, as [`Told::Refused`] where the clock
+    /// couldn't be read, and else as its refusal.
+    pub fn of(ran: &Result<NodeEnd, NodeFault>, written: Result<(), RunFault>) -> Told
+        ensures { result ≡ run_told ran.now written }
+    {
+        match ran {
+            Ok(end) => node_told(end, written),
+            Err(NodeFault::Socket) => Told::Link,
+            Err(NodeFault::Clock) => Told::Refused,
+            Err(NodeFault::Refused(refusal)) => Told::from(*refusal),
+        }
+    }
+}
+
+/// What is told of a node that began its loops.
+fn node_told(end: &NodeEnd, written: Result<(), RunFault>) -> Told
+    ensures { result ≡ node_told end.now written }
+{
+    let why = first_end(end);
+    if !wants_table(why) {
+        return end_told(why);
+    }
+    late_fault(end, written).unwrap_or(end_told(why))
+}
