@@ -14,12 +14,10 @@ use Rattle.clap.specs.declared.builder.command.Command.{Command}
 use Rattle.clap.specs.declared.builder.command.Command.TheViews.{out-Command}
 use Rattle.clap.specs.declared.error.Error.{Error}
 use Rattle.clap.specs.declared.error.kind.ErrorKind.{ErrorKind}
-use Rattle.clap.specs.declared.error.kind.ErrorKind.TheVariants.{ValueValidation}
 use Rattle.clap.specs.declared.builder.value_parser.ValueParser.{ValueParser}
 use Rattle.clap.specs.declared.builder.value_parser.ValueParser.TheVariants.{Unsigned}
 use Rattle.clap.proofs.ValueTestLemmas.{accepts-Accepts, Accepts-accepts}
-use Rattle.lg_cli.specs.Meaning.Commands.{Request, answer, order, timeouts, sim, option_number, request_faults, IfTimeouts}
-use Rattle.lg_cli.specs.Meaning.Timeouts.{are_good}
+use Rattle.lg_cli.specs.Meaning.Commands.{option_number}
 
 abbrev any_number : ValueParser
 any_number = Unsigned 0 18446744073709551615
@@ -73,14 +71,3 @@ among_more kind (k ∷ ks) next among = among
 pub kind_of_first : (error : Error) (first next : Kinds) → HasKind first error → HasKind (or_else first next) error
 kind_of_first error first next (inl memory) = inl memory
 kind_of_first error first next (inr among) = inr (among_more _ first next among)
-
--- a request with no fault has good numbers
-pub faultless_is_good : (request : Request) → request_faults request ≡ [] → IfTimeouts request (λ numbers. are_good numbers ≡ true)
-faultless_is_good (answer text) none = tt
-faultless_is_good (order names words) none = tt
-faultless_is_good sim none = tt
-faultless_is_good (timeouts numbers) none = go (are_good numbers) refl
-  where
-    go : (b : Bool) → are_good numbers ≡ b → are_good numbers ≡ true
-    go true it = it
-    go false it = let bad : ValueValidation ∷ [] ≡ [] = sym (ap (λ (b : Bool). cond b [] (ValueValidation ∷ [])) it) ∙ none in absurd cc

@@ -1,13 +1,14 @@
 //! The command line of the program.
-ghost use Rattle.std.specs.Prelude.{◌≡◌, IfOk, map, true, false};
+ghost use Rattle.std.specs.Prelude.{◌≡◌, ◌≤◌, IfOk, map, true, false};
 ghost use Rattle.clap.specs.Kinds.{FailsBy};
 ghost use Rattle.clap.specs.Matches.{found_of};
 ghost use Rattle.clap.specs.Simple.{app_of, subcommand_rows_of};
 ghost use Rattle.clap.specs.Walk.{rows_of, rule_of};
 ghost use Rattle.clap.specs.declared.builder.command.Command.TheViews.{out-Command as fields_of};
-ghost use Rattle.lg_cli.specs.Meaning.Commands.{answer_app, asked, lg_app, line_faults, number_in, number_rule};
-ghost use Rattle.lg_cli.specs.Meaning.Commands.{numbers_in, order_app, request_faults, request_of_rows};
-ghost use Rattle.lg_cli.specs.Meaning.Commands.{sim_app, text_in, text_rule, timeouts_app, IfTimeouts};
+ghost use Rattle.lg_cli.specs.Meaning.Commands.{answer_app, asked, has_good_numbers, lg_app, line_faults, node_app};
+ghost use Rattle.lg_cli.specs.Meaning.Commands.{number_in, number_rule, numbers_in, order_app, request_faults};
+ghost use Rattle.lg_cli.specs.Meaning.Commands.{request_of_rows, sim_app, text_in, text_rule, timeouts_app};
+ghost use Rattle.lg_cli.specs.Meaning.Commands.{IfNode, IfTimeouts};
 ghost use Rattle.lg_cli.specs.Meaning.Timeouts.{are_good};
 ghost use Rattle.lg_cli.specs.Support.Requests.{request_of};
 
@@ -19,6 +20,9 @@ use lg_rules::MAX_MEMBERS;
 use lg_timing::{MAX_CONFIRMATIONS, MAX_FACTOR, MAX_INTERVAL_MS, MIN_INTERVAL_MS};
 use std::alloc::{AllocError, Global};
 use std::convert::AsStr;
+
+/// The longest run of a node, one day, in milliseconds (this project's choice).
+pub const MAX_RUN_MS: u64 = 86_400_000;
 
 /// What a command line asks for.
 #[derive(Clone, Copy, Debug)]
@@ -35,6 +39,13 @@ pub enum Asked<'a> {
         /// The text of the words, which may be bad.
         words: &'a str,
     },
+    /// The command `node`, with the path of its configuration and how long it runs.
+    Node {
+        /// The path, which may name no file.
+        file: &'a str,
+        /// For how many milliseconds: 1 to [`MAX_RUN_MS`].
+        for_ms: u64,
+    },
     /// The command `sim`.
     Sim,
     /// The command `timeouts`.
@@ -42,6 +53,19 @@ pub enum Asked<'a> {
         /// Its numbers.
         numbers: Numbers,
     },
+}
+
+impl Asked<'_> {
+    /// Whether each of its numbers is in its range.
+    fn has_good_numbers(&self) -> bool
+        ensures { result ≡ has_good_numbers (request_of self.now) }
+    {
+        match self {
+            Asked::Node { for_ms, .. } => (1..=MAX_RUN_MS).contains(for_ms),
+            Asked::Timeouts { numbers } => numbers.are_good(),
+            Asked::Answer { .. } | Asked::Order { .. } | Asked::Sim => true,
+        }
+    }
 }
 
 /// The option `--ID TEXT`, which is required.
@@ -137,6 +161,23 @@ fn timeouts_command<'a>(alloc: Global) -> Result<Command<'a>, AllocError>
         .arg(interval.default_value("1000"))
 }
 
+/// The command `node --config FILE --for-ms N`.
+fn node_command<'a>(alloc: Global) -> Result<Command<'a>, AllocError>
+    ensures app { IfOk result (λ command. app_of command ≡ node_app) }
+    ensures local { IfOk result (λ command. (fields_of command).has_globals ≡ false) }
+{
+    let config = text_option(alloc, "config", "FILE").help(
+        "The file that has the node's configuration",
+    );
+    let for_ms = number_option(alloc, "for-ms", 1, MAX_RUN_MS).help(
+        "For how many milliseconds the node runs, at most a day",
+    );
+    Command::new(alloc, "node")
+        .about("Runs a node, a member of a group, from a configuration")
+        .arg(config)?
+        .arg(for_ms.required(true))
+}
+
 /// The program with its commands, one of which has to be named.
 fn lg_command<'a>(alloc: Global) -> Result<Command<'a>, AllocError>
     ensures { IfOk result (λ command. app_of command ≡ lg_app) }
@@ -145,23 +186,28 @@ fn lg_command<'a>(alloc: Global) -> Result<Command<'a>, AllocError>
     let order = order_command(alloc)?;
     let timeouts = timeouts_command(alloc)?;
     let sim = sim_command(alloc);
+    let node = node_command(alloc)?;
     let lg = Command::new(alloc, "lg")
         .about("A SWIM failure detector with Lifeguard's extensions")
         .subcommand_required(true)
         .subcommand(answer)?
         .subcommand(order)?
         .subcommand(timeouts)?
-        .subcommand(sim)?;
+        .subcommand(sim)?
+        .subcommand(node)?;
     Ok(lg)
 }
 
 /// What the words of a command line ask for, of which the first is the program's name.
 ///
-/// The numbers of `timeouts` are good. The error is clap's: memory was refused, or the words ask for
-/// help or aren't a command of the program; its text is for the user.
+/// The numbers of `timeouts` are good, and a node runs for 1 to [`MAX_RUN_MS`] milliseconds. The
+/// error is clap's: memory was refused, or the words ask for help or aren't a command of the
+/// program; its text is for the user.
 pub fn read_words<'a, S: AsStr>(alloc: Global, words: &'a [S]) -> Result<Asked<'a>, Error>
     ensures asked { IfOk result (λ found. request_of found ≡ asked (map S.text words.entry.now)) }
     ensures good { IfOk result (λ found. IfTimeouts (request_of found) (λ numbers. are_good numbers ≡ true)) }
+    ensures ending { IfOk result (λ found. IfNode (request_of found) (λ _ for_ms.
+        (1 ≤ for_ms) × (for_ms ≤ MAX_RUN_MS))) }
     ensures refused { FailsBy (line_faults (map S.text words.entry.now)) result }
 {
     let mut lg = lg_command(alloc)?;
@@ -177,14 +223,13 @@ pub fn read_words<'a, S: AsStr>(alloc: Global, words: &'a [S]) -> Result<Asked<'
 /// hold on them.
 fn checked<'a>(asked: Asked<'a>, lg: &mut Command) -> Result<Asked<'a>, Error>
     ensures same { IfOk result (λ found. request_of found ≡ request_of asked.entry) }
+    ensures good { IfOk result (λ found. has_good_numbers (request_of found) ≡ true) }
     ensures refused { FailsBy (request_faults (request_of asked.entry)) result }
 {
-    match asked {
-        Asked::Timeouts { numbers } if !numbers.are_good() => {
-            Err(lg.error(ErrorKind::ValueValidation, "a number is out of its range")?)
-        }
-        _ => Ok(asked),
+    if asked.has_good_numbers() {
+        return Ok(asked);
     }
+    Err(lg.error(ErrorKind::ValueValidation, "a number is out of its range")?)
 }
 
 /// What the matches of a command line ask for.
@@ -193,6 +238,10 @@ fn asked_in<'a>(matches: &ArgMatches<'a>) -> Asked<'a>
 {
     match matches.subcommand() {
         Some(("sim", _)) => Asked::Sim,
+        Some(("node", found)) => Asked::Node {
+            file: text_in(found, "config"),
+            for_ms: number_in(found, "for-ms"),
+        },
         Some(("timeouts", found)) => Asked::Timeouts {
             numbers: numbers_in(found),
         },

@@ -7,9 +7,9 @@ ghost use Rattle.lg_rules.specs.Meaning.Name.{name_of_text};
 ghost use Rattle.lg_text.specs.Meaning.Faults.{run_fault_text};
 ghost use Rattle.lg_text.specs.Meaning.Running.{AppendsFront, ReadsWhole};
 ghost use Rattle.lg_cli.specs.Meaning.Choosing.{order_text};
-ghost use Rattle.lg_cli.specs.Meaning.Running.{FailsBy, RunsAnswer, RunsOrder, RunsSim, RunsTimeouts};
-ghost use Rattle.lg_cli.specs.Meaning.Commands.{asked, line_faults, status_of_kind, IfAnswer, IfOrder, IfTimeouts};
-ghost use Rattle.lg_cli.specs.Meaning.Commands.{IfSim, RefusesLine};
+ghost use Rattle.lg_cli.specs.Meaning.Running.{FailsBy, LeavesNode, RunsAnswer, RunsOrder, RunsSim, RunsTimeouts};
+ghost use Rattle.lg_cli.specs.Meaning.Commands.{asked, line_faults, status_of_kind, IfAnswer, IfNode, IfOrder};
+ghost use Rattle.lg_cli.specs.Meaning.Commands.{IfSim, IfTimeouts, RefusesLine};
 ghost use Rattle.lg_cli.specs.Meaning.Timeouts.{are_good};
 
 use crate::command::{Asked, read_words};
@@ -35,16 +35,17 @@ const USAGE: u8 = 2;
 const BAD_INPUT: u8 = 3;
 
 /// Runs the program on the words of a command line, of which the first is the program's name, and
-/// gives its exit status.
+/// gives its exit status. It runs all commands but `node`.
 ///
 /// `reader`, `writer` and `faults` stand for the standard input, output and error. The statuses
 /// are 0 where all was done, also where help was asked for, which is written; 1 where memory, a
 /// read or a write failed, reported as `lg: memory`, `lg: read` or `lg: write`; 2 where the command
-/// line is refused, reported by a text of the command line's own; 3 for bad input: `lg: bad names`
-/// where the text of `--name` is no name, and nothing is then read, or where that of `--names` is no
-/// list of 1 to 255 different names, `lg: bad words` where that of `--words` is no list of words, or
-/// a faulty line of the input of `answer` or `sim`, of which nothing is reported. `order` and
-/// `timeouts` read nothing. A line that `faults` doesn't take is dropped.
+/// line is refused, reported by a text of the command line's own, or asks for `node`, reported by a
+/// line, with nothing read or written; 3 for bad input: `lg: bad names` where the text of `--name`
+/// is no name, and nothing is then read, or where that of `--names` is no list of 1 to 255 different
+/// names, `lg: bad words` where that of `--words` is no list of words, or a faulty line of the input
+/// of `answer` or `sim`, of which nothing is reported. `order` and `timeouts` read nothing. A line
+/// that `faults` doesn't take is dropped.
 pub fn run_words<S: AsStr, R: Read, W: Write, F: Write>(
     alloc: Global,
     words: &[S],
@@ -76,6 +77,9 @@ pub fn run_words<S: AsStr, R: Read, W: Write, F: Write>(
         → IfSim (asked line) (RunsSim (R.remaining reader.old) (R.remaining reader.new) (W.contents writer.old)
         (W.contents writer.new) (F.contents faults.old) (F.contents faults.new) result) }
     ensures timed_unread { IfTimeouts (asked (map S.text words.now)) (λ _. reader.new ≡ reader.old) }
+    ensures left { let line = map S.text words.now in line_faults line ≡ [] → result ≢ FAILED
+        → IfNode (asked line) (λ _ _. LeavesNode (F.contents faults.old) (F.contents faults.new) result) }
+    ensures left_unread { IfNode (asked (map S.text words.now)) (λ _ _. reader.new ≡ reader.old) }
 
     // Any other is refused, or asks for help.
     ensures refused { let line = map S.text words.now in line_faults line ≢ [] → result ≢ FAILED
@@ -98,6 +102,7 @@ pub fn run_words<S: AsStr, R: Read, W: Write, F: Write>(
         Ok(Asked::Answer { name }) => answer_named(alloc, name, reader, writer, faults),
         Ok(Asked::Order { names, words }) => order_lists(alloc, names, words, writer, faults),
         Ok(Asked::Sim) => simulate(alloc, reader, writer, faults),
+        Ok(Asked::Node { .. }) => leave_node(faults),
         Ok(Asked::Timeouts { numbers }) => timeouts_of(alloc, &numbers, writer, faults),
         Err(error) => report_refusal(&error, writer, faults),
     }
@@ -213,6 +218,14 @@ fn timeouts_of<W: Write, F: Write>(
             FAILED
         }
     }
+}
+
+/// Reports that `node` isn't run, and gives the status.
+fn leave_node<F: Write>(faults: &mut F) -> u8
+    ensures { LeavesNode (F.contents faults.old) (F.contents faults.new) result }
+{
+    report(faults, "error: the command node isn't run here\n");
+    USAGE
 }
 
 /// Reports why a command line isn't run, or writes the help that it asks for, and gives the status.

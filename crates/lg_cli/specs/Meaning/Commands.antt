@@ -15,6 +15,8 @@ use Rattle.clap.specs.declared.error.kind.ErrorKind.{ErrorKind}
 use Rattle.clap.specs.declared.error.kind.ErrorKind.TheVariants.{DisplayHelp, DisplayVersion, ValueValidation}
 use Rattle.lg_rules.specs.Meaning.Bounds.{most_members}
 use Rattle.lg_timing.specs.Meaning.Bounds.{least_interval_ms, most_confirmations, most_factor, most_interval_ms}
+use Rattle.lg_timing.specs.Meaning.Config.{is_within}
+use Rattle.lg_cli.specs.Meaning.Ranges.{most_run_ms}
 use Rattle.lg_cli.specs.Meaning.Timeouts.{are_good}
 use Rattle.lg_cli.specs.declared.timeouts.Numbers.{Numbers}
 
@@ -64,12 +66,18 @@ timeouts_app =
 abbrev pub sim_app : App
 sim_app = new_app (codes "sim")
 
--- the program has the commands `answer`, `order`, `timeouts` and `sim`, and one of its commands has to be named
+abbrev pub for_ms_rule : Rule
+for_ms_rule = required_rule (number_rule (codes "for-ms") 1 most_run_ms)
+
+abbrev pub node_app : App
+node_app = with_rule (with_rule (new_app (codes "node")) (text_rule (codes "config"))) for_ms_rule
+
+-- the program has the commands `answer`, `order`, `timeouts`, `sim` and `node`, and one of them has to be named
 abbrev pub lg_app : App
 lg_app =
     let lg = on_top (λ s. record s { subcommand_required = true }) (new_app (codes "lg")) in
     let others = with_subcommand (with_subcommand (with_subcommand lg answer_app.top) order_app.top) timeouts_app.top in
-    with_subcommand others sim_app.top
+    with_subcommand (with_subcommand others sim_app.top) node_app.top
 
 -- the text of an option, or an empty one where it has none
 abbrev pub text_in : List Row → Text → Text
@@ -99,6 +107,7 @@ pub data Request : Type 0 where
   order : Text → Text → Request
   timeouts : Numbers → Request
   sim : Request
+  node : Text → ℕ → Request
 
 -- whether the command of this name was met
 abbrev pub is_met : Text → Option (Text × List Row) → Bool
@@ -113,6 +122,7 @@ abbrev pub request_of_rows : Option (Text × List Row) → Request
 request_of_rows met =
     let rows = rows_met met in
     if is_met (codes "sim") met then sim
+    else if is_met (codes "node") met then node (text_in rows (codes "config")) (number_in rows (codes "for-ms"))
     else if is_met (codes "timeouts") met then timeouts (numbers_in rows)
     else if is_met (codes "order") met then order (text_in rows (codes "names")) (text_in rows (codes "words"))
     else answer (text_in rows (codes "name"))
@@ -121,12 +131,17 @@ request_of_rows met =
 unfoldable pub asked : List Text → Request
 asked words = request_of_rows (subcommand_of lg_app words)
 
+-- whether each number is in its range
+abbrev pub has_good_numbers : Request → Bool
+has_good_numbers (answer text) = true
+has_good_numbers (order names words) = true
+has_good_numbers (timeouts numbers) = are_good numbers
+has_good_numbers sim = true
+has_good_numbers (node file for_ms) = is_within 1 most_run_ms for_ms
+
 -- numbers that aren't good are refused
 abbrev pub request_faults : Request → Kinds
-request_faults (answer text) = []
-request_faults (order names words) = []
-request_faults (timeouts numbers) = if are_good numbers then [] else ValueValidation ∷ []
-request_faults sim = []
+request_faults request = if has_good_numbers request then [] else ValueValidation ∷ []
 
 -- why a command line is refused, or that it asks for help; empty where it is taken
 unfoldable pub line_faults : List Text → Kinds
@@ -138,6 +153,7 @@ IfAnswer (answer text) P = P text
 IfAnswer (order names words) P = Unit {0}
 IfAnswer (timeouts numbers) P = Unit {0}
 IfAnswer sim P = Unit {0}
+IfAnswer (node file for_ms) P = Unit {0}
 
 -- a fact about the two texts of `order`, of its names and of its words
 abbrev pub IfOrder : Request → (Text → Text → Type 0) → Type 0
@@ -145,6 +161,7 @@ IfOrder (answer text) P = Unit {0}
 IfOrder (order names words) P = P names words
 IfOrder (timeouts numbers) P = Unit {0}
 IfOrder sim P = Unit {0}
+IfOrder (node file for_ms) P = Unit {0}
 
 -- a fact about the numbers of `timeouts`
 abbrev pub IfTimeouts : Request → (Numbers → Type 0) → Type 0
@@ -152,6 +169,7 @@ IfTimeouts (answer text) P = Unit {0}
 IfTimeouts (order names words) P = Unit {0}
 IfTimeouts (timeouts numbers) P = P numbers
 IfTimeouts sim P = Unit {0}
+IfTimeouts (node file for_ms) P = Unit {0}
 
 -- a fact where `sim` is asked for
 abbrev pub IfSim : Request → Type 0 → Type 0
@@ -159,6 +177,15 @@ IfSim (answer text) P = Unit {0}
 IfSim (order names words) P = Unit {0}
 IfSim (timeouts numbers) P = Unit {0}
 IfSim sim P = P
+IfSim (node file for_ms) P = Unit {0}
+
+-- a fact about the path of `node` and for how many milliseconds it runs
+abbrev pub IfNode : Request → (Text → ℕ → Type 0) → Type 0
+IfNode (answer text) P = Unit {0}
+IfNode (order names words) P = Unit {0}
+IfNode (timeouts numbers) P = Unit {0}
+IfNode sim P = Unit {0}
+IfNode (node file for_ms) P = P file for_ms
 
 -- the status of a command line that isn't run: 0 where it asks for help
 abbrev pub status_of_kind : ErrorKind → ℕ

@@ -18,7 +18,7 @@ use Rattle.lg_text.specs.Meaning.Lines.{lines_of, newline}
 use Rattle.lg_text.specs.declared.end.End.TheVariants.{Done}
 use Rattle.lg_cli.specs.Meaning.Answering.{answer_end, answer_text, events_of, heard, local, opening, sent_text}
 use Rattle.lg_cli.specs.Meaning.Choosing.{are_names, comma_parts, names_in, order_text, words_in}
-use Rattle.lg_cli.specs.Meaning.Commands.{answer, order, timeouts, asked, line_faults}
+use Rattle.lg_cli.specs.Meaning.Commands.{answer, node, order, timeouts, asked, line_faults}
 use Rattle.lg_cli.specs.Meaning.Spelled.{packet_in}
 use Rattle.lg_cli.specs.Meaning.Timeouts.{timeouts_text}
 use Rattle.lg_cli.specs.declared.order.BadList.TheVariants.{Names, Words}
@@ -149,6 +149,34 @@ two-alphas : line_faults (codes "lg" ∷ codes "timeouts" ∷ codes "--members=4
     ≡ kind.ArgumentConflict ∷ []
 unfolding line_faults asked clap_on_literals
 two-alphas = refl
+
+run-of-a-day : asked (codes "lg" ∷ codes "node" ∷ codes "--for-ms=86400000" ∷ codes "--config" ∷ codes "a.toml" ∷ [])
+    ≡ node (codes "a.toml") 86400000
+unfolding asked clap_on_literals
+run-of-a-day = refl
+
+shortest-run : line_faults (codes "lg" ∷ codes "node" ∷ codes "--config=a.toml" ∷ codes "--for-ms=1" ∷ []) ≡ []
+unfolding line_faults asked clap_on_literals
+shortest-run = refl
+
+run-of-no-time : line_faults (codes "lg" ∷ codes "node" ∷ codes "--config=a.toml" ∷ codes "--for-ms=0" ∷ [])
+    ≡ kind.ValueValidation ∷ []
+unfolding line_faults asked clap_on_literals
+run-of-no-time = refl
+
+longer-than-a-day : line_faults (codes "lg" ∷ codes "node" ∷ codes "--config=a.toml" ∷ codes "--for-ms=86400001" ∷ [])
+    ≡ kind.ValueValidation ∷ []
+unfolding line_faults asked clap_on_literals
+longer-than-a-day = refl
+
+no-end-given : line_faults (codes "lg" ∷ codes "node" ∷ codes "--config=a.toml" ∷ [])
+    ≡ kind.MissingRequiredArgument ∷ []
+unfolding line_faults asked clap_on_literals
+no-end-given = refl
+
+no-file : line_faults (codes "lg" ∷ codes "node" ∷ codes "--for-ms=1" ∷ []) ≡ kind.MissingRequiredArgument ∷ []
+unfolding line_faults asked clap_on_literals
+no-file = refl
 
 three-parts : comma_parts (codes "a,,b") ≡ codes "a" ∷ [] ∷ codes "b" ∷ []
 three-parts = refl

@@ -10,7 +10,7 @@ use Rattle.lg_text.specs.declared.fault.RunFault.{RunFault}
 use Rattle.lg_text.specs.declared.fault.RunFault.TheVariants.{Memory, Read, Write}
 use Rattle.lg_sim.specs.Meaning.Running.{RunsInput}
 use Rattle.lg_cli.specs.Meaning.Answering.{answer_end, answer_text}
-use Rattle.lg_cli.specs.Meaning.Faults.{bad_list_text}
+use Rattle.lg_cli.specs.Meaning.Faults.{bad_list_text, node_text}
 use Rattle.lg_cli.specs.Meaning.Timeouts.{timeouts_text}
 use Rattle.lg_cli.specs.declared.order.BadList.{BadList}
 use Rattle.lg_cli.specs.declared.order.OrderFault.{OrderFault}
@@ -76,6 +76,11 @@ abbrev pub RunsOrder :
     (held holds reported reports : Option (List ℕ)) → Result (List ℕ) BadList → ℕ → Type 0
 RunsOrder held holds reported reports (Ok text) status = WritesChoices held holds reported reports text status
 RunsOrder held holds reported reports (Err list) status = TellsBadList held holds reported reports list status
+
+-- That `node` isn't run is reported, as far as the report is taken, and the status is 2.
+pub record LeavesNode (reported reports : Option (List ℕ)) (status : ℕ) : Type 0 where
+  pub is : status ≡ 2
+  pub told : AppendsFront reported reports node_text
 
 -- A fault of `order`: the list that is bad, or of memory, or of writing, which comes only where both lists are good.
 abbrev pub IsFaultOf : Result (List ℕ) BadList → OrderFault → Type 0

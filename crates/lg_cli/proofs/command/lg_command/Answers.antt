@@ -15,4 +15,6 @@ returns c =
     ∙ ap₂ with_subcommand answers (ap (λ (a : App). a.top) c.in_ok-order.ensures.app) in
     let times = c.in_ok-subcommand-3.ensures.shape c.in_ok-timeouts.ensures.local
     ∙ ap₂ with_subcommand orders (ap (λ (a : App). a.top) c.in_ok-timeouts.ensures.app) in
-    c.in_ok-lg.ensures.shape c.sim_command-sim.ensures.local ∙ ap₂ with_subcommand times (ap (λ (a : App). a.top) c.sim_command-sim.ensures.app)
+    let sims = c.in_ok-subcommand-4.ensures.shape c.sim_command-sim.ensures.local
+    ∙ ap₂ with_subcommand times (ap (λ (a : App). a.top) c.sim_command-sim.ensures.app) in
+    c.in_ok-lg.ensures.shape c.in_ok-node.ensures.local ∙ ap₂ with_subcommand sims (ap (λ (a : App). a.top) c.in_ok-node.ensures.app)

@@ -1,0 +1,27 @@
+use Rattle.std.proofs.Common.{ap, ◌∙◌, codes}
+use Rattle.std.proofs.lemmas.Result.{IfOk-weaker}
+use Rattle.clap.specs.Built.{AddsArg}
+use Rattle.clap.specs.Simple.{app_of_fields, new_app}
+use Rattle.clap.specs.Walk.{rule_of}
+use Rattle.clap.specs.declared.builder.arg.Arg.{Arg}
+use Rattle.clap.specs.declared.builder.command.Command.{Command}
+use Rattle.lg_cli.specs.Meaning.Commands.{for_ms_rule, required_rule, text_rule}
+use Rattle.lg_cli.proofs.CommandLaws.{MakesApp, adds_rule}
+use Rattle.lg_cli.proofs.command.node_command.Goals as goal
+
+pub returns : goal.returns
+returns c =
+    let none : MakesApp c.about.result (new_app (codes "node")) = record {
+      is = ap app_of_fields c.about.ensures ∙ c.new.ensures.app;
+      local = ap (λ f. f.has_globals) c.about.ensures ∙ c.new.ensures.local;
+    } in
+    let one = adds_rule _ _ c.help-config.result _ (text_rule (codes "config")) c.in_ok-arg.ensures
+    (ap (λ (a : Arg). a.global) c.help-config.ensures ∙ c.text_option.ensures.local)
+    (ap rule_of c.help-config.ensures ∙ c.text_option.ensures.rule) none in
+    let two = λ (command : Command) (adds : AddsArg c.in_ok-arg.field-0 c.required.result command). adds_rule _ command c.required.result _ for_ms_rule adds
+    (ap (λ (a : Arg). a.global) c.required.ensures ∙ ap (λ (a : Arg). a.global) c.help-for_ms.ensures ∙ c.number_option.ensures.local)
+    (ap rule_of c.required.ensures ∙ ap required_rule (ap rule_of c.help-for_ms.ensures ∙ c.number_option.ensures.rule)) one in
+    record {
+      app = IfOk-weaker c.arg-2.result _ _ (λ command adds. (two command adds).is) c.arg-2.ensures;
+      local = IfOk-weaker c.arg-2.result _ _ (λ command adds. (two command adds).local) c.arg-2.ensures;
+    }
