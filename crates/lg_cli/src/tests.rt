@@ -3,6 +3,7 @@
 mod command_line;
 mod floods;
 mod limits;
+mod node;
 mod order;
 mod readers;
 mod refused_memory;

@@ -31,6 +31,8 @@ fn runs_and_refuses_commands(rt: HostRuntime) {
         ("lg sim --help", 0, Said::Some, NOTHING),
         ("lg help sim", 0, Said::Some, NOTHING),
         ("lg node", 2, NOTHING, Said::Some),
+        ("lg node --help", 0, Said::Some, NOTHING),
+        ("lg help node", 0, Said::Some, NOTHING),
         ("lg --version", 2, NOTHING, Said::Some),
         ("lg answer --name=", 3, NOTHING, Said::Some),
         ("lg answer --name a/b", 3, NOTHING, Said::Some),

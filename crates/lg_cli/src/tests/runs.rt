@@ -94,7 +94,7 @@ pub(super) fn check_words(
 }
 
 /// The words of a command line, which stand between blanks; at most 12 of them are kept.
-fn words_of(line: &str) -> ArrayVec<&str, 12> {
+pub(super) fn words_of(line: &str) -> ArrayVec<&str, 12> {
     let mut words = ArrayVec::new();
     for word in line.split_whitespace() {
         if !words.is_full() {
