@@ -4,6 +4,7 @@
 mod answer;
 mod command;
 mod line;
+mod node;
 mod order;
 mod program;
 mod run;
@@ -17,21 +18,17 @@ use std::{env, io};
 
 fn main(rt: HostRuntime) -> ExitCode {
     let status = match words_of(&rt) {
-        Ok(words) => run_asked(&rt, words.as_slice()),
+        Ok(words) => node::run_words_with(
+            &rt,
+            rt.alloc(),
+            words.as_slice(),
+            &mut rt.stdin(),
+            &mut rt.stdout(),
+            &mut rt.stderr(),
+        ),
         Err(error) => program::refuse_words(&error, &mut rt.stderr()),
     };
     ExitCode::from(status)
-}
-
-/// Runs what the words of a command line ask for, and gives the exit status.
-fn run_asked(rt: &HostRuntime, words: &[String]) -> u8 {
-    program::run_words(
-        rt.alloc(),
-        words,
-        &mut rt.stdin(),
-        &mut rt.stdout(),
-        &mut rt.stderr(),
-    )
 }
 
 /// The words of the command line, of which the first is the program's name.

@@ -26,7 +26,7 @@ use std::io;
 use std::io::{ErrorKind as IoErrorKind, Read, Write};
 
 /// The status of a run that memory, a read or a write failed.
-const FAILED: u8 = 1;
+pub(crate) const FAILED: u8 = 1;
 
 /// The status of a command line that is refused.
 const USAGE: u8 = 2;
@@ -229,7 +229,11 @@ fn leave_node<F: Write>(faults: &mut F) -> u8
 }
 
 /// Reports why a command line isn't run, or writes the help that it asks for, and gives the status.
-fn report_refusal<W: Write, F: Write>(error: &Error, writer: &mut W, faults: &mut F) -> u8
+pub(crate) fn report_refusal<W: Write, F: Write>(
+    error: &Error,
+    writer: &mut W,
+    faults: &mut F,
+) -> u8
     ensures status { result ≢ FAILED → result ≡ status_of_kind (kind_of error.now) }
     ensures memory { kind_of error.now ≡ ErrorKind.OutOfMemory → result ≡ FAILED }
     // Else only help that isn't taken fails.
