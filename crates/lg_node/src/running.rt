@@ -159,8 +159,9 @@ where
 /// Runs both loops at once, the receiving one in a thread of its own and the ticking one in this thread, until one of
 /// them ends: then the other one ends with the turn that it is in.
 ///
-/// It gives both ends, the receiving loop's first. Where no thread can be had, neither makes a turn: the receiving loop
-/// ends with [`Why::Refused`] since memory was refused, and the ticking one with [`Why::Stopped`].
+/// It gives both ends, the receiving loop's first. Where no thread can be had, both are told to stop before they begin:
+/// the receiving loop ends with [`Why::Refused`] since memory was refused, and the ticking one, which makes no turn, with
+/// [`Why::Stopped`].
 pub fn run_loops<A, R, L, C, D>(
     rt: &R,
     alloc: Global,

@@ -21,7 +21,9 @@ pub struct UdpLink<'a> {
 
 impl<'a> UdpLink<'a> {
     /// A link over a socket, which hasn't failed yet.
-    pub fn new(socket: &'a UdpSocket) -> UdpLink<'a> {
+    pub fn new(socket: &'a UdpSocket) -> UdpLink<'a>
+        ensures { result.failures ≡ 0 }
+    {
         UdpLink {
             socket,
             limit_ms: 0,
