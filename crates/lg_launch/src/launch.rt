@@ -110,8 +110,8 @@ fn put_file<R: Files>(rt: &R, path: &str, bytes: &mut Vec<u8>) -> io::Result<()>
     Ok(())
 }
 
-/// The bytes of a file, at most one more than a configuration may have. A fault is that it can't be read, or that memory
-/// was refused.
+/// The bytes of a file, at most one more than a configuration may have. A fault is that it can't be read, or that
+/// memory was refused.
 fn file_bytes<R: Files>(rt: &R, alloc: Global, path: &str) -> Result<Vec<u8>, RunFault>
     ensures { IfErr result (λ fault. (fault ≡ RunFault.Memory) ⊎ (fault ≡ RunFault.Read)) }
 {

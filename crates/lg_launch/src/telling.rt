@@ -1,7 +1,8 @@
 //! What is told of how a node ended.
 ghost use Rattle.std.specs.Prelude.{◌≡◌};
 ghost use Rattle.std.specs.Option.{option_map};
-ghost use Rattle.lg_launch.specs.Meaning.Running.{end_told, first_end, late_fault, node_told, run_told, table_of, wants_table};
+ghost use Rattle.lg_launch.specs.Meaning.Running.{end_told, first_end, late_fault, node_told, run_told};
+ghost use Rattle.lg_launch.specs.Meaning.Running.{table_of, wants_table};
 
 use crate::told::Told;
 use lg_node::{NodeEnd, NodeFault, Why};

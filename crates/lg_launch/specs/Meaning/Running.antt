@@ -23,7 +23,8 @@ use Rattle.lg_node.specs.Meaning.Nodes.{IsRun, IsEarly}
 use Rattle.lg_node.specs.Meaning.Turns.{Line}
 use Rattle.lg_node.specs.Meaning.Words.{seeded, DrawsEight}
 use Rattle.lg_launch.specs.declared.told.Told.{Told}
-use Rattle.lg_launch.specs.declared.told.Told.TheVariants.{Done, Memory, Read, Turns, Refused, Close, Config, Ousted, Link}
+use Rattle.lg_launch.specs.declared.told.Told.TheVariants.{Done, Memory, Read, Turns, Refused, Close}
+use Rattle.lg_launch.specs.declared.told.Told.TheVariants.{Config, Ousted, Link}
 use Rattle.lg_launch.specs.Meaning.Telling.{fault_told, line_of, refusal_told, status_of}
 
 -- the first end that isn't Stopped, the receiving loop's before the ticking loop's
@@ -71,27 +72,29 @@ run_told (Err (node.Refused refusal)) written = refusal_told refusal
 -- the records of the table that is to be written, if one is
 abbrev pub table_of : Result NodeEnd NodeFault → Option (List Claim)
 table_of (Ok e) =
-    if wants_table (first_end e.received.why e.ticked.why) then option_map (λ v. v.items) (result_ok e.members) else None
+    let first = first_end e.received.why e.ticked.why in
+    if wants_table first then option_map (λ v. v.items) (result_ok e.members) else None
 table_of (Err fault) = None
 
 -- A table is written, if there is one: the whole text, unless writing failed, which doesn't say how much of it. Nothing
 -- is, where memory for the text was refused.
 abbrev pub Writes :
-    {W : Type 0} → (before after : W) (held holds : Option (List ℕ)) → Option (List Claim) → Result (Unit {0}) RunFault → Type 0
+    {W : Type 0} → (before after : W) (held holds : Option (List ℕ)) → Option (List Claim)
+    → Result (Unit {0}) RunFault → Type 0
 Writes before after held holds None written = (after ≡ before) × (written ≡ Ok tt)
 Writes before after held holds (Some records) (Ok done) = Appends held holds (table_text records)
 Writes before after held holds (Some records) (Err fault.Memory) = after ≡ before
 Writes before after held holds (Some records) (Err fault.Read) = ⊥
 Writes before after held holds (Some records) (Err fault.Write) = ⊤
 
--- the node of a configuration ran until a moment, over links that tell their failures alone, with at most this many turns
--- a loop
+-- the node of a configuration ran until a moment, over links that tell their failures alone, with at most this many
+-- turns a loop
 abbrev pub HasRun : NodeConfig → ℕ → NodeEnd → Type 0
 HasRun n until e = (hears : Line) × (hears' : Line) × (sends : Line) × (sends' : Line)
     × IsRun DrawsEight (seeded n.dice) false 1000000000 n.config until hears hears' sends sends' e
 
--- The node of a configuration ran, or ended before its loops. Its table was written, if it was to be, and what is told of
--- it was reported, as far as the report was taken.
+-- The node of a configuration ran, or ended before its loops. Its table was written, if it was to be, and what is told
+-- of it was reported, as far as the report was taken.
 pub record RunsNode
     {W : Type 0} (before after : W) (held holds reported reports : Option (List ℕ)) (n : NodeConfig) (until status : ℕ)
     : Type 0 where

