@@ -1,5 +1,6 @@
 //! A node: an agent whose two loops run over UDP.
-ghost use Rattle.std.specs.Prelude.{◌≡◌, ◌≤◌, ◌⊎◌, ◌∷◌, [], ℕ, false, All, IfOk, IfErr, MatchResult, length};
+ghost use Rattle.std.specs.Prelude.{◌≡◌, ◌≤◌, ◌⊎◌, ◌∷◌, [], ℕ, false};
+ghost use Rattle.std.specs.Prelude.{All, IfOk, IfErr, MatchResult, length};
 ghost use Rattle.std.specs.Vec.{vec_capacity};
 ghost use Rattle.lg_timing.specs.Meaning.Config.{IsChecked};
 ghost use Rattle.lg_timing.specs.declared.config.Config.{Config as Opened};

@@ -160,8 +160,8 @@ where
 /// them ends: then the other one ends with the turn that it is in.
 ///
 /// It gives both ends, the receiving loop's first. Where no thread can be had, both are told to stop before they begin:
-/// the receiving loop ends with [`Why::Refused`] since memory was refused, and the ticking one, which makes no turn, with
-/// [`Why::Stopped`].
+/// the receiving loop ends with [`Why::Refused`] since memory was refused, and the ticking one, which makes no turn,
+/// with [`Why::Stopped`].
 pub fn run_loops<A, R, L, C, D>(
     rt: &R,
     alloc: Global,

@@ -50,7 +50,8 @@ end_told why.ReadBound = Turns
 
 -- what went wrong after the loops, the first of these: the members were refused, their table wasn't written, the agent
 -- wasn't closed
-abbrev pub late_fault : {M C F : Type 0} → Result M Refusal → Result (Unit {0}) RunFault → Result C F → Option Told
+abbrev pub late_fault :
+    {M C F : Type 0} → Result M Refusal → Result (Unit {0}) RunFault → Result C F → Option Told
 late_fault (Err refusal) written closed = Some (refusal_told refusal)
 late_fault (Ok members) (Err fault) closed = Some (fault_told fault)
 late_fault (Ok members) (Ok done) (Err fault) = Some Close
@@ -96,7 +97,8 @@ HasRun n until e = (hears : Line) × (hears' : Line) × (sends : Line) × (sends
 -- The node of a configuration ran, or ended before its loops. Its table was written, if it was to be, and what is told
 -- of it was reported, as far as the report was taken.
 pub record RunsNode
-    {W : Type 0} (before after : W) (held holds reported reports : Option (List ℕ)) (n : NodeConfig) (until status : ℕ)
+    {W : Type 0} (before after : W) (held holds reported reports : Option (List ℕ)) (n : NodeConfig)
+    (until status : ℕ)
     : Type 0 where
   pub ran : Result NodeEnd NodeFault
   pub written : Result (Unit {0}) RunFault
@@ -114,8 +116,8 @@ pub record TellsAlone
 
 -- A configuration that was read is run; why none was read is told.
 abbrev pub RunsAnswer :
-    {W : Type 0} → (before after : W) (held holds reported reports : Option (List ℕ)) → Result NodeConfig ReadFault
-    → (until status : ℕ) → Type 0
+    {W : Type 0} → (before after : W) (held holds reported reports : Option (List ℕ))
+    → Result NodeConfig ReadFault → (until status : ℕ) → Type 0
 RunsAnswer before after held holds reported reports (Ok n) until status =
     RunsNode before after held holds reported reports n until status
 RunsAnswer before after held holds reported reports (Err NoMemory) until status =
@@ -125,7 +127,8 @@ RunsAnswer before after held holds reported reports (Err (File fault)) until sta
 
 -- The bytes of a file are read as a configuration, and that is run.
 pub record RunsBytes
-    {W : Type 0} (before after : W) (held holds reported reports : Option (List ℕ)) (bytes : List ℕ) (until status : ℕ)
+    {W : Type 0} (before after : W) (held holds reported reports : Option (List ℕ)) (bytes : List ℕ)
+    (until status : ℕ)
     : Type 0 where
   pub answer : Result NodeConfig ReadFault
   pub read : IsAnswer bytes answer
@@ -133,7 +136,8 @@ pub record RunsBytes
 
 -- A file gives some bytes, and these are run; or it can't be read, or memory is refused for it, and that is told.
 abbrev pub RunsFile :
-    {W : Type 0} → (before after : W) (held holds reported reports : Option (List ℕ)) (until status : ℕ) → Type 0
+    {W : Type 0} → (before after : W) (held holds reported reports : Option (List ℕ)) (until status : ℕ)
+    → Type 0
 RunsFile before after held holds reported reports until status =
     TellsAlone before after reported reports Read status ⊎ TellsAlone before after reported reports Memory status
     ⊎ ((bytes : List ℕ) × RunsBytes before after held holds reported reports bytes until status)

@@ -56,7 +56,14 @@ it_is_read = refl
 it_is_called : IsCall before asked answer after
 unfolding by_computing
 it_is_called = record {
-  answered = record { before = opening 0 ∷ []; begins = ([], refl); ends = refl; accepted = refl; place = refl; reply = refl };
+  answered = record {
+    before = opening 0 ∷ [];
+    begins = ([], refl);
+    ends = refl;
+    accepted = refl;
+    place = refl;
+    reply = refl;
+  };
   mine = refl;
   later = All-nil (λ k. k < 1);
   seat = refl;
@@ -65,7 +72,8 @@ it_is_called = record {
 
 -- No datagram comes, then one that breaks off, and then the Ping.
 abbrev heard : Bool → List Turn
-heard was_sent = Quiet ∷ Dropped (at 1) (0x53 ∷ []) ∷ Heard 20 (at 1) ping_bytes ping answer (was_sent ∷ []) ∷ []
+heard was_sent =
+    Quiet ∷ Dropped (at 1) (0x53 ∷ []) ∷ Heard 20 (at 1) ping_bytes ping answer (was_sent ∷ []) ∷ []
 
 they_follow : (was_sent : Bool) → Follows before (heard was_sent) after
 unfolding packet_of packet_at head_at name_at body_at claims_at

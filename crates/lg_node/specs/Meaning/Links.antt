@@ -1,5 +1,6 @@
 -- What a link does, call by call.
-use Rattle.std.specs.Prelude.{◌≡◌, ℕ, ◌+◌, Bool, true, not, List, [], ◌∷◌, ◌++◌, length, take, count_by}
+use Rattle.std.specs.Prelude.{◌≡◌, ℕ, ◌+◌, Bool, true, not}
+use Rattle.std.specs.Prelude.{List, [], ◌∷◌, ◌++◌, length, take, count_by}
 use Rattle.std.specs.Prelude.{Option, Some, None, Result, Ok, Err}
 use Rattle.lg_rules.specs.declared.addr.Addr.{Addr}
 use Rattle.lg_packet.specs.Meaning.Spelling.{spelling}
@@ -31,7 +32,8 @@ lost sent = count_by not sent
 
 -- Some packets were handed to a link, which has counted each failure, and tells of its calls where it tells at all.
 pub record WereHanded
-    (tells : Bool) (log log' : List LinkEvent) (failed failed' : ℕ) (sends : List Outgoing) (unsent : ℕ) : Type 0 where
+    (tells : Bool) (log log' : List LinkEvent) (failed failed' : ℕ) (sends : List Outgoing) (unsent : ℕ)
+    : Type 0 where
   pub sent : List Bool
   pub each : length sent ≡ length sends
   pub told : tells ≡ true → log' ≡ log ++ handed sends sent

@@ -1,5 +1,6 @@
 -- What a loop does, turn by turn, and how it ends.
-use Rattle.std.specs.Prelude.{◌≡◌, ℕ, ◌+◌, ◌<◌, ◌≤◌, Bool, true, false, nat_lt, if◌then◌else◌}
+use Rattle.std.specs.Prelude.{◌≡◌, ℕ, ◌+◌, ◌<◌, ◌≤◌}
+use Rattle.std.specs.Prelude.{Bool, true, false, nat_lt, if◌then◌else◌}
 use Rattle.std.specs.Prelude.{List, [], ◌∷◌, ◌++◌, length, All, Option, Some, None, Ok, Err}
 use Rattle.std.specs.List.{flat_map, sum_by}
 use Rattle.lg_rules.specs.declared.addr.Addr.{Addr}
@@ -133,14 +134,16 @@ IsTurn p Quiet q = q ≡ p
 IsTurn p Broken q = q ≡ p
 IsTurn p (Dropped source bytes) q = (q ≡ p) × ((fault : Fault) × (packet_of bytes ≡ Err fault))
 IsTurn p (Heard now source bytes k r sent) q =
-    (packet_of bytes ≡ Ok k) × IsCall p (events.Heard now source k) r q × (length sent ≡ length r.reply.sends.items)
+    (packet_of bytes ≡ Ok k) × IsCall p (events.Heard now source k) r q
+    × (length sent ≡ length r.reply.sends.items)
 IsTurn p (Unheard now source bytes e) q = (q ≡ p) × IsRefusal p.seen e
 IsTurn p (Paused now) q = SeesNoneDue p now q
 IsTurn p (Ticked now words r sent) q =
     (m : Own) × SeesDue p now m × IsCall m (events.Tick now words) r q × (length sent ≡ length r.reply.sends.items)
 IsTurn p (Unticked now words e) q = SeesDue p now q × IsRefusal q.seen e
 IsTurn p (Unseen e) q = (q ≡ p) × (e ≡ NoView)
-IsTurn p (Pulled now peer r sent) q = IsCall p (events.Pull now peer) r q × (length sent ≡ length r.reply.sends.items)
+IsTurn p (Pulled now peer r sent) q =
+    IsCall p (events.Pull now peer) r q × (length sent ≡ length r.reply.sends.items)
 
 -- what some turns, one after another, do with the pass
 abbrev pub Follows : Own → List Turn → Own → Type 0
@@ -205,8 +208,10 @@ pub record Ran (kind : Turn → Bool) (tells : Bool) (bound : ℕ) (k k' : Line)
   pub counts : Counts turns end.dropped end.unsent end.turns
   pub why : Ends bound turns end.why
 
--- A loop that no thread could be had for: it was told to stop before it began, and its end says that memory was refused.
-pub record HadNoThread (kind : Turn → Bool) (tells : Bool) (bound : ℕ) (k k' : Line) (p q : Own) (end : End) : Type 0 where
+-- A loop that no thread could be had for: it was told to stop before it began, and its end says that memory was
+-- refused.
+pub record HadNoThread
+    (kind : Turn → Bool) (tells : Bool) (bound : ℕ) (k k' : Line) (p q : Own) (end : End) : Type 0 where
   pub was : Why
   pub ran : Ran kind tells bound k k' p q (record end { why = was })
   pub why : end.why ≡ Refused NoMemory
