@@ -1,5 +1,6 @@
 //! The command `answer`: what a detector sends for the packets of an input.
-ghost use Rattle.std.specs.Prelude.{◌≡◌, ◌+◌, ◌*◌, ◌≤◌, List, [], ◌∷◌, ◌++◌, IfOk, OnOk, length, vec_len};
+ghost use Rattle.std.specs.Prelude.{◌≡◌, ◌+◌, ◌*◌, ◌≤◌, List, []};
+ghost use Rattle.std.specs.Prelude.{◌∷◌, ◌++◌, IfOk, OnOk, length, vec_len};
 ghost use Rattle.std.specs.List.{flat_map};
 ghost use Rattle.lg_detector.specs.Support.Step.{state_after};
 ghost use Rattle.lg_detector.specs.declared.event.Event.{Event as Happened};

@@ -156,7 +156,8 @@ pub fn order(alloc: Global, names: &str, words: &str) -> Result<Vec<u8>, OrderFa
     ensures text { IfOk result (λ text. order_text names.now words.now ≡ Ok text.items) }
     ensures refused { IfErr result (IsFaultOf (order_text names.now words.now)) }
     // Bad names are told also where memory is refused.
-    ensures names { order_text names.now words.now ≡ Err BadList.Names → result ≡ Err (OrderFault.Bad BadList.Names) }
+    ensures names { order_text names.now words.now ≡ Err BadList.Names
+        → result ≡ Err (OrderFault.Bad BadList.Names) }
     ensures unwritten { IfErr result (λ fault. fault ≢ OrderFault.Run RunFault.Write) }
 {
     let names = names_in(names).ok_or(BadList::Names)?;

@@ -1,5 +1,6 @@
 //! Runs the commands over a reader and a writer.
-ghost use Rattle.std.specs.Prelude.{◌≡◌, ◌≢◌, ◌⊎◌, ◌+◌, ◌≤◌, ◌<◌, true, Err, IfErr, IfOk, IfSome, IsOkAnd, OnOk};
+ghost use Rattle.std.specs.Prelude.{◌≡◌, ◌≢◌, ◌⊎◌, ◌+◌, ◌≤◌};
+ghost use Rattle.std.specs.Prelude.{◌<◌, true, Err, IfErr, IfOk, IfSome, IsOkAnd, OnOk};
 ghost use Rattle.std.specs.Prelude.{length};
 ghost use Rattle.std.specs.Io.KnownBytes.{Appends};
 ghost use Rattle.lg_text.specs.Meaning.Running.{ReadsWhole, TakesAtMost};
@@ -104,7 +105,8 @@ pub fn order_run<W: Write>(
     ensures text { OnOk result (IsOkAnd (order_text names.now words.now)
         (λ text. Appends (W.contents writer.old) (W.contents writer.new) text)) }
     ensures refused { IfErr result (IsFaultOf (order_text names.now words.now)) }
-    ensures names { order_text names.now words.now ≡ Err BadList.Names → result ≡ Err (OrderFault.Bad BadList.Names) }
+    ensures names { order_text names.now words.now ≡ Err BadList.Names
+        → result ≡ Err (OrderFault.Bad BadList.Names) }
     ensures unwritten { IfErr result (λ fault. fault ≢ OrderFault.Run RunFault.Write → writer.new ≡ writer.old) }
 {
     let text = order(alloc, names, words)?;

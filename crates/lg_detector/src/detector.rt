@@ -128,7 +128,8 @@ impl Detector {
         ensures state { self.new ≡ state.step self.old event.now }
         ensures reply { reply.new ≡ state.reply self.old event.now }
         // After any list of events, the list goes on by this one, and the reply is that of the definitions after it.
-        ensures after { (f : List Happened) → self.old ≡ state_after f → self.new ≡ state_after (f ++ event.now ∷ []) }
+        ensures after { (f : List Happened) → self.old ≡ state_after f
+            → self.new ≡ state_after (f ++ event.now ∷ []) }
         ensures answer { (f : List Happened) → self.old ≡ state_after f → reply.new ≡ reply_after f event.now }
     {
         self.advance(event, reply);

@@ -77,7 +77,8 @@ impl Queue {
     ///
     /// Either a claim about its member is queued already, or fewer than 256 claims are.
     pub fn put(&mut self, claim: Claim)
-        requires { (row_at name_cmp queued_name claim.name self.old.rows ≡ None) → length self.old.rows < MAX_QUEUED }
+        requires { (row_at name_cmp queued_name claim.name self.old.rows ≡ None)
+            → length self.old.rows < MAX_QUEUED }
         ensures { self.new ≡ put_of claim self.old }
     {
         // Built anew of its parts, since the checker doesn't follow a whole claim into a generic call.

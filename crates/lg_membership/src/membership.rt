@@ -194,7 +194,8 @@ impl Membership {
         ensures state { self.new ≡ apply now origin claim.now self.old }
         ensures applied { result ≡ applied now claim.now self.old }
         // Whatever was said before, the log goes on by this claim.
-        ensures log { (log : Log) → self.old ≡ state_of log → self.new ≡ state_of (Said now origin claim.now ∷ log) }
+        ensures log { (log : Log) → self.old ≡ state_of log
+            → self.new ≡ state_of (Said now origin claim.now ∷ log) }
         // It is what the claim changes of its member's record and suspicion, and of those that haven't failed.
         ensures meaning { (log : Log) → self.old ≡ state_of log → IsApplied now origin claim.now log result }
     {

@@ -17,7 +17,8 @@ pub fn one_spelling()
 
 /// Bytes decode to one thing, which reading their fields from left to right gives.
 pub fn one_reading()
-    ensures one { (bytes : List ℕ) (r s : Result Packet Fault) → DecodesTo bytes r → DecodesTo bytes s → r ≡ s }
+    ensures one { (bytes : List ℕ) (r s : Result Packet Fault)
+        → DecodesTo bytes r → DecodesTo bytes s → r ≡ s }
     ensures read { (bytes : List ℕ) → AllByRecursion (λ b. b < 256) bytes → DecodesTo bytes (packet_of bytes) }
 {}
 

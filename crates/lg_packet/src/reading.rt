@@ -1,5 +1,6 @@
 //! Reading packets, from the first byte on.
-ghost use Rattle.std.specs.Prelude.{◌≡◌, ◌≤◌, [], length, IfOk, IfErr, OnOk, OnErr, Ok, Err, if◌then◌else◌};
+ghost use Rattle.std.specs.Prelude.{◌≡◌, ◌≤◌, [], length, IfOk, IfErr};
+ghost use Rattle.std.specs.Prelude.{OnOk, OnErr, Ok, Err, if◌then◌else◌};
 ghost use Rattle.std.specs.Int.{w16, w32};
 ghost use Rattle.std.specs.List.{list_all};
 ghost use Rattle.lg_rules.specs.Meaning.Name.{is_name_byte};

@@ -216,5 +216,6 @@ pub fn windows_have_each()
     ensures each { (past : List OrderFact) (words : List ℕ) (name : List ℕ)
         → is_among name_cmp name (names_after past) ≡ true → window (names_after past) ≤ length words
         → is_among name_cmp name (choices_after past words) ≡ true }
-    ensures none { (past : List OrderFact) (words : List ℕ) → names_after past ≡ [] → choices_after past words ≡ [] }
+    ensures none { (past : List OrderFact) (words : List ℕ) → names_after past ≡ []
+        → choices_after past words ≡ [] }
 {}

@@ -1,5 +1,6 @@
 //! A cluster: its members with their detectors, and the packets that they sent.
-ghost use Rattle.std.specs.Prelude.{◌≡◌, ◌≢◌, ◌<◌, ◌∷◌, ◌++◌, [], List, IfErr, None, OnOk, Some, false};
+ghost use Rattle.std.specs.Prelude.{◌≡◌, ◌≢◌, ◌<◌, ◌∷◌};
+ghost use Rattle.std.specs.Prelude.{◌++◌, [], List, IfErr, None, OnOk, Some, false};
 ghost use Rattle.std.specs.Prelude.{slice_get, vec_len};
 ghost use Rattle.std.specs.List.{position};
 ghost use Rattle.lg_detector.specs.Meaning.Step.{is_open, view_after};

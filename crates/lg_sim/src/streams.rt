@@ -1,5 +1,6 @@
 //! Runs a script over a reader and a writer.
-ghost use Rattle.std.specs.Prelude.{◌≡◌, ◌≢◌, ◌⊎◌, ◌+◌, ◌≤◌, ◌<◌, Err, IfErr, IfOk, IfSome, OnOk, length};
+ghost use Rattle.std.specs.Prelude.{◌≡◌, ◌≢◌, ◌⊎◌, ◌+◌, ◌≤◌};
+ghost use Rattle.std.specs.Prelude.{◌<◌, Err, IfErr, IfOk, IfSome, OnOk, length};
 ghost use Rattle.std.specs.Io.KnownBytes.{Appends};
 ghost use Rattle.lg_text.specs.Meaning.Running.{ReadsWhole, TakesAtMost};
 ghost use Rattle.lg_sim.specs.Meaning.Running.{RunsInput};

@@ -53,7 +53,11 @@ impl Default for Suspicion {
     ghost use Rattle.std.specs.Prelude.{◌≡◌, ◌∷◌, []};
 
     ghost is_default = { λ s. s
-        ≡ record { raised = 0; timeout = record { min = 0; max = 0; confirmations = 0 }; accusers = (97 ∷ []) ∷ [] } };
+        ≡ record {
+          raised = 0;
+          timeout = record { min = 0; max = 0; confirmations = 0 };
+          accusers = (97 ∷ []) ∷ [];
+        } };
 
     fn default() -> Self {
         let mut accusers = ArrayVec::new();
@@ -109,7 +113,8 @@ impl Suspicion {
         ensures never_later { deadline_of self.new ≤ deadline_of self.old }
 
         // After any list of accusers, the latest first, the first different ones count.
-        ensures counted { (past : List (List ℕ)) → self.old ≡ suspicion_after self.old.raised self.old.timeout past
+        ensures counted { (past : List (List ℕ))
+            → self.old ≡ suspicion_after self.old.raised self.old.timeout past
             → self.new ≡ suspicion_after self.old.raised self.old.timeout (accuser.now ∷ past) }
     {
         if self.accuser_counts(accuser) {

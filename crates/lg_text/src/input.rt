@@ -1,5 +1,6 @@
 //! Reads an input whole, up to a limit.
-ghost use Rattle.std.specs.Prelude.{◌≡◌, ◌+◌, ◌-◌, ◌≤◌, ◌<◌, ◌++◌, ◌⊎◌, IfErr, IfOk, OnOk, Ok, length, vec_len};
+ghost use Rattle.std.specs.Prelude.{◌≡◌, ◌+◌, ◌-◌, ◌≤◌, ◌<◌, ◌++◌};
+ghost use Rattle.std.specs.Prelude.{◌⊎◌, IfErr, IfOk, OnOk, Ok, length, vec_len};
 ghost use Rattle.std.specs.Io.KnownBytes.{Consumes, IsAtEnd};
 ghost use Rattle.lg_text.specs.Meaning.Running.{TakesAtMost};
 ghost use Rattle.lg_text.specs.Support.Input.{Grows};

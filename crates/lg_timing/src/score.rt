@@ -1,5 +1,6 @@
 //! The health score.
-ghost use Rattle.std.specs.Prelude.{◌≡◌, ◌≢◌, ◌≤◌, ℤ, pos, negsuc, ◌≤ℤ◌, ◌+◌, ◌*◌, List, ◌∷◌};
+ghost use Rattle.std.specs.Prelude.{◌≡◌, ◌≢◌, ◌≤◌, ℤ, pos, negsuc};
+ghost use Rattle.std.specs.Prelude.{◌≤ℤ◌, ◌+◌, ◌*◌, List, ◌∷◌};
 ghost use Rattle.lg_timing.specs.Meaning.Config.{IsChecked};
 ghost use Rattle.lg_timing.specs.Meaning.Score.{score_of, marked};
 

@@ -54,7 +54,8 @@ pub fn ratio(k: u64, c: u64) -> u64
 /// power that it stands for.
 pub fn tables_are_logarithms()
     ensures logarithms { (live : ℕ) → IsLog 10 (range_end live) (log10_of live) }
-    ensures quotients { (k c : ℕ) → 1 ≤ k → k ≤ MAX_CONFIRMATIONS → c ≤ k → IsLog (k + 1) (c + 1) (ratio_of k c) }
+    ensures quotients { (k c : ℕ) → 1 ≤ k → k ≤ MAX_CONFIRMATIONS → c ≤ k
+        → IsLog (k + 1) (c + 1) (ratio_of k c) }
     ensures none { ratio_of 0 0 ≡ 1000 }
 {}
 

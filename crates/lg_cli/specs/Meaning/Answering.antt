@@ -1,5 +1,6 @@
 -- What the command `answer` writes for an input, by the lists of its lines and of the events before each.
-use Rattle.std.specs.Prelude.{ℕ, Bool, List, [], ◌∷◌, ◌++◌, Option, Some, None, Result, Ok, Err, if◌then◌else◌}
+use Rattle.std.specs.Prelude.{ℕ, Bool, List, [], ◌∷◌, ◌++◌, Option}
+use Rattle.std.specs.Prelude.{Some, None, Result, Ok, Err, if◌then◌else◌}
 use Rattle.std.specs.List.{flat_map, filter_map, list_any}
 use Rattle.std.specs.Result.{is_err}
 use Rattle.hex.specs.Hex.{encode_lower}

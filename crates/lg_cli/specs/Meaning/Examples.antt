@@ -1,5 +1,6 @@
 -- Worked inputs and command lines.
-use Rattle.std.specs.Prelude.{◌≡◌, ℕ, true, false, List, [], ◌∷◌, ◌++◌, map, take, Ok, Err, codes, refl}
+use Rattle.std.specs.Prelude.{◌≡◌, ℕ, true, false, List, [], ◌∷◌}
+use Rattle.std.specs.Prelude.{◌++◌, map, take, Ok, Err, codes, refl}
 use Rattle.std.specs.Fmt.{digits}
 use Rattle.std.specs.List.{flat_map}
 use Rattle.hex.proofs.OnLiterals.{hex_on_literals}
@@ -95,7 +96,8 @@ two-names : line_faults (codes "lg" ∷ codes "answer" ∷ codes "--name=b" ∷ 
 unfolding line_faults asked clap_on_literals
 two-names = refl
 
-stray : line_faults (codes "lg" ∷ codes "answer" ∷ codes "--name=b" ∷ codes "c" ∷ []) ≡ kind.UnknownArgument ∷ []
+stray : line_faults (codes "lg" ∷ codes "answer" ∷ codes "--name=b" ∷ codes "c" ∷ [])
+    ≡ kind.UnknownArgument ∷ []
 unfolding line_faults asked clap_on_literals
 stray = refl
 
@@ -110,7 +112,8 @@ lines texts = flat_map (λ line. line ++ newline) texts
 -- five confirmations among sixteen members, at an interval of 200 ms
 sixteen-members : timeouts_text record { members = 16; confirmations = 5; alpha = 5; beta = 6; interval_ms = 200 }
     ≡ lines (codes "min 1204" ∷ codes "max 7224"
-    ∷ codes "0 7224" ∷ codes "1 4901" ∷ codes "2 3534" ∷ codes "3 2571" ∷ codes "4 1819" ∷ codes "5 1204" ∷ [])
+    ∷ codes "0 7224" ∷ codes "1 4901" ∷ codes "2 3534" ∷ codes "3 2571" ∷ codes "4 1819" ∷ codes "5 1204"
+    ∷ [])
 unfolding timeouts_text range_of timeout_of log10_of ratio_of digits
 sixteen-members = refl
 
@@ -136,11 +139,13 @@ most-members : line_faults (codes "lg" ∷ codes "timeouts" ∷ codes "--members
 unfolding line_faults asked clap_on_literals
 most-members = refl
 
-too-many-members : line_faults (codes "lg" ∷ codes "timeouts" ∷ codes "--members=257" ∷ []) ≡ kind.ValueValidation ∷ []
+too-many-members :
+    line_faults (codes "lg" ∷ codes "timeouts" ∷ codes "--members=257" ∷ []) ≡ kind.ValueValidation ∷ []
 unfolding line_faults asked clap_on_literals
 too-many-members = refl
 
-no-members : line_faults (codes "lg" ∷ codes "timeouts" ∷ codes "--alpha=5" ∷ []) ≡ kind.MissingRequiredArgument ∷ []
+no-members :
+    line_faults (codes "lg" ∷ codes "timeouts" ∷ codes "--alpha=5" ∷ []) ≡ kind.MissingRequiredArgument ∷ []
 unfolding line_faults asked clap_on_literals
 no-members = refl
 
@@ -150,12 +155,14 @@ two-alphas : line_faults (codes "lg" ∷ codes "timeouts" ∷ codes "--members=4
 unfolding line_faults asked clap_on_literals
 two-alphas = refl
 
-run-of-a-day : asked (codes "lg" ∷ codes "node" ∷ codes "--for-ms=86400000" ∷ codes "--config" ∷ codes "a.toml" ∷ [])
+run-of-a-day :
+    asked (codes "lg" ∷ codes "node" ∷ codes "--for-ms=86400000" ∷ codes "--config" ∷ codes "a.toml" ∷ [])
     ≡ node (codes "a.toml") 86400000
 unfolding asked clap_on_literals
 run-of-a-day = refl
 
-shortest-run : line_faults (codes "lg" ∷ codes "node" ∷ codes "--config=a.toml" ∷ codes "--for-ms=1" ∷ []) ≡ []
+shortest-run :
+    line_faults (codes "lg" ∷ codes "node" ∷ codes "--config=a.toml" ∷ codes "--for-ms=1" ∷ []) ≡ []
 unfolding line_faults asked clap_on_literals
 shortest-run = refl
 
@@ -164,7 +171,8 @@ run-of-no-time : line_faults (codes "lg" ∷ codes "node" ∷ codes "--config=a.
 unfolding line_faults asked clap_on_literals
 run-of-no-time = refl
 
-longer-than-a-day : line_faults (codes "lg" ∷ codes "node" ∷ codes "--config=a.toml" ∷ codes "--for-ms=86400001" ∷ [])
+longer-than-a-day :
+    line_faults (codes "lg" ∷ codes "node" ∷ codes "--config=a.toml" ∷ codes "--for-ms=86400001" ∷ [])
     ≡ kind.ValueValidation ∷ []
 unfolding line_faults asked clap_on_literals
 longer-than-a-day = refl
@@ -174,7 +182,8 @@ no-end-given : line_faults (codes "lg" ∷ codes "node" ∷ codes "--config=a.to
 unfolding line_faults asked clap_on_literals
 no-end-given = refl
 
-no-file : line_faults (codes "lg" ∷ codes "node" ∷ codes "--for-ms=1" ∷ []) ≡ kind.MissingRequiredArgument ∷ []
+no-file :
+    line_faults (codes "lg" ∷ codes "node" ∷ codes "--for-ms=1" ∷ []) ≡ kind.MissingRequiredArgument ∷ []
 unfolding line_faults asked clap_on_literals
 no-file = refl
 
@@ -190,7 +199,8 @@ two-to-choose : order_text (codes "a,b") (codes "0,0,1,0")
 unfolding order_text names_in words_in
 two-to-choose = refl
 
-three-to-choose : order_text (codes "b,c,d") (codes "4,0,5") ≡ Ok (lines (codes "c" ∷ codes "b" ∷ codes "d" ∷ []))
+three-to-choose :
+    order_text (codes "b,c,d") (codes "4,0,5") ≡ Ok (lines (codes "c" ∷ codes "b" ∷ codes "d" ∷ []))
 unfolding order_text names_in words_in
 three-to-choose = refl
 
@@ -264,11 +274,13 @@ any-lists : line_faults (codes "lg" ∷ codes "order" ∷ codes "--words=" ∷ c
 unfolding line_faults asked clap_on_literals
 any-lists = refl
 
-missing-words : line_faults (codes "lg" ∷ codes "order" ∷ codes "--names=a" ∷ []) ≡ kind.MissingRequiredArgument ∷ []
+missing-words :
+    line_faults (codes "lg" ∷ codes "order" ∷ codes "--names=a" ∷ []) ≡ kind.MissingRequiredArgument ∷ []
 unfolding line_faults asked clap_on_literals
 missing-words = refl
 
-names-twice : line_faults (codes "lg" ∷ codes "order" ∷ codes "--names=a" ∷ codes "--names=a" ∷ codes "--words=1" ∷ [])
+names-twice :
+    line_faults (codes "lg" ∷ codes "order" ∷ codes "--names=a" ∷ codes "--names=a" ∷ codes "--words=1" ∷ [])
     ≡ kind.ArgumentConflict ∷ []
 unfolding line_faults asked clap_on_literals
 names-twice = refl

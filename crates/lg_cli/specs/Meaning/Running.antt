@@ -1,5 +1,6 @@
 -- How the runs of the commands end.
-use Rattle.std.specs.Prelude.{◌≡◌, ◌≢◌, ⊤, true, ℕ, ◌≤◌, List, [], length, is_ok, Option, Result, Ok, Err}
+use Rattle.std.specs.Prelude.{◌≡◌, ◌≢◌, ⊤, true, ℕ, ◌≤◌}
+use Rattle.std.specs.Prelude.{List, [], length, is_ok, Option, Result, Ok, Err}
 use Rattle.std.specs.Io.KnownBytes.{Appends, Consumes, IsAtEnd}
 use Rattle.lg_text.specs.Meaning.Faults.{run_fault_text}
 use Rattle.lg_text.specs.Meaning.Ranges.{most_input}
@@ -60,7 +61,8 @@ pub record RunsTimeouts (held holds reported reports : Option (List ℕ)) (numbe
   pub written : Appends held holds (timeouts_text numbers)
 
 -- The choices are written, nothing is reported, and the status is 0.
-pub record WritesChoices (held holds reported reports : Option (List ℕ)) (text : List ℕ) (status : ℕ) : Type 0 where
+pub record WritesChoices (held holds reported reports : Option (List ℕ)) (text : List ℕ) (status : ℕ)
+    : Type 0 where
   pub is : status ≡ 0
   pub written : Appends held holds text
   pub silent : Appends reported reports []

@@ -121,7 +121,8 @@ nothing next =
 -- what b sends to a port, and among this an Ack to port 1
 abbrev pub sent : ℕ → Body → List Claim → List Outgoing
 sent port body claims =
-    record { to = at port; packet = record { sender = b ∷ []; body = body; claims = record { items = claims } } } ∷ []
+    record { to = at port; packet = record { sender = b ∷ []; body = body; claims = record { items = claims } } }
+    ∷ []
 
 abbrev pub acks : ℕ → List Claim → List Outgoing
 acks number claims = sent 1 (Ack number) claims
@@ -269,19 +270,22 @@ nothing_is_due = refl
 
 -- The next round starts an interval after the greatest moment, here that of a question.
 a_round_counts_from_the_greatest_moment :
-    reply_after (opening 0 ∷ Health 5000 ∷ []) (ticks 4000) ≡ record (nothing 6000) { fired = Some (start_of_round 0) }
+    reply_after (opening 0 ∷ Health 5000 ∷ []) (ticks 4000)
+    ≡ record (nothing 6000) { fired = Some (start_of_round 0) }
 unfolding by_computing
 a_round_counts_from_the_greatest_moment = refl
 
 -- At a score of 1 the interval is twice as long.
 a_round_counts_by_the_score :
-    reply_after (opening 0 ∷ accused_twice ∷ []) (ticks 0) ≡ record (nothing 2000) { fired = Some (start_of_round 0) }
+    reply_after (opening 0 ∷ accused_twice ∷ []) (ticks 0)
+    ≡ record (nothing 2000) { fired = Some (start_of_round 0) }
 unfolding by_computing
 a_round_counts_by_the_score = refl
 
 -- A claim that overrides ends the suspicion, and its deadline with it.
 an_ended_suspicion_has_no_deadline :
-    (reply_after (opening 0 ∷ accusing 2000 d ∷ pings 3000 2 b (alive c 1 ∷ []) ∷ []) (ticks 6500)).next ≡ 7000
+    (reply_after (opening 0 ∷ accusing 2000 d ∷ pings 3000 2 b (alive c 1 ∷ []) ∷ []) (ticks 6500)).next
+    ≡ 7000
 unfolding by_computing
 an_ended_suspicion_has_no_deadline = refl
 
@@ -299,7 +303,8 @@ unfolding by_computing
 an_accuser_counts_once = refl
 
 another_accuser_shortens_the_deadline :
-    (reply_after (among_five (accusing 2000 d ∷ accusing 2000 d ∷ accusing 2000 e ∷ [])) (ticks 31500)).next ≡ 19500
+    (reply_after (among_five (accusing 2000 d ∷ accusing 2000 d ∷ accusing 2000 e ∷ [])) (ticks 31500)).next
+    ≡ 19500
 unfolding by_computing
 another_accuser_shortens_the_deadline = refl
 
@@ -315,7 +320,8 @@ an_accusation_that_counts_is_sent = refl
 abbrev knows_c : List Event
 knows_c = opening 0 ∷ says 0 (Ack 7) (alive c 0 ∷ []) ∷ []
 
-asked_for_c : reply_after knows_c (Ask 20 (c ∷ [])) ≡ record (nothing 0) { answer = Some (OfStatus (Some (alive c 0))) }
+asked_for_c :
+    reply_after knows_c (Ask 20 (c ∷ [])) ≡ record (nothing 0) { answer = Some (OfStatus (Some (alive c 0))) }
 unfolding by_computing
 asked_for_c = refl
 
@@ -333,7 +339,8 @@ health_at_the_opening : (reply_after (opening 0 ∷ []) (Health 0)).answer ≡ S
 unfolding by_computing
 health_at_the_opening = refl
 
-health_after_a_refutation : (reply_after (opening 0 ∷ accused_twice ∷ []) (Health 0)).answer ≡ Some (OfHealth 1 1 1)
+health_after_a_refutation :
+    (reply_after (opening 0 ∷ accused_twice ∷ []) (Health 0)).answer ≡ Some (OfHealth 1 1 1)
 unfolding by_computing
 health_after_a_refutation = refl
 

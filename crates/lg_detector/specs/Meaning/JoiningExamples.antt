@@ -51,7 +51,8 @@ no_sixth : sixth_of five ≡ None
 no_sixth = refl
 
 a_full_page_goes_on :
-    (reply_after (opening 0 ∷ []) (says 10 Page six)).sends.items ≡ sent 1 (Pull (Some (103 ∷ []))) (alive b 0 ∷ [])
+    (reply_after (opening 0 ∷ []) (says 10 Page six)).sends.items
+    ≡ sent 1 (Pull (Some (103 ∷ []))) (alive b 0 ∷ [])
 unfolding by_computing
 a_full_page_goes_on = refl
 

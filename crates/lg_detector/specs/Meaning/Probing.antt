@@ -1,6 +1,7 @@
 -- The rounds of probing: who is chosen, the probe that runs, who helps, and what came of it (SWIM, sections 3.1 and
 -- 4.3; Lifeguard, local health aware probe).
-use Rattle.std.specs.Prelude.{ℕ, ◌+◌, Bool, true, false, ◌&&◌, List, [], ◌∷◌, Option, Some, None, option_map}
+use Rattle.std.specs.Prelude.{ℕ, ◌+◌, Bool, true, false, ◌&&◌, List}
+use Rattle.std.specs.Prelude.{[], ◌∷◌, Option, Some, None, option_map}
 use Rattle.std.specs.Prelude.{is_some, slice_index, if◌then◌else◌}
 use Rattle.lg_timing.specs.declared.config.Config.{Config}
 use Rattle.lg_timers.specs.declared.timer.TimerId.{TimerId}

@@ -66,7 +66,8 @@ a_suspicion_runs_out = refl
 
 -- Nobody can be chosen then, and the next round starts two intervals later, by the score.
 nobody_is_chosen :
-    reply_after (opening 0 ∷ accusing 2000 d ∷ ticks 2000 ∷ ticks 7000 ∷ ticks 7000 ∷ ticks 7000 ∷ []) (ticks 7000)
+    reply_after
+    (opening 0 ∷ accusing 2000 d ∷ ticks 2000 ∷ ticks 7000 ∷ ticks 7000 ∷ ticks 7000 ∷ []) (ticks 7000)
     ≡ record (nothing 9000) { fired = Some (start_of_round 7000) }
 unfolding by_computing
 nobody_is_chosen = refl
@@ -227,7 +228,8 @@ a_target_is_accused = refl
 
 -- c fails while it is probed: nothing is claimed, but the round counts.
 abbrev failing : List Event
-failing = opening 0 ∷ says 0 (Ack 7) (alive c 0 ∷ []) ∷ ticks 0 ∷ pings 100 1 b (failed c 0 ∷ []) ∷ ticks 500 ∷ []
+failing = opening 0 ∷ says 0 (Ack 7) (alive c 0 ∷ []) ∷ ticks 0 ∷ pings 100 1 b (failed c 0 ∷ [])
+    ∷ ticks 500 ∷ []
 
 a_failed_target_is_not_accused :
     reply_after failing (ticks 1000) ≡ record (nothing 1000) { fired = Some (timer_of 1000 RoundEnd) }

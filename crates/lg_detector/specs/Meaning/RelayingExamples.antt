@@ -106,7 +106,8 @@ the_third_number = refl
 
 a_probe_takes_the_third :
     (reply_after
-    (opening 0 ∷ says 0 (Ack 7) (alive c 0 ∷ []) ∷ ticks 0 ∷ for_d ∷ ticks 1000 ∷ ticks 1000 ∷ ticks 1000 ∷ [])
+    (opening 0 ∷ says 0 (Ack 7) (alive c 0 ∷ []) ∷ ticks 0 ∷ for_d ∷ ticks 1000 ∷ ticks 1000
+    ∷ ticks 1000 ∷ [])
     (ticks 1000)).sends.items
     ≡ sent 7000 (Ping 3 (c ∷ [])) (suspect c 0 b ∷ [])
 unfolding by_computing

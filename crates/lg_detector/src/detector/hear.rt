@@ -8,7 +8,8 @@
 //!   and its asker gets an Ack by its own number.
 //! - A Nack counts for the probe that runs, once for each helper that was asked.
 //! - A Pull is answered by a Page, and a Page that is full by the next Pull: `joining.rt`.
-ghost use Rattle.std.specs.Prelude.{◌≡◌, ◌<◌, ◌≤◌, [], ◌∷◌, ◌==◌, None, Some, length, option_map};
+ghost use Rattle.std.specs.Prelude.{◌≡◌, ◌<◌, ◌≤◌, [], ◌∷◌};
+ghost use Rattle.std.specs.Prelude.{◌==◌, None, Some, length, option_map};
 ghost use Rattle.lg_rules.specs.Meaning.Rows.{name_cmp, is_same};
 ghost use Rattle.lg_rules.specs.Meaning.View.{changed};
 ghost use Rattle.lg_membership.specs.declared.origin.Origin.TheVariants.{Group};

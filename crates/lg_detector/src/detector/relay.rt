@@ -5,7 +5,8 @@
 //! - RelayNack, where no Ack came by then: the asker gets a Nack by its own number, and the relay stays open.
 //! - RelayEnd: the relay is closed, and nothing is sent.
 //! - The target's Ack closes it, cancels both, and is passed on to the asker by its own number.
-ghost use Rattle.std.specs.Prelude.{◌≡◌, ◌<◌, ◌≤◌, ◌+◌, [], ◌∷◌, length, option_copied, is_some};
+ghost use Rattle.std.specs.Prelude.{◌≡◌, ◌<◌, ◌≤◌, ◌+◌, []};
+ghost use Rattle.std.specs.Prelude.{◌∷◌, length, option_copied, is_some};
 ghost use Rattle.lg_timers.specs.Meaning.Timers.{with_timer, without_timer};
 ghost use Rattle.lg_probe.specs.Meaning.Relays.{asker_at, ended_asker, TargetAcked};
 ghost use Rattle.lg_probe.specs.Support.Relays.{relays_with};

@@ -6,7 +6,8 @@
 //! - Direct, where no Ack counted by then: helpers are picked by the words and asked to ping the target.
 //! - The round ends: where no Ack counted, the score is marked, and the target is suspected by oneself, unless its
 //!   record is Failed. The next round starts at once.
-ghost use Rattle.std.specs.Prelude.{◌≡◌, ◌<◌, ◌≤◌, ◌+◌, [], ◌∷◌, length, option_copied, option_map};
+ghost use Rattle.std.specs.Prelude.{◌≡◌, ◌<◌, ◌≤◌, ◌+◌, []};
+ghost use Rattle.std.specs.Prelude.{◌∷◌, length, option_copied, option_map};
 ghost use Rattle.std.specs.List.{filter_map};
 ghost use Rattle.lg_probe.specs.Meaning.Round.{Asked, Acked, Nacked, round_with};
 ghost use Rattle.lg_membership.specs.Support.Reached.{IsGood};

@@ -35,7 +35,9 @@ replaces :
     ≡ of_rows (row (alive 99) 0 ∷ row (alive 100) 1 ∷ [])
 replaces = refl
 
-to_buddy : fill_of (of_rows (row suspect-c 0 ∷ row (alive 100) 0 ∷ [])) (Some suspect-c) 9 ≡ suspect-c ∷ alive 100 ∷ []
+to_buddy :
+    fill_of (of_rows (row suspect-c 0 ∷ row (alive 100) 0 ∷ [])) (Some suspect-c) 9
+    ≡ suspect-c ∷ alive 100 ∷ []
 unfolding taken_of digits
 to_buddy = refl
 
@@ -45,7 +47,8 @@ counts_no_buddy :
 unfolding taken_of digits
 counts_no_buddy = refl
 
-fewest_first : fill_of (of_rows (row suspect-c 0 ∷ row (alive 100) 1 ∷ [])) None 9 ≡ suspect-c ∷ alive 100 ∷ []
+fewest_first :
+    fill_of (of_rows (row suspect-c 0 ∷ row (alive 100) 1 ∷ [])) None 9 ≡ suspect-c ∷ alive 100 ∷ []
 unfolding taken_of digits
 fewest_first = refl
 

@@ -7,7 +7,8 @@
 -- equally often the lesser name by its bytes. Each one taken counts as sent once more, and stays in the queue. A claim
 -- that is put takes the place of the one about its member, with no sends. Lambda is of the configuration, 4 by
 -- default.
-use Rattle.std.specs.Prelude.{ℕ, ◌+◌, ◌-◌, ◌*◌, Bool, true, false, ◌&&◌, ◌||◌, not, Option, Some, None, nat_lt, ◌==◌}
+use Rattle.std.specs.Prelude.{ℕ, ◌+◌, ◌-◌, ◌*◌, Bool, true, false, ◌&&◌}
+use Rattle.std.specs.Prelude.{◌||◌, not, Option, Some, None, nat_lt, ◌==◌}
 use Rattle.std.specs.Prelude.{List, [], ◌∷◌, ◌++◌, length, map, filter, take, if◌then◌else◌, decimal}
 use Rattle.std.specs.Option.{option_to_list}
 use Rattle.std.specs.Ordering.{is_lt}

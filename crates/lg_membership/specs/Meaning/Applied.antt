@@ -1,5 +1,6 @@
 -- What applying a claim does, by the log before the claim and after it.
-use Rattle.std.specs.Prelude.{ℕ, ◌≡◌, ◌≢◌, Bool, true, false, List, ◌∷◌, Option, Some, None, option_map}
+use Rattle.std.specs.Prelude.{ℕ, ◌≡◌, ◌≢◌, Bool, true, false}
+use Rattle.std.specs.Prelude.{List, ◌∷◌, Option, Some, None, option_map}
 use Rattle.lg_rules.specs.declared.claim.Claim.{Claim}
 use Rattle.lg_rules.specs.declared.own.OwnHeard.{OwnHeard}
 use Rattle.lg_rules.specs.declared.own.OwnHeard.TheVariants.{Refuted, Raised, Ousted, Ignored}

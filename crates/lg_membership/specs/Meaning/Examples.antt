@@ -58,7 +58,8 @@ says now claim = Said now Group claim
 
 -- b knows that a, d and e are alive, and c
 abbrev others : Log
-others = says 0 (on e Alive 0) ∷ says 0 (on d Alive 0) ∷ says 0 (on c Alive 0) ∷ says 0 (on a Alive 0) ∷ opened ∷ []
+others = says 0 (on e Alive 0) ∷ says 0 (on d Alive 0) ∷ says 0 (on c Alive 0) ∷ says 0 (on a Alive 0) ∷ opened
+    ∷ []
 
 five_live : live others ≡ 5
 unfolding table_of record_of roster
@@ -215,7 +216,8 @@ unfolding table_of record_of roster takes put_by queued queue_rows suspicions ta
 sendable_again = refl
 
 -- What is queued afresh has no sends.
-queued_afresh : (queue (says 0 (on c Alive 1) ∷ sent heard)).rows ≡ record { claim = on c Alive 1; sends = 0 } ∷ []
+queued_afresh :
+    (queue (says 0 (on c Alive 1) ∷ sent heard)).rows ≡ record { claim = on c Alive 1; sends = 0 } ∷ []
 unfolding table_of record_of roster takes put_by queued queue_rows suspicions
 queued_afresh = refl
 
@@ -299,7 +301,8 @@ seven =
 
 first_page_has_six :
     page_of None seven
-    ≡ on a Alive 0 ∷ on b Alive 3 ∷ on c (accused_by a) 2 ∷ on d Failed 1 ∷ on e Alive 0 ∷ on 103 Failed 7 ∷ []
+    ≡ on a Alive 0 ∷ on b Alive 3 ∷ on c (accused_by a) 2 ∷ on d Failed 1 ∷ on e Alive 0 ∷ on 103 Failed 7
+    ∷ []
 first_page_has_six = refl
 
 page_behind_the_sixth : page_of (Some (103 ∷ [])) seven ≡ on 104 Alive 0 ∷ []

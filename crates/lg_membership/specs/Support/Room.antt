@@ -1,6 +1,7 @@
 -- What holds of a state that some log has, so that a claim can be applied: oneself has one name, what is put has a
 -- place in the queue, and a suspicion has one among the suspicions.
-use Rattle.std.specs.Prelude.{ℕ, ◌≡◌, ◌≢◌, ◌<◌, ◌≤◌, map, true, List, length, Option, Some, None}
+use Rattle.std.specs.Prelude.{ℕ, ◌≡◌, ◌≢◌, ◌<◌, ◌≤◌}
+use Rattle.std.specs.Prelude.{map, true, List, length, Option, Some, None}
 use Rattle.lg_rules.specs.declared.claim.Claim.{Claim}
 use Rattle.lg_rules.specs.declared.members.TheConstants.{MAX_OTHERS}
 use Rattle.lg_rules.specs.Meaning.Claim.{name_of}
@@ -15,7 +16,8 @@ use Rattle.lg_membership.specs.Support.State.{State, put_in}
 
 abbrev pub HasPlace : Option Claim → GossipQueue → Type 0
 HasPlace None waiting = Unit {0}
-HasPlace (Some c) waiting = row_at name_cmp queued_name c.name waiting.rows ≡ None → length waiting.rows < MAX_QUEUED
+HasPlace (Some c) waiting =
+    row_at name_cmp queued_name c.name waiting.rows ≡ None → length waiting.rows < MAX_QUEUED
 
 abbrev pub HasSeat : List ℕ → List Suspected → Type 0
 HasSeat m rows = row_at name_cmp suspected_name m rows ≡ None → length rows < MAX_OTHERS

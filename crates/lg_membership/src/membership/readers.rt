@@ -66,7 +66,8 @@ impl Membership {
     /// The record of a name, oneself included, where it is known.
     pub fn record_of(&self, name: &Name) -> Option<Record>
         ensures state { result ≡ row_at name_cmp name_of name.now (shown self.now) }
-        ensures log { (log : Log) → self.now ≡ state_of log → result ≡ row_at name_cmp name_of name.now (view log) }
+        ensures log { (log : Log) → self.now ≡ state_of log
+            → result ≡ row_at name_cmp name_of name.now (view log) }
     {
         if self.config.is_none() {
             return None;

@@ -1,5 +1,6 @@
 -- Worked rows.
-use Rattle.std.specs.Prelude.{◌≡◌, ℕ, List, [], ◌∷◌, ◌++◌, length, replicate, take, Some, None, Ok, Err, refl}
+use Rattle.std.specs.Prelude.{◌≡◌, ℕ, List, [], ◌∷◌, ◌++◌}
+use Rattle.std.specs.Prelude.{length, replicate, take, Some, None, Ok, Err, refl}
 use Rattle.lg_rules.specs.declared.addr.Addr.{Addr}
 use Rattle.lg_rules.specs.declared.claim.Claim.{Claim}
 use Rattle.lg_rules.specs.declared.claim.Status.TheVariants.{Alive, Suspect}
@@ -100,7 +101,9 @@ short_ping : Fails (take 12 ping_bytes) faults.Short
 unfolding packet_of packet_at head_at name_at body_at claims_at fault_of first_fault fault_behind
 short_ping = record { read = refl; placed = refl }
 
-longer_ping : Fails (0x53 ∷ 0x4c ∷ 1 ∷ 1 ∷ 1 ∷ 97 ∷ 0 ∷ 0 ∷ 0 ∷ 7 ∷ 1 ∷ 98 ∷ 0 ∷ 0 ∷ []) faults.Trailing
+longer_ping :
+    Fails
+    (0x53 ∷ 0x4c ∷ 1 ∷ 1 ∷ 1 ∷ 97 ∷ 0 ∷ 0 ∷ 0 ∷ 7 ∷ 1 ∷ 98 ∷ 0 ∷ 0 ∷ []) faults.Trailing
 unfolding packet_of packet_at head_at name_at body_at claims_at fault_of first_fault fault_behind
 longer_ping = record { read = refl; placed = refl }
 
@@ -116,7 +119,8 @@ ping_req = record { sender = 97 ∷ []; body = PingReq 1 (99 ∷ []) (at_port 70
 
 abbrev ping_req_bytes : List ℕ
 ping_req_bytes =
-    0x53 ∷ 0x4c ∷ 1 ∷ 2 ∷ 1 ∷ 97 ∷ 0 ∷ 0 ∷ 0 ∷ 1 ∷ 1 ∷ 99 ∷ 0x7f ∷ 0 ∷ 0 ∷ 1 ∷ 0x1b ∷ 0x5b ∷ 0 ∷ []
+    0x53 ∷ 0x4c ∷ 1 ∷ 2 ∷ 1 ∷ 97 ∷ 0 ∷ 0 ∷ 0 ∷ 1 ∷ 1 ∷ 99 ∷ 0x7f ∷ 0 ∷ 0 ∷ 1 ∷ 0x1b
+    ∷ 0x5b ∷ 0 ∷ []
 
 -- the helper b has no Ack for the probe numbered 1 so far
 abbrev nack : Packet
@@ -205,8 +209,8 @@ alive =
 
 abbrev alive_bytes : List ℕ
 alive_bytes =
-    0x53 ∷ 0x4c ∷ 1 ∷ 1 ∷ 1 ∷ 97 ∷ 0 ∷ 0 ∷ 0 ∷ 7 ∷ 1 ∷ 98 ∷ 1 ∷ 1 ∷ 1 ∷ 99 ∷ 0x7f ∷ 0 ∷ 0 ∷ 1 ∷ 0x1b ∷ 0x5b ∷ 0
-    ∷ 0 ∷ 0 ∷ 0 ∷ []
+    0x53 ∷ 0x4c ∷ 1 ∷ 1 ∷ 1 ∷ 97 ∷ 0 ∷ 0 ∷ 0 ∷ 7 ∷ 1 ∷ 98 ∷ 1 ∷ 1 ∷ 1 ∷ 99 ∷ 0x7f ∷ 0
+    ∷ 0 ∷ 1 ∷ 0x1b ∷ 0x5b ∷ 0 ∷ 0 ∷ 0 ∷ 0 ∷ []
 
 spelled_alive : spelling alive ≡ alive_bytes
 unfolding spelling
@@ -225,8 +229,8 @@ suspect =
 
 abbrev suspect_bytes : List ℕ
 suspect_bytes =
-    0x53 ∷ 0x4c ∷ 1 ∷ 1 ∷ 1 ∷ 97 ∷ 0 ∷ 0 ∷ 0 ∷ 1 ∷ 1 ∷ 98 ∷ 1 ∷ 2 ∷ 1 ∷ 98 ∷ 0x7f ∷ 0 ∷ 0 ∷ 1 ∷ 0x1b ∷ 0x58
-    ∷ 0x3b ∷ 0x9a ∷ 0xca ∷ 0 ∷ 1 ∷ 97 ∷ []
+    0x53 ∷ 0x4c ∷ 1 ∷ 1 ∷ 1 ∷ 97 ∷ 0 ∷ 0 ∷ 0 ∷ 1 ∷ 1 ∷ 98 ∷ 1 ∷ 2 ∷ 1 ∷ 98 ∷ 0x7f ∷ 0
+    ∷ 0 ∷ 1 ∷ 0x1b ∷ 0x58 ∷ 0x3b ∷ 0x9a ∷ 0xca ∷ 0 ∷ 1 ∷ 97 ∷ []
 
 spelled_suspect : spelling suspect ≡ suspect_bytes
 unfolding spelling
@@ -247,15 +251,15 @@ fourth_kind = record { read = refl; placed = refl }
 
 -- an incarnation above the greatest, which is judged at its fourth byte
 third_byte : Fails
-    (0x53 ∷ 0x4c ∷ 1 ∷ 3 ∷ 1 ∷ 98 ∷ 0 ∷ 0 ∷ 0 ∷ 7 ∷ 1 ∷ 1 ∷ 1 ∷ 99 ∷ 0x7f ∷ 0 ∷ 0 ∷ 1 ∷ 0x1b ∷ 0x5b ∷ 0xff
-    ∷ 0xff ∷ 0xff ∷ []) faults.Short
+    (0x53 ∷ 0x4c ∷ 1 ∷ 3 ∷ 1 ∷ 98 ∷ 0 ∷ 0 ∷ 0 ∷ 7 ∷ 1 ∷ 1 ∷ 1 ∷ 99 ∷ 0x7f ∷ 0 ∷ 0 ∷ 1
+    ∷ 0x1b ∷ 0x5b ∷ 0xff ∷ 0xff ∷ 0xff ∷ []) faults.Short
 unfolding packet_of packet_at head_at name_at body_at claims_at claim_at addr_at incarnation_at
     fault_of first_fault fault_behind
 third_byte = record { read = refl; placed = refl }
 
 fourth_byte : Fails
-    (0x53 ∷ 0x4c ∷ 1 ∷ 3 ∷ 1 ∷ 98 ∷ 0 ∷ 0 ∷ 0 ∷ 7 ∷ 1 ∷ 1 ∷ 1 ∷ 99 ∷ 0x7f ∷ 0 ∷ 0 ∷ 1 ∷ 0x1b ∷ 0x5b ∷ 0x3b
-    ∷ 0x9a ∷ 0xca ∷ 1 ∷ []) faults.Incarnation
+    (0x53 ∷ 0x4c ∷ 1 ∷ 3 ∷ 1 ∷ 98 ∷ 0 ∷ 0 ∷ 0 ∷ 7 ∷ 1 ∷ 1 ∷ 1 ∷ 99 ∷ 0x7f ∷ 0 ∷ 0 ∷ 1
+    ∷ 0x1b ∷ 0x5b ∷ 0x3b ∷ 0x9a ∷ 0xca ∷ 1 ∷ []) faults.Incarnation
 unfolding packet_of packet_at head_at name_at body_at claims_at claim_at addr_at incarnation_at
     fault_of first_fault fault_behind
 fourth_byte = record { read = refl; placed = refl }
@@ -272,7 +276,8 @@ pull = record { sender = 97 ∷ []; body = Pull None; claims = record { items = 
 
 abbrev pull_bytes : List ℕ
 pull_bytes =
-    0x53 ∷ 0x4c ∷ 1 ∷ 5 ∷ 1 ∷ 97 ∷ 0 ∷ 1 ∷ 1 ∷ 1 ∷ 97 ∷ 0x7f ∷ 0 ∷ 0 ∷ 1 ∷ 0x1b ∷ 0x59 ∷ 0 ∷ 0 ∷ 0 ∷ 0 ∷ []
+    0x53 ∷ 0x4c ∷ 1 ∷ 5 ∷ 1 ∷ 97 ∷ 0 ∷ 1 ∷ 1 ∷ 1 ∷ 97 ∷ 0x7f ∷ 0 ∷ 0 ∷ 1 ∷ 0x1b ∷ 0x59
+    ∷ 0 ∷ 0 ∷ 0 ∷ 0 ∷ []
 
 -- b answers by the records of a, b and c
 abbrev page : Packet
@@ -282,17 +287,19 @@ page =
 
 abbrev page_bytes : List ℕ
 page_bytes =
-    0x53 ∷ 0x4c ∷ 1 ∷ 6 ∷ 1 ∷ 98 ∷ 3 ∷ 1 ∷ 1 ∷ 97 ∷ 0x7f ∷ 0 ∷ 0 ∷ 1 ∷ 0x1b ∷ 0x59 ∷ 0 ∷ 0 ∷ 0 ∷ 0 ∷ 1 ∷ 1 ∷ 98
-    ∷ 0x7f ∷ 0 ∷ 0 ∷ 1 ∷ 0x1b ∷ 0x5a ∷ 0 ∷ 0 ∷ 0 ∷ 0 ∷ 1 ∷ 1 ∷ 99 ∷ 0x7f ∷ 0 ∷ 0 ∷ 1 ∷ 0x1b ∷ 0x5b ∷ 0 ∷ 0 ∷ 0
-    ∷ 0 ∷ []
+    0x53 ∷ 0x4c ∷ 1 ∷ 6 ∷ 1 ∷ 98 ∷ 3 ∷ 1 ∷ 1 ∷ 97 ∷ 0x7f ∷ 0 ∷ 0 ∷ 1 ∷ 0x1b ∷ 0x59 ∷ 0
+    ∷ 0 ∷ 0 ∷ 0 ∷ 1 ∷ 1 ∷ 98 ∷ 0x7f ∷ 0 ∷ 0 ∷ 1 ∷ 0x1b ∷ 0x5a ∷ 0 ∷ 0 ∷ 0 ∷ 0 ∷ 1
+    ∷ 1 ∷ 99 ∷ 0x7f ∷ 0 ∷ 0 ∷ 1 ∷ 0x1b ∷ 0x5b ∷ 0 ∷ 0 ∷ 0 ∷ 0 ∷ []
 
 -- a asks for the records behind f
 abbrev pull_after : Packet
-pull_after = record { sender = 97 ∷ []; body = Pull (Some (102 ∷ [])); claims = record { items = there 97 7001 ∷ [] } }
+pull_after =
+    record { sender = 97 ∷ []; body = Pull (Some (102 ∷ [])); claims = record { items = there 97 7001 ∷ [] } }
 
 abbrev pull_after_bytes : List ℕ
 pull_after_bytes =
-    0x53 ∷ 0x4c ∷ 1 ∷ 5 ∷ 1 ∷ 97 ∷ 1 ∷ 102 ∷ 1 ∷ 1 ∷ 1 ∷ 97 ∷ 0x7f ∷ 0 ∷ 0 ∷ 1 ∷ 0x1b ∷ 0x59 ∷ 0 ∷ 0 ∷ 0 ∷ 0 ∷ []
+    0x53 ∷ 0x4c ∷ 1 ∷ 5 ∷ 1 ∷ 97 ∷ 1 ∷ 102 ∷ 1 ∷ 1 ∷ 1 ∷ 97 ∷ 0x7f ∷ 0 ∷ 0 ∷ 1 ∷ 0x1b
+    ∷ 0x59 ∷ 0 ∷ 0 ∷ 0 ∷ 0 ∷ []
 
 spelled_pull : spelling pull ≡ pull_bytes
 unfolding spelling

@@ -1,5 +1,6 @@
 -- What is wrong with bytes that are no packet, by places: the first place whose byte can't stand there.
-use Rattle.std.specs.Prelude.{◌≡◌, ℕ, Bool, true, ◌&&◌, ◌||◌, nat_lt, nat_le, ◌==◌, if◌then◌else◌}
+use Rattle.std.specs.Prelude.{◌≡◌, ℕ, Bool, true, ◌&&◌, ◌||◌}
+use Rattle.std.specs.Prelude.{nat_lt, nat_le, ◌==◌, if◌then◌else◌}
 use Rattle.std.specs.Prelude.{List, [], ◌∷◌, ◌++◌, length, replicate, Option, Some, None, unwrap_or}
 use Rattle.std.specs.Int.{w32, from_be_bytes}
 use Rattle.lg_rules.specs.Meaning.Name.{is_name_byte}
@@ -75,7 +76,8 @@ brought LengthByte n = replicate n NameByte
 brought AfterLengthByte n = replicate n NameByte
 brought CountByte n = replicate n ClaimKindByte
 brought ClaimKindByte kind = claim_parts kind
-brought (IncarnationByte before) b = if nat_lt (length before) 3 then IncarnationByte (before ++ b ∷ []) ∷ [] else []
+brought (IncarnationByte before) b =
+    if nat_lt (length before) 3 then IncarnationByte (before ++ b ∷ []) ∷ [] else []
 brought _ b = []
 
 -- the parts of a packet before its first byte
@@ -110,4 +112,5 @@ fault_of bytes = first_fault [] bytes
 
 -- each place of a front can stand where it stands
 abbrev pub Stands : List ℕ → Type 0
-Stands front = (before after : List ℕ) (b : ℕ) → before ++ b ∷ after ≡ front → fault_behind before b ≡ None
+Stands front =
+    (before after : List ℕ) (b : ℕ) → before ++ b ∷ after ≡ front → fault_behind before b ≡ None

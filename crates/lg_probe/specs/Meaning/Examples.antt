@@ -74,7 +74,9 @@ comes_back : choice_after (Joined d ∷ Left d ∷ chose_c) 1 ≡ Some b
 comes_back = refl
 
 -- who has left has joined all the same, and counts once
-ever : ever_joined (Joined b ∷ Left b ∷ Chose 1 ∷ Joined c ∷ Left d ∷ Joined b ∷ Joined d ∷ []) ≡ b ∷ c ∷ d ∷ []
+ever :
+    ever_joined (Joined b ∷ Left b ∷ Chose 1 ∷ Joined c ∷ Left d ∷ Joined b ∷ Joined d ∷ [])
+    ≡ b ∷ c ∷ d ∷ []
 ever = refl
 
 nobody_joined : ever_joined (Left d ∷ Chose 1 ∷ []) ≡ []
@@ -101,7 +103,9 @@ each_of_none : EachInWindows [] (0 ∷ 7 ∷ []) []
 each_of_none name i named within = named
 
 -- the first three of the choices a, a, a and b don't have b, so not each is in each window
-without_b : EachInWindows (a ∷ b ∷ []) (0 ∷ 0 ∷ 0 ∷ 1 ∷ []) (a ∷ a ∷ a ∷ b ∷ []) → 3 ≤ 4 → false ≡ true
+without_b :
+    EachInWindows (a ∷ b ∷ []) (0 ∷ 0 ∷ 0 ∷ 1 ∷ []) (a ∷ a ∷ a ∷ b ∷ [])
+    → 3 ≤ 4 → false ≡ true
 without_b each within = each b 0 refl within
 
 -- of c, d, e and f the words 5, 5 and 5 pick d, then f of c, e and f, and then e of c and e
@@ -161,7 +165,8 @@ d_acked = refl
 
 -- who was asked later is asked in the place of those before, and hasn't sent a nack yet
 asked_anew :
-    round_of 3 a (Asked (d ∷ e ∷ []) ∷ Nacked 3 d ∷ asks) ≡ record asking { asked = d ∷ e ∷ []; silent = d ∷ e ∷ [] }
+    round_of 3 a (Asked (d ∷ e ∷ []) ∷ Nacked 3 d ∷ asks)
+    ≡ record asking { asked = d ∷ e ∷ []; silent = d ∷ e ∷ [] }
 asked_anew = refl
 
 first_of_target : is_first_ack asking 3 a ≡ true

@@ -1,6 +1,7 @@
 -- The order in which members are probed: each round chooses each of them once (SWIM, section 4.3).
 use Rattle.std.specs.Prelude.{◌≡◌, ◌≤◌, ◌+◌, ◌-◌, ◌*◌, true, take, drop}
-use Rattle.std.specs.Prelude.{ℕ, ◌%◌, Bool, not, List, [], ◌∷◌, ◌++◌, length, filter, if◌then◌else◌}
+use Rattle.std.specs.Prelude.{ℕ, ◌%◌, Bool, not, List, [], ◌∷◌}
+use Rattle.std.specs.Prelude.{◌++◌, length, filter, if◌then◌else◌}
 use Rattle.std.specs.Prelude.{Option, Some, None, slice_get}
 use Rattle.std.specs.List.{list_all}
 use Rattle.std.specs.Option.{option_to_list}
@@ -61,7 +62,8 @@ choice_after past word = choice (names_after past) (round_after past) word
 -- whom words choose one after another
 abbrev pub choices_after : List OrderFact → List ℕ → List (List ℕ)
 choices_after past [] = []
-choices_after past (word ∷ words) = option_to_list (choice_after past word) ++ choices_after (Chose word ∷ past) words
+choices_after past (word ∷ words) =
+    option_to_list (choice_after past word) ++ choices_after (Chose word ∷ past) words
 
 -- a past, and then these names join
 abbrev pub then_joined : List (List ℕ) → List OrderFact → List OrderFact

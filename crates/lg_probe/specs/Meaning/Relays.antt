@@ -1,6 +1,7 @@
 -- The relays that are open: probes of a target for another member, which is told of the target's ack (SWIM, section
 -- 3.1).
-use Rattle.std.specs.Prelude.{ℕ, ⊤, ◌≡◌, Bool, false, ◌&&◌, ◌==◌, List, [], ◌∷◌, ◌++◌, find, Option, if◌then◌else◌}
+use Rattle.std.specs.Prelude.{ℕ, ⊤, ◌≡◌, Bool, false, ◌&&◌, ◌==◌, List}
+use Rattle.std.specs.Prelude.{[], ◌∷◌, ◌++◌, find, Option, if◌then◌else◌}
 use Rattle.std.specs.List.{AllByRecursion, list_any}
 use Rattle.std.specs.Option.{option_map}
 use Rattle.lg_rules.specs.declared.addr.Addr.{Addr}

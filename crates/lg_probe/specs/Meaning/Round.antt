@@ -1,6 +1,7 @@
 -- A round of probing: who was asked, what came, and the mark that it earns (SWIM, section 3.1; Lifeguard, local health
 -- aware probe).
-use Rattle.std.specs.Prelude.{ℕ, ℤ, pos, Bool, true, false, ◌&&◌, ◌||◌, not, ◌==◌, List, [], ◌∷◌, filter}
+use Rattle.std.specs.Prelude.{ℕ, ℤ, pos, Bool, true, false, ◌&&◌}
+use Rattle.std.specs.Prelude.{◌||◌, not, ◌==◌, List, [], ◌∷◌, filter}
 use Rattle.std.specs.Prelude.{if◌then◌else◌}
 use Rattle.lg_rules.specs.Meaning.Rows.{name_cmp, is_same, is_among}
 use Rattle.lg_probe.specs.Meaning.Order.{without}

@@ -158,7 +158,8 @@ knows_a_suspect = refl
 
 -- packets are numbered on from the first of the event
 asks_two_helpers : reply_text (ticks 500) 9
-    (record (fires Direct 1000) { sends = record { items = sent a 7002 (Nack 1) [] ∷ sent a 7003 (Nack 2) [] ∷ [] } })
+    (record (fires Direct 1000)
+    { sends = record { items = sent a 7002 (Nack 1) [] ∷ sent a 7003 (Nack 2) [] ∷ [] } })
     ≡ lines (codes "fired direct"
     ∷ codes "send 9 127.0.0.1:7002 534c010401610000000100"
     ∷ codes "send 10 127.0.0.1:7003 534c010401610000000200"

@@ -59,8 +59,8 @@ failed_is_final = refl
 -- suspected
 pub standing_claims :
     table_of (b ∷ [])
-    (on c Alive 5 ∷ on c Alive 4 ∷ on b (accused_by d) 0 ∷ on c (accused_by e) 4 ∷ on d Alive 7 ∷ on d Failed 0
-    ∷ on c (accused_by a) 4 ∷ on d Alive 3 ∷ on c Alive 4 ∷ on a Alive 0 ∷ [])
+    (on c Alive 5 ∷ on c Alive 4 ∷ on b (accused_by d) 0 ∷ on c (accused_by e) 4 ∷ on d Alive 7
+    ∷ on d Failed 0 ∷ on c (accused_by a) 4 ∷ on d Alive 3 ∷ on c Alive 4 ∷ on a Alive 0 ∷ [])
     ≡ on a Alive 0 ∷ on c Alive 5 ∷ on d Failed 0 ∷ []
 unfolding table_of record_of roster
 standing_claims = refl

@@ -1,5 +1,6 @@
 -- What a name is, and what is wrong with bytes that are none (this project's choice).
-use Rattle.std.specs.Prelude.{ℕ, Bool, ◌&&◌, ◌||◌, not, List, length, nat_le, nat_lt, ◌==◌, find, if◌then◌else◌}
+use Rattle.std.specs.Prelude.{ℕ, Bool, ◌&&◌, ◌||◌, not, List, length}
+use Rattle.std.specs.Prelude.{nat_le, nat_lt, ◌==◌, find, if◌then◌else◌}
 use Rattle.std.specs.Prelude.{Option, Some, None, Result, Ok, Err}
 use Rattle.std.specs.List.{list_all}
 use Rattle.lg_rules.specs.declared.name.NameFault.{NameFault}

@@ -1,5 +1,6 @@
 -- Rows in rising order of their keys, for any order of keys.
-use Rattle.std.specs.Prelude.{ℕ, ⊤, ◌≡◌, Bool, not, List, [], ◌∷◌, filter, Option, Some, None, if◌then◌else◌}
+use Rattle.std.specs.Prelude.{ℕ, ⊤, ◌≡◌, Bool, not, List, [], ◌∷◌}
+use Rattle.std.specs.Prelude.{filter, Option, Some, None, if◌then◌else◌}
 use Rattle.std.specs.List.{list_any}
 use Rattle.std.specs.declared.cmp.Ordering.{Ordering}
 use Rattle.std.specs.declared.cmp.Ordering.TheVariants.{Less, Equal, Greater}

@@ -21,5 +21,6 @@ pub unpadded : (fields : Inside) → HoldsName fields.bytes fields.len
     → (let text = take fields.len fields.bytes in
     ◌≡◌ {A = Inside} record { bytes = padded text; len = length text } fields)
 unpadded fields holds =
-    let whole = length-take-le fields.len fields.bytes (subst (λ n. fields.len ≤ n) (sym holds.whole) holds.within) in
+    let within = subst (λ n. fields.len ≤ n) (sym holds.whole) holds.within in
+    let whole = length-take-le fields.len fields.bytes within in
     λ i. record { bytes = holds.zeros i; len = whole i }

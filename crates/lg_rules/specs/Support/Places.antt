@@ -1,5 +1,6 @@
 -- The place of a key among rows whose keys rise.
-use Rattle.std.specs.Prelude.{ℕ, ◌≡◌, ◌<◌, ◌≤◌, List, length, insert, slice_index_or, slice_set, Some, None}
+use Rattle.std.specs.Prelude.{ℕ, ◌≡◌, ◌<◌, ◌≤◌, List, length}
+use Rattle.std.specs.Prelude.{insert, slice_index_or, slice_set, Some, None}
 use Rattle.std.specs.declared.cmp.Ordering.{Ordering}
 use Rattle.lg_rules.specs.Meaning.Rows.{put_row, row_at}
 

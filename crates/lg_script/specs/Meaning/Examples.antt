@@ -1,5 +1,6 @@
 -- Worked lines.
-use Rattle.std.specs.Prelude.{◌≡◌, ℕ, List, [], ◌∷◌, ◌++◌, replicate, Option, Some, None, Result, Ok, Err, codes, refl}
+use Rattle.std.specs.Prelude.{◌≡◌, ℕ, List, [], ◌∷◌, ◌++◌, replicate}
+use Rattle.std.specs.Prelude.{Option, Some, None, Result, Ok, Err, codes, refl}
 use Rattle.std.specs.List.{flat_map}
 use Rattle.lg_timing.specs.declared.config.Seed.{Seed}
 use Rattle.lg_script.specs.declared.command.Command.{Command}

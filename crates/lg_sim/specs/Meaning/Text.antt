@@ -1,5 +1,6 @@
 -- What a script gives: its text, and how its run ends.
-use Rattle.std.specs.Prelude.{ℕ, ◌+◌, List, [], ◌∷◌, ◌++◌, Option, Some, None, Result, Ok, Err, codes, decimal}
+use Rattle.std.specs.Prelude.{ℕ, ◌+◌, List, [], ◌∷◌, ◌++◌}
+use Rattle.std.specs.Prelude.{Option, Some, None, Result, Ok, Err, codes, decimal}
 use Rattle.lg_text.specs.Meaning.Lines.{lines_of, newline}
 use Rattle.lg_text.specs.declared.end.End.{End}
 use Rattle.lg_text.specs.declared.end.End.TheVariants.{Done, Faulty}

@@ -18,8 +18,8 @@ at deadline id = record { deadline = deadline; id = id }
 -- by deadline, then by kind, then by name or number
 in_their_order :
     in_turn
-    (at 9 RoundStart ∷ at 9 (RelayEnd 7) ∷ at 9 (RelayEnd 6) ∷ at 9 (RelayNack 8) ∷ at 9 (Suspicion (98 ∷ 97 ∷ []))
-    ∷ at 9 (Suspicion (98 ∷ [])) ∷ at 9 RoundEnd ∷ at 8 Direct ∷ [])
+    (at 9 RoundStart ∷ at 9 (RelayEnd 7) ∷ at 9 (RelayEnd 6) ∷ at 9 (RelayNack 8)
+    ∷ at 9 (Suspicion (98 ∷ 97 ∷ [])) ∷ at 9 (Suspicion (98 ∷ [])) ∷ at 9 RoundEnd ∷ at 8 Direct ∷ [])
     ≡ at 8 Direct ∷ at 9 RoundEnd ∷ at 9 (Suspicion (98 ∷ [])) ∷ at 9 (Suspicion (98 ∷ 97 ∷ []))
     ∷ at 9 (RelayNack 8) ∷ at 9 (RelayEnd 6) ∷ at 9 (RelayEnd 7) ∷ at 9 RoundStart ∷ []
 unfolding in_turn

@@ -1,5 +1,6 @@
 -- The logarithms and the quotients of logarithms that suspicion timeouts use, in thousandths.
-use Rattle.std.specs.Prelude.{ℕ, ◌≤◌, ◌^◌, List, [], ◌∷◌, nat_le, if◌then◌else◌, slice_index, slice_index_or}
+use Rattle.std.specs.Prelude.{ℕ, ◌≤◌, ◌^◌, List, [], ◌∷◌, nat_le}
+use Rattle.std.specs.Prelude.{if◌then◌else◌, slice_index, slice_index_or}
 use Rattle.lg_timing.specs.Meaning.Bounds.{most_live}
 
 -- the logarithm of a number to a base, in thousandths rounded down: the greatest t with
