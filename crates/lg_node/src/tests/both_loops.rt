@@ -153,14 +153,14 @@ impl<'a, R: rt::Clock> Clock for StandingClock<'a, R> {
 
 /// What a run of both loops tells.
 #[derive(Clone, Copy, Debug)]
-struct Outcome {
-    receiving: End,
-    ticking: End,
+pub struct Outcome {
+    pub receiving: End,
+    pub ticking: End,
     /// How often the links failed.
     receiving_failures: u64,
     ticking_failures: u64,
     /// How many entries there were when the agent was closed, if it was.
-    entries: Option<u64>,
+    pub entries: Option<u64>,
 }
 
 /// What both loops leave.
@@ -248,7 +248,7 @@ where
 }
 
 /// What a run of both loops tells, perhaps with a first receiving that fails.
-fn told<R: Threads + Wait + rt::Clock + Sync>(
+pub fn told<R: Threads + Wait + rt::Clock + Sync>(
     rt: &R,
     alloc: Global,
     fails: bool,

@@ -1,7 +1,9 @@
-//! Memory that is refused once: a loop whose call meets that ends with it, and nothing is lost.
+//! Memory that is refused once: a loop whose call meets that ends with it, and nothing is lost. Where a thread's is
+//! refused, no loop makes a turn.
+use super::both_loops;
 use super::links::{Call, Coming, Script};
 use super::playing::{Outcome, Run, told};
-use crate::Why;
+use crate::{End, Why};
 use lg_agent::Refusal;
 use std::alloc::Global;
 use std::sync::Wait;
@@ -84,5 +86,29 @@ fn ticking(rt: HostRuntime) -> Result<(), Fail> {
     };
     let outcome = told_at_last(&rt, rt.alloc(), Run::ticking(1010)).ok_or("not run")?;
     assert!(rt; is_whole(&outcome, turns));
+    Ok(())
+}
+
+/// Whether no thread could be had for the receiving loop: it was refused before its first turn.
+fn has_no_thread(outcome: &both_loops::Outcome) -> bool {
+    outcome.receiving.why == Why::Refused(Refusal::NoMemory) && outcome.receiving.turns == 0
+}
+
+/// Both loops, where memory may be refused to the thread of the receiving one: then the ticking one makes no turn
+/// either, and the agent holds its opening alone.
+#[test]
+fn a_thread(rt: HostRuntime) -> Result<(), Fail> {
+    let outcome = match both_loops::told(&rt, rt.alloc(), false) {
+        Some(outcome) => outcome,
+        None => both_loops::told(&rt, rt.alloc(), false).ok_or("not run")?,
+    };
+    let still = End {
+        why: Why::Stopped,
+        dropped: 0,
+        unsent: 0,
+        turns: 0,
+    };
+    let is_still = outcome.ticking == still && outcome.entries == Some(1);
+    assert!(rt; !has_no_thread(&outcome) || is_still);
     Ok(())
 }
