@@ -1,0 +1,38 @@
+//! Packets of members of one letter.
+use crate::claims::letter;
+use arrayvec::ArrayVec;
+use lg_packet::{Body, Packet};
+use lg_rules::{Claim, MAX_CLAIMS};
+
+/// The first six of some claims.
+pub fn said(claims: &[Claim]) -> ArrayVec<Claim, MAX_CLAIMS> {
+    let mut list = ArrayVec::new();
+    for claim in claims {
+        if !list.is_full() {
+            list.push(*claim);
+        }
+    }
+    list
+}
+
+/// A packet of the member of a letter, with the first six of some claims.
+pub fn packet(sender: u8, body: Body, claims: &[Claim]) -> Packet {
+    Packet {
+        sender: letter(sender),
+        body,
+        claims: said(claims),
+    }
+}
+
+/// A Ping for the member of a letter.
+pub fn ping(number: u32, target: u8) -> Body {
+    Body::Ping {
+        number,
+        target: letter(target),
+    }
+}
+
+/// An Ack.
+pub fn ack(number: u32) -> Body {
+    Body::Ack { number }
+}
