@@ -1,10 +1,6 @@
 -- What is right: whoever wants to believe the contracts reads these.
-pub mod Answering
-pub mod Choosing
 pub mod Commands
 pub mod Examples
 pub mod Faults
 pub mod Ranges
 pub mod Running
-pub mod Spelled
-pub mod Timeouts

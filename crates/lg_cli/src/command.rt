@@ -9,13 +9,13 @@ ghost use Rattle.lg_cli.specs.Meaning.Commands.{answer_app, asked, has_good_numb
 ghost use Rattle.lg_cli.specs.Meaning.Commands.{number_in, number_rule, numbers_in, order_app, request_faults};
 ghost use Rattle.lg_cli.specs.Meaning.Commands.{request_of_rows, sim_app, text_in, text_rule, timeouts_app};
 ghost use Rattle.lg_cli.specs.Meaning.Commands.{IfNode, IfTimeouts};
-ghost use Rattle.lg_cli.specs.Meaning.Timeouts.{are_good};
+ghost use Rattle.lg_commands.specs.Meaning.Timeouts.{are_good};
 ghost use Rattle.lg_cli.specs.Support.Requests.{request_of};
 
-use crate::timeouts::Numbers;
 use clap::builder::ValueParser;
 use clap::error::ErrorKind;
 use clap::{Arg, ArgAction, ArgMatches, Command, Error};
+use lg_commands::Numbers;
 use lg_rules::MAX_MEMBERS;
 use lg_timing::{MAX_CONFIRMATIONS, MAX_FACTOR, MAX_INTERVAL_MS, MIN_INTERVAL_MS};
 use std::alloc::{AllocError, Global};

@@ -1,16 +1,9 @@
 //! The program `lg`: a SWIM failure detector with Lifeguard's extensions, on a command line.
 #![tactic(auto)]
 
-mod answer;
 mod command;
-mod line;
 mod node;
-mod order;
 mod program;
-mod run;
-#[cfg(test)]
-mod tests;
-mod timeouts;
 
 use std::env::Env;
 use std::process::ExitCode;

@@ -1,11 +1,12 @@
 //! The program with a machine beside its streams, which the command `node` wants.
 ghost use Rattle.std.specs.Prelude.{◌≡◌, ◌≤◌, ◌⊎◌, [], map};
 ghost use Rattle.lg_cli.specs.Meaning.Commands.{asked, line_faults, IfNode};
-ghost use Rattle.lg_cli.specs.Meaning.Running.{FailsBy};
+ghost use Rattle.lg_commands.specs.Meaning.Running.{FailsBy};
 ghost use Rattle.lg_launch.specs.Meaning.Running.{RunsFile};
 
 use crate::command::{Asked, MAX_RUN_MS, read_words};
-use crate::program::{FAILED, report_refusal, run_words};
+use crate::program::{report_refusal, run_words};
+use lg_commands::FAILED;
 use lg_launch::run_file;
 use lg_timing::Moment;
 use std::alloc::Global;

@@ -1,38 +1,26 @@
 //! The program over any reader and writers: its commands, its statuses, and what it says of faults.
-ghost use Rattle.std.specs.Prelude.{◌≡◌, ◌≢◌, ◌⊎◌, Err, IfOk, [], map, true};
+ghost use Rattle.std.specs.Prelude.{◌≡◌, ◌≢◌, ◌⊎◌, IfOk, [], map, true};
 ghost use Rattle.std.specs.Result.{is_err};
 ghost use Rattle.std.specs.IoError.{error_kind};
 ghost use Rattle.clap.specs.Values.{kind_of};
 ghost use Rattle.lg_rules.specs.Meaning.Name.{name_of_text};
 ghost use Rattle.lg_text.specs.Meaning.Faults.{run_fault_text};
-ghost use Rattle.lg_text.specs.Meaning.Running.{AppendsFront, ReadsWhole};
-ghost use Rattle.lg_cli.specs.Meaning.Choosing.{order_text};
-ghost use Rattle.lg_cli.specs.Meaning.Running.{FailsBy, LeavesNode, RunsAnswer, RunsOrder, RunsSim, RunsTimeouts};
+ghost use Rattle.lg_text.specs.Meaning.Running.{ReadsWhole};
+ghost use Rattle.lg_commands.specs.Meaning.Choosing.{order_text};
+ghost use Rattle.lg_commands.specs.Meaning.Running.{FailsBy, RunsAnswer, RunsOrder, RunsSim, RunsTimeouts};
+ghost use Rattle.lg_cli.specs.Meaning.Running.{LeavesNode};
 ghost use Rattle.lg_cli.specs.Meaning.Commands.{asked, line_faults, status_of_kind, IfAnswer, IfNode, IfOrder};
 ghost use Rattle.lg_cli.specs.Meaning.Commands.{IfSim, IfTimeouts, RefusesLine};
-ghost use Rattle.lg_cli.specs.Meaning.Timeouts.{are_good};
 
 use crate::command::{Asked, read_words};
-use crate::order::{BadList, OrderFault};
-use crate::run::{answer_run, order_run, timeouts_run};
-use crate::timeouts::Numbers;
 use clap::Error;
 use clap::error::ErrorKind;
-use lg_rules::Name;
-use lg_text::RunFault;
+use lg_commands::{BAD_INPUT, FAILED, USAGE, answer_named, order_lists, simulate, timeouts_of};
+use lg_text::{RunFault, report};
 use std::alloc::Global;
 use std::convert::AsStr;
 use std::io;
 use std::io::{ErrorKind as IoErrorKind, Read, Write};
-
-/// The status of a run that memory, a read or a write failed.
-pub(crate) const FAILED: u8 = 1;
-
-/// The status of a command line that is refused.
-const USAGE: u8 = 2;
-
-/// The status of bad input.
-const BAD_INPUT: u8 = 3;
 
 /// Runs the program on the words of a command line, of which the first is the program's name, and
 /// gives its exit status. It runs all commands but `node`.
@@ -108,118 +96,6 @@ pub fn run_words<S: AsStr, R: Read, W: Write, F: Write>(
     }
 }
 
-/// Runs `answer` for a text that should be a name.
-fn answer_named<R: Read, W: Write, F: Write>(
-    alloc: Global,
-    name: &str,
-    reader: &mut R,
-    writer: &mut W,
-    faults: &mut F,
-) -> u8
-    ensures answered { result ≢ FAILED → IfOk (name_of_text name.now) (λ name. RunsAnswer (R.remaining reader.old)
-        (R.remaining reader.new) (W.contents writer.old) (W.contents writer.new) (F.contents faults.old)
-        (F.contents faults.new) name result) }
-    ensures bad_name { is_err (name_of_text name.now) ≡ true → result ≡ BAD_INPUT }
-    ensures unread { is_err (name_of_text name.now) ≡ true → reader.new ≡ reader.old }
-    ensures unnamed { is_err (name_of_text name.now) ≡ true → writer.new ≡ writer.old }
-    ensures failed { result ≡ FAILED
-        → FailsBy (F.contents faults.old) (F.contents faults.new) writer.old writer.new }
-    ensures read { result ≡ FAILED
-        → (writer.new ≡ writer.old) ⊎ ReadsWhole (R.remaining reader.old) (R.remaining reader.new) }
-    ensures run { result ≢ USAGE }
-{
-    let name = match Name::new(name.as_bytes()) {
-        Ok(name) => name,
-        Err(_) => {
-            report(faults, BadList::Names.text());
-            return BAD_INPUT;
-        }
-    };
-    match answer_run(alloc, reader, writer, &name) {
-        Ok(end) => end as u8,
-        Err(fault) => {
-            report(faults, fault.text());
-            FAILED
-        }
-    }
-}
-
-/// Runs `sim`.
-fn simulate<R: Read, W: Write, F: Write>(
-    alloc: Global,
-    reader: &mut R,
-    writer: &mut W,
-    faults: &mut F,
-) -> u8
-    ensures simulated { result ≢ FAILED → RunsSim (R.remaining reader.old) (R.remaining reader.new)
-        (W.contents writer.old) (W.contents writer.new) (F.contents faults.old) (F.contents faults.new) result }
-    ensures failed { result ≡ FAILED
-        → FailsBy (F.contents faults.old) (F.contents faults.new) writer.old writer.new }
-    ensures read { result ≡ FAILED
-        → (writer.new ≡ writer.old) ⊎ ReadsWhole (R.remaining reader.old) (R.remaining reader.new) }
-    ensures run { result ≢ USAGE }
-{
-    match lg_sim::run(alloc, reader, writer) {
-        Ok(end) => end as u8,
-        Err(fault) => {
-            report(faults, fault.text());
-            FAILED
-        }
-    }
-}
-
-/// Runs `order` for texts that should list names and words.
-fn order_lists<W: Write, F: Write>(
-    alloc: Global,
-    names: &str,
-    words: &str,
-    writer: &mut W,
-    faults: &mut F,
-) -> u8
-    ensures ordered { result ≢ FAILED → RunsOrder (W.contents writer.old) (W.contents writer.new)
-        (F.contents faults.old) (F.contents faults.new) (order_text names.now words.now) result }
-    ensures names { order_text names.now words.now ≡ Err BadList.Names → result ≡ BAD_INPUT }
-    ensures unlisted { is_err (order_text names.now words.now) ≡ true → writer.new ≡ writer.old }
-    ensures failed { result ≡ FAILED
-        → FailsBy (F.contents faults.old) (F.contents faults.new) writer.old writer.new }
-    ensures run { result ≢ USAGE }
-{
-    match order_run(alloc, writer, names, words) {
-        Ok(()) => 0,
-        Err(OrderFault::Bad(list)) => {
-            report(faults, list.text());
-            BAD_INPUT
-        }
-        Err(OrderFault::Run(fault)) => {
-            report(faults, fault.text());
-            FAILED
-        }
-    }
-}
-
-/// Runs `timeouts` for good numbers.
-fn timeouts_of<W: Write, F: Write>(
-    alloc: Global,
-    numbers: &Numbers,
-    writer: &mut W,
-    faults: &mut F,
-) -> u8
-    requires { are_good numbers.now ≡ true }
-    ensures timed { result ≢ FAILED → RunsTimeouts (W.contents writer.old) (W.contents writer.new)
-        (F.contents faults.old) (F.contents faults.new) numbers.now result }
-    ensures failed { result ≡ FAILED
-        → FailsBy (F.contents faults.old) (F.contents faults.new) writer.old writer.new }
-    ensures run { result ≢ USAGE }
-{
-    match timeouts_run(alloc, writer, numbers) {
-        Ok(()) => 0,
-        Err(fault) => {
-            report(faults, fault.text());
-            FAILED
-        }
-    }
-}
-
 /// Reports that `node` isn't run, and gives the status.
 fn leave_node<F: Write>(faults: &mut F) -> u8
     ensures { LeavesNode (F.contents faults.old) (F.contents faults.new) result }
@@ -271,27 +147,5 @@ pub fn refuse_words<F: Write>(error: &io::Error, faults: &mut F) -> u8
     } else {
         report(faults, "error: the command line isn't UTF-8\n");
         USAGE
-    }
-}
-
-/// Writes a line, as far as it is taken.
-fn report<F: Write>(faults: &mut F, line: &str)
-    ensures { AppendsFront (F.contents faults.old) (F.contents faults.new) line.now }
-{
-    // `write_all` doesn't say what stands written where it fails, so the pieces are written here.
-    let mut rest = line.as_bytes();
-    for _ in 0..u64::MAX {
-        if rest.is_empty() {
-            return;
-        }
-        match faults.write(rest) {
-            Ok(0) => return,
-            Ok(count) => rest = &rest[count..],
-            Err(error) => {
-                if error.kind() != IoErrorKind::Interrupted {
-                    return;
-                }
-            }
-        }
     }
 }

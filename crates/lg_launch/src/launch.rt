@@ -5,13 +5,12 @@ ghost use Rattle.lg_timing.specs.Meaning.Config.{IsChecked};
 ghost use Rattle.lg_launch.specs.Meaning.Telling.{line_of, status_of};
 ghost use Rattle.lg_launch.specs.Meaning.Running.{table_of, Writes, RunsNode, RunsBytes, RunsFile};
 
-use crate::report::report;
 use crate::telling::table_of;
 use crate::told::Told;
 use lg_config::{MAX_FILE, NodeConfig, ReadFault};
 use lg_node::{NodeEnd, NodeFault, run_node};
 use lg_report::put_table;
-use lg_text::{RunFault, write_whole};
+use lg_text::{RunFault, report, write_whole};
 use lg_timing::Moment;
 use std::alloc::Global;
 use std::io::{ErrorKind, Read, Write};

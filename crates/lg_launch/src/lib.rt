@@ -6,7 +6,6 @@
 #![tactic(auto)]
 
 mod launch;
-mod report;
 mod telling;
 #[cfg(test)]
 mod tests;

@@ -1,4 +1,5 @@
-//! An input that is read whole up to a limit, its lines and its numbers, and a text that is written whole.
+//! An input that is read whole up to a limit, its lines and its numbers, a text that is written whole, and a line that
+//! is written as far as it is taken.
 #![tactic(auto)]
 
 mod end;
@@ -16,5 +17,5 @@ pub use fault::RunFault;
 pub use input::{MAX_INPUT, read_input};
 pub use lines::cut_line;
 pub use number::{MAX_DIGITS, number_in};
-pub use output::write_whole;
+pub use output::{report, write_whole};
 pub use packet::put_hex;

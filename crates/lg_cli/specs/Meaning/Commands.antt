@@ -18,8 +18,8 @@ use Rattle.lg_rules.specs.Meaning.Bounds.{most_members}
 use Rattle.lg_timing.specs.Meaning.Bounds.{least_interval_ms, most_confirmations, most_factor, most_interval_ms}
 use Rattle.lg_timing.specs.Meaning.Config.{is_within}
 use Rattle.lg_cli.specs.Meaning.Ranges.{most_run_ms}
-use Rattle.lg_cli.specs.Meaning.Timeouts.{are_good}
-use Rattle.lg_cli.specs.declared.timeouts.Numbers.{Numbers}
+use Rattle.lg_commands.specs.Meaning.Timeouts.{are_good}
+use Rattle.lg_commands.specs.declared.timeouts.Numbers.{Numbers}
 
 -- an option `--ID TEXT`, which is required
 abbrev pub text_rule : Text → Rule

@@ -1,0 +1,73 @@
+-- What the command `answer` writes for an input, by the lists of its lines and of the events before each.
+use Rattle.std.specs.Prelude.{ℕ, Bool, List, [], ◌∷◌, ◌++◌, Option}
+use Rattle.std.specs.Prelude.{Some, None, Result, Ok, Err, if◌then◌else◌}
+use Rattle.std.specs.List.{flat_map, filter_map, list_any}
+use Rattle.std.specs.Result.{is_err}
+use Rattle.hex.specs.Hex.{encode_lower}
+use Rattle.lg_rules.specs.declared.addr.Addr.{Addr}
+use Rattle.lg_packet.specs.Meaning.Spelling.{spelling}
+use Rattle.lg_packet.specs.declared.packet.Packet.{Packet}
+use Rattle.lg_detector.specs.Meaning.Step.{reply_after}
+use Rattle.lg_detector.specs.declared.event.Event.{Event}
+use Rattle.lg_detector.specs.declared.event.Event.TheVariants.{Open, Heard}
+use Rattle.lg_detector.specs.declared.reply.Outgoing.{Outgoing}
+use Rattle.lg_timing.specs.Meaning.Config.{defaults}
+use Rattle.lg_text.specs.Meaning.Lines.{lines_of, newline}
+use Rattle.lg_text.specs.declared.end.End.{End}
+use Rattle.lg_text.specs.declared.end.End.TheVariants.{Done, Faulty}
+use Rattle.lg_commands.specs.Meaning.Spelled.{fault_text, packet_in}
+use Rattle.lg_commands.specs.declared.line.LineFault.{LineFault}
+
+abbrev pub local : ℕ → Addr
+local port = record { octets = 127 ∷ 0 ∷ 0 ∷ 1 ∷ []; port = port }
+
+-- the detector is opened with the defaults, at 127.0.0.1:7000
+abbrev pub opening : List ℕ → Event
+opening name = Open 0 (defaults name (local 7000))
+
+-- a packet is heard from 127.0.0.1:1
+abbrev pub heard : Packet → Event
+heard packet = Heard 0 (local 1) packet
+
+-- what a line that spells a packet lets the detector hear
+abbrev pub event_of : Result Packet LineFault → Option Event
+event_of (Ok packet) = Some (heard packet)
+event_of (Err fault) = None
+
+-- the events of some lines: the opening, and what each line that spells a packet lets the detector hear
+unfoldable pub events_of : List ℕ → List (List ℕ) → List Event
+events_of name lines = opening name ∷ filter_map (λ line. event_of (packet_in line)) lines
+
+-- a packet that is sent, as a line of lower-case hex
+abbrev pub sent_text : Packet → List ℕ
+sent_text packet = encode_lower (spelling packet) ++ newline
+
+abbrev pub sent_line : Outgoing → List ℕ
+sent_line outgoing = sent_text outgoing.packet
+
+-- a line for each packet that the detector sends after the earlier events, or one for the fault
+abbrev pub line_reply : List Event → Result Packet LineFault → List ℕ
+line_reply earlier (Ok packet) = flat_map sent_line (reply_after earlier (heard packet)).sends.items
+line_reply earlier (Err fault) = fault_text fault ++ newline
+
+-- what a line gives after the earlier events
+abbrev pub line_text : List Event → List ℕ → List ℕ
+line_text earlier line = line_reply earlier (packet_in line)
+
+-- what lines give, each after the events of those before it
+abbrev pub text_from : List ℕ → List (List ℕ) → List (List ℕ) → List ℕ
+text_from name before [] = []
+text_from name before (line ∷ lines) =
+    line_text (events_of name before) line ++ text_from name (before ++ line ∷ []) lines
+
+-- what is written for an input
+unfoldable pub answer_text : List ℕ → List ℕ → List ℕ
+answer_text name input = text_from name [] (lines_of input)
+
+-- whether a line spells no packet
+abbrev pub is_faulty : List ℕ → Bool
+is_faulty line = is_err (packet_in line)
+
+-- how the run ends: faulty exactly where some line is
+unfoldable pub answer_end : List ℕ → End
+answer_end input = if list_any is_faulty (lines_of input) then Faulty else Done

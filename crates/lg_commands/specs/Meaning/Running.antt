@@ -1,0 +1,87 @@
+-- How the runs of the commands end.
+use Rattle.std.specs.Prelude.{◌≡◌, ◌≢◌, ⊤, true, ℕ, ◌≤◌}
+use Rattle.std.specs.Prelude.{List, [], length, is_ok, Option, Result, Ok, Err}
+use Rattle.std.specs.Io.KnownBytes.{Appends, Consumes, IsAtEnd}
+use Rattle.lg_text.specs.Meaning.Faults.{run_fault_text}
+use Rattle.lg_text.specs.Meaning.Ranges.{most_input}
+use Rattle.lg_text.specs.Meaning.Running.{AppendsFront}
+use Rattle.lg_text.specs.declared.end.End.{End}
+use Rattle.lg_text.specs.declared.end.End.TheVariants.{Done, Faulty}
+use Rattle.lg_text.specs.declared.fault.RunFault.{RunFault}
+use Rattle.lg_text.specs.declared.fault.RunFault.TheVariants.{Memory, Read, Write}
+use Rattle.lg_sim.specs.Meaning.Running.{RunsInput}
+use Rattle.lg_commands.specs.Meaning.Answering.{answer_end, answer_text}
+use Rattle.lg_commands.specs.Meaning.Faults.{bad_list_text}
+use Rattle.lg_commands.specs.Meaning.Timeouts.{timeouts_text}
+use Rattle.lg_commands.specs.declared.order.BadList.{BadList}
+use Rattle.lg_commands.specs.declared.order.OrderFault.{OrderFault}
+use Rattle.lg_commands.specs.declared.order.OrderFault.TheVariants.{Bad, Run}
+use Rattle.lg_commands.specs.declared.timeouts.Numbers.{Numbers}
+
+-- A run fails by a fault, which is reported as far as the report is taken.
+-- Only a fault of writing leaves anything written.
+pub record FailsBy {W : Type 0} (reported reports : Option (List ℕ)) (before after : W) : Type 0 where
+  pub fault : RunFault
+  pub line : AppendsFront reported reports (run_fault_text fault)
+  pub unwritten : fault ≢ Write → after ≡ before
+
+-- An input that isn't too long is read to its end, and the answer to it is written.
+pub record AnswersInput (left rest held holds : Option (List ℕ)) (name : List ℕ) (end : End) : Type 0 where
+  pub input : List ℕ
+  pub few : length input ≤ most_input
+  pub read : Consumes left rest input
+  pub whole : IsAtEnd rest
+  pub written : Appends held holds (answer_text name input)
+  pub ends : end ≡ answer_end input
+
+abbrev pub status_of : End → ℕ
+status_of Done = 0
+status_of Faulty = 3
+
+-- the same, with the status of its end; nothing is reported
+pub record RunsAnswer (left rest held holds reported reports : Option (List ℕ)) (name : List ℕ) (status : ℕ)
+    : Type 0 where
+  pub end : End
+  pub is : status ≡ status_of end
+  pub silent : Appends reported reports []
+  pub answers : AnswersInput left rest held holds name end
+
+-- An input that isn't too long is read to its end as a script, and its text is written; nothing is reported.
+pub record RunsSim (left rest held holds reported reports : Option (List ℕ)) (status : ℕ) : Type 0 where
+  pub end : End
+  pub is : status ≡ status_of end
+  pub silent : Appends reported reports []
+  pub runs : RunsInput left rest held holds end
+
+-- The timeouts for some numbers are written, nothing is reported, and the status is 0.
+pub record RunsTimeouts (held holds reported reports : Option (List ℕ)) (numbers : Numbers) (status : ℕ)
+    : Type 0 where
+  pub is : status ≡ 0
+  pub silent : Appends reported reports []
+  pub written : Appends held holds (timeouts_text numbers)
+
+-- The choices are written, nothing is reported, and the status is 0.
+pub record WritesChoices (held holds reported reports : Option (List ℕ)) (text : List ℕ) (status : ℕ)
+    : Type 0 where
+  pub is : status ≡ 0
+  pub written : Appends held holds text
+  pub silent : Appends reported reports []
+
+-- That a list is bad is reported, as far as the report is taken; nothing is written, and the status is 3.
+pub record TellsBadList (held holds reported reports : Option (List ℕ)) (list : BadList) (status : ℕ) : Type 0 where
+  pub is : status ≡ 3
+  pub unwritten : Appends held holds []
+  pub told : AppendsFront reported reports (bad_list_text list)
+
+-- `order` runs: the choices are written, or a list is bad.
+abbrev pub RunsOrder :
+    (held holds reported reports : Option (List ℕ)) → Result (List ℕ) BadList → ℕ → Type 0
+RunsOrder held holds reported reports (Ok text) status = WritesChoices held holds reported reports text status
+RunsOrder held holds reported reports (Err list) status = TellsBadList held holds reported reports list status
+
+-- A fault of `order`: the list that is bad, or of memory, or of writing, which comes only where both lists are good.
+abbrev pub IsFaultOf : Result (List ℕ) BadList → OrderFault → Type 0
+IsFaultOf said (Bad list) = said ≡ Err list
+IsFaultOf said (Run Memory) = ⊤
+IsFaultOf said (Run Read) = ⊥
+IsFaultOf said (Run Write) = is_ok said ≡ true

@@ -1,0 +1,53 @@
+-- What the command `timeouts` writes for its numbers.
+use Rattle.std.specs.Prelude.{ℕ, ◌+◌, Bool, ◌&&◌, List, [], ◌∷◌, ◌++◌, codes, decimal, nat_le}
+use Rattle.std.specs.List.{flat_map, range_with_len}
+use Rattle.lg_rules.specs.declared.addr.Addr.{Addr}
+use Rattle.lg_timing.specs.Meaning.Config.{is_within}
+use Rattle.lg_timing.specs.Meaning.TimeoutRange.{TimeoutRange}
+use Rattle.lg_timing.specs.Meaning.Timeouts.{range_of, timeout_of}
+use Rattle.lg_timing.specs.declared.config.Config.{Config}
+use Rattle.lg_text.specs.Meaning.Lines.{newline}
+use Rattle.lg_timing.specs.Meaning.Config.{defaults}
+use Rattle.lg_rules.specs.Meaning.Bounds.{most_members}
+use Rattle.lg_timing.specs.Meaning.Bounds.{least_interval_ms, most_confirmations, most_factor, most_interval_ms}
+use Rattle.lg_commands.specs.declared.timeouts.Numbers.{Numbers}
+
+-- each number is in its range
+abbrev pub are_good : Numbers → Bool
+are_good n =
+    let times = is_within 1 most_factor n.beta && is_within least_interval_ms most_interval_ms n.interval_ms in
+    is_within 1 most_members n.members
+    && (nat_le n.confirmations most_confirmations && (is_within 1 most_factor n.alpha && times))
+
+abbrev pub no_addr : Addr
+no_addr = record { octets = 0 ∷ 0 ∷ 0 ∷ 0 ∷ []; port = 0 }
+
+-- the configuration that has these numbers; no timeout depends on its other fields
+abbrev pub config_of : Numbers → Config
+config_of n = record (defaults (97 ∷ []) no_addr) {
+  interval_ms = n.interval_ms;
+  timeout_ms = 1;
+  alpha = n.alpha;
+  beta = n.beta;
+  confirmations = n.confirmations;
+}
+
+-- a word, a blank and a number of milliseconds, as a line
+abbrev pub ms_line : List ℕ → ℕ → List ℕ
+ms_line word ms = word ++ (32 ∷ (decimal ms ++ newline))
+
+-- the line of the timeout after c confirmations
+abbrev pub after_line : TimeoutRange → ℕ → List ℕ
+after_line r c = ms_line (decimal c) (timeout_of r c)
+
+-- the lines from no confirmation to all that count
+abbrev pub after_lines : TimeoutRange → List ℕ
+after_lines r = flat_map (after_line r) (range_with_len 0 (r.confirmations + 1))
+
+-- the least and the greatest timeout, then those lines
+abbrev pub range_text : TimeoutRange → List ℕ
+range_text r = ms_line (codes "min") r.min ++ ms_line (codes "max") r.max ++ after_lines r
+
+-- what is written for some numbers
+unfoldable pub timeouts_text : Numbers → List ℕ
+timeouts_text n = range_text (range_of n.members (config_of n))

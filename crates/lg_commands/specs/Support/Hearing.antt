@@ -1,0 +1,23 @@
+-- What one line does in a run over lines.
+use Rattle.std.specs.Prelude.{ℕ, IsTrue, List, [], ◌∷◌, ◌++◌, Result, Ok, Err, if◌then◌else◌}
+use Rattle.lg_packet.specs.declared.packet.Packet.{Packet}
+use Rattle.lg_detector.specs.Support.Step.{accepts_of}
+use Rattle.lg_detector.specs.Support.State.{State}
+use Rattle.lg_detector.specs.declared.event.Event.{Event}
+use Rattle.lg_commands.specs.Meaning.Answering.{heard, is_faulty}
+use Rattle.lg_text.specs.declared.end.End.{End}
+use Rattle.lg_text.specs.declared.end.End.TheVariants.{Done, Faulty}
+use Rattle.lg_commands.specs.declared.line.LineFault.{LineFault}
+
+-- the earlier events, and what a line lets the detector hear
+abbrev pub with_heard : List Event → Result Packet LineFault → List Event
+with_heard earlier (Ok packet) = earlier ++ heard packet ∷ []
+with_heard earlier (Err fault) = earlier
+
+-- Packets can be heard.
+pub record AcceptsHeard (s : State) : Type 0 where
+  pub accepts : (packet : Packet) → IsTrue (accepts_of s (heard packet))
+
+-- how a run over one line ends
+abbrev pub line_end : List ℕ → End
+line_end line = if is_faulty line then Faulty else Done

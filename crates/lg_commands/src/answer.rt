@@ -1,0 +1,156 @@
+//! The command `answer`: what a detector sends for the packets of an input.
+ghost use Rattle.std.specs.Prelude.{◌≡◌, ◌+◌, ◌*◌, ◌≤◌, List, []};
+ghost use Rattle.std.specs.Prelude.{◌∷◌, ◌++◌, IfOk, OnOk, length, vec_len};
+ghost use Rattle.std.specs.List.{flat_map};
+ghost use Rattle.lg_detector.specs.Support.Step.{state_after};
+ghost use Rattle.lg_detector.specs.declared.event.Event.{Event as Happened};
+ghost use Rattle.lg_text.specs.Meaning.Lines.{newline};
+ghost use Rattle.lg_commands.specs.Meaning.Answering.{answer_end, answer_text, heard, line_text, opening};
+ghost use Rattle.lg_commands.specs.Meaning.Answering.{sent_line, sent_text};
+ghost use Rattle.lg_commands.specs.Meaning.Spelled.{fault_text, packet_in};
+ghost use Rattle.lg_commands.specs.Support.Hearing.{line_end, with_heard, AcceptsHeard};
+
+use crate::line::LineFault;
+use arrayvec::ArrayVec;
+use lg_detector::{Detector, Event, NoMemory, Outgoing, Reply};
+use lg_packet::{MAX_PACKET, Packet};
+use lg_rules::{Addr, Name};
+use lg_text::{End, MAX_INPUT, cut_line, put_hex};
+use lg_timing::{Config, Moment};
+use std::alloc::Global;
+
+/// Room for the bytes of a packet that is written.
+type Row = ArrayVec<u8, MAX_PACKET>;
+
+/// The address of the machine itself.
+const LOCALHOST: [u8; 4] = [127, 0, 0, 1];
+
+/// What a run over an input writes, and how it ends.
+#[derive(Debug, Drop)]
+pub struct Answered {
+    /// The text.
+    pub text: Vec<u8>,
+    /// How the run ends.
+    pub end: End,
+}
+
+/// The opening of a detector of this name with the default configuration, at moment 0 at
+/// 127.0.0.1:7000.
+fn open_event(name: &Name) -> Event
+    ensures { result ≡ opening name.now }
+{
+    Event::Open {
+        now: Moment::default(),
+        config: Config::new(*name, Addr::new(LOCALHOST, 7000)),
+    }
+}
+
+/// Puts a packet behind a text as a line of lower-case hex.
+fn put_packet(packet: &Packet, row: &mut Row, text: &mut Vec<u8>) -> Result<(), NoMemory>
+    ensures { OnOk result (text.new.items ≡ text.old.items ++ sent_text packet.now) }
+{
+    put_hex(packet, row, text)?;
+    text.push(b'\n')?;
+    Ok(())
+}
+
+/// Puts packets behind a text, a line each.
+fn put_sends(sends: &[Outgoing], row: &mut Row, text: &mut Vec<u8>) -> Result<(), NoMemory>
+    ensures { OnOk result (text.new.items ≡ text.old.items ++ flat_map sent_line sends.now) }
+{
+    for outgoing in sends {
+        put_packet(&outgoing.packet, row, text)?;
+    }
+    Ok(())
+}
+
+/// Puts a fault behind a text, as a line.
+fn put_fault(fault: LineFault, text: &mut Vec<u8>) -> Result<(), NoMemory>
+    ensures { OnOk result (text.new.items ≡ text.old.items ++ (fault_text fault ++ newline)) }
+{
+    text.extend_from_slice(fault.text().as_bytes())?;
+    text.push(b'\n')?;
+    Ok(())
+}
+
+/// Puts behind a text what a line gives, leads the detector on by the packet that it spells, and
+/// says whether it spells one.
+///
+/// `bytes`, `reply` and `row` are room alone: what they hold is of no use before or after.
+fn answer_line(
+    line: &[u8],
+    bytes: &mut [u8],
+    detector: &mut Detector,
+    reply: &mut Reply,
+    row: &mut Row,
+    text: &mut Vec<u8>,
+) -> Result<End, NoMemory>
+    requires space { length line.now ≤ 2 * length bytes.old + 1 }
+    requires accepts { AcceptsHeard detector.old }
+    ensures text { OnOk result ((earlier : List Happened) → detector.old ≡ state_after earlier
+        → text.new.items ≡ text.old.items ++ line_text earlier line.now) }
+    ensures after { (earlier : List Happened) → detector.old ≡ state_after earlier
+        → detector.new ≡ state_after (with_heard earlier (packet_in line.now)) }
+    ensures end { IfOk result (λ end. end ≡ line_end line.now) }
+{
+    let bytes = &mut bytes[..line.len() / 2];
+    if hex::decode_to_slice(line, bytes).is_err() {
+        put_fault(LineFault::NotHex, text)?;
+        return Ok(End::Faulty);
+    }
+    match lg_packet::decode(bytes) {
+        Ok(packet) => {
+            // A packet is large, so the event is made here, where it needn't be handed on.
+            let event = Event::Heard {
+                now: Moment::default(),
+                source: Addr::new(LOCALHOST, 1),
+                packet,
+            };
+            detector.step(&event, reply);
+            put_sends(reply.sends.as_slice(), row, text)?;
+            Ok(End::Done)
+        }
+        Err(fault) => {
+            put_fault(LineFault::Refused(fault), text)?;
+            Ok(End::Faulty)
+        }
+    }
+}
+
+/// A detector of a name that was opened with the default configuration, at moment 0 at
+/// 127.0.0.1:7000.
+fn opened(alloc: Global, name: &Name, reply: &mut Reply) -> Result<Detector, NoMemory>
+    ensures { IfOk result (λ detector. detector ≡ state_after (opening name.now ∷ [])) }
+{
+    let mut detector = Detector::blank(alloc)?;
+    detector.step(&open_event(name), reply);
+    Ok(detector)
+}
+
+/// What a run over an input writes: for each line what the detector sends for the packet that the
+/// line spells, or its fault.
+///
+/// Time and memory are in proportion to the input. The only error is that memory was refused.
+pub fn answer(alloc: Global, name: &Name, input: &[u8]) -> Result<Answered, NoMemory>
+    requires { length input.now ≤ MAX_INPUT }
+    ensures text { IfOk result (λ answer. answer.text.items ≡ answer_text name.now input.now) }
+    ensures end { IfOk result (λ answer. answer.end ≡ answer_end input.now) }
+{
+    let mut reply = Reply::default();
+    let mut detector = opened(alloc, name, &mut reply)?;
+    let mut memory = vec![in alloc; 0; input.len() / 2]?;
+    let bytes = memory.as_mut_slice();
+    let mut row = ArrayVec::new();
+    let mut text = Vec::new(alloc);
+    let mut end = End::Done;
+    let mut rest = input;
+    'lines: while !rest.is_empty() {
+        let (line, after) = cut_line(rest);
+        match answer_line(line, bytes, &mut detector, &mut reply, &mut row, &mut text)? {
+            End::Done => {}
+            End::Faulty => end = End::Faulty,
+        }
+        rest = after;
+    }
+    Ok(Answered { text, end })
+}

@@ -1,0 +1,20 @@
+//! The commands of the program but `node`, over any reader and writers: what they write, and their statuses.
+//!
+//! Where to read on:
+//! - what `answer`, `order` and `timeouts` write: `specs/Meaning/Answering.antt`, `Choosing.antt` and `Timeouts.antt`;
+//!   what `sim` writes: `lg_sim`;
+//! - how a run ends, and its status: `specs/Meaning/Running.antt`;
+//! - which command a command line asks for: `lg_cli`.
+#![tactic(auto)]
+
+mod answer;
+mod line;
+mod order;
+mod run;
+mod status;
+mod timeouts;
+
+pub use order::{BadList, OrderFault};
+pub use run::{answer_run, order_run, timeouts_run};
+pub use status::{BAD_INPUT, FAILED, USAGE, answer_named, order_lists, simulate, timeouts_of};
+pub use timeouts::Numbers;

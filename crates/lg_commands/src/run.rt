@@ -1,0 +1,118 @@
+//! Runs the commands over a reader and a writer.
+ghost use Rattle.std.specs.Prelude.{◌≡◌, ◌≢◌, ◌⊎◌, ◌+◌, ◌≤◌};
+ghost use Rattle.std.specs.Prelude.{◌<◌, true, Err, IfErr, IfOk, IfSome, IsOkAnd, OnOk};
+ghost use Rattle.std.specs.Prelude.{length};
+ghost use Rattle.std.specs.Io.KnownBytes.{Appends};
+ghost use Rattle.lg_text.specs.Meaning.Running.{ReadsWhole, TakesAtMost};
+ghost use Rattle.lg_commands.specs.Meaning.Answering.{answer_end, answer_text};
+ghost use Rattle.lg_commands.specs.Meaning.Choosing.{order_text};
+ghost use Rattle.lg_commands.specs.Meaning.Running.{AnswersInput, IsFaultOf};
+ghost use Rattle.lg_commands.specs.Meaning.Timeouts.{are_good, timeouts_text};
+
+use crate::answer::answer;
+use crate::order::{BadList, OrderFault, order};
+use crate::timeouts::{Numbers, timeouts};
+use lg_rules::Name;
+use lg_text::{End, MAX_INPUT, RunFault, read_input, write_whole};
+use std::alloc::Global;
+use std::io::{Read, Write};
+
+/// Runs the command `answer`: reads all that a reader has left, and writes what a detector of
+/// this name sends for it, and nothing else.
+///
+/// The detector is opened with the default configuration, at moment 0 at 127.0.0.1:7000. Each line
+/// of the input is a packet in hex of either case, heard at moment 0 from 127.0.0.1:1; each packet
+/// sent is written as a line of lower-case hex. A packet that is refused gives `fault NUMBER NAME`,
+/// and a line that isn't hex `bad hex`; both go on, and the end is then [`End::Faulty`]. An empty
+/// line is a packet of no bytes (this project's choice).
+///
+/// The input has at most 1,048,576 bytes; a longer or endless one is [`RunFault::Read`], as is any
+/// error of the reader but an interruption; [`RunFault::Memory`] comes before that where memory is
+/// refused for what was read so far. The whole text is made before its first byte is written: with
+/// [`RunFault::Read`] or [`RunFault::Memory`] nothing is. [`RunFault::Write`] comes only once the
+/// whole input was read, and doesn't say how much stands written. Time and memory are in proportion
+/// to the input.
+///
+/// What is said of bytes holds for a reader and a writer that tell their bytes, as those over
+/// memory do.
+pub fn answer_run<R: Read, W: Write>(
+    alloc: Global,
+    reader: &mut R,
+    writer: &mut W,
+    name: &Name,
+) -> Result<End, RunFault>
+    // Where the reader tells its bytes, the answer to them is written, and the end is theirs.
+    ensures text { OnOk result (IfSome (R.remaining reader.old) (λ input.
+        Appends (W.contents writer.old) (W.contents writer.new) (answer_text name.now input))) }
+    ensures end { IfOk result (λ end. IfSome (R.remaining reader.old) (λ input. end ≡ answer_end input)) }
+    ensures few { OnOk result (IfSome (R.remaining reader.old) (λ input. length input ≤ MAX_INPUT)) }
+
+    // At any reader what is written answers what was read, and it was read to its end.
+    ensures answers { IfOk result (λ end. AnswersInput (R.remaining reader.old) (R.remaining reader.new)
+        (W.contents writer.old) (W.contents writer.new) name.now end) }
+    ensures taken { TakesAtMost (MAX_INPUT + 1) (R.remaining reader.old) (R.remaining reader.new) }
+
+    // Nothing is written but where it is the writing that fails, and then the whole input was read.
+    ensures unwritten { IfErr result (λ fault. fault ≢ RunFault.Write → writer.new ≡ writer.old) }
+    ensures whole { IfErr result (λ fault. fault ≡ RunFault.Write
+        → ReadsWhole (R.remaining reader.old) (R.remaining reader.new)) }
+    // A byte past the longest input is taken only where the fault is one of reading.
+    ensures within { IfErr result (λ fault. fault ≢ RunFault.Read
+        → TakesAtMost MAX_INPUT (R.remaining reader.old) (R.remaining reader.new)) }
+    // So nothing is written for an input that is too long.
+    ensures long { IfSome (R.remaining reader.old) (λ input. MAX_INPUT < length input
+        → (writer.new ≡ writer.old) × ((result ≡ Err RunFault.Read) ⊎ (result ≡ Err RunFault.Memory))) }
+{
+    let input = read_input(alloc, reader)?;
+    let answered = answer(alloc, name, &input)?;
+    write_whole(writer, &answered.text)?;
+    Ok(answered.end)
+}
+
+/// Runs the command `timeouts`: writes the timeouts of a suspicion for some numbers, and nothing
+/// else.
+///
+/// The lines are `min MS`, `max MS`, and `C MS` for each number C of confirmations from 0 to all that
+/// count, in milliseconds. The whole text is made before its first byte is written: with
+/// [`RunFault::Memory`] nothing is. Time and memory are bounded: the text has at most 8 lines.
+pub fn timeouts_run<W: Write>(
+    alloc: Global,
+    writer: &mut W,
+    numbers: &Numbers,
+) -> Result<(), RunFault>
+    requires { are_good numbers.now ≡ true }
+    ensures text { OnOk result (Appends (W.contents writer.old) (W.contents writer.new) (timeouts_text numbers.now)) }
+    ensures refused { IfErr result (λ fault. (fault ≡ RunFault.Memory) ⊎ (fault ≡ RunFault.Write)) }
+    ensures unwritten { IfErr result (λ fault. fault ≢ RunFault.Write → writer.new ≡ writer.old) }
+{
+    let text = timeouts(alloc, numbers)?;
+    write_whole(writer, text.as_bytes())
+}
+
+/// Runs the command `order`: writes whom words choose one after another of some names, a line each,
+/// and nothing else.
+///
+/// The names stand between commas, 1 to 255 different ones in any order, and so do the words, of 1
+/// to 16 decimal digits each, 0 to 4,294,967,295; an empty text has no words (this project's
+/// choice). Else the fault is [`OrderFault::Bad`]: the names are judged first, and that takes no
+/// memory. The whole text is made before its first byte is written: nothing is written where a list
+/// is bad or with [`RunFault::Memory`], and [`RunFault::Write`], which comes only where both lists
+/// are good, doesn't say how much stands written. For each number of names time and memory are in
+/// proportion to the words.
+pub fn order_run<W: Write>(
+    alloc: Global,
+    writer: &mut W,
+    names: &str,
+    words: &str,
+) -> Result<(), OrderFault>
+    ensures text { OnOk result (IsOkAnd (order_text names.now words.now)
+        (λ text. Appends (W.contents writer.old) (W.contents writer.new) text)) }
+    ensures refused { IfErr result (IsFaultOf (order_text names.now words.now)) }
+    ensures names { order_text names.now words.now ≡ Err BadList.Names
+        → result ≡ Err (OrderFault.Bad BadList.Names) }
+    ensures unwritten { IfErr result (λ fault. fault ≢ OrderFault.Run RunFault.Write → writer.new ≡ writer.old) }
+{
+    let text = order(alloc, names, words)?;
+    write_whole(writer, &text)?;
+    Ok(())
+}

@@ -1,0 +1,155 @@
+//! Runs a command, reports why it failed, and gives the exit status.
+ghost use Rattle.std.specs.Prelude.{◌≡◌, ◌≢◌, ◌⊎◌, Err, IfOk, true};
+ghost use Rattle.std.specs.Result.{is_err};
+ghost use Rattle.lg_rules.specs.Meaning.Name.{name_of_text};
+ghost use Rattle.lg_text.specs.Meaning.Running.{ReadsWhole};
+ghost use Rattle.lg_commands.specs.Meaning.Choosing.{order_text};
+ghost use Rattle.lg_commands.specs.Meaning.Running.{FailsBy, RunsAnswer, RunsOrder, RunsSim, RunsTimeouts};
+ghost use Rattle.lg_commands.specs.Meaning.Timeouts.{are_good};
+
+use crate::order::{BadList, OrderFault};
+use crate::run::{answer_run, order_run, timeouts_run};
+use crate::timeouts::Numbers;
+use lg_rules::Name;
+use lg_text::report;
+use std::alloc::Global;
+use std::io::{Read, Write};
+
+/// The status of a run that memory, a read or a write failed.
+pub const FAILED: u8 = 1;
+
+/// The status of a command line that is refused.
+pub const USAGE: u8 = 2;
+
+/// The status of bad input.
+pub const BAD_INPUT: u8 = 3;
+
+/// Runs `answer` for a text that should be a name, as [`answer_run`] does, and gives the status: 0, or
+/// [`BAD_INPUT`] where some line is faulty.
+///
+/// Where the text is no name, `lg: bad names` is reported, nothing is read or written, and the status
+/// is [`BAD_INPUT`]. A run that fails is reported, and its status is [`FAILED`]. A line that `faults`
+/// doesn't take is dropped.
+pub fn answer_named<R: Read, W: Write, F: Write>(
+    alloc: Global,
+    name: &str,
+    reader: &mut R,
+    writer: &mut W,
+    faults: &mut F,
+) -> u8
+    ensures answered { result ≢ FAILED → IfOk (name_of_text name.now) (λ name. RunsAnswer (R.remaining reader.old)
+        (R.remaining reader.new) (W.contents writer.old) (W.contents writer.new) (F.contents faults.old)
+        (F.contents faults.new) name result) }
+    ensures bad_name { is_err (name_of_text name.now) ≡ true → result ≡ BAD_INPUT }
+    ensures unread { is_err (name_of_text name.now) ≡ true → reader.new ≡ reader.old }
+    ensures unnamed { is_err (name_of_text name.now) ≡ true → writer.new ≡ writer.old }
+    ensures failed { result ≡ FAILED
+        → FailsBy (F.contents faults.old) (F.contents faults.new) writer.old writer.new }
+    ensures read { result ≡ FAILED
+        → (writer.new ≡ writer.old) ⊎ ReadsWhole (R.remaining reader.old) (R.remaining reader.new) }
+    ensures run { result ≢ USAGE }
+{
+    let name = match Name::new(name.as_bytes()) {
+        Ok(name) => name,
+        Err(_) => {
+            report(faults, BadList::Names.text());
+            return BAD_INPUT;
+        }
+    };
+    match answer_run(alloc, reader, writer, &name) {
+        Ok(end) => end as u8,
+        Err(fault) => {
+            report(faults, fault.text());
+            FAILED
+        }
+    }
+}
+
+/// Runs `sim`, as [`lg_sim::run`] does, and gives the status: 0, or [`BAD_INPUT`] where some line is
+/// faulty.
+///
+/// A run that fails is reported, and its status is [`FAILED`]. A line that `faults` doesn't take is
+/// dropped.
+pub fn simulate<R: Read, W: Write, F: Write>(
+    alloc: Global,
+    reader: &mut R,
+    writer: &mut W,
+    faults: &mut F,
+) -> u8
+    ensures simulated { result ≢ FAILED → RunsSim (R.remaining reader.old) (R.remaining reader.new)
+        (W.contents writer.old) (W.contents writer.new) (F.contents faults.old) (F.contents faults.new) result }
+    ensures failed { result ≡ FAILED
+        → FailsBy (F.contents faults.old) (F.contents faults.new) writer.old writer.new }
+    ensures read { result ≡ FAILED
+        → (writer.new ≡ writer.old) ⊎ ReadsWhole (R.remaining reader.old) (R.remaining reader.new) }
+    ensures run { result ≢ USAGE }
+{
+    match lg_sim::run(alloc, reader, writer) {
+        Ok(end) => end as u8,
+        Err(fault) => {
+            report(faults, fault.text());
+            FAILED
+        }
+    }
+}
+
+/// Runs `order` for texts that should list names and words, as [`order_run`] does, and gives the
+/// status, which is 0 where all was written.
+///
+/// Where a list is bad, `lg: bad names` or `lg: bad words` is reported, nothing is written, and the
+/// status is [`BAD_INPUT`]. A run that fails is reported, and its status is [`FAILED`]. A line that
+/// `faults` doesn't take is dropped.
+pub fn order_lists<W: Write, F: Write>(
+    alloc: Global,
+    names: &str,
+    words: &str,
+    writer: &mut W,
+    faults: &mut F,
+) -> u8
+    ensures ordered { result ≢ FAILED → RunsOrder (W.contents writer.old) (W.contents writer.new)
+        (F.contents faults.old) (F.contents faults.new) (order_text names.now words.now) result }
+    ensures names { order_text names.now words.now ≡ Err BadList.Names → result ≡ BAD_INPUT }
+    ensures unlisted { is_err (order_text names.now words.now) ≡ true → writer.new ≡ writer.old }
+    ensures failed { result ≡ FAILED
+        → FailsBy (F.contents faults.old) (F.contents faults.new) writer.old writer.new }
+    ensures run { result ≢ USAGE }
+{
+    match order_run(alloc, writer, names, words) {
+        Ok(()) => 0,
+        Err(OrderFault::Bad(list)) => {
+            report(faults, list.text());
+            BAD_INPUT
+        }
+        Err(OrderFault::Run(fault)) => {
+            report(faults, fault.text());
+            FAILED
+        }
+    }
+}
+
+/// Runs `timeouts` for good numbers, as [`timeouts_run`] does, and gives the status, which is 0 where
+/// all was written.
+///
+/// A run that fails is reported, and its status is [`FAILED`]. A line that `faults` doesn't take is
+/// dropped.
+pub fn timeouts_of<W: Write, F: Write>(
+    alloc: Global,
+    numbers: &Numbers,
+    writer: &mut W,
+    faults: &mut F,
+) -> u8
+    requires { are_good numbers.now ≡ true }
+    ensures timed { result ≢ FAILED → RunsTimeouts (W.contents writer.old) (W.contents writer.new)
+        (F.contents faults.old) (F.contents faults.new) numbers.now result }
+    ensures failed { result ≡ FAILED
+        → FailsBy (F.contents faults.old) (F.contents faults.new) writer.old writer.new }
+    ensures run { result ≢ USAGE }
+{
+    match timeouts_run(alloc, writer, numbers) {
+        Ok(()) => 0,
+        Err(fault) => {
+            report(faults, fault.text());
+            FAILED
+        }
+    }
+}
