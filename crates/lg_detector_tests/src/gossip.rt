@@ -1,0 +1,165 @@
+//! Which claims a packet takes, and how often.
+use arrayvec::ArrayVec;
+use lg_gossip::{MAX_QUEUED, Queue, Queued};
+use lg_rules::{Claim, MAX_CLAIMS};
+use lg_testing::{alive, suspect};
+
+/// A claim by a letter: of `c` that `a` suspects it at 2, by `C` that `b` does, and by `0` and `1` that it is alive at
+/// that number; of others that they are alive at 0.
+fn claim_of(byte: u8) -> Claim {
+    match byte {
+        b'c' => suspect(b'c', 2, b'a'),
+        b'C' => suspect(b'c', 2, b'b'),
+        b'0' => alive(b'c', 0),
+        b'1' => alive(b'c', 1),
+        _ => alive(byte, 0),
+    }
+}
+
+/// The claims of some letters.
+fn claims_of(letters: &[u8]) -> ArrayVec<Claim, MAX_CLAIMS> {
+    let mut claims = ArrayVec::new();
+    for byte in letters {
+        let _ = claims.try_push(claim_of(*byte));
+    }
+    claims
+}
+
+/// Claims with their sends.
+fn queued(letters: &[u8], sends: &[u32]) -> ArrayVec<Queued, 8> {
+    let mut queued = ArrayVec::new();
+    for (byte, sends) in letters.iter().zip(sends) {
+        let _ = queued.try_push(Queued {
+            claim: claim_of(*byte),
+            sends: *sends,
+        });
+    }
+    queued
+}
+
+/// Puts claims, where there is room.
+fn put(queue: &mut Queue, letters: &[u8]) {
+    for byte in letters {
+        if queue.queued().len() < MAX_QUEUED {
+            queue.put(claim_of(*byte));
+        }
+    }
+}
+
+/// One packet of a play: what is put before it, the record of the member that it goes to, if it goes to one, how many
+/// are live, its claims, and then the queue with the sends.
+type Turn = (
+    &'static [u8],
+    Option<u8>,
+    usize,
+    &'static [u8],
+    &'static [u8],
+    &'static [u32],
+);
+
+/// The buddy stands first and isn't counted, and the queue's claim about its member is passed over. What is queued about
+/// it may differ from its record, and a record that isn't Suspect is no buddy. Each is sent at most 4 times for a digit.
+const BUDDY: &[Turn] = &[
+    (b"cd", Some(b'c'), 9, b"cd", b"cd", &[0, 1]),
+    (b"", None, 9, b"cd", b"cd", &[1, 2]),
+    (b"", Some(b'c'), 9, b"cd", b"cd", &[1, 3]),
+    (b"", Some(b'c'), 9, b"cd", b"cd", &[1, 4]),
+    (b"", None, 9, b"c", b"cd", &[2, 4]),
+    (b"", Some(b'C'), 99, b"Cd", b"cd", &[2, 5]),
+    (b"", Some(b'0'), 99, b"cd", b"cd", &[3, 6]),
+];
+
+/// Six claims, those that were sent fewer times first, then by their names; five beside a buddy.
+const SIX_WITH_BUDDY: &[Turn] = &[
+    (
+        b"jeigdhf",
+        Some(b'c'),
+        9,
+        b"cdefgh",
+        b"defghij",
+        &[1, 1, 1, 1, 1, 0, 0],
+    ),
+    (b"", None, 9, b"ijdefg", b"defghij", &[2, 2, 2, 2, 1, 1, 1]),
+];
+
+const SIX: &[Turn] = &[
+    (
+        b"jeigdhf",
+        None,
+        9,
+        b"defghi",
+        b"defghij",
+        &[1, 1, 1, 1, 1, 1, 0],
+    ),
+    (b"", None, 9, b"jdefgh", b"defghij", &[2, 2, 2, 2, 2, 1, 1]),
+];
+
+/// A claim is put in the place of an older one about its member, with no sends.
+const PUT_AGAIN: &[Turn] = &[
+    (b"d0", None, 1, b"0d", b"0d", &[1, 1]),
+    (b"1", None, 1, b"1d", b"1d", &[1, 2]),
+];
+
+/// The claims of the packets of some plays, each of which begins with an empty queue.
+#[test]
+fn fills_packets(rt: HostRuntime) {
+    for turns in [BUDDY, SIX_WITH_BUDDY, SIX, PUT_AGAIN] {
+        let mut queue = Queue::new(4);
+        let mut claims = ArrayVec::new();
+        for (letters, to, live, want, rows, sends) in turns {
+            put(&mut queue, letters);
+            let to = to.map(claim_of);
+            queue.fill_into(to.as_ref(), *live, &mut claims);
+            assert_eq!(rt; claims, claims_of(want));
+            assert_eq!(rt; queue.queued(), queued(rows, sends).as_slice());
+        }
+    }
+}
+
+/// A claim that was put has no sends; and of two that were put, the names give the order.
+#[test]
+fn puts_with_no_sends(rt: HostRuntime) {
+    let mut queue = Queue::new(4);
+    put(&mut queue, b"d0");
+    assert_eq!(rt; queue.queued(), queued(b"0d", &[0, 0]).as_slice());
+}
+
+/// How many packets take the only claim of a queue before one takes none.
+fn packets_until_none(queue: &mut Queue, live: usize) -> Option<usize> {
+    for sent in 0..100 {
+        let claims = queue.fill(None, live);
+        if claims.is_empty() {
+            return Some(sent);
+        }
+        if claims != claims_of(b"0") {
+            return None;
+        }
+    }
+    None
+}
+
+/// How often a claim is sent among so many members, in a new queue or after what was sent before.
+#[test]
+fn sends_up_to_the_limit(rt: HostRuntime) {
+    let mut queue = Queue::new(4);
+    for (is_new, live, sends) in [
+        (true, 9, 4),
+        (false, 10, 4),
+        (false, 99, 0),
+        (false, 100, 4),
+        (false, 256, 0),
+        (true, 999, 12),
+        (true, 1_000, 16),
+        (true, usize::MAX, 80),
+    ] {
+        if is_new {
+            queue = Queue::new(4);
+            put(&mut queue, b"0");
+        }
+        assert_eq!(rt;
+            packets_until_none(&mut queue, live),
+            Some(sends),
+            "among {live}"
+        );
+    }
+}

@@ -1,0 +1,280 @@
+//! Packets: worked rows, and every front and every one-byte change of some packets against a slow judge.
+mod judge;
+
+use arrayvec::ArrayVec;
+use judge::judge;
+use lg_packet::{
+    Body, Fault, MAX_PACKET, Packet, decode, encode, first_bad_byte, one_reading, one_spelling,
+};
+use lg_rules::{Addr, Claim, MAX_CLAIMS, Name, Status};
+use lg_testing::{ack, alive, claim, letter, local, name, packet, ping, said, suspect};
+
+/// A Ping from `a` for `b`, numbered 7.
+const PING: &[u8] = b"SL\x01\x01\x01a\x00\x00\x00\x07\x01b\x00";
+
+/// An Ack of `b`, numbered 7.
+const ACK: &[u8] = b"SL\x01\x03\x01b\x00\x00\x00\x07\x00";
+
+/// `a` asks a helper to probe `c` at port 7003, for its probe numbered 1.
+const PING_REQ: &[u8] = b"SL\x01\x02\x01a\x00\x00\x00\x01\x01c\x7f\x00\x00\x01\x1b\x5b\x00";
+
+/// The helper `b` has no Ack for the probe numbered 1.
+const NACK: &[u8] = b"SL\x01\x04\x01b\x00\x00\x00\x01\x00";
+
+/// `a` asks for the first records, and says that it is there itself.
+const PULL: &[u8] = b"SL\x01\x05\x01a\x00\x01\
+    \x01\x01a\x7f\x00\x00\x01\x1b\x59\x00\x00\x00\x00";
+
+/// `a` asks for the records behind `f`.
+const PULL_AFTER: &[u8] = b"SL\x01\x05\x01a\x01f\x01\
+    \x01\x01a\x7f\x00\x00\x01\x1b\x59\x00\x00\x00\x00";
+
+/// `b` answers by the records of `a`, `b` and `c`.
+const PAGE: &[u8] = b"SL\x01\x06\x01b\x03\
+    \x01\x01a\x7f\x00\x00\x01\x1b\x59\x00\x00\x00\x00\
+    \x01\x01b\x7f\x00\x00\x01\x1b\x5a\x00\x00\x00\x00\
+    \x01\x01c\x7f\x00\x00\x01\x1b\x5b\x00\x00\x00\x00";
+
+/// A Ping from `a` for `c`, that says that `c` is there.
+const ALIVE: &[u8] = b"SL\x01\x01\x01a\x00\x00\x00\x07\x01c\x01\
+    \x01\x01c\x7f\x00\x00\x01\x1b\x5b\x00\x00\x00\x00";
+
+/// An Ack of `b` that says the same.
+const ACK_ALIVE: &[u8] = b"SL\x01\x03\x01b\x00\x00\x00\x08\x01\
+    \x01\x01c\x7f\x00\x00\x01\x1b\x5b\x00\x00\x00\x00";
+
+/// A Ping in which `b` is suspected by `a` and then by `c`.
+const SUSPECTS: &[u8] = b"SL\x01\x01\x01a\x00\x00\x00\x09\x01c\x02\
+    \x02\x01b\x7f\x00\x00\x01\x1b\x58\x00\x00\x00\x00\x01a\
+    \x02\x01b\x7f\x00\x00\x01\x1b\x58\x00\x00\x00\x00\x01c";
+
+/// A Ping in which `b` is suspected at the greatest incarnation.
+const GREATEST: &[u8] = b"SL\x01\x01\x01a\x00\x00\x00\x01\x01b\x01\
+    \x02\x01b\x7f\x00\x00\x01\x1b\x58\x3b\x9a\xca\x00\x01a";
+
+/// The same with an incarnation above it.
+const ABOVE: &[u8] = b"SL\x01\x01\x01a\x00\x00\x00\x01\x01b\x01\
+    \x02\x01b\x7f\x00\x00\x01\x1b\x58\x3b\x9a\xca\x01\x01a";
+
+/// The default packet.
+const FIRST_ACK: &[u8] = b"SL\x01\x03\x01a\x00\x00\x00\x00\x00";
+
+const PACKETS: [&[u8]; 11] = [
+    PING, ACK, PING_REQ, NACK, PULL, PULL_AFTER, PAGE, ALIVE, ACK_ALIVE, SUSPECTS, GREATEST,
+];
+
+/// The bytes of a packet.
+fn bytes_of(packet: &Packet) -> ArrayVec<u8, MAX_PACKET> {
+    let mut out = ArrayVec::new();
+    encode(packet, &mut out);
+    out
+}
+
+/// The fault of bytes that are no packet; else whether what is read of them is written as these bytes.
+fn reading(bytes: &[u8]) -> Result<bool, Fault> {
+    match decode(bytes) {
+        Ok(packet) => Ok(bytes_of(&packet).as_slice() == bytes),
+        Err(fault) => Err(fault),
+    }
+}
+
+/// The reading of bytes that the slow judge wants.
+fn judged(bytes: &[u8]) -> Result<bool, Fault> {
+    match judge(bytes) {
+        Some(fault) => Err(fault),
+        None => Ok(true),
+    }
+}
+
+/// Some bytes with another one at a place, or with one more at their end.
+fn changed(bytes: &[u8], place: usize, byte: u8) -> ArrayVec<u8, MAX_PACKET> {
+    let mut changed = ArrayVec::new();
+    let _ = changed.try_extend_from_slice(bytes);
+    if place < changed.len() {
+        changed[place] = byte;
+    } else {
+        let _ = changed.try_push(byte);
+    }
+    changed
+}
+
+/// Every front of a packet is Short, by the decoder and by the slow judge.
+#[test]
+fn fronts_of_packets(rt: HostRuntime) {
+    for bytes in PACKETS {
+        for end in 0..bytes.len() {
+            let front = &bytes[..end];
+            assert_eq!(rt;
+                [reading(front), judged(front)],
+                [Err(Fault::Short); 2],
+                "{front:?}"
+            );
+        }
+    }
+}
+
+/// The decoder and the slow judge agree on every change of one byte of a packet, and on every byte behind it.
+#[test]
+fn changes_of_packets(rt: HostRuntime) {
+    for bytes in [
+        PING, ACK, PING_REQ, NACK, PULL, PULL_AFTER, PAGE, ALIVE, ACK_ALIVE, SUSPECTS, GREATEST,
+        ABOVE,
+    ] {
+        for place in 0..=bytes.len() {
+            for byte in 0..=255 {
+                let near = changed(bytes, place, byte);
+                assert_eq!(rt; reading(&near), judged(&near), "{near:?}");
+            }
+        }
+    }
+}
+
+/// Some kinds are none, and no byte follows a packet.
+#[test]
+fn another_kind_and_one_byte_more(rt: HostRuntime) {
+    for bytes in PACKETS {
+        for (place, byte, fault) in [
+            (3, 0, Fault::Kind),
+            (3, 7, Fault::Kind),
+            (3, 255, Fault::Kind),
+            (bytes.len(), 0, Fault::Trailing),
+        ] {
+            assert_eq!(rt;
+                reading(&changed(bytes, place, byte)),
+                Err(fault),
+                "{byte} in {bytes:?}"
+            );
+        }
+    }
+}
+
+/// The first byte that can't stand in its place gives the fault, by the decoder and by the slow judge.
+#[test]
+fn refuses_by_the_first_fault(rt: HostRuntime) {
+    let rows: [(&[u8], Fault); 21] = [
+        (b"", Fault::Short),
+        (b"S", Fault::Short),
+        (b"\x00", Fault::Magic),
+        (b"S\x00", Fault::Magic),
+        (b"SL\xff", Fault::Version),
+        (b"SL\x01\x00", Fault::Kind),
+        (b"SL\x01\x07", Fault::Kind),
+        (b"SL\x01\x01\x00", Fault::Name),
+        (b"SL\x01\x01\x21", Fault::Name),
+        (b"SL\x01\x01\x03a ", Fault::Name),
+        (b"SL\x01\x01\x03aa", Fault::Short),
+        (b"SL\x01\x03\x01b\x00\x00\x00\x07\x00\x00", Fault::Trailing),
+        (b"SL\x01\x03\x01b\x00\x00\x00\x07\x07", Fault::Count),
+        (b"SL\x01\x03\x01b\x00\x00\x00\x07\x06", Fault::Short),
+        (b"SL\x01\x03\x01b\x00\x00\x00\x07\x01\x04", Fault::ClaimKind),
+        (b"SL\x01\x05\x01a\x21", Fault::Name),
+        (b"SL\x01\x05\x01a\x02 ", Fault::Name),
+        (b"SL\x01\x06\x01b\x07", Fault::Count),
+        (&ABOVE[..25], Fault::Short),
+        (&ABOVE[..26], Fault::Incarnation),
+        (ABOVE, Fault::Incarnation),
+    ];
+    for (bytes, fault) in rows {
+        assert_eq!(rt;
+            [reading(bytes), judged(bytes)],
+            [Err(fault); 2],
+            "{bytes:?}"
+        );
+    }
+}
+
+/// The claim that the member of a letter is there, at this port.
+fn there(member: u8, port: u16) -> Claim {
+    Claim {
+        addr: local(port),
+        ..alive(member, 0)
+    }
+}
+
+/// The sender, the body and the claims of a packet.
+type Parts = ((Name, Body), ArrayVec<Claim, MAX_CLAIMS>);
+
+/// The parts of what was read.
+fn parts(read: Result<Packet, Fault>) -> Option<Parts> {
+    let Packet {
+        sender,
+        body,
+        claims,
+    } = read.ok()?;
+    Some(((sender, body), claims))
+}
+
+/// Packets with their bytes: the packet is written as these, and they are read as its sender, its body and its claims.
+#[test]
+fn writes_and_reads_packets(rt: HostRuntime) {
+    one_reading();
+    one_spelling();
+    first_bad_byte();
+    let (a, c) = (there(b'a', 7001), there(b'c', 7003));
+    let asks = Body::PingReq {
+        number: 1,
+        target: letter(b'c'),
+        addr: local(7003),
+    };
+    let after = Some(letter(b'f'));
+    let greatest = suspect(b'b', 1_000_000_000, b'a');
+    for (bytes, wanted) in [
+        (PING, packet(b'a', ping(7, b'b'), &[])),
+        (ACK, packet(b'b', ack(7), &[])),
+        (FIRST_ACK, Packet::default()),
+        (PING_REQ, packet(b'a', asks, &[])),
+        (NACK, packet(b'b', Body::Nack { number: 1 }, &[])),
+        (PULL, packet(b'a', Body::Pull { after: None }, &[a])),
+        (PULL_AFTER, packet(b'a', Body::Pull { after }, &[a])),
+        (PAGE, packet(b'b', Body::Page, &[a, there(b'b', 7002), c])),
+        (ALIVE, packet(b'a', ping(7, b'c'), &[c])),
+        (ACK_ALIVE, packet(b'b', ack(8), &[c])),
+        (
+            SUSPECTS,
+            packet(
+                b'a',
+                ping(9, b'c'),
+                &[suspect(b'b', 0, b'a'), suspect(b'b', 0, b'c')],
+            ),
+        ),
+        (GREATEST, packet(b'a', ping(1, b'b'), &[greatest])),
+    ] {
+        assert_eq!(rt; bytes_of(&wanted.copy()).as_slice(), bytes);
+        assert_eq!(rt;
+            parts(decode(bytes)),
+            Some(((wanted.sender, wanted.body), wanted.claims)),
+            "{bytes:?}"
+        );
+    }
+}
+
+/// The longest packet has as many bytes as there is room for, and is read as it was written; with one more it is none.
+#[test]
+fn the_longest_packet(rt: HostRuntime) {
+    let long = name(b"ABCDEFGHIJKLMNOPabcdefghijklm._-");
+    let claims = said(&[claim(long, Status::Suspect(long), 0); 6]);
+    let body = Body::PingReq {
+        number: u32::MAX,
+        target: long,
+        addr: Addr::new([255; 4], u16::MAX),
+    };
+    let bytes = bytes_of(&Packet {
+        sender: long,
+        body,
+        claims: said(&claims),
+    });
+    let mut longer: ArrayVec<u8, 544> = ArrayVec::new();
+    let _ = longer.try_extend_from_slice(&bytes);
+    let _ = longer.try_push(0);
+    for (bytes, want) in [
+        (bytes.as_slice(), Ok(true)),
+        (longer.as_slice(), Err(Fault::Trailing)),
+    ] {
+        assert_eq!(rt; [reading(bytes), judged(bytes)], [want; 2]);
+    }
+    assert_eq!(rt; parts(decode(&bytes)), Some(((long, body), claims)));
+    assert_eq!(rt;
+        [bytes.len(), MAX_PACKET, longer.len()],
+        [4 + 33 + 43 + 1 + 6 * 77, 543, 544]
+    );
+}

@@ -1,0 +1,174 @@
+//! Which timers fire, and when.
+ghost use Rattle.std.specs.Prelude.{◌≤◌, length};
+
+use arrayvec::ArrayVec;
+use lg_rules::Name;
+use lg_testing::{at, letter, name};
+use lg_timers::{MAX_TIMERS, Timer, TimerId, Timers};
+
+/// A step of a play, with what is wanted of it.
+#[derive(Drop)]
+enum Step {
+    /// The timer of this id is cancelled, if it is set.
+    Cancel(TimerId, bool),
+    /// The first that is due at this moment is taken.
+    Take(u64, Option<Timer>),
+    /// The first of all.
+    Least(Option<Timer>),
+    /// All are cancelled.
+    Clear,
+    /// All are cancelled, and then this one is set.
+    SetAlone(Timer),
+}
+
+fn timer(deadline: u64, id: TimerId) -> Timer {
+    Timer { deadline, id }
+}
+
+/// These timers, each in the place of an earlier one of its id.
+#[tactic(auto, using(crate::proofs::TimerCounts::one_more))]
+fn all_set(rows: &[Timer]) -> Timers
+    requires { length rows.now ≤ MAX_TIMERS }
+{
+    let mut timers = Timers::new();
+    for row in rows {
+        timers.reset(*row);
+    }
+    timers
+}
+
+/// Makes a step, and answers whether it gave what is wanted.
+fn gives_what_is_wanted(timers: &mut Timers, step: &Step) -> bool {
+    match step {
+        Step::Cancel(id, want) => timers.cancel(id) == *want,
+        Step::Take(now, want) => timers.take_due(at(*now)) == *want,
+        Step::Least(want) => timers.least() == *want,
+        Step::Clear => {
+            timers.clear();
+            true
+        }
+        Step::SetAlone(timer) => {
+            timers.clear();
+            timers.set(*timer);
+            true
+        }
+    }
+}
+
+/// Ten timers in the order in which they fire: by their deadlines, then by their kinds, then by name or number.
+fn in_turn() -> [Timer; 10] {
+    [
+        timer(8000, TimerId::RoundStart),
+        timer(9000, TimerId::RoundEnd),
+        timer(9000, TimerId::Suspicion(letter(b'c'))),
+        timer(9000, TimerId::Suspicion(name(b"ca"))),
+        timer(9000, TimerId::Suspicion(letter(b'd'))),
+        timer(9000, TimerId::Direct),
+        timer(9000, TimerId::RelayNack(2)),
+        timer(9000, TimerId::RelayNack(10)),
+        timer(9000, TimerId::RelayEnd(1)),
+        timer(9500, TimerId::RelayEnd(2)),
+    ]
+}
+
+/// Timers that were set in another order fire in this one, none before its deadline.
+#[test]
+fn the_order_in_which_they_fire(rt: HostRuntime) {
+    let order = in_turn();
+    let mut timers = all_set(&[3, 7, 0, 9, 5, 1, 8, 2, 6, 4].map(|place: usize| order[place]));
+    let early = timers.take_due(at(7999));
+    for next in order {
+        let least = timers.least();
+        assert_eq!(rt; [least, timers.take_due(at(9500))], [Some(next); 2]);
+    }
+    assert_eq!(rt; [early, timers.least()], [None; 2]);
+}
+
+/// The numbers of the kinds.
+#[test]
+fn the_numbers_of_the_kinds(rt: HostRuntime) {
+    for (id, number) in [
+        (TimerId::RoundEnd, 1),
+        (TimerId::Suspicion(letter(b'c')), 2),
+        (TimerId::Direct, 3),
+        (TimerId::RelayNack(9), 4),
+        (TimerId::RelayEnd(9), 5),
+        (TimerId::RoundStart, 6),
+    ] {
+        assert_eq!(rt; timer(0, id).kind(), number);
+    }
+}
+
+/// One timer of an id is set; another deadline takes the place of the earlier one; and all can be cancelled.
+#[test]
+fn sets_and_cancels(rt: HostRuntime) {
+    let nack = TimerId::RelayNack(7);
+    let end = timer(600, TimerId::RelayEnd(7));
+    let moved = timer(700, TimerId::RelayEnd(1));
+    let stays = timer(600, TimerId::RelayEnd(2));
+    let start = timer(700, TimerId::RoundStart);
+    let plays: [(&[Timer], &[Step]); 3] = [
+        (
+            &[timer(500, nack), end],
+            &[
+                Step::Least(Some(timer(500, nack))),
+                Step::Cancel(TimerId::RelayNack(6), false),
+                Step::Cancel(nack, true),
+                Step::Cancel(nack, false),
+                Step::Least(Some(end)),
+            ],
+        ),
+        (
+            &[timer(500, TimerId::RelayEnd(1)), stays, moved],
+            &[
+                Step::Take(700, Some(stays)),
+                Step::Take(700, Some(moved)),
+                Step::Least(None),
+            ],
+        ),
+        (
+            &[timer(500, nack), timer(600, TimerId::RoundStart)],
+            &[
+                Step::Clear,
+                Step::Least(None),
+                Step::Take(600, None),
+                Step::SetAlone(start),
+                Step::Least(Some(start)),
+            ],
+        ),
+    ];
+    for (play, (rows, steps)) in plays.into_iter().enumerate() {
+        assert!(rt; rows.len() <= MAX_TIMERS);
+        let mut timers = all_set(rows);
+        for (place, step) in steps.iter().enumerate() {
+            assert!(rt;
+                gives_what_is_wanted(&mut timers, step),
+                "play {play}, step {place}"
+            );
+        }
+    }
+}
+
+/// As many timers as there is room for, of which each third is cancelled; the others fire in turn.
+#[test]
+fn four_hundred_timers(rt: HostRuntime) {
+    let mut rows: ArrayVec<Timer, MAX_TIMERS> = ArrayVec::new();
+    for number in 0..400u32 {
+        let _ = rows.try_push(timer(u64::from(number * 7 % 31), TimerId::RelayEnd(number)));
+    }
+    let mut timers = all_set(rows.as_slice());
+    for number in 0..400u32 {
+        if number % 3 == 0 {
+            assert!(rt; timers.cancel(&TimerId::RelayEnd(number)), "{number}");
+        }
+    }
+    for deadline in 0..31u32 {
+        for number in 0..400u32 {
+            if number % 3 != 0 && number * 7 % 31 == deadline {
+                let want = timer(u64::from(deadline), TimerId::RelayEnd(number));
+                assert_eq!(rt; timers.take_due(at(30)), Some(want), "{number}");
+            }
+        }
+    }
+    assert_eq!(rt; timers.least(), None);
+}

@@ -1,0 +1,221 @@
+//! Moments, the configuration, the health score, and each function of the timeouts. The values of the tables and of the
+//! timeouts are shown by what the command `timeouts` writes.
+use arrayvec::ArrayVec;
+use lg_rules::Addr;
+use lg_testing::{at, letter};
+use lg_timing::{
+    Config, ConfigFault, MAX_SEEDS, Moment, Score, Seed, SuspicionTimeout, is_within,
+    log10_thousandths, ratio, suspicion_ms, tables_are_logarithms,
+};
+
+/// The member `b` with the default numbers.
+fn defaults() -> Config {
+    Config::new(letter(b'b'), Addr::default())
+}
+
+/// Timeouts by the default numbers, moments, and scores of at most 8: after nine marks that don't pass it, and after
+/// marks from 0 on.
+#[test]
+fn milliseconds_and_scores(rt: HostRuntime) {
+    tables_are_logarithms();
+    let config = defaults();
+    let timeout = SuspicionTimeout::new(5, &config);
+    let last = 1_000_000_000_000_000;
+    let mut high = Score::new(8);
+    for _ in 0..8 {
+        high.mark(1);
+    }
+    let eight = high.value();
+    high.mark(2);
+    let mut low = Score::new(8);
+    low.mark(-1);
+    let none = low.value();
+    low.mark(2);
+    low.mark(-1);
+    for (what, found, want) in [
+        ("a logarithm", log10_thousandths(129), 2408),
+        ("a quotient", ratio(3, 2), 792),
+        (
+            "the timeout among four members",
+            suspicion_ms(4, 0, &config),
+            5000,
+        ),
+        ("the least timeout among five", timeout.min_ms(), 5000),
+        ("the greatest", timeout.max_ms(), 30000),
+        ("the confirmations that count", timeout.confirmations(), 3),
+        ("the timeout with none", timeout.after(0), 30000),
+        ("the last moment", at(last).milliseconds(), last),
+        (
+            "the later of two moments",
+            at(5000).later(at(4000)).milliseconds(),
+            5000,
+        ),
+        ("eight marks", eight, 8),
+        ("the greatest score", high.value(), 8),
+        ("the interval at it", high.interval(&config), 9000),
+        ("the timeout at it", high.timeout(&config), 4500),
+        ("the least score", none, 0),
+        ("a score above it", low.value(), 1),
+        (
+            "the number of the last fault",
+            ConfigFault::Seeds as u64,
+            11,
+        ),
+    ] {
+        assert_eq!(rt; found, want, "{what}");
+    }
+}
+
+/// What lies between two numbers, which count, and which moments are there, the earlier ones first.
+#[test]
+fn ranges_and_moments(rt: HostRuntime) {
+    for (what, holds) in [
+        ("1", !is_within(2, 5, 1)),
+        ("2", is_within(2, 5, 2)),
+        ("5", is_within(2, 5, 5)),
+        ("6", !is_within(2, 5, 6)),
+        (
+            "no moment behind the last",
+            Moment::new(1_000_000_000_000_001).is_none(),
+        ),
+        ("the first moment", Moment::default() < at(5000)),
+    ] {
+        assert!(rt; holds, "{what}");
+    }
+}
+
+/// The fields with a range, in the order of their faults, with their least and their greatest number at an interval of
+/// 1000.
+const RANGES: [(ConfigFault, u64, u64); 10] = [
+    (ConfigFault::Interval, 10, 60000),
+    (ConfigFault::Timeout, 1, 999),
+    (ConfigFault::Indirect, 0, 8),
+    (ConfigFault::MaxScore, 0, 20),
+    (ConfigFault::Alpha, 1, 20),
+    (ConfigFault::Beta, 1, 20),
+    (ConfigFault::Confirmations, 0, 5),
+    (ConfigFault::Lambda, 1, 10),
+    (ConfigFault::Nack, 1, 999),
+    (ConfigFault::History, 2, 1_000_000),
+];
+
+/// The default numbers in the order of their faults, but for a timeout that fits each interval.
+const NUMBERS: [u64; 10] = [1000, 1, 3, 8, 5, 6, 3, 4, 800, 20000];
+
+/// The member `b` with these numbers, in the order of their faults, and seeds of one letter each.
+fn config_of(numbers: &[u64; 10], letters: &[u8]) -> Config {
+    let mut seeds: ArrayVec<Seed, MAX_SEEDS> = ArrayVec::new();
+    for byte in letters {
+        let _ = seeds.try_push(Seed {
+            name: letter(*byte),
+            addr: Addr::default(),
+        });
+    }
+    Config {
+        interval_ms: numbers[0],
+        timeout_ms: numbers[1],
+        indirect: numbers[2],
+        max_score: numbers[3],
+        alpha: numbers[4],
+        beta: numbers[5],
+        confirmations: numbers[6],
+        lambda: numbers[7],
+        nack_thousandths: numbers[8],
+        history_limit: numbers[9],
+        seeds,
+        name: letter(b'b'),
+        addr: Addr::default(),
+    }
+}
+
+/// The default numbers, with others for the fields of some faults.
+fn numbers_with(fields: &[ConfigFault], number: u64) -> [u64; 10] {
+    let mut numbers = NUMBERS;
+    for field in fields {
+        let place = (*field as usize).wrapping_sub(1);
+        if place < 10 {
+            numbers[place] = number;
+        }
+    }
+    numbers
+}
+
+/// The edges of each range are good, and what is beyond them isn't. Below 0 stands the greatest number of all. The
+/// faults are numbered from 1 on.
+#[test]
+fn the_edges_of_each_range(rt: HostRuntime) {
+    for (place, (field, least, most)) in RANGES.into_iter().enumerate() {
+        for (number, want) in [
+            (least.wrapping_sub(1), Err(field)),
+            (least, Ok(())),
+            (most, Ok(())),
+            (most.wrapping_add(1), Err(field)),
+        ] {
+            let config = config_of(&numbers_with(&[field], number), b"");
+            assert_eq!(rt;
+                (config.check(), field as usize),
+                (want, place + 1),
+                "{field:?} = {number}"
+            );
+        }
+    }
+}
+
+/// At most 16 seeds, with other names than the own one and one another; and a copy is as good.
+#[test]
+fn seeds_have_other_names(rt: HostRuntime) {
+    let rows: [(&[u8], Result<(), ConfigFault>); 6] = [
+        (b"", Ok(())),
+        (b"cd", Ok(())),
+        (b"cc", Err(ConfigFault::Seeds)),
+        (b"bc", Err(ConfigFault::Seeds)),
+        (b"cb", Err(ConfigFault::Seeds)),
+        (b"0123456789ABCDEF", Ok(())),
+    ];
+    for (letters, want) in rows {
+        let config = config_of(&NUMBERS, letters);
+        let copy = config.copy();
+        assert_eq!(rt;
+            ([config.check(), copy.check()], copy.seeds.len()),
+            ([want; 2], letters.len()),
+            "{letters:?}"
+        );
+    }
+}
+
+/// Of two numbers that are out of their ranges and a seed of the own name, the first in the order of the faults.
+#[test]
+fn the_first_of_two_faults(rt: HostRuntime) {
+    for (first, second, want) in [
+        (
+            ConfigFault::Interval,
+            ConfigFault::Timeout,
+            ConfigFault::Interval,
+        ),
+        (
+            ConfigFault::Timeout,
+            ConfigFault::Interval,
+            ConfigFault::Interval,
+        ),
+        (
+            ConfigFault::Timeout,
+            ConfigFault::Indirect,
+            ConfigFault::Timeout,
+        ),
+        (ConfigFault::Beta, ConfigFault::Alpha, ConfigFault::Alpha),
+        (ConfigFault::History, ConfigFault::Nack, ConfigFault::Nack),
+        (
+            ConfigFault::History,
+            ConfigFault::MaxScore,
+            ConfigFault::MaxScore,
+        ),
+        (
+            ConfigFault::Lambda,
+            ConfigFault::Confirmations,
+            ConfigFault::Confirmations,
+        ),
+    ] {
+        let config = config_of(&numbers_with(&[first, second], 2_000_000), b"b");
+        assert_eq!(rt; config.check(), Err(want), "{first:?} {second:?}");
+    }
+}
