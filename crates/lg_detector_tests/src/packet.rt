@@ -204,45 +204,87 @@ fn parts(read: Result<Packet, Fault>) -> Option<Parts> {
     Some(((sender, body), claims))
 }
 
+/// Asks a helper for a probe of `c` at port 7003.
+fn asks() -> Body {
+    Body::PingReq {
+        number: 1,
+        target: letter(b'c'),
+        addr: local(7003),
+    }
+}
+
+/// Asks for the records behind `f`.
+fn pulls_after() -> Body {
+    Body::Pull {
+        after: Some(letter(b'f')),
+    }
+}
+
+/// The packet of `b` with the records of `a`, `b` and `c`.
+fn page() -> Packet {
+    packet(
+        b'b',
+        Body::Page,
+        &[there(b'a', 7001), there(b'b', 7002), there(b'c', 7003)],
+    )
+}
+
+/// The Ping in which `b` is suspected by `a` and then by `c`.
+fn suspects() -> Packet {
+    packet(
+        b'a',
+        ping(9, b'c'),
+        &[suspect(b'b', 0, b'a'), suspect(b'b', 0, b'c')],
+    )
+}
+
+/// The packet with the longest names and the most claims.
+fn longest() -> Packet {
+    let long = name(b"ABCDEFGHIJKLMNOPabcdefghijklm._-");
+    Packet {
+        sender: long,
+        body: Body::PingReq {
+            number: u32::MAX,
+            target: long,
+            addr: Addr::new([255; 4], u16::MAX),
+        },
+        claims: said(&[claim(long, Status::Suspect(long), 0); 6]),
+    }
+}
+
 /// Packets with their bytes: the packet is written as these, and they are read as its sender, its body and its claims.
 #[test]
 fn writes_and_reads_packets(rt: HostRuntime) {
     one_reading();
     one_spelling();
     first_bad_byte();
-    let (a, c) = (there(b'a', 7001), there(b'c', 7003));
-    let asks = Body::PingReq {
-        number: 1,
-        target: letter(b'c'),
-        addr: local(7003),
-    };
-    let after = Some(letter(b'f'));
-    let greatest = suspect(b'b', 1_000_000_000, b'a');
     for (bytes, wanted) in [
         (PING, packet(b'a', ping(7, b'b'), &[])),
         (ACK, packet(b'b', ack(7), &[])),
         (FIRST_ACK, Packet::default()),
-        (PING_REQ, packet(b'a', asks, &[])),
+        (PING_REQ, packet(b'a', asks(), &[])),
         (NACK, packet(b'b', Body::Nack { number: 1 }, &[])),
-        (PULL, packet(b'a', Body::Pull { after: None }, &[a])),
-        (PULL_AFTER, packet(b'a', Body::Pull { after }, &[a])),
-        (PAGE, packet(b'b', Body::Page, &[a, there(b'b', 7002), c])),
-        (ALIVE, packet(b'a', ping(7, b'c'), &[c])),
-        (ACK_ALIVE, packet(b'b', ack(8), &[c])),
         (
-            SUSPECTS,
-            packet(
-                b'a',
-                ping(9, b'c'),
-                &[suspect(b'b', 0, b'a'), suspect(b'b', 0, b'c')],
-            ),
+            PULL,
+            packet(b'a', Body::Pull { after: None }, &[there(b'a', 7001)]),
         ),
-        (GREATEST, packet(b'a', ping(1, b'b'), &[greatest])),
+        (
+            PULL_AFTER,
+            packet(b'a', pulls_after(), &[there(b'a', 7001)]),
+        ),
+        (PAGE, page()),
+        (ALIVE, packet(b'a', ping(7, b'c'), &[there(b'c', 7003)])),
+        (ACK_ALIVE, packet(b'b', ack(8), &[there(b'c', 7003)])),
+        (SUSPECTS, suspects()),
+        (
+            GREATEST,
+            packet(b'a', ping(1, b'b'), &[suspect(b'b', 1_000_000_000, b'a')]),
+        ),
     ] {
-        assert_eq!(rt; bytes_of(&wanted.copy()).as_slice(), bytes);
+        let written = bytes_of(&wanted.copy());
         assert_eq!(rt;
-            parts(decode(bytes)),
-            Some(((wanted.sender, wanted.body), wanted.claims)),
+            (written.as_slice() == bytes, parts(decode(bytes))),
+            (true, parts(Ok(wanted))),
             "{bytes:?}"
         );
     }
@@ -251,28 +293,25 @@ fn writes_and_reads_packets(rt: HostRuntime) {
 /// The longest packet has as many bytes as there is room for, and is read as it was written; with one more it is none.
 #[test]
 fn the_longest_packet(rt: HostRuntime) {
-    let long = name(b"ABCDEFGHIJKLMNOPabcdefghijklm._-");
-    let claims = said(&[claim(long, Status::Suspect(long), 0); 6]);
-    let body = Body::PingReq {
-        number: u32::MAX,
-        target: long,
-        addr: Addr::new([255; 4], u16::MAX),
-    };
-    let bytes = bytes_of(&Packet {
-        sender: long,
-        body,
-        claims: said(&claims),
-    });
+    let bytes = bytes_of(&longest());
     let mut longer: ArrayVec<u8, 544> = ArrayVec::new();
     let _ = longer.try_extend_from_slice(&bytes);
     let _ = longer.try_push(0);
-    for (bytes, want) in [
-        (bytes.as_slice(), Ok(true)),
-        (longer.as_slice(), Err(Fault::Trailing)),
-    ] {
-        assert_eq!(rt; [reading(bytes), judged(bytes)], [want; 2]);
-    }
-    assert_eq!(rt; parts(decode(&bytes)), Some(((long, body), claims)));
+    assert_eq!(rt;
+        [
+            reading(&bytes),
+            judged(&bytes),
+            reading(&longer),
+            judged(&longer)
+        ],
+        [
+            Ok(true),
+            Ok(true),
+            Err(Fault::Trailing),
+            Err(Fault::Trailing)
+        ]
+    );
+    assert_eq!(rt; parts(decode(&bytes)), parts(Ok(longest())));
     assert_eq!(rt;
         [bytes.len(), MAX_PACKET, longer.len()],
         [4 + 33 + 43 + 1 + 6 * 77, 543, 544]

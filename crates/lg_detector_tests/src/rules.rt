@@ -109,26 +109,28 @@ fn overrides(rt: HostRuntime) {
     }
 }
 
+/// The claim that `c` is alive at 2, at a port.
+fn at_port(port: u16) -> Claim {
+    Claim {
+        addr: local(port),
+        ..alive(b'c', 2)
+    }
+}
+
 /// What hearing claims about `c` does, which records are there then, and how many haven't failed: the first address
 /// stands.
 #[test]
 fn keeps_the_first_address(rt: HostRuntime) {
-    let first = alive(b'c', 2);
-    let moved = Claim {
-        addr: local(7001),
-        ..first
-    };
-    let last = failed(b'c', 1);
     let mut members = Members::new(&letter(b'b'));
     for (heard, hearing, stands, live) in [
-        (first, Heard::Overrode, first, 2),
-        (moved, Heard::Same, first, 2),
-        (last, Heard::Overrode, last, 1),
+        (at_port(7000), Heard::Overrode, at_port(7000), 2),
+        (at_port(7001), Heard::Same, at_port(7000), 2),
+        (failed(b'c', 1), Heard::Overrode, failed(b'c', 1), 1),
     ] {
-        let heard = hear(&mut members, &heard);
+        let found = hear(&mut members, &heard);
         let records = [members.at(0).copied(), members.at(1).copied()];
         assert_eq!(rt;
-            ((heard, members.live()), records),
+            ((found, members.live()), records),
             ((Some(hearing), live), [Some(stands), None])
         );
     }
@@ -183,45 +185,42 @@ fn knows_256_names(rt: HostRuntime) {
     }
 }
 
+/// That `a` suspects a member.
+fn accused() -> Status {
+    Status::Suspect(letter(b'a'))
+}
+
+/// The greatest incarnation.
+const GREATEST: u32 = 1_000_000_000;
+
 /// What `b` hears of itself, what that does, and its number then. What is said of others does nothing.
 #[test]
 fn refutes(rt: HostRuntime) {
-    let accused = Status::Suspect(letter(b'a'));
-    let greatest = 1_000_000_000;
-    let me = letter(b'b');
-    let mut own = Own::new(me, local(7000));
+    let mut own = Own::new(letter(b'b'), local(7000));
     let mut ousted = false;
     for (status, incarnation, hearing, number) in [
-        (accused, 0, OwnHeard::Refuted, 1),
+        (accused(), 0, OwnHeard::Refuted, 1),
         (Status::Suspect(letter(b'c')), 0, OwnHeard::Ignored, 1),
         (Status::Alive, 1, OwnHeard::Ignored, 1),
         (Status::Alive, 3, OwnHeard::Raised, 4),
-        (accused, 3, OwnHeard::Ignored, 4),
+        (accused(), 3, OwnHeard::Ignored, 4),
         (Status::Failed, 0, OwnHeard::Ousted, 4),
-        (accused, greatest, OwnHeard::Ousted, 4),
-        (accused, 999_999_999, OwnHeard::Refuted, greatest),
-        (Status::Alive, greatest, OwnHeard::Ignored, greatest),
-        (accused, greatest, OwnHeard::Ousted, greatest),
+        (accused(), GREATEST, OwnHeard::Ousted, 4),
+        (accused(), 999_999_999, OwnHeard::Refuted, GREATEST),
+        (Status::Alive, GREATEST, OwnHeard::Ignored, GREATEST),
+        (accused(), GREATEST, OwnHeard::Ousted, GREATEST),
     ] {
         ousted = ousted || hearing == OwnHeard::Ousted;
-        let heard = own.hear(&claim(me, status, incarnation));
-        let before = own;
+        let heard = own.hear(&claim(letter(b'b'), status, incarnation));
+        let found = (own.number().number(), own.ousted(), own.record());
         let other = own.hear(&failed(b'c', number));
-        let record = claim(me, Status::Alive, number);
+        let after = (own.number().number(), own.ousted(), own.record());
+        let want = (number, ousted, alive(b'b', number));
         assert_eq!(rt;
-            (
-                ([heard, other], before.number().number()),
-                (
-                    [before.ousted(), own.ousted()],
-                    [before.record(), own.record()]
-                )
-            ),
-            (
-                ([hearing, OwnHeard::Ignored], number),
-                ([ousted; 2], [record; 2])
-            ),
+            ([heard, other], [found, after]),
+            ([hearing, OwnHeard::Ignored], [want; 2]),
             "{status:?} at {incarnation}"
         );
     }
-    assert_eq!(rt; (own.name(), own.addr()), (me, local(7000)));
+    assert_eq!(rt; (own.name(), own.addr()), (letter(b'b'), local(7000)));
 }

@@ -2,9 +2,9 @@
 ghost use Rattle.std.specs.Prelude.{◌≤◌, length};
 
 use arrayvec::ArrayVec;
-use lg_rules::Name;
 use lg_testing::{at, letter, name};
 use lg_timers::{MAX_TIMERS, Timer, TimerId, Timers};
+use std::process::Abort;
 
 /// A step of a play, with what is wanted of it.
 #[derive(Drop)]
@@ -75,7 +75,10 @@ fn in_turn() -> [Timer; 10] {
 #[test]
 fn the_order_in_which_they_fire(rt: HostRuntime) {
     let order = in_turn();
-    let mut timers = all_set(&[3, 7, 0, 9, 5, 1, 8, 2, 6, 4].map(|place: usize| order[place]));
+    let mut timers = all_set(&[
+        order[3], order[7], order[0], order[9], order[5], order[1], order[8], order[2], order[6],
+        order[4],
+    ]);
     let early = timers.take_due(at(7999));
     for next in order {
         let least = timers.least();
@@ -99,54 +102,67 @@ fn the_numbers_of_the_kinds(rt: HostRuntime) {
     }
 }
 
-/// One timer of an id is set; another deadline takes the place of the earlier one; and all can be cancelled.
-#[test]
-fn sets_and_cancels(rt: HostRuntime) {
-    let nack = TimerId::RelayNack(7);
-    let end = timer(600, TimerId::RelayEnd(7));
-    let moved = timer(700, TimerId::RelayEnd(1));
-    let stays = timer(600, TimerId::RelayEnd(2));
-    let start = timer(700, TimerId::RoundStart);
-    let plays: [(&[Timer], &[Step]); 3] = [
-        (
-            &[timer(500, nack), end],
-            &[
-                Step::Least(Some(timer(500, nack))),
-                Step::Cancel(TimerId::RelayNack(6), false),
-                Step::Cancel(nack, true),
-                Step::Cancel(nack, false),
-                Step::Least(Some(end)),
-            ],
-        ),
-        (
-            &[timer(500, TimerId::RelayEnd(1)), stays, moved],
-            &[
-                Step::Take(700, Some(stays)),
-                Step::Take(700, Some(moved)),
-                Step::Least(None),
-            ],
-        ),
-        (
-            &[timer(500, nack), timer(600, TimerId::RoundStart)],
-            &[
-                Step::Clear,
-                Step::Least(None),
-                Step::Take(600, None),
-                Step::SetAlone(start),
-                Step::Least(Some(start)),
-            ],
-        ),
-    ];
-    for (play, (rows, steps)) in plays.into_iter().enumerate() {
-        assert!(rt; rows.len() <= MAX_TIMERS);
-        let mut timers = all_set(rows);
-        for (place, step) in steps.iter().enumerate() {
-            assert!(rt;
-                gives_what_is_wanted(&mut timers, step),
-                "play {play}, step {place}"
-            );
-        }
+/// The nack of the relay 7.
+const NACK: TimerId = TimerId::RelayNack(7);
+
+/// The end of a relay.
+fn end(deadline: u64, number: u32) -> Timer {
+    timer(deadline, TimerId::RelayEnd(number))
+}
+
+/// Makes the steps of a play from these timers on.
+fn play(rt: &impl Abort, rows: &[Timer], steps: &[Step])
+    requires { length rows.now ≤ MAX_TIMERS }
+{
+    let mut timers = all_set(rows);
+    for (place, step) in steps.iter().enumerate() {
+        assert!(rt; gives_what_is_wanted(&mut timers, step), "step {place}");
     }
+}
+
+/// One timer of an id is set at most, and it can be cancelled once.
+#[test]
+fn one_of_an_id(rt: HostRuntime) {
+    play(
+        &rt,
+        &[timer(500, NACK), end(600, 7)],
+        &[
+            Step::Cancel(TimerId::RelayNack(6), false),
+            Step::Cancel(NACK, true),
+            Step::Cancel(NACK, false),
+            Step::Least(Some(end(600, 7))),
+        ],
+    );
+}
+
+/// A later deadline takes the place of that of its id.
+#[test]
+fn another_deadline(rt: HostRuntime) {
+    play(
+        &rt,
+        &[end(500, 1), end(600, 2), end(700, 1)],
+        &[
+            Step::Take(700, Some(end(600, 2))),
+            Step::Take(700, Some(end(700, 1))),
+            Step::Least(None),
+        ],
+    );
+}
+
+/// None is left after all are cancelled, and then one can be set.
+#[test]
+fn none_after_all_are_cancelled(rt: HostRuntime) {
+    play(
+        &rt,
+        &[timer(500, NACK), timer(600, TimerId::RoundStart)],
+        &[
+            Step::Clear,
+            Step::Least(None),
+            Step::Take(600, None),
+            Step::SetAlone(timer(700, TimerId::RoundStart)),
+            Step::Least(Some(timer(700, TimerId::RoundStart))),
+        ],
+    );
 }
 
 /// As many timers as there is room for, of which each third is cancelled; the others fire in turn.

@@ -8,17 +8,12 @@ use lg_timing::{
     log10_thousandths, ratio, suspicion_ms, tables_are_logarithms,
 };
 
-/// The member `b` with the default numbers.
-fn defaults() -> Config {
-    Config::new(letter(b'b'), Addr::default())
-}
-
 /// Timeouts by the default numbers, moments, and scores of at most 8: after nine marks that don't pass it, and after
 /// marks from 0 on.
 #[test]
 fn milliseconds_and_scores(rt: HostRuntime) {
     tables_are_logarithms();
-    let config = defaults();
+    let config = Config::new(letter(b'b'), Addr::default());
     let timeout = SuspicionTimeout::new(5, &config);
     let last = 1_000_000_000_000_000;
     let mut high = Score::new(8);
