@@ -20,7 +20,9 @@ fn claim_of(byte: u8) -> Claim {
 fn claims_of(letters: &[u8]) -> ArrayVec<Claim, MAX_CLAIMS> {
     let mut claims = ArrayVec::new();
     for byte in letters {
-        let _ = claims.try_push(claim_of(*byte));
+        if !claims.is_full() {
+            claims.push(claim_of(*byte));
+        }
     }
     claims
 }
@@ -29,20 +31,27 @@ fn claims_of(letters: &[u8]) -> ArrayVec<Claim, MAX_CLAIMS> {
 fn queued(letters: &[u8], sends: &[u32]) -> ArrayVec<Queued, 8> {
     let mut queued = ArrayVec::new();
     for (byte, sends) in letters.iter().zip(sends) {
-        let _ = queued.try_push(Queued {
-            claim: claim_of(*byte),
-            sends: *sends,
-        });
+        if !queued.is_full() {
+            queued.push(Queued {
+                claim: claim_of(*byte),
+                sends: *sends,
+            });
+        }
     }
     queued
+}
+
+/// Puts a claim, where there is room.
+fn put_one(queue: &mut Queue, claim: Claim) {
+    if queue.queued().len() < MAX_QUEUED {
+        queue.put(claim);
+    }
 }
 
 /// Puts claims, where there is room.
 fn put(queue: &mut Queue, letters: &[u8]) {
     for byte in letters {
-        if queue.queued().len() < MAX_QUEUED {
-            queue.put(claim_of(*byte));
-        }
+        put_one(queue, claim_of(*byte));
     }
 }
 
@@ -57,8 +66,9 @@ type Turn = (
     &'static [u32],
 );
 
-/// The buddy stands first and isn't counted, and the queue's claim about its member is passed over. What is queued about
-/// it may differ from its record, and a record that isn't Suspect is no buddy. Each is sent at most 4 times for a digit.
+/// The buddy stands first and isn't counted, and the queue's claim about its member is passed over. What is queued
+/// about it may differ from its record, and a record that isn't Suspect is no buddy. Each is sent at most 4 times for a
+/// digit.
 const BUDDY: &[Turn] = &[
     (b"cd", Some(b'c'), 9, b"cd", b"cd", &[0, 1]),
     (b"", None, 9, b"cd", b"cd", &[1, 2]),

@@ -71,20 +71,26 @@ fn in_turn() -> [Timer; 10] {
     ]
 }
 
+/// The same timers in another order.
+fn out_of_turn() -> [Timer; 10] {
+    let [a, b, c, d, e, f, g, h, i, j] = in_turn();
+    [d, h, a, j, f, b, i, c, g, e]
+}
+
+/// Whether this timer is the first, and is taken out once all are due.
+fn fires_next(timers: &mut Timers, next: &Timer) -> bool {
+    timers.least() == Some(*next) && timers.take_due(at(9500)) == Some(*next)
+}
+
 /// Timers that were set in another order fire in this one, none before its deadline.
 #[test]
 fn the_order_in_which_they_fire(rt: HostRuntime) {
-    let order = in_turn();
-    let mut timers = all_set(&[
-        order[3], order[7], order[0], order[9], order[5], order[1], order[8], order[2], order[6],
-        order[4],
-    ]);
-    let early = timers.take_due(at(7999));
-    for next in order {
-        let least = timers.least();
-        assert_eq!(rt; [least, timers.take_due(at(9500))], [Some(next); 2]);
+    let mut timers = all_set(&out_of_turn());
+    assert!(rt; timers.take_due(at(7999)).is_none());
+    for next in in_turn() {
+        assert!(rt; fires_next(&mut timers, &next), "{next:?}");
     }
-    assert_eq!(rt; [early, timers.least()], [None; 2]);
+    assert!(rt; timers.least().is_none());
 }
 
 /// The numbers of the kinds.

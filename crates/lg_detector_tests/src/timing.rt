@@ -4,18 +4,14 @@ use arrayvec::ArrayVec;
 use lg_rules::Addr;
 use lg_testing::{at, letter};
 use lg_timing::{
-    Config, ConfigFault, MAX_SEEDS, Moment, Score, Seed, SuspicionTimeout, is_within,
-    log10_thousandths, ratio, suspicion_ms, tables_are_logarithms,
+    Config, ConfigFault, MAX_SEEDS, Moment, Score, Seed, is_within, suspicion_ms,
+    tables_are_logarithms,
 };
 
-/// Timeouts by the default numbers, moments, and scores of at most 8: after nine marks that don't pass it, and after
-/// marks from 0 on.
-#[test]
-fn milliseconds_and_scores(rt: HostRuntime) {
-    tables_are_logarithms();
+/// A score of at most 8 after eight marks and after one more, the interval and the timeout at it, and a score after one
+/// mark below 0 and after two more.
+fn scores() -> [u64; 6] {
     let config = Config::new(letter(b'b'), Addr::default());
-    let timeout = SuspicionTimeout::new(5, &config);
-    let last = 1_000_000_000_000_000;
     let mut high = Score::new(8);
     for _ in 0..8 {
         high.mark(1);
@@ -27,38 +23,33 @@ fn milliseconds_and_scores(rt: HostRuntime) {
     let none = low.value();
     low.mark(2);
     low.mark(-1);
-    for (what, found, want) in [
-        ("a logarithm", log10_thousandths(129), 2408),
-        ("a quotient", ratio(3, 2), 792),
-        (
-            "the timeout among four members",
-            suspicion_ms(4, 0, &config),
-            5000,
-        ),
-        ("the least timeout among five", timeout.min_ms(), 5000),
-        ("the greatest", timeout.max_ms(), 30000),
-        ("the confirmations that count", timeout.confirmations(), 3),
-        ("the timeout with none", timeout.after(0), 30000),
-        ("the last moment", at(last).milliseconds(), last),
-        (
-            "the later of two moments",
-            at(5000).later(at(4000)).milliseconds(),
-            5000,
-        ),
-        ("eight marks", eight, 8),
-        ("the greatest score", high.value(), 8),
-        ("the interval at it", high.interval(&config), 9000),
-        ("the timeout at it", high.timeout(&config), 4500),
-        ("the least score", none, 0),
-        ("a score above it", low.value(), 1),
-        (
-            "the number of the last fault",
-            ConfigFault::Seeds as u64,
-            11,
-        ),
-    ] {
-        assert_eq!(rt; found, want, "{what}");
-    }
+    [
+        eight,
+        high.value(),
+        high.interval(&config),
+        high.timeout(&config),
+        none,
+        low.value(),
+    ]
+}
+
+/// The timeout among four members, the last moment, the later of two, and the number of the last fault.
+fn milliseconds() -> [u64; 4] {
+    let config = Config::new(letter(b'b'), Addr::default());
+    [
+        suspicion_ms(4, 0, &config),
+        at(1_000_000_000_000_000).milliseconds(),
+        at(5000).later(at(4000)).milliseconds(),
+        ConfigFault::Seeds as u64,
+    ]
+}
+
+/// Scores are held between 0 and 8 at every mark; and what each function of the timeouts and moments gives once.
+#[test]
+fn milliseconds_and_scores(rt: HostRuntime) {
+    tables_are_logarithms();
+    assert_eq!(rt; scores(), [8, 8, 9000, 4500, 0, 1]);
+    assert_eq!(rt; milliseconds(), [5000, 1_000_000_000_000_000, 5000, 11]);
 }
 
 /// What lies between two numbers, which count, and which moments are there, the earlier ones first.
@@ -135,6 +126,11 @@ fn numbers_with(fields: &[ConfigFault], number: u64) -> [u64; 10] {
     numbers
 }
 
+/// Whether a number of a field is judged so.
+fn is_judged(field: ConfigFault, number: u64, want: Result<(), ConfigFault>) -> bool {
+    config_of(&numbers_with(&[field], number), b"").check() == want
+}
+
 /// The edges of each range are good, and what is beyond them isn't. Below 0 stands the greatest number of all. The
 /// faults are numbered from 1 on.
 #[test]
@@ -146,71 +142,67 @@ fn the_edges_of_each_range(rt: HostRuntime) {
             (most, Ok(())),
             (most.wrapping_add(1), Err(field)),
         ] {
-            let config = config_of(&numbers_with(&[field], number), b"");
-            assert_eq!(rt;
-                (config.check(), field as usize),
-                (want, place + 1),
-                "{field:?} = {number}"
-            );
+            assert!(rt; is_judged(field, number, want), "{field:?} = {number}");
         }
+        assert_eq!(rt; field as usize, place + 1);
     }
+}
+
+const SEEDS: &[(&[u8], Result<(), ConfigFault>)] = &[
+    (b"", Ok(())),
+    (b"cd", Ok(())),
+    (b"cc", Err(ConfigFault::Seeds)),
+    (b"bc", Err(ConfigFault::Seeds)),
+    (b"cb", Err(ConfigFault::Seeds)),
+    (b"0123456789ABCDEF", Ok(())),
+];
+
+/// Whether `b` with these seeds is judged so, and a copy too.
+fn are_judged(letters: &[u8], want: &Result<(), ConfigFault>) -> bool {
+    let config = config_of(&NUMBERS, letters);
+    let copy = config.copy();
+    config.check() == *want && copy.check() == *want && copy.seeds.len() == letters.len()
 }
 
 /// At most 16 seeds, with other names than the own one and one another; and a copy is as good.
 #[test]
 fn seeds_have_other_names(rt: HostRuntime) {
-    let rows: [(&[u8], Result<(), ConfigFault>); 6] = [
-        (b"", Ok(())),
-        (b"cd", Ok(())),
-        (b"cc", Err(ConfigFault::Seeds)),
-        (b"bc", Err(ConfigFault::Seeds)),
-        (b"cb", Err(ConfigFault::Seeds)),
-        (b"0123456789ABCDEF", Ok(())),
-    ];
-    for (letters, want) in rows {
-        let config = config_of(&NUMBERS, letters);
-        let copy = config.copy();
-        assert_eq!(rt;
-            ([config.check(), copy.check()], copy.seeds.len()),
-            ([want; 2], letters.len()),
-            "{letters:?}"
-        );
+    for (letters, want) in SEEDS {
+        assert!(rt; are_judged(letters, want), "{letters:?}");
     }
 }
+
+/// Two fields that are out of their ranges, and the fault.
+const PAIRS: &[([ConfigFault; 2], ConfigFault)] = &[
+    (
+        [ConfigFault::Interval, ConfigFault::Timeout],
+        ConfigFault::Interval,
+    ),
+    (
+        [ConfigFault::Timeout, ConfigFault::Interval],
+        ConfigFault::Interval,
+    ),
+    (
+        [ConfigFault::Timeout, ConfigFault::Indirect],
+        ConfigFault::Timeout,
+    ),
+    ([ConfigFault::Beta, ConfigFault::Alpha], ConfigFault::Alpha),
+    ([ConfigFault::History, ConfigFault::Nack], ConfigFault::Nack),
+    (
+        [ConfigFault::History, ConfigFault::MaxScore],
+        ConfigFault::MaxScore,
+    ),
+    (
+        [ConfigFault::Lambda, ConfigFault::Confirmations],
+        ConfigFault::Confirmations,
+    ),
+];
 
 /// Of two numbers that are out of their ranges and a seed of the own name, the first in the order of the faults.
 #[test]
 fn the_first_of_two_faults(rt: HostRuntime) {
-    for (first, second, want) in [
-        (
-            ConfigFault::Interval,
-            ConfigFault::Timeout,
-            ConfigFault::Interval,
-        ),
-        (
-            ConfigFault::Timeout,
-            ConfigFault::Interval,
-            ConfigFault::Interval,
-        ),
-        (
-            ConfigFault::Timeout,
-            ConfigFault::Indirect,
-            ConfigFault::Timeout,
-        ),
-        (ConfigFault::Beta, ConfigFault::Alpha, ConfigFault::Alpha),
-        (ConfigFault::History, ConfigFault::Nack, ConfigFault::Nack),
-        (
-            ConfigFault::History,
-            ConfigFault::MaxScore,
-            ConfigFault::MaxScore,
-        ),
-        (
-            ConfigFault::Lambda,
-            ConfigFault::Confirmations,
-            ConfigFault::Confirmations,
-        ),
-    ] {
-        let config = config_of(&numbers_with(&[first, second], 2_000_000), b"b");
-        assert_eq!(rt; config.check(), Err(want), "{first:?} {second:?}");
+    for (fields, want) in PAIRS {
+        let config = config_of(&numbers_with(fields, 2_000_000), b"b");
+        assert_eq!(rt; config.check(), Err(*want), "{fields:?}");
     }
 }
