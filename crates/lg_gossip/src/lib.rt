@@ -10,6 +10,3 @@ pub use lg_rules::MAX_LAMBDA;
 pub use limit::MAX_TIMES_SENT;
 pub use queue::{MAX_QUEUED, Queue};
 pub use queued::Queued;
-
-#[cfg(test)]
-mod tests;

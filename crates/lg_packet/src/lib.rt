@@ -14,6 +14,3 @@ pub use lg_rules::MAX_CLAIMS;
 pub use packet::{Body, Packet};
 pub use reading::decode;
 pub use writing::{MAX_PACKET, encode};
-
-#[cfg(test)]
-mod tests;

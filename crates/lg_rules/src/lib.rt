@@ -9,8 +9,6 @@ mod name;
 mod overriding;
 mod own;
 mod rows;
-#[cfg(test)]
-mod worked_rows;
 
 pub use addr::Addr;
 pub use claim::{Claim, MAX_CLAIMS, MAX_LAMBDA, Record, Status};

@@ -184,6 +184,3 @@ impl Timers {
         Some(timer)
     }
 }
-
-#[cfg(test)]
-mod tests;

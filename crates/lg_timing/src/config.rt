@@ -229,6 +229,3 @@ impl Config {
         }
     }
 }
-
-#[cfg(test)]
-mod tests;

@@ -138,28 +138,3 @@ impl Moment {
         }
     }
 }
-
-#[cfg(test)]
-mod tests {
-    use super::Moment;
-
-    #[test]
-    fn the_last_moment(rt: HostRuntime) {
-        let last = Moment::new(1_000_000_000_000_000);
-        assert_eq!(rt;
-            last.map(|moment| moment.milliseconds()),
-            Some(1_000_000_000_000_000)
-        );
-        assert!(rt; Moment::new(1_000_000_000_000_001).is_none());
-    }
-
-    #[test]
-    fn the_later_of_two(rt: HostRuntime) {
-        let (five, four) = (Moment::new(5000), Moment::new(4000));
-        let later = five
-            .unwrap_or(Moment::default())
-            .later(four.unwrap_or(Moment::default()));
-        assert_eq!(rt; later.milliseconds(), 5000);
-        assert!(rt; Moment::default() < later);
-    }
-}

@@ -107,34 +107,3 @@ impl Score {
         config.timeout_ms * (self.value + 1)
     }
 }
-
-#[cfg(test)]
-mod tests {
-    use super::Score;
-    use crate::config::Config;
-    use lg_rules::{Addr, Name};
-
-    #[test]
-    fn a_missed_nack_at_the_greatest_score(rt: HostRuntime) {
-        let config = Config::new(Name::default(), Addr::default());
-        let mut score = Score::new(8);
-        for _ in 0..8 {
-            score.mark(1);
-        }
-        assert_eq!(rt; score.value(), 8);
-        score.mark(2);
-        assert_eq!(rt; score.value(), 8);
-        assert_eq!(rt; score.interval(&config), 9000);
-        assert_eq!(rt; score.timeout(&config), 4500);
-    }
-
-    #[test]
-    fn an_ack_at_the_least_score(rt: HostRuntime) {
-        let mut score = Score::new(8);
-        score.mark(-1);
-        assert_eq!(rt; score.value(), 0);
-        score.mark(2);
-        score.mark(-1);
-        assert_eq!(rt; score.value(), 1);
-    }
-}

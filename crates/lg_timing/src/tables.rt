@@ -58,26 +58,3 @@ pub fn tables_are_logarithms()
         → IsLog (k + 1) (c + 1) (ratio_of k c) }
     ensures none { ratio_of 0 0 ≡ 1000 }
 {}
-
-#[cfg(test)]
-mod tests {
-    use super::{log10_thousandths, ratio, tables_are_logarithms};
-
-    #[test]
-    fn the_ends_of_the_ranges(rt: HostRuntime) {
-        tables_are_logarithms();
-        assert_eq!(rt; log10_thousandths(1), 1000);
-        assert_eq!(rt; log10_thousandths(10), 1000);
-        assert_eq!(rt; log10_thousandths(11), 1204);
-        assert_eq!(rt; log10_thousandths(100), 2107);
-        assert_eq!(rt; log10_thousandths(129), 2408);
-        assert_eq!(rt; log10_thousandths(256), 2408);
-    }
-
-    #[test]
-    fn quotients_of_confirmations(rt: HostRuntime) {
-        assert_eq!(rt; ratio(0, 0), 1000);
-        assert_eq!(rt; ratio(3, 2), 792);
-        assert_eq!(rt; ratio(5, 4), 898);
-    }
-}
