@@ -172,37 +172,39 @@ fn seeds_have_other_names(rt: HostRuntime) {
     }
 }
 
-/// Two fields that are out of their ranges, and the fault.
-const PAIRS: &[([ConfigFault; 2], ConfigFault)] = &[
-    (
-        [ConfigFault::Interval, ConfigFault::Timeout],
-        ConfigFault::Interval,
-    ),
-    (
-        [ConfigFault::Timeout, ConfigFault::Interval],
-        ConfigFault::Interval,
-    ),
-    (
-        [ConfigFault::Timeout, ConfigFault::Indirect],
-        ConfigFault::Timeout,
-    ),
-    ([ConfigFault::Beta, ConfigFault::Alpha], ConfigFault::Alpha),
-    ([ConfigFault::History, ConfigFault::Nack], ConfigFault::Nack),
-    (
-        [ConfigFault::History, ConfigFault::MaxScore],
-        ConfigFault::MaxScore,
-    ),
-    (
-        [ConfigFault::Lambda, ConfigFault::Confirmations],
-        ConfigFault::Confirmations,
-    ),
-];
-
 /// Of two numbers that are out of their ranges and a seed of the own name, the first in the order of the faults.
 #[test]
 fn the_first_of_two_faults(rt: HostRuntime) {
-    for (fields, want) in PAIRS {
-        let config = config_of(&numbers_with(fields, 2_000_000), b"b");
-        assert_eq!(rt; config.check(), Err(*want), "{fields:?}");
+    for (first, second, want) in [
+        (
+            ConfigFault::Interval,
+            ConfigFault::Timeout,
+            ConfigFault::Interval,
+        ),
+        (
+            ConfigFault::Timeout,
+            ConfigFault::Interval,
+            ConfigFault::Interval,
+        ),
+        (
+            ConfigFault::Timeout,
+            ConfigFault::Indirect,
+            ConfigFault::Timeout,
+        ),
+        (ConfigFault::Beta, ConfigFault::Alpha, ConfigFault::Alpha),
+        (ConfigFault::History, ConfigFault::Nack, ConfigFault::Nack),
+        (
+            ConfigFault::History,
+            ConfigFault::MaxScore,
+            ConfigFault::MaxScore,
+        ),
+        (
+            ConfigFault::Lambda,
+            ConfigFault::Confirmations,
+            ConfigFault::Confirmations,
+        ),
+    ] {
+        let config = config_of(&numbers_with(&[first, second], 2_000_000), b"b");
+        assert_eq!(rt; config.check(), Err(want), "{first:?} {second:?}");
     }
 }
