@@ -1,0 +1,141 @@
+"""Cases of many members and lines: their inputs are made here, and so is what is wanted of them.
+
+Each case is a function that gets the path of the program, and gives a list of what differs.
+"""
+
+import string
+import subprocess
+
+SECONDS = 20
+MEMBERS = [(letter, 7001 + place) for place, letter in enumerate(string.ascii_lowercase[:16])]
+
+
+def run(program, words, text):
+    """Runs the program, and gives its status, its output and what it says on standard error."""
+    done = subprocess.run([program, *words], input=text.encode(), capture_output=True, timeout=SECONDS)
+    return done.returncode, done.stdout.decode(), done.stderr.decode()
+
+
+def simulated(program, lines):
+    """The lines that a script writes, of which no line is faulty."""
+    status, text, told = run(program, ["sim"], "\n".join(lines) + "\n")
+    if (status, told) != (0, ""):
+        raise RuntimeError(f"status {status}: {told!r}: {text[-200:]!r}")
+    return text.splitlines()
+
+
+def unless(met, fault):
+    """No fault where something is met."""
+    return [] if met else [fault]
+
+
+# ---- Joining
+
+
+def pulls(member, known, sent):
+    """A member pulls from a, which knows so many. Each Pull gets a Page, and a Page of six the next Pull."""
+    packets = range(sent + 1, sent + 1 + (known // 6 + 1) * 2)
+    return [f"pull {member} 0 7001", *(f"deliver {packet} 0" for packet in packets)], packets[-1]
+
+
+def sixteen_members_join_by_one(program):
+    """Sixteen members know nobody. Fifteen pull from a one after another, and once more: then all know all."""
+    script = [f"open {member} {port} 0" for member, port in MEMBERS]
+    sent = 0
+    # In the first round a knows itself, those before this one, and this one by its Pull.
+    for known in (range(2, 17), [16] * 15):
+        for (member, _), knows in zip(MEMBERS[1:], known):
+            lines, sent = pulls(member, knows, sent)
+            script += lines
+    script += [f"table {member}" for member, _ in MEMBERS]
+    wanted = [f"record {member} alive 0 127.0.0.1:{port}" for member, port in MEMBERS] * 16
+    return unless(simulated(program, script)[-len(wanted):] == wanted, "the tables differ")
+
+
+# ---- Packets that are lost
+
+
+def word(step, port):
+    """A random word, by the step and the member's port."""
+    return (step * 7 + port * 3) * 2_654_435_761 % 2**32
+
+
+def lost_packets(program):
+    """A script of seven members and a dead eighth. In each step of 50 ms each member ticks twice, and those packets
+    that are new by then are delivered, but for every third one."""
+    script = ["set interval_ms 200", "set timeout_ms 100"]
+    for member, port in MEMBERS[:7]:
+        seeds = (f"{other}:{at}" for other, at in MEMBERS[:8] if other != member)
+        script.append(f"open {member} {port} 0 {' '.join(seeds)}")
+    sent = 0
+    for step in range(80):
+        now = step * 50
+        for member, port in MEMBERS[:7]:
+            script += [f"tick {member} {now} {word(step, port)}"] * 2
+        packets = sum(line.startswith("send ") for line in simulated(program, script))
+        script += [f"deliver {packet} {now + 25}" for packet in range(sent + 1, packets + 1) if packet % 3]
+        sent = packets
+    return script
+
+
+def only_the_dead_member_fails(program):
+    """Where every third packet is lost, the dead member is taken as failed by all others, and a live one by none."""
+    script = lost_packets(program)
+    before = simulated(program, script)
+    lines = simulated(program, script + [f"table {member}" for member, _ in MEMBERS[:7]])
+    tables = lines[len(before):]
+    dead = tables.count("record h failed 0 127.0.0.1:7008")
+    live = tuple(f"record {member} failed" for member, _ in MEMBERS[:7])
+    mistaken = [line for line in lines if line.startswith(live)]
+    return unless(dead == 7 and len(tables) == 56, f"{dead} know that h failed") + mistaken
+
+
+# ---- Much input
+
+
+def a_script_of_a_mebibyte(program):
+    """A member, and as many ticks as fit with it into 1,048,576 bytes; the last line has no newline."""
+    script = "open a 7001 0\n" + "tick a 0\n" * 116_506 + "tick a 0"
+    status, text, told = run(program, ["sim"], script)
+    lines = text.splitlines()
+    counts = sum(line.startswith("next ") for line in lines), sum(line.startswith("idle") for line in lines)
+    met = len(script) == 1_048_576 and (status, told) == (0, "") and counts == (116_508, 116_506)
+    return unless(met, f"{len(script)} bytes, status {status}, {told!r}, {counts} lines")
+
+
+def answers(program, lines, wanted):
+    """Runs `answer` for b over these lines, and compares."""
+    status, text, told = run(program, ["answer", "--name", "b"], "".join(line + "\n" for line in lines))
+    return unless((status, text.splitlines(), told) == (0, wanted, ""), f"status {status}, {text!r} {told!r}")
+
+
+def a_flood_of_names(program):
+    """Pings for another member, of which each says a further name, the last name first. The first 255 of them have
+    places beside the own name, so m045 is the first of the others."""
+    alive = [f"0104{f'm{number:03}'.encode().hex()}7f0000011b5800000000" for number in range(300)]
+    flood = ["534c0101016100000001016301" + claim for claim in reversed(alive)]
+    pings = ["534c0101016100000008016200", "534c0101016100000009016200"]
+    acks = ["534c010301620000000806" + "".join(alive[45:51]), "534c010301620000000906" + "".join(alive[51:57])]
+    return answers(program, flood + pings, acks)
+
+
+def a_relay_too_many(program):
+    """65 PingReqs for another, of which 64 are relayed, and the last is answered by a Nack."""
+    requests = ["534c010201610000000901637f0000011b5b00"] * 64 + ["534c010201610000000701637f0000011b5b00"]
+    pings = [f"534c01010162{number:08x}016300" for number in range(1, 65)]
+    return answers(program, requests, pings + ["534c010401620000000700"])
+
+
+def at_most_255_names(program):
+    """So many names of `order` are taken, and one more is not."""
+    names = [f"n{number}" for number in range(256)]
+    wanted = {255: (0, "n99\nn0\nn98\n", ""), 256: (3, "", "lg: bad names\n")}
+    faults = []
+    for count, row in wanted.items():
+        got = run(program, ["order", "--names", ",".join(names[:count]), "--words", "254,0,252"], "")
+        faults += unless(got == row, f"{count} names: {got}")
+    return faults
+
+
+CASES = [sixteen_members_join_by_one, only_the_dead_member_fails, a_script_of_a_mebibyte, a_flood_of_names,
+         a_relay_too_many, at_most_255_names]
