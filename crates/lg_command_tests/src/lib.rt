@@ -1,0 +1,17 @@
+//! Tests of the commands over a reader and writers in memory: what only such a call can show.
+#![tactic(auto)]
+
+#[cfg(test)]
+mod limits;
+#[cfg(test)]
+mod plays;
+#[cfg(test)]
+mod readers;
+#[cfg(test)]
+mod refused_memory;
+#[cfg(test)]
+mod replies;
+#[cfg(test)]
+mod streams;
+#[cfg(test)]
+mod writers;

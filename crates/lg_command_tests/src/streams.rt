@@ -1,0 +1,171 @@
+//! A reader that gives its input as a test says, and a writer of fixed size.
+ghost use Rattle.std.specs.Prelude.{◌≤◌, length};
+
+use std::io;
+use std::io::{ErrorKind, Read, Write};
+
+/// Which calls of a reader are interrupted.
+#[derive(Clone, Copy, Debug)]
+pub enum Interrupts {
+    /// None is.
+    Never,
+    /// Each second one, from the first on.
+    EachSecond,
+    /// Each one is.
+    Always,
+}
+
+/// A reader of pieces that counts what is asked of it.
+#[derive(Drop)]
+pub struct Pieces<'a> {
+    /// What is left to give.
+    pub left: &'a [u8],
+    /// Whether digits `0` follow without an end, in the place of what is left.
+    pub endless: bool,
+    /// The most bytes of one call.
+    pub piece: usize,
+    /// Which calls are interrupted.
+    interrupts: Interrupts,
+    /// The call that fails, counted from 1, or 0 where none does.
+    pub fails_at: usize,
+    /// How many calls were made.
+    pub calls: usize,
+    /// How many bytes were given.
+    pub given: usize,
+}
+
+impl Pieces<'_> {
+    /// From here on these calls are interrupted.
+    pub fn interrupt(&mut self, interrupts: Interrupts) {
+        self.interrupts = interrupts;
+    }
+
+    /// Whether the call that was counted last is interrupted.
+    fn is_interrupted(&self) -> bool {
+        match self.interrupts {
+            Interrupts::Never => false,
+            Interrupts::EachSecond => self.calls % 2 == 1,
+            Interrupts::Always => true,
+        }
+    }
+
+    /// Gives a piece, and returns how many bytes it has.
+    fn give(&mut self, buf: &mut [u8]) -> usize
+        ensures { result ≤ length buf.old }
+    {
+        let most = self.piece.min(buf.len());
+        if self.endless {
+            buf[..most].fill(b'0');
+            return most;
+        }
+        let count = self.left.len().min(most);
+        buf[..count].copy_from_slice(&self.left[..count]);
+        self.left = &self.left[count..];
+        count
+    }
+}
+
+impl Read for Pieces<'_> {
+    fn read(&mut self, buf: &mut [u8]) -> io::Result<usize> {
+        self.calls = self.calls.saturating_add(1);
+        if self.calls == self.fails_at {
+            return Err(io::Error::from(ErrorKind::ConnectionReset));
+        }
+        if self.is_interrupted() {
+            return Err(io::Error::from(ErrorKind::Interrupted));
+        }
+        let count = self.give(buf);
+        self.given = self.given.saturating_add(count);
+        Ok(count)
+    }
+}
+
+/// The room of a writer, in bytes, enough for each text of the tests.
+pub const ROOM: usize = 512;
+
+/// A writer that takes a byte a call into room of its own, so that it takes no memory.
+#[derive(Drop)]
+pub struct Room {
+    /// What was written, and zeros behind it.
+    bytes: [u8; ROOM],
+    /// How many bytes were written.
+    pub len: usize,
+    /// The call that fails, counted from 1, or 0 where none does; a flush is a call too.
+    pub fails_at: usize,
+    /// How many calls were made.
+    pub calls: usize,
+}
+
+impl Room {
+    /// Empty room, of which no call fails.
+    fn empty() -> Self {
+        Room {
+            bytes: [0; ROOM],
+            len: 0,
+            fails_at: 0,
+            calls: 0,
+        }
+    }
+
+    /// Whether this was written, and nothing else.
+    pub fn has(&self, text: &[u8]) -> bool {
+        &self.bytes[..self.len.min(ROOM)] == text
+    }
+
+    /// Counts a call, which may be the one that fails.
+    fn call(&mut self) -> io::Result<()> {
+        self.calls = self.calls.saturating_add(1);
+        if self.calls == self.fails_at {
+            Err(io::Error::from(ErrorKind::BrokenPipe))
+        } else {
+            Ok(())
+        }
+    }
+}
+
+impl Write for Room {
+    fn write(&mut self, buf: &[u8]) -> io::Result<usize> {
+        self.call()?;
+        if buf.is_empty() || self.len >= ROOM {
+            return Ok(0);
+        }
+        self.bytes[self.len] = buf[0];
+        self.len += 1;
+        Ok(1)
+    }
+
+    fn flush(&mut self) -> io::Result<()> {
+        self.call()
+    }
+}
+
+/// What stands for the standard input, output and error.
+#[derive(Drop)]
+pub struct Streams<'a> {
+    /// The input.
+    pub reader: Pieces<'a>,
+    /// The output.
+    pub writer: Room,
+    /// What is reported.
+    pub faults: Room,
+}
+
+impl<'a> Streams<'a> {
+    /// An input that is given a byte at a time.
+    pub fn over(input: &'a [u8]) -> Self {
+        let reader = Pieces {
+            left: input,
+            endless: false,
+            piece: 1,
+            interrupts: Interrupts::Never,
+            fails_at: 0,
+            calls: 0,
+            given: 0,
+        };
+        Streams {
+            reader,
+            writer: Room::empty(),
+            faults: Room::empty(),
+        }
+    }
+}
