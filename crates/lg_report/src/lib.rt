@@ -6,8 +6,6 @@
 
 mod records;
 mod replies;
-#[cfg(test)]
-mod tests;
 
 pub use lg_detector::NoMemory;
 pub use records::put_table;

@@ -13,8 +13,6 @@ mod command;
 mod fault;
 mod line;
 mod reading;
-#[cfg(test)]
-mod tests;
 mod values;
 mod verb;
 mod words;

@@ -11,8 +11,6 @@ mod command;
 mod host;
 mod script;
 mod streams;
-#[cfg(test)]
-mod tests;
 
 pub use cluster::MAX_CLUSTER;
 pub use lg_text::{End, RunFault};

@@ -9,8 +9,6 @@ mod lines;
 mod number;
 mod output;
 mod packet;
-#[cfg(test)]
-mod tests;
 
 pub use end::End;
 pub use fault::RunFault;
