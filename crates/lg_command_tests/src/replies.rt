@@ -78,8 +78,8 @@ fn at_the_ends() -> Reply {
     changes(TimerId::Suspicion(letter(b'c')), &records, 9500)
 }
 
-/// Puts a reply behind a text, and gives whether memory was had for it, or nothing where other bytes stand there than its
-/// lines, or a beginning of them where memory was refused.
+/// Puts a reply behind a text, and gives whether memory was had for it, or nothing where other bytes stand there than
+/// its lines, or a beginning of them where memory was refused.
 fn is_had(alloc: std::alloc::Global, case: &Case) -> Option<bool> {
     let mut row = ArrayVec::new();
     let mut text = Vec::new(alloc);
