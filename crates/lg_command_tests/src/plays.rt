@@ -78,8 +78,8 @@ impl Command {
 }
 
 impl Play {
-    /// Whether a run that ended with a status came out as it does where nothing fails: all was read and written, a byte a
-    /// call, and nothing was reported.
+    /// Whether a run that ended with a status came out as it does where nothing fails: all was read and written, a byte
+    /// a call, and nothing was reported.
     pub fn is_met(&self, status: u8, streams: &Streams) -> bool {
         status == self.status
             && streams.reader.left.is_empty()
