@@ -1,6 +1,10 @@
-//! Tests of the commands over a reader and writers in memory: what only such a call can show.
+//! Tests of the commands over values and streams in memory: what only such a call can show.
 #![tactic(auto)]
 
+#[cfg(test)]
+mod config;
+#[cfg(test)]
+mod launch;
 #[cfg(test)]
 mod limits;
 #[cfg(test)]

@@ -1,0 +1,141 @@
+//! What configuration files mean, each value of it. That files are faulty, and how, is in the cases of the program.
+use lg_config::{
+    DEFAULT_ADDRESS, DEFAULT_DICE, DEFAULT_PORT, FileFault, MAX_FILE, NodeConfig, ReadFault,
+};
+use lg_testing::name;
+use std::alloc::Global;
+
+/// A seed: its name, its address and its port.
+type Known = (&'static [u8], [u8; 4], u16);
+
+/// A file of a member b, and what it means.
+#[derive(Clone, Copy, Debug)]
+struct Row {
+    text: &'static str,
+    octets: [u8; 4],
+    port: u16,
+    dice: u64,
+    /// The ten numbers, from `interval_ms` to `history_limit`.
+    numbers: [u64; 10],
+    seeds: &'static [Known],
+}
+
+/// The numbers of a file that says none.
+const USUAL: [u64; 10] = [1000, 500, 3, 8, 5, 6, 3, 4, 800, 20_000];
+
+/// A file with all keys.
+const ALL: &str = "\
+name = \"b\"
+address = \"10.1.2.3\"
+port = 7001
+dice = 42
+interval_ms = 200
+timeout_ms = 50
+indirect = 0
+max_score = 1
+alpha = 2
+beta = 3
+confirmations = 4
+lambda = 5
+nack_thousandths = 6
+history_limit = 7
+seeds = [\"c@127.0.0.1:7002\", \"a@1.2.3.4:5\"]
+";
+
+/// What is read of some bytes, and once more where memory was refused.
+fn read(alloc: Global, bytes: &[u8]) -> Result<NodeConfig, ReadFault> {
+    match NodeConfig::read(alloc, bytes) {
+        Err(ReadFault::NoMemory) => NodeConfig::read(alloc, bytes),
+        answer => answer,
+    }
+}
+
+/// Whether a configuration is that of a row.
+fn is_of(node: &NodeConfig, row: &Row) -> bool {
+    let config = &node.config;
+    let numbers = [
+        config.interval_ms,
+        config.timeout_ms,
+        config.indirect,
+        config.max_score,
+        config.alpha,
+        config.beta,
+        config.confirmations,
+        config.lambda,
+        config.nack_thousandths,
+        config.history_limit,
+    ];
+    config.name == name(b"b")
+        && (config.addr.octets, config.addr.port, node.dice) == (row.octets, row.port, row.dice)
+        && numbers == row.numbers
+        && config.seeds.len() == row.seeds.len()
+        && config.seeds.iter().zip(row.seeds).all(|(seed, known)| {
+            seed.name == name(known.0) && (seed.addr.octets, seed.addr.port) == (known.1, known.2)
+        })
+}
+
+/// Each value of a file with its name alone, of one that writes the defaults, of one with all keys, and of some whose
+/// address or port the program can't have.
+#[test]
+fn each_value(rt: HostRuntime) {
+    let alone = Row {
+        text: "name = \"b\"",
+        octets: [127, 0, 0, 1],
+        port: 7946,
+        dice: 1,
+        numbers: USUAL,
+        seeds: &[],
+    };
+    let rows = [
+        alone,
+        Row {
+            text: "name = \"b\"\naddress = \"127.0.0.1\"\nport = 7946\ndice = 1",
+            ..alone
+        },
+        Row {
+            text: ALL,
+            octets: [10, 1, 2, 3],
+            port: 7001,
+            dice: 42,
+            numbers: [200, 50, 0, 1, 2, 3, 4, 5, 6, 7],
+            seeds: &[(b"c", [127, 0, 0, 1], 7002), (b"a", [1, 2, 3, 4], 5)],
+        },
+        Row {
+            text: "name = \"b\"\naddress = \"0000000000000001.02.3.4\"\nport = 0x10\ndice = 9223372036854775807",
+            octets: [1, 2, 3, 4],
+            port: 16,
+            dice: 9_223_372_036_854_775_807,
+            ..alone
+        },
+    ];
+    for row in rows {
+        let node = read(rt.alloc(), row.text.as_bytes());
+        assert!(rt;
+            node.as_ref().is_ok_and(|node| is_of(node, &row)),
+            "{row:?}"
+        );
+    }
+    let usual = (DEFAULT_ADDRESS, DEFAULT_PORT, DEFAULT_DICE, MAX_FILE);
+    assert!(rt; usual == ("127.0.0.1", 7946, 1, 65_536));
+}
+
+/// What is no text, and what is empty, takes no memory; of another file refused memory is answered and nothing else,
+/// and the next reading goes well.
+#[test]
+fn refused_memory(rt: HostRuntime) {
+    let long = [b'\n'; MAX_FILE + 1];
+    let faulty = b"name = \"b\"\nport = 0\nseeds = [\"c@1.2.3.4:1\"]\ninterval_ms = 5\n";
+    let rows = [
+        (1, long.as_slice(), FileFault::Syntax),
+        (1, b"\xff".as_slice(), FileFault::Syntax),
+        (1, &long[..MAX_FILE], FileFault::Key),
+        (2, faulty.as_slice(), FileFault::Value),
+    ];
+    for (readings, bytes, fault) in rows {
+        let mut found = NodeConfig::read(rt.alloc(), bytes).err();
+        if readings == 2 && found == Some(ReadFault::NoMemory) {
+            found = NodeConfig::read(rt.alloc(), bytes).err();
+        }
+        assert_eq!(rt; found, Some(ReadFault::File(fault)));
+    }
+}

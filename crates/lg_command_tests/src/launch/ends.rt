@@ -1,0 +1,115 @@
+//! Runs of nodes and of files over writers that fail, and under refused memory.
+use super::rooms::Room;
+use lg_launch::{run_bytes, run_file};
+use lg_testing::at;
+use std::alloc::Global;
+use std::net::Net;
+use std::rt;
+use std::rt::Files;
+use std::sync::Wait;
+use std::thread::Threads;
+
+/// What is run for a millisecond.
+#[derive(Clone, Copy, Debug)]
+enum Source {
+    /// The bytes of a file.
+    Bytes(&'static str),
+    /// The file of a path.
+    Path(&'static str),
+}
+
+use Source::{Bytes, Path};
+
+/// What is run, the call of the output that fails, counted from 1, or 0, and the status, what is written and what is
+/// told.
+type Row = (Source, usize, u8, &'static str, &'static str);
+
+/// What came of a run.
+#[derive(Drop)]
+struct Outcome {
+    status: u8,
+    writer: Room,
+    faults: Room,
+}
+
+impl Outcome {
+    /// Whether a run ended with this status, and wrote and told this.
+    fn is(&self, status: u8, written: &str, told: &str) -> bool {
+        self.status == status && self.writer.has(written) && self.faults.has(told)
+    }
+}
+
+/// Runs the node of a source over an output of which this call fails.
+fn run<R>(rt: &R, alloc: Global, source: Source, fails_at: usize) -> Outcome
+where
+    R: Wait + Threads + Net + rt::Clock + Files + Sync,
+{
+    let (mut writer, mut faults) = (Room::failing(fails_at), Room::failing(0));
+    let status = match source {
+        Bytes(text) => run_bytes(rt, alloc, text.as_bytes(), at(1), &mut writer, &mut faults),
+        Path(path) => run_file(rt, alloc, path, at(1), &mut writer, &mut faults),
+    };
+    Outcome {
+        status,
+        writer,
+        faults,
+    }
+}
+
+/// A node alone and a seeded one, an output that fails at its first byte, at a later one and at the flush behind the
+/// 33 bytes of the table, and files that can't be read or mean no configuration: no such file, a path that is none, an
+/// empty path, a folder, an empty file and one without an end.
+const ROWS: [Row; 11] = [
+    (
+        Bytes("name = \"b\"\nport = 17106"),
+        0,
+        0,
+        "record b alive 0 127.0.0.1:17106\n",
+        "",
+    ),
+    (
+        Bytes("name = \"b\"\nport = 17106\nseeds = [\"a@127.0.0.1:17199\"]"),
+        0,
+        0,
+        "record a alive 0 127.0.0.1:17199\nrecord b alive 0 127.0.0.1:17106\n",
+        "",
+    ),
+    (Bytes("name = \"b\"\nport = 17106"), 1, 1, "", "lg: write\n"),
+    (
+        Bytes("name = \"b\"\nport = 17106"),
+        4,
+        1,
+        "rec",
+        "lg: write\n",
+    ),
+    (
+        Bytes("name = \"b\"\nport = 17106"),
+        34,
+        1,
+        "record b alive 0 127.0.0.1:17106\n",
+        "lg: write\n",
+    ),
+    (Path("/nowhere/b.toml"), 0, 1, "", "lg: read\n"),
+    (Path("b\0.toml"), 0, 1, "", "lg: read\n"),
+    (Path(""), 0, 1, "", "lg: read\n"),
+    (Path("/"), 0, 1, "", "lg: read\n"),
+    (Path("/dev/null"), 0, 3, "", "lg: config 13\n"),
+    (Path("/dev/zero"), 0, 3, "", "lg: config 12\n"),
+];
+
+/// Each run ends as it is to. Where memory is refused, nothing but that is told, and the next run goes well.
+#[test]
+fn have_their_statuses(rt: HostRuntime) {
+    for row in ROWS {
+        let (source, fails_at, status, written, told) = row;
+        let mut outcome = run(&rt, rt.alloc(), source, fails_at);
+        if outcome.is(1, "", "lg: memory\n") {
+            outcome = run(&rt, rt.alloc(), source, fails_at);
+        }
+        assert!(rt;
+            outcome.is(status, written, told),
+            "{row:?}: {}",
+            outcome.status
+        );
+    }
+}

@@ -1,0 +1,184 @@
+//! What is told of a node's end, and before what.
+ghost use Rattle.lg_timing.specs.Meaning.Config.{IsChecked};
+
+use lg_agent::{CloseFault, Refusal};
+use lg_launch::Told;
+use lg_node::{NodeEnd, NodeFault, Why, run_node};
+use lg_rules::{Addr, Name};
+use lg_testing::at;
+use lg_text::RunFault;
+use lg_timing::Config;
+use std::alloc::Global;
+
+const FULL: Why = Why::Refused(Refusal::HistoryFull(2));
+
+const NO_MEMORY: Why = Why::Refused(Refusal::NoMemory);
+
+const UNSEEN: Refusal = Refusal::NoView;
+
+const DONE: Result<(), RunFault> = Ok(());
+
+const UNWRITTEN: Result<(), RunFault> = Err(RunFault::Write);
+
+/// How the receiving and the ticking loop ended, why the members were refused, how their table was written, and what is
+/// told.
+type Row = (Why, Why, Option<Refusal>, Result<(), RunFault>, Told);
+
+/// Rows of an agent that was closed: the first end, and what went wrong after it.
+const CLOSED: [Row; 34] = [
+    (Why::Stopped, Why::Stopped, None, DONE, Told::Done),
+    (Why::Stopped, Why::Ousted, None, DONE, Told::Ousted),
+    (Why::Ousted, Why::Stopped, None, DONE, Told::Ousted),
+    (Why::Ousted, Why::LinkFailed, None, DONE, Told::Ousted),
+    (Why::Ousted, FULL, None, DONE, Told::Ousted),
+    (Why::LinkFailed, Why::Stopped, None, DONE, Told::Link),
+    (Why::LinkFailed, Why::Ousted, None, DONE, Told::Link),
+    (Why::LinkFailed, FULL, None, DONE, Told::Link),
+    (Why::Stopped, Why::LinkFailed, None, DONE, Told::Link),
+    (FULL, Why::LinkFailed, None, DONE, Told::History),
+    (Why::Stopped, FULL, None, DONE, Told::History),
+    (NO_MEMORY, Why::Ousted, None, DONE, Told::Memory),
+    (Why::Stopped, NO_MEMORY, None, DONE, Told::Memory),
+    (Why::ReadBound, Why::Ousted, None, DONE, Told::Turns),
+    (Why::Stopped, Why::ReadBound, None, DONE, Told::Turns),
+    (Why::Refused(UNSEEN), Why::Ousted, None, DONE, Told::Refused),
+    (
+        Why::Stopped,
+        Why::Stopped,
+        Some(UNSEEN),
+        DONE,
+        Told::Refused,
+    ),
+    (Why::Stopped, Why::Ousted, Some(UNSEEN), DONE, Told::Refused),
+    (Why::Ousted, FULL, Some(UNSEEN), DONE, Told::Refused),
+    (
+        Why::Stopped,
+        Why::Stopped,
+        Some(Refusal::NoMemory),
+        DONE,
+        Told::Memory,
+    ),
+    (
+        Why::Stopped,
+        Why::Ousted,
+        Some(Refusal::NoMemory),
+        DONE,
+        Told::Memory,
+    ),
+    (
+        Why::Ousted,
+        FULL,
+        Some(Refusal::NoMemory),
+        DONE,
+        Told::Memory,
+    ),
+    (
+        Why::Stopped,
+        Why::Stopped,
+        Some(UNSEEN),
+        UNWRITTEN,
+        Told::Refused,
+    ),
+    (
+        Why::Stopped,
+        Why::Ousted,
+        Some(UNSEEN),
+        UNWRITTEN,
+        Told::Refused,
+    ),
+    (Why::Ousted, FULL, Some(UNSEEN), UNWRITTEN, Told::Refused),
+    (Why::Stopped, Why::Stopped, None, UNWRITTEN, Told::Write),
+    (Why::Stopped, Why::Ousted, None, UNWRITTEN, Told::Write),
+    (Why::Ousted, FULL, None, UNWRITTEN, Told::Write),
+    (
+        Why::Stopped,
+        Why::Stopped,
+        None,
+        Err(RunFault::Memory),
+        Told::Memory,
+    ),
+    (
+        Why::Stopped,
+        Why::Ousted,
+        None,
+        Err(RunFault::Memory),
+        Told::Memory,
+    ),
+    (Why::Ousted, FULL, None, Err(RunFault::Memory), Told::Memory),
+    (
+        Why::LinkFailed,
+        Why::Stopped,
+        Some(UNSEEN),
+        DONE,
+        Told::Link,
+    ),
+    (Why::LinkFailed, Why::Stopped, None, UNWRITTEN, Told::Link),
+    (FULL, Why::Stopped, Some(UNSEEN), UNWRITTEN, Told::History),
+];
+
+/// Rows of an agent that wasn't closed.
+const UNCLOSED: [Row; 6] = [
+    (Why::Stopped, Why::Stopped, None, DONE, Told::Close),
+    (Why::Ousted, Why::Stopped, None, DONE, Told::Close),
+    (Why::Ousted, Why::Stopped, None, UNWRITTEN, Told::Write),
+    (
+        Why::Stopped,
+        Why::Stopped,
+        Some(UNSEEN),
+        DONE,
+        Told::Refused,
+    ),
+    (
+        Why::LinkFailed,
+        Why::Stopped,
+        Some(UNSEEN),
+        DONE,
+        Told::Link,
+    ),
+    (FULL, Why::Stopped, Some(UNSEEN), DONE, Told::History),
+];
+
+/// The configuration of b at a port.
+fn config(port: u16) -> Config
+    ensures { IsChecked result }
+{
+    let name = Name::new(b"b").unwrap_or_default();
+    Config::new(name, Addr::new([127, 0, 0, 1], port))
+}
+
+/// The first of some rows that isn't told of the end of a node that is changed to be so.
+fn first_untold(alloc: Global, ran: &mut Result<NodeEnd, NodeFault>, rows: &[Row]) -> Option<Row> {
+    for row in rows {
+        let (received, ticked, members, written, told) = *row;
+        if let Ok(end) = ran {
+            end.received.why = received;
+            end.ticked.why = ticked;
+            end.members = match members {
+                Some(refusal) => Err(refusal),
+                None => Ok(Vec::new(alloc)),
+            };
+        }
+        if Told::of(ran, written) != told {
+            return Some(*row);
+        }
+    }
+    None
+}
+
+/// The first end is told, the receiving loop's before the ticking loop's; where it has a table, before it refused
+/// members, then a failed writing, then a fault of closing.
+#[test]
+fn first_of_what_went_wrong(rt: HostRuntime) {
+    let mut ran = run_node(&rt, rt.alloc(), &config(17110), 1, at(0));
+    if ran.is_err() {
+        ran = run_node(&rt, rt.alloc(), &config(17110), 1, at(0));
+    }
+    assert_eq!(rt; first_untold(rt.alloc(), &mut ran, CLOSED.as_slice()), None);
+    if let Ok(end) = &mut ran {
+        end.closed = Err(CloseFault::Missing);
+    }
+    assert_eq!(rt;
+        first_untold(rt.alloc(), &mut ran, UNCLOSED.as_slice()),
+        None
+    );
+}

@@ -1,0 +1,127 @@
+//! The status and the line of all that may be told.
+use lg_agent::Refusal;
+use lg_config::FileFault;
+use lg_launch::Told;
+use lg_node::NodeFault;
+use lg_packet::Fault;
+use lg_text::RunFault;
+use lg_timing::ConfigFault;
+
+/// What is told, or of what it is told: a refusal, a fault of a run, or one of a node without loops.
+#[derive(Clone, Copy, Debug)]
+enum Of {
+    End(Told),
+    Refusal(Refusal),
+    Run(RunFault),
+    Node(NodeFault),
+}
+
+/// What is told of it.
+fn told_of(of: Of) -> Told {
+    match of {
+        Of::End(told) => told,
+        Of::Refusal(refusal) => Told::from(refusal),
+        Of::Run(fault) => Told::from(fault),
+        Of::Node(fault) => Told::of(&Err(fault), Ok(())),
+    }
+}
+
+/// Each with its status and its line. No two of what may be told have the same line.
+const ENDS: [(Of, u8, &str); 24] = [
+    (Of::End(Told::Done), 0, ""),
+    (Of::End(Told::Memory), 1, "lg: memory\n"),
+    (Of::End(Told::Read), 1, "lg: read\n"),
+    (Of::End(Told::Write), 1, "lg: write\n"),
+    (Of::End(Told::History), 1, "lg: history\n"),
+    (Of::End(Told::Turns), 1, "lg: turns\n"),
+    (Of::End(Told::Refused), 1, "lg: refused\n"),
+    (Of::End(Told::Close), 1, "lg: close\n"),
+    (Of::End(Told::Ousted), 4, "lg: ousted\n"),
+    (Of::End(Told::Link), 5, "lg: link\n"),
+    (Of::Refusal(Refusal::NoMemory), 1, "lg: memory\n"),
+    (Of::Refusal(Refusal::HistoryFull(2)), 1, "lg: history\n"),
+    (
+        Of::Refusal(Refusal::BadPacket(Fault::Short)),
+        1,
+        "lg: refused\n",
+    ),
+    (
+        Of::Refusal(Refusal::Behind { seen: 2, here: 1 }),
+        1,
+        "lg: refused\n",
+    ),
+    (Of::Refusal(Refusal::NoPlace), 1, "lg: refused\n"),
+    (Of::Refusal(Refusal::NoView), 1, "lg: refused\n"),
+    (Of::Run(RunFault::Memory), 1, "lg: memory\n"),
+    (Of::Run(RunFault::Read), 1, "lg: read\n"),
+    (Of::Run(RunFault::Write), 1, "lg: write\n"),
+    (Of::Node(NodeFault::Socket), 5, "lg: link\n"),
+    (Of::Node(NodeFault::Clock), 1, "lg: refused\n"),
+    (
+        Of::Node(NodeFault::Refused(Refusal::NoMemory)),
+        1,
+        "lg: memory\n",
+    ),
+    (
+        Of::Node(NodeFault::Refused(Refusal::HistoryFull(2))),
+        1,
+        "lg: history\n",
+    ),
+    (
+        Of::Node(NodeFault::Refused(Refusal::NoPlace)),
+        1,
+        "lg: refused\n",
+    ),
+];
+
+/// Each fault of a file with its number and its line.
+const FAULTS: [(FileFault, u8, &str); 14] = [
+    (
+        FileFault::Config(ConfigFault::Interval),
+        1,
+        "lg: config 1\n",
+    ),
+    (FileFault::Config(ConfigFault::Timeout), 2, "lg: config 2\n"),
+    (
+        FileFault::Config(ConfigFault::Indirect),
+        3,
+        "lg: config 3\n",
+    ),
+    (
+        FileFault::Config(ConfigFault::MaxScore),
+        4,
+        "lg: config 4\n",
+    ),
+    (FileFault::Config(ConfigFault::Alpha), 5, "lg: config 5\n"),
+    (FileFault::Config(ConfigFault::Beta), 6, "lg: config 6\n"),
+    (
+        FileFault::Config(ConfigFault::Confirmations),
+        7,
+        "lg: config 7\n",
+    ),
+    (FileFault::Config(ConfigFault::Lambda), 8, "lg: config 8\n"),
+    (FileFault::Config(ConfigFault::Nack), 9, "lg: config 9\n"),
+    (
+        FileFault::Config(ConfigFault::History),
+        10,
+        "lg: config 10\n",
+    ),
+    (FileFault::Config(ConfigFault::Seeds), 11, "lg: config 11\n"),
+    (FileFault::Syntax, 12, "lg: config 12\n"),
+    (FileFault::Key, 13, "lg: config 13\n"),
+    (FileFault::Value, 14, "lg: config 14\n"),
+];
+
+/// Each end has its status and its line, and each fault of a file its number, the status 3 and its line.
+#[test]
+fn statuses_and_lines(rt: HostRuntime) {
+    for (of, status, line) in ENDS {
+        let told = told_of(of);
+        assert!(rt; told.status() == status && told.line() == line, "{of:?}");
+    }
+    for (fault, number, line) in FAULTS {
+        let told = Told::Config(fault);
+        let met = fault.number() == number && told.status() == 3 && told.line() == line;
+        assert!(rt; met, "{fault:?}");
+    }
+}
