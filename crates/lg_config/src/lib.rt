@@ -11,8 +11,6 @@ mod lookup;
 mod node;
 mod seeds;
 mod settings;
-#[cfg(test)]
-mod tests;
 mod texts;
 
 pub use document::MAX_FILE;

@@ -7,8 +7,6 @@
 
 mod launch;
 mod telling;
-#[cfg(test)]
-mod tests;
 mod told;
 
 pub use launch::{run_bytes, run_config, run_file};
