@@ -2,11 +2,21 @@
 #![tactic(auto)]
 
 #[cfg(test)]
+mod detector;
+#[cfg(test)]
 mod gossip;
+#[cfg(test)]
+mod membership;
 #[cfg(test)]
 mod packet;
 #[cfg(test)]
+mod probe;
+#[cfg(test)]
+mod refused_memory;
+#[cfg(test)]
 mod rules;
+#[cfg(test)]
+mod says;
 #[cfg(test)]
 mod suspicion;
 #[cfg(test)]

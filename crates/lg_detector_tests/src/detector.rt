@@ -1,0 +1,17 @@
+//! Worked events of the detector b at 127.0.0.1:7000, which hears from port 1.
+mod acks;
+mod ask;
+mod comparing;
+mod copies;
+mod happening;
+mod hear;
+mod joining;
+mod many;
+mod open;
+mod playing;
+mod probing;
+mod relaying;
+mod tick;
+
+pub(crate) use happening::Happens;
+pub(crate) use playing::{Step, play_on, table_of};

@@ -1,0 +1,172 @@
+//! Acks and Nacks of a round. b is opened at 0.
+use super::happening::Happens::{Ack, First, Health, Nack, Ping};
+use super::playing::Due::{Direct, RoundEnd};
+use super::playing::Step::{self, AnswersHealth, Changed, Fired, Next, Pings, Sends, Takes};
+use super::playing::{Case, opened, play, play_on};
+use super::probing::{ASKED, FOUR};
+use crate::says::Said::{Alive, Suspect};
+
+/// What Acks and Nacks do once d, e and f were asked: the score after the round.
+const COUNTED: &[(&str, &[Step<'static>], u64)] = &[
+    ("nothing", &[Takes(Health(600))], 2),
+    ("an ack of the target", &[Takes(Ack(600, "c", 1))], 0),
+    ("an ack of a helper", &[Takes(Ack(600, "e", 1))], 0),
+    ("an ack of a stranger", &[Takes(Ack(600, "z", 1))], 2),
+    ("an ack of another number", &[Takes(Ack(600, "c", 2))], 2),
+    (
+        "each helper's nack",
+        &[
+            Takes(Nack(600, "d", 1)),
+            Takes(Nack(610, "e", 1)),
+            Takes(Nack(620, "f", 1)),
+        ],
+        1,
+    ),
+    (
+        "two nacks of one",
+        &[
+            Takes(Nack(600, "d", 1)),
+            Takes(Nack(610, "d", 1)),
+            Takes(Nack(620, "f", 1)),
+        ],
+        2,
+    ),
+    (
+        "a nack of the target",
+        &[
+            Takes(Nack(600, "c", 1)),
+            Takes(Nack(610, "e", 1)),
+            Takes(Nack(620, "f", 1)),
+        ],
+        2,
+    ),
+    (
+        "a nack of another number",
+        &[
+            Takes(Nack(600, "d", 2)),
+            Takes(Nack(610, "e", 1)),
+            Takes(Nack(620, "f", 1)),
+        ],
+        2,
+    ),
+];
+
+#[test]
+fn counts_acks_and_nacks(rt: HostRuntime) {
+    for (case, steps, score) in COUNTED {
+        let mut detector = opened(&rt, rt.alloc());
+        let after = [
+            Takes(First(1000)),
+            Fired(RoundEnd(1000)),
+            Takes(Health(1000)),
+            AnswersHealth(*score, 0, 5),
+        ];
+        play_on(&rt, &mut detector, case, ASKED);
+        play_on(&rt, &mut detector, case, steps);
+        play_on(&rt, &mut detector, case, &after);
+    }
+}
+
+/// An Ack or a Nack that came before its sender was asked doesn't count.
+const EARLY: &[Case] = &[
+    (
+        "an early Ack",
+        &[
+            Takes(Ping(0, 1, "z", &[Alive("c", 0), Alive("d", 0)])),
+            Takes(First(0)),
+            Takes(Ack(100, "d", 1)),
+            Next(500),
+            Takes(First(500)),
+            Fired(Direct(500)),
+            Sends(1),
+            Takes(First(1000)),
+            Fired(RoundEnd(1000)),
+            Changed(&[Suspect("c", 0, "b")]),
+            Takes(Health(1000)),
+            AnswersHealth(2, 0, 3),
+        ],
+    ),
+    (
+        "an early Nack",
+        &[
+            Takes(Ping(0, 1, "z", FOUR)),
+            Takes(First(0)),
+            Takes(Nack(100, "d", 1)),
+            Takes(First(500)),
+            Takes(Nack(600, "e", 1)),
+            Takes(Nack(600, "f", 1)),
+            Takes(First(1000)),
+            Takes(Health(1000)),
+            AnswersHealth(2, 0, 5),
+        ],
+    ),
+];
+
+#[test]
+fn counts_from_the_asking_on(rt: HostRuntime) {
+    play(&rt, rt.alloc(), EARLY);
+}
+
+/// An Ack that counts cancels the asking, and ends neither the round nor the next. One that comes after its round does
+/// nothing.
+const IN_TIME_AND_LATE: &[Case] = &[
+    (
+        "in time",
+        &[
+            Takes(Ping(0, 1, "z", &[Alive("c", 0), Alive("d", 0)])),
+            Takes(First(0)),
+            Takes(Ack(100, "c", 1)),
+            Next(1000),
+            Takes(First(1000)),
+            Fired(RoundEnd(1000)),
+            Changed(&[]),
+        ],
+    ),
+    (
+        "late",
+        &[
+            Takes(Ping(0, 1, "z", &[Alive("c", 0)])),
+            Takes(First(0)),
+            Takes(First(500)),
+            Takes(First(1000)),
+            Takes(First(1000)),
+            Next(2000),
+            Takes(Ack(1100, "c", 1)),
+            Next(2000),
+            Takes(Health(1100)),
+            AnswersHealth(1, 0, 2),
+        ],
+    ),
+];
+
+#[test]
+fn an_ack_in_time_and_a_late_one(rt: HostRuntime) {
+    play(&rt, rt.alloc(), IN_TIME_AND_LATE);
+}
+
+/// Two probes failed, and of the third two Acks come: the first alone marks the score.
+const TWO_ACKS: Case = (
+    "two Acks",
+    &[
+        Takes(Ping(0, 1, "z", &[Alive("c", 0)])),
+        Takes(First(0)),
+        Takes(First(500)),
+        Takes(First(1000)),
+        Takes(First(1000)),
+        Takes(First(2000)),
+        Takes(First(3000)),
+        Takes(First(3000)),
+        Pings(3, "c"),
+        Takes(Health(3000)),
+        AnswersHealth(2, 0, 2),
+        Takes(Ack(3100, "c", 3)),
+        Takes(Ack(3100, "c", 3)),
+        Takes(Health(3100)),
+        AnswersHealth(1, 0, 2),
+    ],
+);
+
+#[test]
+fn the_first_ack_marks(rt: HostRuntime) {
+    play(&rt, rt.alloc(), &[TWO_ACKS]);
+}

@@ -1,0 +1,69 @@
+//! Copies, and events that are absorbed.
+use super::comparing::{is_same_reply, is_same_state};
+use super::happening::Happens::{self, Ask, From, Health, Opens, Ping, Pull, Tick};
+use super::happening::Says::{Ack, PullFirst};
+use super::happening::event_of;
+use super::playing::{blank, takes};
+use crate::says::Said::{Alive, Suspect};
+use lg_detector::Reply;
+
+/// An opening, claims, Acks, Pulls, questions, and ticks that fire the start of a round, the asking of helpers, and its
+/// end.
+const HAPPENED: &[Happens<'static>] = &[
+    Opens(50, &[]),
+    Ping(60, 1, "c", &[Alive("c", 0), Suspect("d", 2, "a")]),
+    Ping(40, 2, "b", &[Suspect("b", 0, "c"), Alive("c", 1)]),
+    From(70, "a", 1, Ack(3), &[Alive("a", 9)]),
+    Tick(75),
+    Ask(80, "d"),
+    Health(85),
+    Pull(86),
+    From(87, "a", 1, PullFirst, &[]),
+    Ping(90, 4, "b", &[Suspect("b", 1_000_000_000, "c")]),
+    Tick(6000),
+    Tick(6000),
+];
+
+/// Copies of events and of replies, and a second detector to which the copies happen, are as the first ones.
+#[test]
+fn copies_are_equal(rt: HostRuntime) {
+    let mut detector = blank(&rt, rt.alloc());
+    let mut second = blank(&rt, rt.alloc());
+    let (mut reply, mut again) = (Reply::default(), Reply::default());
+    for happens in HAPPENED {
+        let event = event_of(happens);
+        let accepted = takes(&mut detector, &event, &mut reply)
+            && takes(&mut second, &event.copy(), &mut again);
+        let same = is_same_reply(&reply, &again) && is_same_reply(&reply, &reply.copy());
+        assert!(rt;
+            accepted && same && is_same_state(&second, &detector),
+            "{event:?}"
+        );
+    }
+}
+
+/// A detector that absorbs each event is as one that steps by it, also in its next reply: the suspicion of d, raised at
+/// 60 among three, is still to fire.
+#[test]
+fn absorbs_as_it_steps(rt: HostRuntime) {
+    let mut detector = blank(&rt, rt.alloc());
+    let mut absorbing = blank(&rt, rt.alloc());
+    let (mut reply, mut again) = (Reply::default(), Reply::default());
+    for happens in HAPPENED {
+        let event = event_of(happens);
+        let accepted = takes(&mut detector, &event, &mut reply);
+        absorbing.absorb(&event);
+        assert!(rt;
+            accepted && is_same_state(&absorbing, &detector),
+            "{event:?}"
+        );
+    }
+    let last = event_of(&Ping(0, 5, "b", &[]));
+    let accepted = takes(&mut detector, &last, &mut reply)
+        && takes(&mut absorbing, &last, &mut again);
+    let wanted = reply.sends.len() == 1 && reply.next == 5060 && reply.ousted;
+    assert!(rt;
+        accepted && is_same_reply(&reply, &again) && wanted,
+        "{reply:?}"
+    );
+}

@@ -1,0 +1,162 @@
+//! What happens to a detector, as plain data.
+use crate::says::{Member, Said, claims_of, named};
+use lg_detector::Event;
+use lg_packet::{Body, Packet};
+use lg_testing::{at, local};
+use lg_timing::{Config, Seed};
+
+/// The body of a packet. Members are letters.
+#[derive(Clone, Copy)]
+pub(crate) enum Says {
+    /// A Ping, by its number, of a member.
+    Ping(u32, Member),
+    /// A request, by its number, to ping a member at a port.
+    Request(u32, Member, u16),
+    /// An Ack.
+    Ack(u32),
+    /// A Nack.
+    Nack(u32),
+    /// A Pull for the first records.
+    PullFirst,
+    /// A Pull for the records after a member.
+    PullAfter(Member),
+    /// A Page.
+    Page,
+}
+
+/// What an opening sets beside the default numbers.
+#[derive(Clone, Copy)]
+pub(crate) enum Setting {
+    /// A seed at a port.
+    Seed(Member, u16),
+    /// The time of a round.
+    Interval(u64),
+    /// How many helpers are asked.
+    Indirect(u64),
+    /// The greatest score.
+    MaxScore(u64),
+}
+
+/// What happens to the detector, at a moment.
+#[derive(Clone, Copy)]
+pub(crate) enum Happens<'a> {
+    /// b is opened.
+    Opens(u64, &'a [Setting]),
+    /// A tick with the words 0 to 7.
+    Tick(u64),
+    /// A tick whose words choose the first candidates.
+    First(u64),
+    /// A tick with these words.
+    TickBy(u64, [u32; 8]),
+    /// A packet of a member comes from a port.
+    From(u64, Member, u16, Says, &'a [Said]),
+    /// A Ping of a, from port 1, for a member.
+    Ping(u64, u32, Member, &'a [Said]),
+    /// An Ack of a member, from port 7000, by its number.
+    Ack(u64, Member, u32),
+    /// A Nack of a member, from port 7000, by its number.
+    Nack(u64, Member, u32),
+    /// The record of a member is asked for.
+    Ask(u64, Member),
+    /// The health is asked for.
+    Health(u64),
+    /// The member at port 7002 is asked for its table.
+    Pull(u64),
+}
+
+/// A body that is said.
+pub(super) fn body_of(says: &Says) -> Body {
+    match says {
+        Says::Ping(number, member) => Body::Ping {
+            number: *number,
+            target: named(member),
+        },
+        Says::Request(number, member, port) => Body::PingReq {
+            number: *number,
+            target: named(member),
+            addr: local(*port),
+        },
+        Says::Ack(number) => Body::Ack { number: *number },
+        Says::Nack(number) => Body::Nack { number: *number },
+        Says::PullFirst => Body::Pull { after: None },
+        Says::PullAfter(member) => Body::Pull {
+            after: Some(named(member)),
+        },
+        Says::Page => Body::Page,
+    }
+}
+
+/// Sets one number or seed of a configuration.
+fn set(config: &mut Config, setting: &Setting) {
+    match setting {
+        Setting::Seed(member, port) => {
+            if !config.seeds.is_full() {
+                config.seeds.push(Seed {
+                    name: named(member),
+                    addr: local(*port),
+                });
+            }
+        }
+        Setting::Interval(interval) => config.interval_ms = *interval,
+        Setting::Indirect(indirect) => config.indirect = *indirect,
+        Setting::MaxScore(score) => config.max_score = *score,
+    }
+}
+
+/// The configuration of b with the default numbers and what is set.
+fn config_of(settings: &[Setting]) -> Config {
+    let mut config = Config::new(named("b"), local(7000));
+    for setting in settings {
+        set(&mut config, setting);
+    }
+    config
+}
+
+/// A packet of a member that comes from a port.
+fn heard(now: u64, sender: Member, port: u16, says: &Says, said: &[Said]) -> Event {
+    Event::Heard {
+        now: at(now),
+        source: local(port),
+        packet: Packet {
+            sender: named(sender),
+            body: body_of(says),
+            claims: claims_of(said),
+        },
+    }
+}
+
+/// A tick with these words.
+fn ticked(now: u64, words: [u32; 8]) -> Event {
+    Event::Tick {
+        now: at(now),
+        words,
+    }
+}
+
+/// What happens, as an event.
+pub(super) fn event_of(happens: &Happens<'_>) -> Event {
+    match happens {
+        Happens::Opens(now, settings) => Event::Open {
+            now: at(*now),
+            config: config_of(settings),
+        },
+        Happens::Tick(now) => ticked(*now, [0, 1, 2, 3, 4, 5, 6, 7]),
+        Happens::First(now) => ticked(*now, [0; 8]),
+        Happens::TickBy(now, words) => ticked(*now, *words),
+        Happens::From(now, sender, port, says, said) => heard(*now, sender, *port, says, said),
+        Happens::Ping(now, number, target, said) => {
+            heard(*now, "a", 1, &Says::Ping(*number, *target), said)
+        }
+        Happens::Ack(now, sender, number) => heard(*now, sender, 7000, &Says::Ack(*number), &[]),
+        Happens::Nack(now, sender, number) => heard(*now, sender, 7000, &Says::Nack(*number), &[]),
+        Happens::Ask(now, member) => Event::Ask {
+            now: at(*now),
+            name: named(member),
+        },
+        Happens::Health(now) => Event::Health { now: at(*now) },
+        Happens::Pull(now) => Event::Pull {
+            now: at(*now),
+            peer: local(7002),
+        },
+    }
+}

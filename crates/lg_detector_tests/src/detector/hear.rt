@@ -1,0 +1,255 @@
+//! Packets that are heard: what their claims change, and the Acks to them.
+use super::happening::Happens::{From, Opens, Ping, Tick};
+use super::happening::Says::Ack;
+use super::playing::Due::Suspicion;
+use super::playing::Step::{
+    self, Acks, Changed, Changes, Events, Fired, Hears, Known, Next, Ousted, Sends, Table, Takes,
+    Tells,
+};
+use super::playing::{Case, opened, play, play_blank, play_on};
+use crate::says::Said::{self, Accused, Alive, Failed, Suspect, SuspectAt};
+
+/// A Ping for another isn't acked, and an Ack isn't either. What both said is gossiped.
+const GOSSIP: &[Case] = &[
+    (
+        "a Ping for another",
+        &[
+            Takes(Ping(0, 7, "c", &[Alive("c", 0)])),
+            Sends(0),
+            Changed(&[Alive("c", 0)]),
+            Takes(Ping(0, 8, "b", &[])),
+            Acks(8, &[Alive("c", 0)]),
+            Changed(&[]),
+        ],
+    ),
+    (
+        "an Ack",
+        &[
+            Takes(From(0, "a", 1, Ack(9), &[Suspect("c", 2, "a")])),
+            Sends(0),
+            Changed(&[Suspect("c", 2, "a")]),
+            Takes(Ping(0, 10, "b", &[])),
+            Acks(10, &[Suspect("c", 2, "a")]),
+        ],
+    ),
+];
+
+#[test]
+fn gossips_what_it_heard(rt: HostRuntime) {
+    play(&rt, rt.alloc(), GOSSIP);
+}
+
+/// Pings at any moments leave the deadline as it is.
+const OUT_OF_ORDER: Case = (
+    "moments out of order",
+    &[
+        Takes(Opens(5000, &[])),
+        Takes(Ping(4000, 7, "b", &[])),
+        Acks(7, &[]),
+        Next(5000),
+        Takes(Ping(9000, 7, "b", &[])),
+        Acks(7, &[]),
+        Next(5000),
+        Takes(Ping(0, 7, "b", &[])),
+        Acks(7, &[]),
+        Next(5000),
+        Takes(Ping(7000, 7, "b", &[])),
+        Acks(7, &[]),
+        Next(5000),
+        Events(5),
+    ],
+);
+
+#[test]
+fn counts_from_the_greatest_moment(rt: HostRuntime) {
+    play_blank(&rt, rt.alloc(), &[OUT_OF_ORDER]);
+}
+
+/// What a packet changes is listed in the order of names, each member once.
+const SIX_CLAIMS: Case = (
+    "six claims",
+    &[
+        Takes(Ping(0, 1, "c", &[Alive("d", 1), Alive("f", 0)])),
+        Takes(Ping(
+            0,
+            2,
+            "c",
+            &[
+                Alive("e", 0),
+                Alive("d", 1),
+                Suspect("b", 0, "a"),
+                Alive("a", 3),
+                Alive("a", 4),
+                Alive("d", 0),
+            ],
+        )),
+        Changed(&[Alive("a", 4), Alive("b", 1), Alive("e", 0)]),
+        Table(&[
+            Alive("a", 4),
+            Alive("b", 1),
+            Alive("d", 1),
+            Alive("e", 0),
+            Alive("f", 0),
+        ]),
+    ],
+);
+
+#[test]
+fn lists_changes_by_name(rt: HostRuntime) {
+    play(&rt, rt.alloc(), &[SIX_CLAIMS]);
+}
+
+/// Of two accusations of one number the first alone is refuted. Who is ousted stays so.
+const REFUTED: &[Case] = &[
+    (
+        "two accusations of one number",
+        &[
+            Takes(Ping(0, 9, "b", &[Suspect("b", 0, "a"), Suspect("b", 0, "c")])),
+            Acks(9, &[Alive("b", 1)]),
+            Changed(&[Alive("b", 1)]),
+            Ousted(false),
+            Known("b", Some(Alive("b", 1))),
+        ],
+    ),
+    (
+        "failed, then suspected",
+        &[
+            Takes(Ping(0, 1, "b", &[Failed("b", 0)])),
+            Ousted(true),
+            Takes(Ping(0, 2, "b", &[Suspect("b", 5, "a")])),
+            Ousted(true),
+            Acks(2, &[Alive("b", 6)]),
+        ],
+    ),
+];
+
+#[test]
+fn refutes_once_and_stays_ousted(rt: HostRuntime) {
+    play(&rt, rt.alloc(), REFUTED);
+}
+
+/// A claim about b, whose number is 0, in a Ping; its record then, what changes and is sent of it, and whether it is
+/// ousted.
+type Heard = (&'static str, Said, &'static [Said], &'static [Said], bool);
+
+/// Claims by which b raises its number, and claims by which the number stays.
+const OF_ITSELF: &[Heard] = &[
+    (
+        "alive",
+        Alive("b", 3),
+        &[Alive("b", 4)],
+        &[Alive("b", 4)],
+        false,
+    ),
+    (
+        "suspected by itself",
+        Suspect("b", 0, "b"),
+        &[Alive("b", 1)],
+        &[Alive("b", 1)],
+        false,
+    ),
+    (
+        "at a greater number",
+        Suspect("b", 7, "a"),
+        &[Alive("b", 8)],
+        &[Alive("b", 8)],
+        false,
+    ),
+    (
+        "at the last but one",
+        Suspect("b", 999_999_999, "a"),
+        &[Alive("b", 1_000_000_000)],
+        &[Alive("b", 1_000_000_000)],
+        false,
+    ),
+    (
+        "alive at its number",
+        Alive("b", 0),
+        &[Alive("b", 0)],
+        &[],
+        false,
+    ),
+    (
+        "alive at the last number",
+        Alive("b", 1_000_000_000),
+        &[Alive("b", 0)],
+        &[],
+        true,
+    ),
+    (
+        "suspected at it",
+        Suspect("b", 1_000_000_000, "a"),
+        &[Alive("b", 0)],
+        &[],
+        true,
+    ),
+    ("failed", Failed("b", 0), &[Alive("b", 0)], &[], true),
+];
+
+#[test]
+fn raises_or_keeps_its_number(rt: HostRuntime) {
+    for (case, said, record, changed, ousted) in OF_ITSELF {
+        let steps = [
+            Takes(Ping(0, 1, "b", &[*said])),
+            Known("b", record.first().copied()),
+            Changed(changed),
+            Ousted(*ousted),
+            Acks(1, changed),
+        ];
+        play_on(&rt, &mut opened(&rt, rt.alloc()), case, &steps);
+    }
+}
+
+/// a, d and e are known.
+const OTHERS: Step<'static> = Hears(0, &[Alive("a", 0), Alive("d", 0), Alive("e", 0)]);
+
+/// c is the fifth member. Of 300 accusers the first four count, and their accusations are sent. The last of these is
+/// sent four times.
+#[test]
+fn a_flood_of_accusers(rt: HostRuntime) {
+    let mut detector = opened(&rt, rt.alloc());
+    play_on(&rt, &mut detector, "before", &[OTHERS]);
+    for accuser in 0..300 {
+        let sent = match accuser {
+            0..4 => Some(Accused("c", accuser)),
+            4..7 => Some(Accused("c", 3)),
+            _ => None,
+        };
+        let changes = if accuser == 0 { 1 } else { 0 };
+        let said = [Accused("c", accuser)];
+        let steps = [
+            Takes(Ping(2000, 2, "b", &said)),
+            Tells("c", sent),
+            Changes(changes),
+        ];
+        play_on(&rt, &mut detector, "an accuser", &steps);
+    }
+    let after = [
+        Known("c", Some(Accused("c", 0))),
+        Takes(Tick(40_000)),
+        Next(7000),
+    ];
+    play_on(&rt, &mut detector, "after", &after);
+}
+
+/// An accusation is sent as it was heard; the record stays as the first one made it, and fails at its address.
+const TWO_ADDRESSES: Case = (
+    "accused at two addresses",
+    &[
+        OTHERS,
+        Takes(Ping(2000, 2, "b", &[Suspect("c", 3, "d")])),
+        Tells("c", Some(Suspect("c", 3, "d"))),
+        Takes(Ping(2000, 2, "b", &[SuspectAt("c", 3, "e", 7002)])),
+        Tells("c", Some(SuspectAt("c", 3, "e", 7002))),
+        Known("c", Some(Suspect("c", 3, "d"))),
+        Takes(Tick(40_000)),
+        Takes(Tick(40_000)),
+        Fired(Suspicion(19_500, "c")),
+        Changed(&[Failed("c", 3)]),
+    ],
+);
+
+#[test]
+fn sends_what_it_heard(rt: HostRuntime) {
+    play(&rt, rt.alloc(), &[TWO_ADDRESSES]);
+}

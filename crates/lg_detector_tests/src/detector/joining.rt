@@ -1,0 +1,193 @@
+//! Joining: the Pull that an event sends, the Page that answers a Pull, and the Pull that answers a Page of six.
+use super::happening::Happens::{From, Ping, Pull};
+use super::happening::Says::{Page, PullAfter, PullFirst};
+use super::playing::Due::Nothing;
+use super::playing::Step::{Acks, Changed, Fired, Hears, Known, Next, Sends, Sent, Takes};
+use super::playing::{Case, opened, play, play_on};
+use crate::says::Said::{Alive, Failed, Suspect};
+
+/// b asks the member at port 7002 for its first records, and tells of itself.
+const ASKS: Case = (
+    "b asks for a table",
+    &[
+        Takes(Pull(5)),
+        Sends(1),
+        Sent(0, 7002, PullFirst, &[Alive("b", 0)]),
+        Fired(Nothing),
+        Changed(&[]),
+        Next(0),
+        Takes(Ping(5, 1, "c", &[Suspect("b", 0, "a")])),
+        Takes(Pull(6)),
+        Sends(1),
+        Sent(0, 7002, PullFirst, &[Alive("b", 1)]),
+    ],
+);
+
+#[test]
+fn asks_for_the_first_records(rt: HostRuntime) {
+    play(&rt, rt.alloc(), &[ASKS]);
+}
+
+/// b answers by a Page with the next records, six at most, after the claims of the Pull were said.
+const ANSWERS: &[Case] = &[
+    (
+        "four members",
+        &[
+            Hears(0, &[Alive("a", 0), Alive("d", 0), Alive("e", 0)]),
+            Takes(From(0, "a", 1, PullFirst, &[])),
+            Sends(1),
+            Sent(
+                0,
+                1,
+                Page,
+                &[Alive("a", 0), Alive("b", 0), Alive("d", 0), Alive("e", 0)],
+            ),
+            Changed(&[]),
+            Takes(From(0, "a", 1, PullAfter("b"), &[])),
+            Sent(0, 1, Page, &[Alive("d", 0), Alive("e", 0)]),
+            Takes(From(0, "a", 1, PullAfter("c"), &[])),
+            Sent(0, 1, Page, &[Alive("d", 0), Alive("e", 0)]),
+            Takes(From(0, "a", 1, PullAfter("e"), &[])),
+            Sends(1),
+            Sent(0, 1, Page, &[]),
+        ],
+    ),
+    (
+        "claims in the Pull",
+        &[
+            Hears(0, &[Alive("a", 0), Alive("d", 0), Alive("e", 0)]),
+            Takes(From(
+                0,
+                "a",
+                1,
+                PullAfter("b"),
+                &[Suspect("d", 0, "a"), Failed("e", 0), Alive("f", 2)],
+            )),
+            Sent(
+                0,
+                1,
+                Page,
+                &[Suspect("d", 0, "a"), Failed("e", 0), Alive("f", 2)],
+            ),
+            Changed(&[Suspect("d", 0, "a"), Failed("e", 0), Alive("f", 2)]),
+        ],
+    ),
+    (
+        "seven members",
+        &[
+            Hears(0, &[Alive("a", 0), Alive("d", 0), Alive("e", 0)]),
+            Takes(From(
+                0,
+                "a",
+                1,
+                PullFirst,
+                &[Alive("c", 0), Alive("f", 0), Alive("g", 0)],
+            )),
+            Sent(
+                0,
+                1,
+                Page,
+                &[
+                    Alive("a", 0),
+                    Alive("b", 0),
+                    Alive("c", 0),
+                    Alive("d", 0),
+                    Alive("e", 0),
+                    Alive("f", 0),
+                ],
+            ),
+            Takes(From(0, "a", 1, PullAfter("f"), &[])),
+            Sent(0, 1, Page, &[Alive("g", 0)]),
+        ],
+    ),
+];
+
+#[test]
+fn answers_by_the_next_records(rt: HostRuntime) {
+    play(&rt, rt.alloc(), ANSWERS);
+}
+
+/// The last of six claims isn't that of the greatest name: b asks for what comes after it. A shorter Page is the last.
+const PAGES: Case = (
+    "pages",
+    &[
+        Takes(From(
+            0,
+            "a",
+            1,
+            Page,
+            &[
+                Alive("a", 0),
+                Alive("c", 0),
+                Alive("f", 0),
+                Alive("g", 0),
+                Alive("h", 0),
+                Alive("d", 0),
+            ],
+        )),
+        Sends(1),
+        Sent(0, 1, PullAfter("d"), &[Alive("b", 0)]),
+        Known("d", Some(Alive("d", 0))),
+        Takes(From(
+            0,
+            "a",
+            1,
+            Page,
+            &[
+                Alive("a", 0),
+                Alive("c", 0),
+                Alive("f", 0),
+                Alive("g", 0),
+                Alive("h", 0),
+                Alive("b", 0),
+            ],
+        )),
+        Sends(1),
+        Sent(0, 1, PullAfter("b"), &[Alive("b", 0)]),
+        Changed(&[]),
+        Takes(From(
+            0,
+            "a",
+            1,
+            Page,
+            &[
+                Alive("a", 0),
+                Alive("c", 0),
+                Alive("f", 0),
+                Alive("g", 0),
+                Alive("h", 0),
+            ],
+        )),
+        Sends(0),
+        Takes(From(0, "a", 1, Page, &[])),
+        Sends(0),
+    ],
+);
+
+#[test]
+fn goes_on_after_a_full_page(rt: HostRuntime) {
+    play(&rt, rt.alloc(), &[PAGES]);
+}
+
+/// c is queued once, and may be sent four times among two members: what is asked, answered and heard of a table takes
+/// nothing of that.
+#[test]
+fn takes_nothing_of_the_queue(rt: HostRuntime) {
+    let mut b = opened(&rt, rt.alloc());
+    let known = [Takes(Ping(0, 1, "z", &[Alive("c", 0)]))];
+    play_on(&rt, &mut b, "c is known", &known);
+    let joining = [
+        Takes(Pull(0)),
+        Takes(From(0, "a", 1, PullFirst, &[])),
+        Takes(From(0, "a", 1, Page, &[])),
+    ];
+    for _ in 0..5 {
+        play_on(&rt, &mut b, "joining", &joining);
+    }
+    let acked = [Takes(Ping(0, 2, "b", &[])), Acks(2, &[Alive("c", 0)])];
+    for _ in 0..4 {
+        play_on(&rt, &mut b, "an Ack", &acked);
+    }
+    let last = [Takes(Ping(0, 2, "b", &[])), Acks(2, &[])];
+    play_on(&rt, &mut b, "the fifth Ack", &last);
+}

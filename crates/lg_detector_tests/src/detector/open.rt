@@ -1,0 +1,82 @@
+//! The opening, and what isn't accepted.
+use super::happening::Happens::{Ask, Opens, Ping};
+use super::happening::Setting::{Interval, Seed};
+use super::playing::Step::{
+    Acks, AnswersNothing, Changed, Deadline, Events, Known, Members, Next, Ousted, Refuses, Sends,
+    Table, Takes,
+};
+use super::playing::{Case, play_blank};
+use crate::says::Said::{Alive, AliveAt};
+
+/// Nothing comes before the opening, and there is one opening.
+const TWO_OPENINGS: Case = (
+    "two openings",
+    &[
+        Deadline(None),
+        Events(0),
+        Members(0),
+        Known("b", None),
+        Refuses(Ask(0, "b")),
+        Refuses(Ping(0, 7, "b", &[])),
+        Takes(Opens(5000, &[])),
+        Sends(0),
+        Changed(&[]),
+        AnswersNothing,
+        Ousted(false),
+        Next(5000),
+        Deadline(Some(5000)),
+        Refuses(Opens(6000, &[])),
+        Events(1),
+        Deadline(Some(5000)),
+    ],
+);
+
+/// A configuration that isn't allowed opens nothing.
+const BAD_CONFIGURATIONS: Case = (
+    "a short interval, and a seed twice",
+    &[
+        Refuses(Opens(0, &[Interval(5)])),
+        Events(0),
+        Deadline(None),
+        Members(0),
+        Refuses(Opens(0, &[Seed("c", 7003), Seed("c", 7004)])),
+        Events(0),
+        Deadline(None),
+        Members(0),
+        Takes(Opens(0, &[])),
+        Table(&[Alive("b", 0)]),
+    ],
+);
+
+/// An opening changes no record. Seeds aren't gossiped; a claim that overrides a seed's record is, and one that doesn't
+/// isn't.
+const TWO_SEEDS: Case = (
+    "two seeds",
+    &[
+        Takes(Opens(0, &[Seed("d", 7004), Seed("a", 7001)])),
+        Changed(&[]),
+        Table(&[AliveAt("a", 7001), Alive("b", 0), AliveAt("d", 7004)]),
+        Known("d", Some(AliveAt("d", 7004))),
+        Takes(Ping(0, 7, "b", &[Alive("a", 0)])),
+        Acks(7, &[]),
+        Changed(&[]),
+        Takes(Ping(0, 8, "b", &[Alive("a", 1)])),
+        Acks(8, &[Alive("a", 1)]),
+        Changed(&[Alive("a", 1)]),
+    ],
+);
+
+#[test]
+fn opens_once(rt: HostRuntime) {
+    play_blank(&rt, rt.alloc(), &[TWO_OPENINGS]);
+}
+
+#[test]
+fn refuses_bad_configurations(rt: HostRuntime) {
+    play_blank(&rt, rt.alloc(), &[BAD_CONFIGURATIONS]);
+}
+
+#[test]
+fn knows_its_seeds(rt: HostRuntime) {
+    play_blank(&rt, rt.alloc(), &[TWO_SEEDS]);
+}

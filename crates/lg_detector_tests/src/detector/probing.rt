@@ -1,0 +1,376 @@
+//! Rounds of probing. b is opened at 0.
+use super::happening::Happens::{Ack, First, From, Health, Opens, Ping, TickBy};
+use super::happening::Says::{self, Request};
+use super::happening::Setting::Indirect;
+use super::playing::Due::{Direct, RoundEnd, RoundStart, Suspicion};
+use super::playing::Step::{
+    self, AnswersHealth, Changed, Chose, Fired, Known, Next, Pings, Sends, Sent, Takes, Ticks,
+};
+use super::playing::{Case, play, play_blank};
+use crate::says::Said::{self, Alive, AliveAt, Failed, FailedAt, Suspect, SuspectAt};
+
+/// c, d, e and f are known, each at a port of its own.
+pub(super) const FOUR: &[Said] = &[
+    AliveAt("c", 7003),
+    AliveAt("d", 7004),
+    AliveAt("e", 7005),
+    AliveAt("f", 7006),
+];
+
+/// c is probed, and d, e and f are asked to help.
+pub(super) const ASKED: &[Step<'static>] = &[
+    Takes(Ping(0, 1, "z", FOUR)),
+    Takes(First(0)),
+    Takes(First(500)),
+    Fired(Direct(500)),
+    Sends(3),
+];
+
+/// c, which is suspected by d, is probed. Nobody can help, and once c has failed, nobody is left to be chosen.
+const A_SUSPECT: &[Case] = &[
+    (
+        "c is suspected at 2000",
+        &[
+            Takes(Ping(2000, 1, "b", &[Suspect("c", 0, "d")])),
+            Takes(First(2000)),
+            Fired(RoundStart(0)),
+            Chose(Some("c")),
+            Sends(1),
+            Sent(0, 7000, Says::Ping(1, "c"), &[Suspect("c", 0, "d")]),
+            Next(2500),
+            Ticks(7000, Direct(2500), &[], 3000),
+            Ticks(7000, RoundEnd(3000), &[], 7000),
+            Takes(Health(7000)),
+            AnswersHealth(1, 0, 2),
+            Ticks(7000, Suspicion(7000, "c"), &[Failed("c", 0)], 7000),
+            Ticks(7000, RoundStart(7000), &[], 9000),
+            Chose(None),
+        ],
+    ),
+    (
+        "c is suspected at 4000",
+        &[
+            Takes(Ping(4000, 1, "b", &[Suspect("c", 0, "d")])),
+            Takes(First(8000)),
+            Fired(RoundStart(0)),
+            Next(8500),
+            Ticks(8500, Direct(8500), &[], 9000),
+            Ticks(9500, RoundEnd(9000), &[], 9000),
+            Ticks(9500, Suspicion(9000, "c"), &[Failed("c", 0)], 9500),
+            Ticks(9500, RoundStart(9500), &[], 11_500),
+        ],
+    ),
+];
+
+#[test]
+fn probes_a_suspect(rt: HostRuntime) {
+    play(&rt, rt.alloc(), A_SUSPECT);
+}
+
+/// b suspects a member that doesn't ack, and pings it with that record next.
+const NO_ACK: Case = (
+    "c",
+    &[
+        Takes(Ping(0, 1, "z", &[Alive("c", 0)])),
+        Takes(First(0)),
+        Next(500),
+        Ticks(500, Direct(500), &[], 1000),
+        Ticks(1000, RoundEnd(1000), &[Suspect("c", 0, "b")], 1000),
+        Takes(First(1000)),
+        Fired(RoundStart(1000)),
+        Sent(0, 7000, Says::Ping(2, "c"), &[Suspect("c", 0, "b")]),
+        Next(2000),
+        Takes(From(1020, "c", 7000, Says::Ack(2), &[Alive("c", 1)])),
+        Changed(&[Alive("c", 1)]),
+        Next(3000),
+        Takes(Health(1020)),
+        AnswersHealth(0, 0, 2),
+    ],
+);
+
+#[test]
+fn suspects_who_does_not_ack(rt: HostRuntime) {
+    play(&rt, rt.alloc(), &[NO_ACK]);
+}
+
+/// Each word picks one of the helpers that are left, in the order of names: f, d and then e. Of two others d, which is
+/// suspected, helps; e, which has failed, doesn't.
+const HELPERS: &[Case] = &[
+    (
+        "three helpers",
+        &[
+            Takes(Ping(0, 1, "z", FOUR)),
+            Takes(First(0)),
+            Takes(TickBy(500, [5, 0, 9, 7, 0, 0, 0, 0])),
+            Sends(3),
+            Sent(0, 7006, Request(1, "c", 7003), FOUR),
+            Sent(1, 7004, Request(1, "c", 7003), FOUR),
+            Sent(2, 7005, Request(1, "c", 7003), FOUR),
+            Next(1000),
+        ],
+    ),
+    (
+        "one helper",
+        &[
+            Takes(Ping(
+                0,
+                1,
+                "z",
+                &[AliveAt("c", 7000), AliveAt("d", 7004), AliveAt("e", 7005)],
+            )),
+            Takes(Ping(
+                0,
+                2,
+                "z",
+                &[SuspectAt("d", 0, "a", 7004), FailedAt("e", 0, 7005)],
+            )),
+            Takes(First(0)),
+            Pings(1, "c"),
+            Takes(First(500)),
+            Sends(1),
+            Sent(
+                0,
+                7004,
+                Request(1, "c", 7000),
+                &[
+                    AliveAt("c", 7000),
+                    SuspectAt("d", 0, "a", 7004),
+                    FailedAt("e", 0, 7005),
+                ],
+            ),
+        ],
+    ),
+];
+
+#[test]
+fn asks_who_can_help(rt: HostRuntime) {
+    play(&rt, rt.alloc(), HELPERS);
+}
+
+/// By its configuration b asks no helpers, and a round counts from the greatest moment that was handed in.
+const OPENED_OTHERWISE: &[Case] = &[
+    (
+        "no helper is asked",
+        &[
+            Takes(Opens(0, &[Indirect(0)])),
+            Takes(Ping(0, 1, "z", FOUR)),
+            Takes(First(0)),
+            Takes(First(500)),
+            Fired(Direct(500)),
+            Sends(0),
+            Takes(First(1000)),
+            Fired(RoundEnd(1000)),
+            Takes(Health(1000)),
+            AnswersHealth(1, 0, 5),
+        ],
+    ),
+    (
+        "the greatest moment",
+        &[
+            Takes(Opens(5000, &[])),
+            Takes(Ping(5000, 1, "z", &[Alive("c", 0)])),
+            Takes(First(4000)),
+            Next(5500),
+        ],
+    ),
+];
+
+#[test]
+fn asks_no_helpers_and_counts_from_its_start(rt: HostRuntime) {
+    play_blank(&rt, rt.alloc(), OPENED_OTHERWISE);
+}
+
+/// The claims that c, d and others are alive.
+const C: Said = Alive("c", 0);
+
+const D: Said = Alive("d", 0);
+
+const E: Said = Alive("e", 0);
+
+const F: Said = Alive("f", 0);
+
+const G: Said = Alive("g", 0);
+
+const H: Said = Alive("h", 0);
+
+const I: Said = Alive("i", 0);
+
+const J: Said = Alive("j", 0);
+
+/// Each packet of a reply takes those claims that were sent least, by the packets before it too. A Ping goes to the
+/// address of the record.
+const FILLED: &[Case] = &[
+    (
+        "eight claims",
+        &[
+            Takes(Ping(0, 1, "z", &[C, D, E, F, G, H])),
+            Takes(Ping(0, 1, "z", &[I, J])),
+            Takes(First(0)),
+            Sent(0, 7000, Says::Ping(1, "c"), &[C, D, E, F, G, H]),
+            Takes(First(500)),
+            Sends(3),
+            Sent(0, 7000, Request(1, "c", 7000), &[I, J, C, D, E, F]),
+            Sent(1, 7000, Request(1, "c", 7000), &[G, H, I, J, C, D]),
+            Sent(2, 7000, Request(1, "c", 7000), &[E, F, G, H, I, J]),
+        ],
+    ),
+    (
+        "at 7003",
+        &[
+            Takes(Ping(0, 1, "z", &[AliveAt("c", 7003)])),
+            Takes(First(0)),
+            Sent(0, 7003, Says::Ping(1, "c"), &[AliveAt("c", 7003)]),
+        ],
+    ),
+];
+
+#[test]
+fn fills_one_after_another(rt: HostRuntime) {
+    play(&rt, rt.alloc(), FILLED);
+}
+
+/// The timers of a round stand as they were set at its start, whatever becomes of the score meanwhile: the two
+/// refutations and the probe that failed make 3. The greatest score stays what it is, where a probe fails and a helper
+/// sends no Nack.
+const SCORES: &[Case] = &[
+    (
+        "two refutations",
+        &[
+            Takes(Ping(0, 1, "z", &[Alive("c", 0)])),
+            Takes(First(0)),
+            Takes(Ping(100, 2, "z", &[Suspect("b", 0, "a")])),
+            Next(500),
+            Takes(First(500)),
+            Fired(Direct(500)),
+            Next(1000),
+            Takes(Ping(600, 3, "z", &[Suspect("b", 1, "a")])),
+            Next(1000),
+            Takes(First(1000)),
+            Fired(RoundEnd(1000)),
+            Takes(First(1000)),
+            Fired(RoundStart(1000)),
+            Next(3000),
+        ],
+    ),
+    (
+        "eight refutations",
+        &[
+            Takes(Ping(0, 1, "z", &[Alive("c", 0), Alive("d", 0)])),
+            Takes(Ping(
+                0,
+                2,
+                "z",
+                &[
+                    Suspect("b", 0, "a"),
+                    Suspect("b", 1, "a"),
+                    Suspect("b", 2, "a"),
+                    Suspect("b", 3, "a"),
+                    Suspect("b", 4, "a"),
+                    Suspect("b", 5, "a"),
+                ],
+            )),
+            Takes(Ping(0, 3, "z", &[Suspect("b", 6, "a"), Suspect("b", 7, "a")])),
+            Takes(First(0)),
+            Next(4500),
+            Takes(First(4500)),
+            Sends(1),
+            Next(9000),
+            Takes(First(9000)),
+            Fired(RoundEnd(9000)),
+            Changed(&[Suspect("c", 0, "b")]),
+            Takes(Health(9000)),
+            AnswersHealth(8, 8, 3),
+            Takes(First(9000)),
+            Next(13_500),
+        ],
+    ),
+];
+
+#[test]
+fn takes_the_score_at_the_start(rt: HostRuntime) {
+    play(&rt, rt.alloc(), SCORES);
+}
+
+/// A target that has failed meanwhile: its Ack counts, and where none comes, the round marks and nobody is suspected.
+/// A helper that has failed meanwhile: its Ack counts.
+const TARGET_FAILED: &[Case] = &[
+    (
+        "an Ack",
+        &[
+            Takes(Ping(0, 1, "z", &[Alive("c", 0)])),
+            Takes(First(0)),
+            Takes(Ping(100, 2, "z", &[Failed("c", 0)])),
+            Takes(Ack(200, "c", 1)),
+            Next(1000),
+            Takes(First(1000)),
+            Fired(RoundEnd(1000)),
+            Takes(Health(1000)),
+            AnswersHealth(0, 0, 1),
+        ],
+    ),
+    (
+        "no Ack",
+        &[
+            Takes(Ping(0, 1, "z", &[Alive("c", 0)])),
+            Takes(First(0)),
+            Takes(Ping(100, 2, "z", &[Failed("c", 0)])),
+            Takes(First(500)),
+            Fired(Direct(500)),
+            Ticks(1000, RoundEnd(1000), &[], 1000),
+            Known("c", Some(Failed("c", 0))),
+            Takes(Health(1000)),
+            AnswersHealth(1, 0, 1),
+        ],
+    ),
+    (
+        "an Ack of a helper",
+        &[
+            Takes(Ping(0, 1, "z", FOUR)),
+            Takes(First(0)),
+            Takes(Ping(100, 2, "z", &[Failed("c", 0)])),
+            Takes(First(500)),
+            Fired(Direct(500)),
+            Sends(3),
+            Chose(None),
+            Takes(Ping(550, 3, "z", &[Failed("e", 0)])),
+            Takes(From(600, "e", 7005, Says::Ack(1), &[])),
+            Takes(First(1000)),
+            Fired(RoundEnd(1000)),
+            Takes(Health(1000)),
+            AnswersHealth(0, 0, 3),
+            Takes(First(1000)),
+            Pings(2, "d"),
+        ],
+    ),
+];
+
+#[test]
+fn a_target_that_failed(rt: HostRuntime) {
+    play(&rt, rt.alloc(), TARGET_FAILED);
+}
+
+/// A member that joins in the middle of a round is a candidate at once, and one that failed is none. Then nobody is
+/// left, so the next round begins.
+const IN_TURN: Case = (
+    "c, e and then d",
+    &[
+        Takes(Ping(0, 1, "z", &[Alive("c", 0), Alive("e", 0)])),
+        Takes(First(0)),
+        Pings(1, "c"),
+        Takes(Ack(10, "c", 1)),
+        Takes(First(1000)),
+        Takes(Ping(1000, 2, "z", &[Alive("d", 0)])),
+        Takes(First(1000)),
+        Pings(2, "d"),
+        Takes(Ack(1010, "d", 2)),
+        Takes(First(2000)),
+        Takes(Ping(2000, 3, "z", &[Failed("e", 0)])),
+        Takes(First(2000)),
+        Pings(3, "c"),
+    ],
+);
+
+#[test]
+fn chooses_each_in_turn(rt: HostRuntime) {
+    play(&rt, rt.alloc(), &[IN_TURN]);
+}

@@ -1,0 +1,216 @@
+//! Relays. b is opened at 0, and its first round starts at 0 with nobody to choose. a asks from port 7001, and the
+//! member that is to be pinged is at port 7003.
+use super::happening::Happens::{From, Ping, Tick};
+use super::happening::Says;
+use super::happening::Says::{Ack, Nack, Request};
+use super::playing::Due::{Nothing, RelayEnd, RelayNack, RoundEnd};
+use super::playing::Step::{self, Chose, Fired, Next, Pings, Sends, Sent, Takes};
+use super::playing::{Case, opened, play, play_on};
+use crate::says::Said::{Alive, Suspect};
+
+/// The Ping is sent for a: nobody is chosen by it. An Ack after the Nack is passed on all the same.
+const NACKED: Case = (
+    "a relay and its Nack",
+    &[
+        Takes(From(510, "a", 7001, Request(1, "c", 7003), &[])),
+        Sends(1),
+        Sent(0, 7003, Says::Ping(1, "c"), &[]),
+        Chose(None),
+        Next(0),
+        Takes(Tick(910)),
+        Next(910),
+        Takes(Tick(910)),
+        Fired(RelayNack(910, 1)),
+        Sends(1),
+        Sent(0, 7001, Nack(1), &[]),
+        Next(1510),
+        Takes(From(915, "c", 7003, Ack(1), &[])),
+        Sends(1),
+        Sent(0, 7001, Ack(1), &[]),
+        Next(1910),
+    ],
+);
+
+/// Another than the target, and another number, do nothing; nor does the target once the relay has ended.
+const ENDED: Case = (
+    "no Ack",
+    &[
+        Takes(Tick(0)),
+        Takes(From(0, "a", 7001, Request(7, "c", 7003), &[])),
+        Takes(From(10, "d", 7003, Ack(1), &[])),
+        Sends(0),
+        Takes(From(10, "c", 7003, Ack(2), &[])),
+        Sends(0),
+        Takes(Tick(400)),
+        Fired(RelayNack(400, 1)),
+        Sent(0, 7001, Nack(7), &[]),
+        Takes(Tick(1000)),
+        Fired(RelayEnd(1000, 1)),
+        Sends(0),
+        Takes(From(1000, "c", 7003, Ack(1), &[])),
+        Sends(0),
+    ],
+);
+
+/// An Ack in time cancels both timers of the relay, from whatever port it comes. A second one isn't passed on.
+const ACKED: Case = (
+    "an Ack in time",
+    &[
+        Takes(Tick(0)),
+        Takes(From(10, "a", 7001, Request(7, "c", 7003), &[])),
+        Next(410),
+        Takes(From(100, "c", 9999, Ack(1), &[])),
+        Sent(0, 7001, Ack(7), &[]),
+        Next(1000),
+        Takes(From(110, "c", 7003, Ack(1), &[])),
+        Sends(0),
+    ],
+);
+
+/// The timers of a relay aren't scaled by the score, which two refutations have raised to 2.
+const UNSCALED: Case = (
+    "a score of 2",
+    &[
+        Takes(Ping(0, 1, "z", &[Suspect("b", 0, "a"), Suspect("b", 1, "a")])),
+        Takes(Tick(0)),
+        Next(3000),
+        Takes(From(10, "a", 7001, Request(7, "c", 7003), &[])),
+        Next(410),
+        Takes(Tick(410)),
+        Fired(RelayNack(410, 1)),
+        Next(1010),
+        Takes(Tick(1010)),
+        Fired(RelayEnd(1010, 1)),
+        Next(3000),
+    ],
+);
+
+/// Probes and relays are numbered together.
+const NUMBERED: Case = (
+    "two probes and a relay",
+    &[
+        Takes(Ping(0, 1, "z", &[Alive("c", 0)])),
+        Takes(Tick(0)),
+        Pings(1, "c"),
+        Takes(From(10, "a", 7001, Request(7, "d", 7003), &[])),
+        Pings(2, "d"),
+        Takes(From(20, "c", 7000, Ack(1), &[])),
+        Takes(Tick(1000)),
+        Fired(RelayNack(410, 2)),
+        Takes(Tick(1000)),
+        Fired(RoundEnd(1000)),
+        Takes(Tick(1000)),
+        Pings(3, "c"),
+    ],
+);
+
+/// A request for b itself is acked at once, and the claims of a request are said before its target is pinged, so its
+/// target's record goes with the Ping.
+const REQUESTS: &[Case] = &[
+    (
+        "a request for b",
+        &[
+            Takes(From(0, "a", 7001, Request(9, "b", 7003), &[])),
+            Sends(1),
+            Sent(0, 7001, Ack(9), &[]),
+        ],
+    ),
+    (
+        "c is suspected",
+        &[
+            Takes(From(0, "a", 7001, Request(1, "c", 7003), &[Suspect("c", 0, "a")])),
+            Sent(0, 7003, Says::Ping(1, "c"), &[Suspect("c", 0, "a")]),
+        ],
+    ),
+];
+
+#[test]
+fn relays_and_nacks(rt: HostRuntime) {
+    play(&rt, rt.alloc(), &[NACKED]);
+}
+
+#[test]
+fn ends_a_relay(rt: HostRuntime) {
+    play(&rt, rt.alloc(), &[ENDED]);
+}
+
+#[test]
+fn acks_in_time(rt: HostRuntime) {
+    play(&rt, rt.alloc(), &[ACKED]);
+}
+
+#[test]
+fn scales_no_relay(rt: HostRuntime) {
+    play(&rt, rt.alloc(), &[UNSCALED]);
+}
+
+#[test]
+fn numbers_probes_and_relays_together(rt: HostRuntime) {
+    play(&rt, rt.alloc(), &[NUMBERED]);
+}
+
+#[test]
+fn hears_requests(rt: HostRuntime) {
+    play(&rt, rt.alloc(), REQUESTS);
+}
+
+/// 64 relays are open.
+const FULL: &[Step<'static>] = &[
+    Takes(From(10, "a", 7001, Request(5, "c", 7003), &[])),
+    Sends(1),
+    Sent(0, 7001, Nack(5), &[]),
+    Takes(From(10, "a", 7001, Request(6, "b", 7003), &[])),
+    Sent(0, 7001, Ack(6), &[]),
+    Takes(From(20, "c", 7003, Ack(64), &[])),
+    Sent(0, 7001, Ack(5), &[]),
+    Takes(From(20, "a", 7001, Request(8, "c", 7003), &[])),
+    Sent(0, 7003, Says::Ping(65, "c"), &[]),
+];
+
+/// One request heard twice opens two relays; 64 are open at most. One that is refused takes no number.
+#[test]
+fn refuses_beyond_64(rt: HostRuntime) {
+    let mut detector = opened(&rt, rt.alloc());
+    for number in 1..65 {
+        let steps = [
+            Takes(From(10, "a", 7001, Request(5, "c", 7003), &[])),
+            Sent(0, 7003, Says::Ping(number, "c"), &[]),
+        ];
+        play_on(&rt, &mut detector, "a relay", &steps);
+    }
+    play_on(&rt, &mut detector, "64 relays", FULL);
+}
+
+/// A relay is opened at the latest moment that was handed in, where that of its request is earlier. Its target's Ack is
+/// passed on at any moment.
+const OUT_OF_ORDER: Case = (
+    "moments out of order",
+    &[
+        Takes(Tick(0)),
+        Takes(Ping(700, 1, "b", &[])),
+        Takes(From(510, "a", 7001, Request(1, "c", 7003), &[])),
+        Takes(From(600, "a", 7001, Request(2, "c", 7003), &[])),
+        Next(1000),
+        Takes(Tick(1000)),
+        Next(1100),
+        Takes(Tick(1050)),
+        Fired(Nothing),
+        Takes(Tick(1100)),
+        Fired(RelayNack(1100, 1)),
+        Takes(Tick(300)),
+        Fired(RelayNack(1100, 2)),
+        Next(1700),
+        Takes(From(20, "c", 7003, Ack(2), &[])),
+        Sent(0, 7001, Ack(2), &[]),
+        Takes(Tick(1699)),
+        Fired(Nothing),
+        Takes(Tick(1700)),
+        Fired(RelayEnd(1700, 1)),
+        Next(2000),
+    ],
+);
+
+#[test]
+fn counts_from_the_latest_moment(rt: HostRuntime) {
+    play(&rt, rt.alloc(), &[OUT_OF_ORDER]);
+}

@@ -1,0 +1,246 @@
+//! Ticks, and the timers that they fire.
+use super::happening::Happens::{Ask, Health, Opens, Ping, Tick};
+use super::playing::Due::{Direct, Nothing, RoundEnd, RoundStart, Suspicion};
+use super::playing::Step::{self, Events, Fired, Hears, Known, Next, Sends, Table, Takes, Ticks};
+use super::playing::{Case, opened, play, play_blank, play_on};
+use crate::says::Said::{self, Alive, Failed, Suspect};
+
+/// Nothing fires before the deadline.
+const IDLE: Case = (
+    "c is suspected",
+    &[
+        Takes(Ping(0, 1, "b", &[Suspect("c", 0, "d")])),
+        Table(&[Alive("b", 0), Suspect("c", 0, "d")]),
+        Takes(Tick(0)),
+        Fired(RoundStart(0)),
+        Next(500),
+        Ticks(499, Nothing, &[], 500),
+        Table(&[Alive("b", 0), Suspect("c", 0, "d")]),
+        Events(4),
+    ],
+);
+
+#[test]
+fn is_idle_before_the_deadline(rt: HostRuntime) {
+    play(&rt, rt.alloc(), &[IDLE]);
+}
+
+/// One timer fires a tick.
+const THREE_DUE: Case = (
+    "three timers are due",
+    &[
+        Takes(Ping(0, 1, "b", &[Suspect("d", 2, "a"), Suspect("c", 1, "a")])),
+        Takes(Tick(20_000)),
+        Fired(RoundStart(0)),
+        Next(5000),
+        Ticks(20_000, Suspicion(5000, "c"), &[Failed("c", 1)], 5000),
+        Ticks(20_000, Suspicion(5000, "d"), &[Failed("d", 2)], 20_500),
+        Ticks(20_000, Nothing, &[], 20_500),
+    ],
+);
+
+/// The end of a round fires before suspicions, these before the start of a round, and among them a name before those
+/// that it begins. Two helpers sent no Nack, so the score is 2 at the start.
+const FIVE_AT_ONCE: Case = (
+    "five timers at 5000",
+    &[
+        Takes(Ping(
+            0,
+            1,
+            "b",
+            &[
+                Suspect("ca", 0, "a"),
+                Suspect("c", 0, "a"),
+                Suspect("Z", 0, "a"),
+            ],
+        )),
+        Takes(Tick(4000)),
+        Fired(RoundStart(0)),
+        Next(4500),
+        Takes(Tick(5000)),
+        Fired(Direct(4500)),
+        Sends(2),
+        Ticks(5000, RoundEnd(5000), &[], 5000),
+        Ticks(5000, Suspicion(5000, "Z"), &[Failed("Z", 0)], 5000),
+        Ticks(5000, Suspicion(5000, "c"), &[Failed("c", 0)], 5000),
+        Ticks(5000, Suspicion(5000, "ca"), &[Failed("ca", 0)], 5000),
+        Ticks(5000, RoundStart(5000), &[], 8000),
+    ],
+);
+
+#[test]
+fn fires_one_timer_a_tick_and_ties_in_order(rt: HostRuntime) {
+    play(&rt, rt.alloc(), &[THREE_DUE, FIVE_AT_ONCE]);
+}
+
+/// Ticks count from the greatest moment that was handed in.
+const OUT_OF_ORDER: Case = (
+    "moments out of order",
+    &[
+        Takes(Opens(5000, &[])),
+        Ticks(4000, RoundStart(5000), &[], 6000),
+        Ticks(9000, RoundStart(6000), &[], 10_000),
+        Ticks(1000, Nothing, &[], 10_000),
+        Takes(Ping(2000, 1, "b", &[Suspect("c", 0, "d")])),
+        Takes(Ask(13_000, "c")),
+        Takes(Tick(9500)),
+        Fired(RoundStart(10_000)),
+        Next(13_500),
+        Takes(Health(14_000)),
+        Ticks(0, Direct(13_500), &[], 14_000),
+        Ticks(0, RoundEnd(14_000), &[], 14_000),
+        Ticks(0, Suspicion(14_000, "c"), &[Failed("c", 0)], 14_000),
+        Ticks(0, RoundStart(14_000), &[], 16_000),
+    ],
+);
+
+#[test]
+fn counts_from_the_greatest_moment(rt: HostRuntime) {
+    play_blank(&rt, rt.alloc(), &[OUT_OF_ORDER]);
+}
+
+/// The score is taken when a round starts. The round that runs stays as it is.
+const SCALED: Case = (
+    "two refutations",
+    &[
+        Takes(Tick(0)),
+        Next(1000),
+        Takes(Ping(500, 1, "b", &[Suspect("b", 0, "a"), Suspect("b", 1, "a")])),
+        Next(1000),
+        Takes(Tick(1000)),
+        Fired(RoundStart(1000)),
+        Next(4000),
+    ],
+);
+
+#[test]
+fn scales_the_interval(rt: HostRuntime) {
+    play(&rt, rt.alloc(), &[SCALED]);
+}
+
+/// a, d and e are known.
+const OTHERS: Step<'static> = Hears(0, &[Alive("a", 0), Alive("d", 0), Alive("e", 0)]);
+
+/// c is suspected by d, e and others.
+const BY_A: Said = Suspect("c", 0, "a");
+
+const BY_B: Said = Suspect("c", 0, "b");
+
+const BY_C: Said = Suspect("c", 0, "c");
+
+const BY_D: Said = Suspect("c", 0, "d");
+
+const BY_E: Said = Suspect("c", 0, "e");
+
+const BY_Z: Said = Suspect("c", 0, "z");
+
+/// What is said at 2000, each claim in a Ping of its own, and the deadline of c's suspicion. The score doesn't scale it.
+const ACCUSED: &[(&str, &[Said], u64)] = &[
+    ("d", &[BY_D], 32_000),
+    ("d, at a score of 1", &[Suspect("b", 0, "a"), BY_D], 32_000),
+    ("d again", &[BY_D, BY_D], 32_000),
+    ("then e", &[BY_D, BY_D, BY_E], 19_500),
+    ("then a", &[BY_D, BY_D, BY_E, BY_A], 12_200),
+    ("then z, a stranger", &[BY_D, BY_D, BY_E, BY_A, BY_Z], 7000),
+    ("one more", &[BY_D, BY_E, BY_A, BY_Z, BY_B], 7000),
+    ("in another order", &[BY_Z, BY_E, BY_D, BY_A], 7000),
+    ("c itself", &[BY_D, BY_C], 19_500),
+];
+
+/// Once the first round-start has fired, the next deadline is that of the suspicion.
+#[test]
+fn accusers_bring_the_deadline_nearer(rt: HostRuntime) {
+    for (case, said, deadline) in ACCUSED {
+        let steps = [
+            OTHERS,
+            Hears(2000, said),
+            Takes(Tick(40_000)),
+            Next(*deadline),
+        ];
+        play_on(&rt, &mut opened(&rt, rt.alloc()), case, &steps);
+    }
+}
+
+/// What is said at 3000 of c, which d and e suspected at 2000 among five, and the suspicion's deadline then. It is
+/// 40,500, when helpers are asked, where there is no suspicion.
+const THEN_SAID: &[(&str, &[Said], u64)] = &[
+    ("nothing", &[], 19_500),
+    ("a lesser accusation", &[Suspect("c", 0, "a")], 19_500),
+    ("alive at the same number", &[Alive("c", 1)], 19_500),
+    ("a greater accusation", &[Suspect("c", 2, "f")], 33_000),
+    (
+        "and its confirmation",
+        &[Suspect("c", 2, "f"), Suspect("c", 2, "d")],
+        20_500,
+    ),
+    (
+        "and an old accusation",
+        &[Suspect("c", 2, "f"), Suspect("c", 1, "a")],
+        33_000,
+    ),
+    ("alive", &[Alive("c", 2)], 40_500),
+    (
+        "alive, and suspected again",
+        &[Alive("c", 2), Suspect("c", 2, "d")],
+        33_000,
+    ),
+    ("failed", &[Failed("c", 0)], 40_500),
+    (
+        "failed, and suspected",
+        &[Failed("c", 0), Suspect("c", 2, "d")],
+        40_500,
+    ),
+];
+
+/// Once the first round-start has fired, the next deadline is that of the suspicion, or that of asking helpers.
+#[test]
+fn claims_renew_or_end_a_suspicion(rt: HostRuntime) {
+    for (case, said, deadline) in THEN_SAID {
+        let fired = match *deadline {
+            40_500 => Nothing,
+            due => Suspicion(due, "c"),
+        };
+        let accused = [Suspect("c", 1, "d"), Suspect("c", 1, "e")];
+        let steps = [
+            OTHERS,
+            Takes(Ping(2000, 1, "z", &accused)),
+            Takes(Ping(3000, 1, "z", said)),
+            Takes(Tick(40_000)),
+            Next(*deadline),
+            Takes(Tick(40_000)),
+            Fired(fired),
+        ];
+        play_on(&rt, &mut opened(&rt, rt.alloc()), case, &steps);
+    }
+}
+
+/// No tick fires a suspicion that was ended by a claim: the next deadline is that of the round.
+const ENDED: &[Case] = &[
+    (
+        "alive",
+        &[
+            Takes(Ping(2000, 1, "z", &[Suspect("c", 0, "d")])),
+            Takes(Ping(3000, 1, "z", &[Alive("c", 1)])),
+            Takes(Tick(6500)),
+            Fired(RoundStart(0)),
+            Next(7000),
+            Known("c", Some(Alive("c", 1))),
+        ],
+    ),
+    (
+        "failed",
+        &[
+            Takes(Ping(2000, 1, "z", &[Suspect("c", 0, "d")])),
+            Takes(Ping(3000, 1, "z", &[Failed("c", 0)])),
+            Takes(Tick(6500)),
+            Fired(RoundStart(0)),
+            Next(7500),
+            Known("c", Some(Failed("c", 0))),
+        ],
+    ),
+];
+
+#[test]
+fn an_ended_suspicion_never_fires(rt: HostRuntime) {
+    play(&rt, rt.alloc(), ENDED);
+}

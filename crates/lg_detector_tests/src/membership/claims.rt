@@ -1,0 +1,255 @@
+//! What claims change, and what is asked of the table.
+use super::playing::Step::{
+    self, Hears, Known, Lambda, Live, Members, Number, Opens, Ousted, Own, OwnRecord, Places,
+    Records, Says, Seeds, Sends, Table,
+};
+use super::playing::{CHANGED, Case, JOINED, NOTHING, play, play_on, say};
+use crate::says::Said::{Alive, Failed, Numbered, Suspect};
+use lg_membership::{Applied, Deadline, MAX_MEMBERS, Membership, Presence};
+
+/// Nobody is known before the opening, and the opening forgets what was known.
+const OPENINGS: &[Case] = &[
+    (
+        "before the opening",
+        &[
+            Lambda(None),
+            Hears(10, Suspect("c", 0, "d"), JOINED),
+            Live(2),
+            Known("c", None),
+            Table(&[]),
+            Records(&["c"], &[]),
+        ],
+    ),
+    (
+        "a second opening",
+        &[
+            Opens("b"),
+            Seeds(&[Alive("a", 0), Alive("c", 0), Alive("d", 0), Alive("e", 0)]),
+            Says(0, Suspect("b", 4, "a")),
+            Says(0, Failed("b", 0)),
+            Number(5),
+            Ousted(true),
+            Opens("b"),
+            Lambda(Some(4)),
+            Own("b"),
+            Number(0),
+            Ousted(false),
+            Live(1),
+            Known("b", Some(Alive("b", 0))),
+            Known("c", None),
+            Sends(&[]),
+        ],
+    ),
+];
+
+#[test]
+fn the_opening_forgets_what_was_known(rt: HostRuntime) {
+    play(&rt, OPENINGS);
+}
+
+/// Records are in the order of names.
+const RECORDS: Case = (
+    "four members",
+    &[
+        Opens("b"),
+        Hears(0, Alive("d", 2), JOINED),
+        Hears(0, Alive("c", 2), JOINED),
+        Hears(0, Alive("a", 2), JOINED),
+        Table(&[Alive("a", 2), Alive("b", 0), Alive("c", 2), Alive("d", 2)]),
+        Records(&["d", "z", "b"], &[Alive("b", 0), Alive("d", 2)]),
+    ],
+);
+
+#[test]
+fn records_are_in_the_order_of_names(rt: HostRuntime) {
+    play(&rt, &[RECORDS]);
+}
+
+/// What a suspicion did by which it was raised, with this deadline.
+const RAISED_TO_32000: Applied = Applied {
+    deadline: Deadline::Stands(32_000),
+    ..CHANGED
+};
+
+/// Alive at the number clears no suspicion. The second accuser moves the deadline, among two none does.
+const SUSPICIONS: &[Case] = &[
+    (
+        "alive at the number",
+        &[
+            Opens("b"),
+            Says(2000, Suspect("c", 4, "d")),
+            Hears(2100, Alive("c", 4), NOTHING),
+            Known("c", Some(Suspect("c", 4, "d"))),
+            Hears(
+                2200,
+                Alive("c", 5),
+                Applied {
+                    deadline: Deadline::Ends,
+                    ..CHANGED
+                },
+            ),
+            Known("c", Some(Alive("c", 5))),
+            Hears(2300, Alive("c", 5), NOTHING),
+        ],
+    ),
+    (
+        "among five",
+        &[
+            Opens("b"),
+            Seeds(&[Alive("a", 0), Alive("c", 0), Alive("d", 0), Alive("e", 0)]),
+            Hears(2000, Suspect("c", 0, "d"), RAISED_TO_32000),
+            Hears(2500, Suspect("c", 0, "d"), NOTHING),
+            Hears(
+                2600,
+                Suspect("c", 0, "e"),
+                Applied {
+                    deadline: Deadline::Stands(19_500),
+                    ..NOTHING
+                },
+            ),
+            Hears(
+                2700,
+                Failed("c", 0),
+                Applied {
+                    deadline: Deadline::Ends,
+                    presence: Presence::Leaves,
+                    ..CHANGED
+                },
+            ),
+            Hears(2800, Suspect("c", 9, "a"), NOTHING),
+            Hears(
+                3000,
+                Suspect("d", 1, "a"),
+                Applied {
+                    deadline: Deadline::Stands(8000),
+                    ..CHANGED
+                },
+            ),
+            Hears(
+                4000,
+                Suspect("d", 2, "e"),
+                Applied {
+                    deadline: Deadline::Stands(9000),
+                    ..CHANGED
+                },
+            ),
+            Live(4),
+        ],
+    ),
+    (
+        "among two",
+        &[
+            Opens("b"),
+            Hears(
+                2000,
+                Suspect("c", 0, "d"),
+                Applied {
+                    deadline: Deadline::Stands(7000),
+                    ..JOINED
+                },
+            ),
+            Hears(2100, Suspect("c", 0, "e"), NOTHING),
+            Sends(&[Suspect("c", 0, "d")]),
+        ],
+    ),
+];
+
+#[test]
+fn accusers_move_the_deadline(rt: HostRuntime) {
+    play(&rt, SUSPICIONS);
+}
+
+/// A member joins those that haven't failed, and leaves them.
+const PLACES: Case = (
+    "joining and leaving",
+    &[
+        Opens("b"),
+        Places(2000, Alive("a", 0), Presence::Joins, 2),
+        Places(2000, Suspect("a", 0, "c"), Presence::Stays, 2),
+        Places(2000, Suspect("c", 3, "a"), Presence::Joins, 3),
+        Places(2000, Failed("a", 0), Presence::Leaves, 2),
+        Places(2000, Alive("a", 9), Presence::Stays, 2),
+        Places(2000, Failed("d", 0), Presence::Stays, 2),
+        Places(2000, Alive("d", 1), Presence::Stays, 2),
+        Places(2000, Suspect("b", 0, "c"), Presence::Stays, 2),
+        Places(2000, Failed("b", 0), Presence::Stays, 2),
+    ],
+);
+
+#[test]
+fn a_member_joins_those_that_have_not_failed_and_leaves_them(rt: HostRuntime) {
+    play(&rt, &[PLACES]);
+}
+
+/// A suspicion of oneself is refuted once, and what nothing refutes ousts.
+const OF_ITSELF: &[Case] = &[
+    (
+        "two accusations of one number",
+        &[
+            Opens("b"),
+            Hears(
+                0,
+                Suspect("b", 0, "a"),
+                Applied {
+                    refuted: true,
+                    ..CHANGED
+                },
+            ),
+            Hears(0, Suspect("b", 0, "c"), NOTHING),
+            Number(1),
+            Sends(&[Alive("b", 1)]),
+            Hears(0, Alive("b", 3), CHANGED),
+            Number(4),
+            OwnRecord(Alive("b", 4)),
+        ],
+    ),
+    (
+        "failed",
+        &[
+            Opens("b"),
+            Hears(0, Failed("b", 7), NOTHING),
+            Ousted(true),
+            Number(0),
+            Sends(&[]),
+            Live(1),
+        ],
+    ),
+    (
+        "suspected at the last number",
+        &[
+            Opens("b"),
+            Hears(0, Suspect("b", 1_000_000_000, "a"), NOTHING),
+            Ousted(true),
+            Number(0),
+            Sends(&[]),
+            Live(1),
+        ],
+    ),
+];
+
+#[test]
+fn a_suspicion_of_oneself_is_refuted_or_ousts(rt: HostRuntime) {
+    play(&rt, OF_ITSELF);
+}
+
+/// 256 names are known: another finds no room, and the record of c is still raised.
+const FULL: &[Step] = &[
+    Live(MAX_MEMBERS),
+    Known("m254", None),
+    Hears(0, Suspect("zz", 0, "c"), NOTHING),
+    Hears(0, Alive("c", 3), CHANGED),
+    Known("c", Some(Alive("c", 3))),
+    Members(MAX_MEMBERS),
+];
+
+#[test]
+fn knows_256_names(rt: HostRuntime) {
+    let mut b = Membership::blank();
+    play_on(&rt, &mut b, "before", &[Opens("b"), Says(0, Alive("c", 2))]);
+    for number in 0..300 {
+        let expected = if number < 254 { JOINED } else { NOTHING };
+        let applied = say(&mut b, 0, &Numbered(number));
+        assert!(rt; applied == expected, "{number}: {applied:?}");
+    }
+    play_on(&rt, &mut b, "256 names", FULL);
+}

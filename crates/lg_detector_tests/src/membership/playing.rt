@@ -1,0 +1,193 @@
+//! Steps played on a membership. A case is a list of steps, all of them plain data, and the one assert stands here alone:
+//! each assert is a branch that the check proves. Its message names the case and the step, counted from 0.
+use crate::says::{Member, Said, are_said, claim_of, is_said, named, names_of};
+use arrayvec::ArrayVec;
+use lg_membership::{Applied, Deadline, MAX_MEMBERS, Membership, Origin, Presence};
+use lg_rules::{Claim, MAX_CLAIMS, Name, Record};
+use lg_testing::{at, failed, local};
+use lg_timing::Config;
+use std::process::Abort;
+
+/// Something that happens to a membership, or that is asked of it.
+#[derive(Clone, Copy)]
+pub(super) enum Step {
+    /// A member opens it at port 7000, with the default numbers.
+    Opens(Member),
+    /// These are said as seeds.
+    Seeds(&'static [Said]),
+    /// The group says a claim at a moment, and this is what it does.
+    Hears(u64, Said, Applied),
+    /// The group says a claim at a moment, and this becomes of its member's place, and of the count of those that
+    /// haven't failed.
+    Places(u64, Said, Presence, usize),
+    /// The group says a claim at a moment.
+    Says(u64, Said),
+    /// The claims of the next packet, which is no Ping.
+    Sends(&'static [Said]),
+    /// The claims of the next packet, a Ping to a member.
+    Pings(Member, &'static [Said]),
+    /// How many haven't failed.
+    Live(usize),
+    /// The own number.
+    Number(u32),
+    /// Whether it is ousted.
+    Ousted(bool),
+    /// The own name.
+    Own(Member),
+    /// The own record.
+    OwnRecord(Said),
+    /// The digits' factor of its configuration, or that there is none.
+    Lambda(Option<u64>),
+    /// The record of a member.
+    Known(Member, Option<Said>),
+    /// All records.
+    Table(&'static [Said]),
+    /// How many records there are.
+    Members(usize),
+    /// The records of some members.
+    Records(&'static [Member], &'static [Said]),
+    /// The page behind a name, or the first.
+    Page(Option<Member>, &'static [Said]),
+}
+
+/// What a claim did by which nothing changed.
+pub(super) const NOTHING: Applied = Applied {
+    changed: false,
+    refuted: false,
+    deadline: Deadline::Stays,
+    presence: Presence::Stays,
+};
+
+/// What a claim did by which a record changed, or one's own number.
+pub(super) const CHANGED: Applied = Applied {
+    changed: true,
+    refuted: false,
+    deadline: Deadline::Stays,
+    presence: Presence::Stays,
+};
+
+/// What a claim did by which a member joined those that haven't failed.
+pub(super) const JOINED: Applied = Applied {
+    changed: true,
+    refuted: false,
+    deadline: Deadline::Stays,
+    presence: Presence::Joins,
+};
+
+/// Opens a membership with the default numbers.
+fn open(membership: &mut Membership, member: Member) -> bool {
+    let config = Config::new(named(member), local(7000));
+    let is_good = config.check().is_ok();
+    if is_good {
+        membership.open_with(&config);
+    }
+    is_good
+}
+
+/// Says claims as seeds.
+fn seed(membership: &mut Membership, said: &[Said]) {
+    for one in said {
+        membership.apply(at(0), Origin::Seed, &claim_of(one));
+    }
+}
+
+/// A claim that the group says at a moment.
+pub(super) fn say(membership: &mut Membership, now: u64, said: &Said) -> Applied {
+    membership.apply(at(now), Origin::Group, &claim_of(said))
+}
+
+/// The claims of the next packet, a Ping to this member or no Ping.
+fn filled(membership: &mut Membership, target: Option<&Name>) -> ArrayVec<Claim, MAX_CLAIMS> {
+    let mut claims = ArrayVec::new();
+    membership.fill_into(target, &mut claims);
+    claims
+}
+
+/// All records.
+fn table_of(membership: &Membership) -> ArrayVec<Record, MAX_MEMBERS> {
+    let mut table = ArrayVec::new();
+    membership.put_table(&mut table);
+    table
+}
+
+/// The page behind a name, in a row that held another record before.
+fn page_of(membership: &Membership, after: Option<&Name>) -> ArrayVec<Record, MAX_CLAIMS> {
+    let mut row = ArrayVec::new();
+    row.push(failed(b'z', 9));
+    membership.put_page(after, &mut row);
+    row
+}
+
+/// The records of some members.
+fn records_of(membership: &Membership, members: &[Member]) -> ArrayVec<Record, MAX_CLAIMS> {
+    let mut row = ArrayVec::new();
+    membership.put_records(names_of(members).as_slice(), &mut row);
+    row
+}
+
+/// Plays a step that changes the membership. Returns whether it went as it says.
+fn plays(step: &Step, membership: &mut Membership) -> bool {
+    match *step {
+        Step::Opens(member) => open(membership, member),
+        Step::Seeds(said) => {
+            seed(membership, said);
+            true
+        }
+        Step::Hears(now, said, applied) => say(membership, now, &said) == applied,
+        Step::Places(now, said, presence, live) => {
+            say(membership, now, &said).presence == presence && membership.live() == live
+        }
+        Step::Says(now, said) => {
+            say(membership, now, &said);
+            true
+        }
+        Step::Sends(said) => are_said(filled(membership, None).as_slice(), said),
+        Step::Pings(member, said) => {
+            are_said(filled(membership, Some(&named(member))).as_slice(), said)
+        }
+        _ => is_met(step, membership),
+    }
+}
+
+/// Whether the membership is as is asked.
+fn is_met(step: &Step, membership: &Membership) -> bool {
+    match *step {
+        Step::Live(count) => membership.live() == count,
+        Step::Number(number) => membership.number().number() == number,
+        Step::Ousted(ousted) => membership.is_ousted() == ousted,
+        Step::Own(member) => membership.name() == named(member),
+        Step::OwnRecord(said) => membership.own_record() == claim_of(&said),
+        Step::Lambda(lambda) => membership.config().map(|config| config.lambda) == lambda,
+        Step::Known(member, said) => is_said(membership.record_of(&named(member)), &said),
+        Step::Table(said) => are_said(table_of(membership).as_slice(), said),
+        Step::Members(count) => table_of(membership).len() == count,
+        Step::Records(members, said) => {
+            are_said(records_of(membership, members).as_slice(), said)
+        }
+        Step::Page(after, said) => {
+            let after = after.map(named);
+            are_said(page_of(membership, after.as_ref()).as_slice(), said)
+        }
+        _ => false,
+    }
+}
+
+/// Plays steps on a membership. The case's name and the step's number say which failed.
+pub(super) fn play_on(rt: &impl Abort, membership: &mut Membership, case: &str, steps: &[Step]) {
+    for (number, step) in steps.iter().enumerate() {
+        assert!(rt;
+            plays(step, membership),
+            "{case}, step {number}: {membership:?}"
+        );
+    }
+}
+
+/// A case: its name, and its steps.
+pub(super) type Case = (&'static str, &'static [Step]);
+
+/// Plays each case on a membership of its own that nothing has happened to.
+pub(super) fn play(rt: &impl Abort, cases: &[Case]) {
+    for (case, steps) in cases {
+        play_on(rt, &mut Membership::blank(), case, steps);
+    }
+}

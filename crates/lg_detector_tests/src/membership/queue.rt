@@ -1,0 +1,106 @@
+//! What packets take with them.
+use super::playing::Step::{Hears, Known, Live, Opens, Pings, Says, Seeds, Sends};
+use super::playing::{Case, NOTHING, play};
+use crate::says::Said::{Alive, Numbered, Suspect};
+
+/// A seed is known and not queued. A claim is sent four times for each digit of the number of members. An accuser is
+/// queued where it counts.
+const QUEUED: &[Case] = &[
+    (
+        "a seed",
+        &[
+            Opens("b"),
+            Seeds(&[Alive("a", 0), Alive("c", 0), Alive("d", 0), Alive("e", 0)]),
+            Known("c", Some(Alive("c", 0))),
+            Sends(&[]),
+            Hears(0, Alive("c", 0), NOTHING),
+            Sends(&[]),
+            Says(0, Alive("c", 1)),
+            Sends(&[Alive("c", 1)]),
+        ],
+    ),
+    (
+        "two members, and then ten",
+        &[
+            Opens("b"),
+            Says(0, Alive("c", 0)),
+            Sends(&[Alive("c", 0)]),
+            Sends(&[Alive("c", 0)]),
+            Sends(&[Alive("c", 0)]),
+            Sends(&[Alive("c", 0)]),
+            Sends(&[]),
+            Seeds(&[
+                Numbered(0),
+                Numbered(1),
+                Numbered(2),
+                Numbered(3),
+                Numbered(4),
+                Numbered(5),
+                Numbered(6),
+                Numbered(7),
+            ]),
+            Live(10),
+            Sends(&[Alive("c", 0)]),
+        ],
+    ),
+    (
+        "accusers",
+        &[
+            Opens("b"),
+            Seeds(&[Alive("a", 0), Alive("c", 0), Alive("d", 0), Alive("e", 0)]),
+            Says(2000, Suspect("c", 0, "d")),
+            Sends(&[Suspect("c", 0, "d")]),
+            Sends(&[Suspect("c", 0, "d")]),
+            Sends(&[Suspect("c", 0, "d")]),
+            Sends(&[Suspect("c", 0, "d")]),
+            Says(2100, Suspect("c", 0, "d")),
+            Sends(&[]),
+            Says(2200, Suspect("c", 0, "e")),
+            Sends(&[Suspect("c", 0, "e")]),
+        ],
+    ),
+];
+
+#[test]
+fn claims_are_queued_where_they_are_new(rt: HostRuntime) {
+    play(&rt, QUEUED);
+}
+
+/// A Ping to a suspected member begins with its record, of which only the claim on d counts as sent by it. That record is
+/// the one that is known, and not what is queued.
+const BUDDIES: &[Case] = &[
+    (
+        "c is suspected, and d is alive",
+        &[
+            Opens("b"),
+            Says(0, Suspect("c", 2, "a")),
+            Says(0, Alive("d", 0)),
+            Pings("c", &[Suspect("c", 2, "a"), Alive("d", 0)]),
+            Sends(&[Suspect("c", 2, "a"), Alive("d", 0)]),
+            Sends(&[Suspect("c", 2, "a"), Alive("d", 0)]),
+            Sends(&[Suspect("c", 2, "a"), Alive("d", 0)]),
+            Sends(&[Suspect("c", 2, "a")]),
+            Sends(&[]),
+            Pings("c", &[Suspect("c", 2, "a")]),
+            Pings("b", &[]),
+            Pings("d", &[]),
+            Pings("z", &[]),
+        ],
+    ),
+    (
+        "two accusers",
+        &[
+            Opens("b"),
+            Seeds(&[Alive("a", 0), Alive("c", 0), Alive("d", 0), Alive("e", 0)]),
+            Says(2000, Suspect("c", 0, "d")),
+            Says(2600, Suspect("c", 0, "e")),
+            Pings("c", &[Suspect("c", 0, "d")]),
+            Sends(&[Suspect("c", 0, "e")]),
+        ],
+    ),
+];
+
+#[test]
+fn a_ping_to_a_suspected_member_begins_with_its_record(rt: HostRuntime) {
+    play(&rt, BUDDIES);
+}

@@ -1,0 +1,293 @@
+//! Whom to probe, through whom, and what came of it.
+use crate::says::{Member, named, names_of};
+use lg_probe::{
+    Helpers, MAX_RELAYS, Order, Relays, Round, choose_all, orders_have_room, windows_have_each,
+};
+use lg_rules::{MAX_OTHERS, Name};
+use lg_testing::local;
+
+/// Whether these are the names of these members.
+fn are_named(names: &[Name], members: &[Member]) -> bool {
+    names == names_of(members).as_slice()
+}
+
+/// Who is known, the words, and who is chosen by them.
+const CHOSEN: &[(&[Member], &[u32], &[Member])] = &[
+    (&["a", "b"], &[0, 0, 1, 0], &["a", "b", "b", "a"]),
+    (&["b", "c", "d"], &[4, 0, 5], &["c", "b", "d"]),
+    (&["a"], &[9, 9], &["a", "a"]),
+    (&["a", "b"], &[], &[]),
+    (&[], &[0, 7], &[]),
+];
+
+#[test]
+fn chooses_by_words(rt: HostRuntime) {
+    orders_have_room();
+    windows_have_each();
+    for (members, words, chosen) in CHOSEN {
+        let names = names_of(members);
+        let made = choose_all(rt.alloc(), names.as_slice(), words).expect(&rt, "there is memory");
+        assert!(rt; are_named(made.as_slice(), chosen), "{words:?}: {made:?}");
+    }
+}
+
+/// Something that happens to an order, or that is asked of it.
+#[derive(Clone, Copy)]
+enum Step {
+    /// A member joins.
+    Joins(Member),
+    /// A member leaves.
+    Leaves(Member),
+    /// A word chooses a member.
+    Chooses(u32, Option<Member>),
+    /// Who has joined.
+    Has(&'static [Member]),
+    /// Who was chosen in this round.
+    Chose(&'static [Member]),
+}
+
+/// Lets a member join, where there is room for it in any case.
+#[tactic(auto, using(lg_probe::proofs::Joining::room_by_counts))]
+fn join(order: &mut Order, name: &Name) {
+    if order.names().len() + order.chosen().len() < MAX_OTHERS {
+        order.join(name);
+    }
+}
+
+/// An order that these have joined.
+fn order_of(members: &[Member]) -> Order {
+    let mut order = Order::new();
+    for member in members {
+        join(&mut order, &named(member));
+    }
+    order
+}
+
+/// Plays a step. Returns whether it went as it says.
+fn plays(step: &Step, order: &mut Order) -> bool {
+    match *step {
+        Step::Joins(member) => {
+            join(order, &named(member));
+            true
+        }
+        Step::Leaves(member) => {
+            order.leave(&named(member));
+            true
+        }
+        Step::Chooses(word, member) => order.choose(word) == member.map(named),
+        Step::Has(members) => are_named(order.names(), members),
+        Step::Chose(members) => are_named(order.chosen(), members),
+    }
+}
+
+/// Who joins in a round is a candidate at once. Who comes back stays chosen.
+const ORDERS: &[(&str, &[Step])] = &[
+    (
+        "some join",
+        &[
+            Step::Joins("d"),
+            Step::Joins("b"),
+            Step::Chooses(1, Some("d")),
+            Step::Joins("c"),
+            Step::Chooses(1, Some("c")),
+            Step::Joins("a"),
+            Step::Chooses(0, Some("a")),
+            Step::Chooses(7, Some("b")),
+            Step::Chooses(2, Some("c")),
+            Step::Has(&["a", "b", "c", "d"]),
+            Step::Chose(&["c"]),
+        ],
+    ),
+    (
+        "c comes back",
+        &[
+            Step::Joins("b"),
+            Step::Joins("c"),
+            Step::Joins("d"),
+            Step::Chooses(1, Some("c")),
+            Step::Leaves("c"),
+            Step::Has(&["b", "d"]),
+            Step::Joins("c"),
+            Step::Chooses(1, Some("d")),
+            Step::Leaves("b"),
+            Step::Chooses(0, Some("c")),
+            Step::Leaves("c"),
+            Step::Leaves("d"),
+            Step::Chooses(0, None),
+            Step::Chose(&[]),
+        ],
+    ),
+];
+
+#[test]
+fn chooses_among_those_that_join_and_leave(rt: HostRuntime) {
+    for (case, steps) in ORDERS {
+        let mut order = Order::new();
+        for (number, step) in steps.iter().enumerate() {
+            assert!(rt; plays(step, &mut order), "{case}, step {number}: {order:?}");
+        }
+    }
+}
+
+/// Who is known beside b, which is probed; how many helpers are asked, and which by the words 5, 5, 5 and 0.
+const PICKED: &[(&[Member], usize, &[Member])] = &[
+    (&["b", "c", "d", "e", "f"], 3, &["d", "f", "e"]),
+    (&["b", "c", "d", "e", "f"], 8, &["d", "f", "e", "c"]),
+    (&["b", "c", "d", "e", "f"], 0, &[]),
+    (&["b"], 3, &[]),
+];
+
+#[test]
+fn picks_helpers(rt: HostRuntime) {
+    let mut helpers = Helpers::new();
+    for (members, count, picked) in PICKED {
+        let order = order_of(members);
+        helpers.pick(
+            &order,
+            &named("b"),
+            (*count).min(8),
+            &[5, 5, 5, 0, 0, 0, 0, 0],
+        );
+        assert!(rt; are_named(helpers.names(), picked), "{helpers:?}");
+    }
+}
+
+/// An Ack or a Nack of a member to a round by its number, and whether it counts.
+#[derive(Clone, Copy)]
+enum Answer {
+    /// An Ack.
+    Ack(u32, Member, bool),
+    /// A Nack.
+    Nack(u32, Member, bool),
+    /// c and d are asked.
+    Asks,
+}
+
+/// Whether an answer counts as is said.
+fn answers(answer: &Answer, round: &mut Round, helpers: &Helpers) -> bool {
+    match *answer {
+        Answer::Ack(number, sender, counts) => round.ack(number, &named(sender)) == counts,
+        Answer::Nack(number, sender, counts) => round.nack(number, &named(sender)) == counts,
+        Answer::Asks => {
+            round.ask(helpers);
+            are_named(round.asked(), &["c", "d"])
+        }
+    }
+}
+
+/// The number of a round whose target is b, its answers, and the mark that it earns.
+const ROUNDS: &[(u32, &[Answer], i8)] = &[
+    (7, &[], 1),
+    (
+        7,
+        &[
+            Answer::Ack(7, "c", false),
+            Answer::Asks,
+            Answer::Nack(6, "c", false),
+            Answer::Nack(7, "e", false),
+            Answer::Nack(7, "c", true),
+            Answer::Nack(7, "c", false),
+        ],
+        2,
+    ),
+    (
+        8,
+        &[
+            Answer::Asks,
+            Answer::Nack(8, "d", true),
+            Answer::Nack(8, "c", true),
+        ],
+        1,
+    ),
+    (
+        9,
+        &[
+            Answer::Asks,
+            Answer::Ack(9, "e", false),
+            Answer::Ack(8, "b", false),
+            Answer::Ack(9, "d", true),
+            Answer::Ack(9, "b", false),
+        ],
+        0,
+    ),
+];
+
+#[test]
+fn a_round_earns_its_mark(rt: HostRuntime) {
+    let mut helpers = Helpers::new();
+    helpers.pick(&order_of(&["b", "c", "d"]), &named("b"), 2, &[0; 8]);
+    for (number, list, mark) in ROUNDS {
+        let mut round = Round::new(*number, &named("b"));
+        let mut met = round.number() == *number && round.target() == named("b");
+        for answer in *list {
+            met = answers(answer, &mut round, &helpers) && met;
+        }
+        assert!(rt; met && round.end() == *mark, "round {number}, mark {mark}");
+    }
+}
+
+/// Opens a relay for port 7000, where there is room and none of its number is open.
+fn open(relays: &mut Relays, number: u32, target: Member) -> bool {
+    let is_free = relays.len() < MAX_RELAYS && relays.get(number).is_none();
+    if is_free {
+        relays.add(number, &named(target), local(7000), 9);
+    }
+    is_free
+}
+
+/// Something that happens to relays, or that is asked of them.
+#[derive(Clone, Copy)]
+enum Relayed {
+    /// A relay by its number, for a target, finds room or not.
+    Opens(u32, Member, bool),
+    /// How many are open.
+    Counts(usize),
+    /// Whether one of this number is open.
+    Has(u32, bool),
+    /// An Ack of a member is passed on or not.
+    Acks(u32, Member, bool),
+    /// One that is open is closed, or none is.
+    Closes(u32, bool),
+}
+
+/// Plays a step. Returns whether it went as it says.
+fn relays_as(step: &Relayed, relays: &mut Relays) -> bool {
+    match *step {
+        Relayed::Opens(number, target, opened) => open(relays, number, target) == opened,
+        Relayed::Counts(count) => relays.len() == count,
+        Relayed::Has(number, is_open) => {
+            relays.get(number) == is_open.then_some((local(7000), 9))
+        }
+        Relayed::Acks(number, sender, passed) => {
+            relays.ack(number, &named(sender)) == passed.then_some((local(7000), 9))
+        }
+        Relayed::Closes(number, closed) => relays.close(number) == closed,
+    }
+}
+
+/// 64 relays are open, and for the 65th there is no room.
+const FULL: &[Relayed] = &[
+    Relayed::Counts(64),
+    Relayed::Has(65, false),
+    Relayed::Has(64, true),
+    Relayed::Acks(64, "d", false),
+    Relayed::Acks(64, "c", true),
+    Relayed::Acks(64, "c", false),
+    Relayed::Closes(1, true),
+    Relayed::Closes(1, false),
+    Relayed::Counts(62),
+    Relayed::Opens(66, "d", true),
+    Relayed::Opens(66, "d", false),
+];
+
+#[test]
+fn relays_end(rt: HostRuntime) {
+    let mut relays = Relays::new();
+    for number in 1..66 {
+        let opened = open(&mut relays, number, "c");
+        assert!(rt; opened == (number < 65), "relay {number}");
+    }
+    for (number, step) in FULL.iter().enumerate() {
+        assert!(rt; relays_as(step, &mut relays), "step {number}: {relays:?}");
+    }
+}

@@ -1,0 +1,115 @@
+//! Claims as plain data, so that a table of rows is a constant.
+use arrayvec::ArrayVec;
+use lg_rules::{Claim, MAX_CLAIMS, Name, Status};
+use lg_testing::{claim, local, name, numbered};
+
+/// A member, by its name.
+pub(crate) type Member = &'static str;
+
+/// A claim or a record, at port 7000 where none is given.
+#[derive(Clone, Copy)]
+pub(crate) enum Said {
+    /// A member is alive, at an incarnation.
+    Alive(Member, u32),
+    /// A member is suspected, at an incarnation, by another.
+    Suspect(Member, u32, Member),
+    /// A member has failed, at an incarnation.
+    Failed(Member, u32),
+    /// A member is alive at incarnation 0, at a port.
+    AliveAt(Member, u16),
+    /// A member is suspected, at an incarnation, by another, at a port.
+    SuspectAt(Member, u32, Member, u16),
+    /// A member has failed, at an incarnation and a port.
+    FailedAt(Member, u32, u16),
+    /// The member `m` with three decimal digits is alive at incarnation 0.
+    Numbered(u32),
+    /// A member is suspected at incarnation 0 by the member `m` with three decimal digits.
+    Accused(Member, u32),
+}
+
+/// The name of a member.
+pub(crate) fn named(member: Member) -> Name {
+    name(member.as_bytes())
+}
+
+/// The names of at most six members.
+pub(crate) fn names_of(members: &[Member]) -> ArrayVec<Name, MAX_CLAIMS> {
+    let mut names = ArrayVec::new();
+    for member in members {
+        let name = named(member);
+        if !names.is_full() {
+            names.push(name);
+        }
+    }
+    names
+}
+
+/// A claim at port 7000.
+fn at_home(member: Member, status: Status, number: u32) -> Claim {
+    claim(named(member), status, number)
+}
+
+/// The claim at another port.
+fn moved(claim: Claim, port: u16) -> Claim {
+    Claim {
+        addr: local(port),
+        ..claim
+    }
+}
+
+/// The claim that a member is suspected by another.
+fn suspected(member: Member, number: u32, accuser: Name) -> Claim {
+    at_home(member, Status::Suspect(accuser), number)
+}
+
+/// The claim that is said.
+pub(crate) fn claim_of(said: &Said) -> Claim {
+    match *said {
+        Said::Alive(member, number) => at_home(member, Status::Alive, number),
+        Said::Suspect(member, number, accuser) => suspected(member, number, named(accuser)),
+        Said::Failed(member, number) => at_home(member, Status::Failed, number),
+        Said::AliveAt(member, port) => moved(at_home(member, Status::Alive, 0), port),
+        Said::SuspectAt(member, number, accuser, port) => {
+            moved(suspected(member, number, named(accuser)), port)
+        }
+        Said::FailedAt(member, number, port) => moved(
+            at_home(member, Status::Failed, number),
+            port,
+        ),
+        Said::Numbered(number) => claim(numbered(number), Status::Alive, 0),
+        Said::Accused(member, accuser) => suspected(member, 0, numbered(accuser)),
+    }
+}
+
+/// Adds a claim where there is room for it.
+fn add(list: &mut ArrayVec<Claim, MAX_CLAIMS>, claim: &Claim) {
+    if !list.is_full() {
+        list.push(*claim);
+    }
+}
+
+/// The first six of some claims.
+pub(crate) fn claims_of(said: &[Said]) -> ArrayVec<Claim, MAX_CLAIMS> {
+    let mut list = ArrayVec::new();
+    for one in said {
+        add(&mut list, &claim_of(one));
+    }
+    list
+}
+
+/// Whether these are the claims that are said, in this order.
+pub(crate) fn are_said(claims: &[Claim], said: &[Said]) -> bool {
+    claims.len() == said.len()
+        && claims
+            .iter()
+            .zip(said.iter())
+            .all(|(claim, one)| *claim == claim_of(one))
+}
+
+/// Whether this is what is said, or nothing is.
+pub(crate) fn is_said(claim: Option<Claim>, said: &Option<Said>) -> bool {
+    match said {
+        Some(one) => claim == Some(claim_of(one)),
+        None => claim == None,
+    }
+}
