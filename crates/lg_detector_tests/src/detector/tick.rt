@@ -134,7 +134,7 @@ const BY_E: Said = Suspect("c", 0, "e");
 
 const BY_Z: Said = Suspect("c", 0, "z");
 
-/// What is said at 2000, each claim in a Ping of its own, and the deadline of c's suspicion. The score doesn't scale it.
+/// What is said at 2000, each claim in a Ping of its own, and the deadline of c's suspicion, which no score scales.
 const ACCUSED: &[(&str, &[Said], u64)] = &[
     ("d", &[BY_D], 32_000),
     ("d, at a score of 1", &[Suspect("b", 0, "a"), BY_D], 32_000),

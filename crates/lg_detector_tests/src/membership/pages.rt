@@ -3,8 +3,8 @@ use super::playing::Step::{Opens, Page, Says, Seeds};
 use super::playing::{Case, play};
 use crate::says::Said::{Alive, Failed, Suspect};
 
-/// d, whose group has a, b, c, e, f, h and i beside it; b is suspected, and f failed. The pages hold the whole table. The
-/// name before a page need not be known, and where the own record is the first of a page, it isn't on the next.
+/// d, whose group has a, b, c, e, f, h and i beside it; b is suspected, and f failed. The pages hold the whole table.
+/// The name before a page need not be known, and where the own record is the first of a page, it isn't on the next.
 const EIGHT: Case = (
     "eight members",
     &[

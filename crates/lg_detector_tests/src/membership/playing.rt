@@ -1,5 +1,5 @@
-//! Steps played on a membership. A case is a list of steps, all of them plain data, and the one assert stands here alone:
-//! each assert is a branch that the check proves. Its message names the case and the step, counted from 0.
+//! Steps played on a membership. A case is a list of steps, all of them plain data, and the one assert stands here
+//! alone: each assert is a branch that the check proves. Its message names the case and the step, counted from 0.
 use crate::says::{Member, Said, are_said, claim_of, is_said, named, names_of};
 use arrayvec::ArrayVec;
 use lg_membership::{Applied, Deadline, MAX_MEMBERS, Membership, Origin, Presence};

@@ -66,8 +66,8 @@ fn claims_are_queued_where_they_are_new(rt: HostRuntime) {
     play(&rt, QUEUED);
 }
 
-/// A Ping to a suspected member begins with its record, of which only the claim on d counts as sent by it. That record is
-/// the one that is known, and not what is queued.
+/// A Ping to a suspected member begins with its record, of which only the claim on d counts as sent by it. That record
+/// is the one that is known, and not what is queued.
 const BUDDIES: &[Case] = &[
     (
         "c is suspected, and d is alive",
