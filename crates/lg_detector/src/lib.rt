@@ -22,6 +22,3 @@ pub use event::Event;
 pub use lg_rules::MAX_MEMBERS;
 pub use lg_timers::{Timer, TimerId};
 pub use reply::{Answer, MAX_CHANGED, MAX_SENDS, Outgoing, Reply};
-
-#[cfg(test)]
-mod tests;

@@ -11,6 +11,3 @@ mod suspicions;
 pub use applied::{Applied, Deadline, Presence};
 pub use membership::{MAX_MEMBERS, Membership};
 pub use origin::Origin;
-
-#[cfg(test)]
-mod tests;

@@ -11,6 +11,3 @@ pub use helpers::{Helpers, MAX_HELPERS};
 pub use order::{Order, choose_all, orders_have_room, windows_have_each};
 pub use relays::{MAX_RELAYS, Relay, Relays};
 pub use round::Round;
-
-#[cfg(test)]
-mod tests;
