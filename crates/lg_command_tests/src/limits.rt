@@ -30,10 +30,11 @@ fn check(rt: &(impl Abort + AllocGlobal), rows: &[Row]) {
 #[test]
 fn gives_up_on_endless_readers(rt: HostRuntime) {
     let rows = [
-        (Command::Sim, 1, Interrupts::Never, 0),
-        (Command::Sim, 1, Interrupts::EachSecond, 0),
+        (Command::Answer, 1, Interrupts::Never, 0),
+        (Command::Answer, 1, Interrupts::EachSecond, 0),
+        (Command::Answer, 1000, Interrupts::Never, 0),
+        (Command::Answer, 1_000_000, Interrupts::EachSecond, 0),
         (Command::Sim, 1000, Interrupts::Never, 0),
-        (Command::Sim, 1_000_000, Interrupts::EachSecond, 0),
         (Command::Copying, 1000, Interrupts::Never, 0),
     ];
     check(&rt, &rows);
@@ -42,5 +43,5 @@ fn gives_up_on_endless_readers(rt: HostRuntime) {
 /// A reader that is interrupted for ever is given up.
 #[test]
 fn gives_up_on_endless_interruptions(rt: HostRuntime) {
-    check(&rt, &[(Command::Sim, 1, Interrupts::Always, 2_097_154)]);
+    check(&rt, &[(Command::Answer, 1, Interrupts::Always, 2_097_154)]);
 }

@@ -1,8 +1,8 @@
 //! The commands, each with an input and what comes of it where nothing fails.
 use crate::streams::Streams;
-use lg_text::{RunFault, read_input, write_whole};
+use lg_commands::{Numbers, answer_named, order_lists, simulate, timeouts_of};
+use lg_text::{RunFault, read_input, report, write_whole};
 use std::alloc::Global;
-use std::io::Write;
 
 /// A command that is run over streams.
 #[derive(Clone, Copy, Debug)]
@@ -11,6 +11,12 @@ pub enum Command {
     Copying,
     /// `sim`.
     Sim,
+    /// `answer` for the name `b`.
+    Answer,
+    /// `order` for the names `a` and `b` and the words 0, 0, 1 and 0.
+    Order,
+    /// `timeouts` for four members and the defaults.
+    Timeouts,
 }
 
 /// A command, its input, the text that it writes, and its status.
@@ -26,8 +32,9 @@ pub struct Play {
     pub status: u8,
 }
 
-/// A text with an empty line and a last one without a newline, and a script with a faulty line.
-pub const READING: [Play; 2] = [
+/// The commands that read: a text with an empty line and a last one without a newline, a script with a faulty line, and
+/// a Ping with its Ack.
+pub const READING: [Play; 3] = [
     Play {
         command: Command::Copying,
         input: "ab\n\nc",
@@ -41,16 +48,36 @@ pub const READING: [Play; 2] = [
             next 500\nfault 3 member\n",
         status: 3,
     },
+    Play {
+        command: Command::Answer,
+        input: "534c0101016100000007016200\n",
+        text: "534c010301620000000700\n",
+        status: 0,
+    },
 ];
 
-/// A script with each kind of line that has a reply of its own.
-pub const OTHERS: [Play; 1] = [Play {
-    command: Command::Sim,
-    input: "open a 7001 0 b:7002\nset beta 5\ntick a 0\ntable a\n",
-    text: "next 0\nfired round-start\nsend 1 127.0.0.1:7002 534c0101016100000001016200\nnext 500\n\
+/// The commands that read nothing, and a script with each kind of line that has a reply of its own.
+pub const OTHERS: [Play; 3] = [
+    Play {
+        command: Command::Order,
+        input: "",
+        text: "a\nb\nb\na\n",
+        status: 0,
+    },
+    Play {
+        command: Command::Timeouts,
+        input: "",
+        text: "min 5000\nmax 30000\n0 5000\n",
+        status: 0,
+    },
+    Play {
+        command: Command::Sim,
+        input: "open a 7001 0 b:7002\nset beta 5\ntick a 0\ntable a\n",
+        text: "next 0\nfired round-start\nsend 1 127.0.0.1:7002 534c0101016100000001016200\nnext 500\n\
             record a alive 0 127.0.0.1:7001\nrecord b alive 0 127.0.0.1:7002\n",
-    status: 0,
-}];
+        status: 0,
+    },
+];
 
 /// Reads an input whole and writes it.
 fn copy(alloc: Global, streams: &mut Streams) -> Result<(), RunFault> {
@@ -58,21 +85,37 @@ fn copy(alloc: Global, streams: &mut Streams) -> Result<(), RunFault> {
     write_whole(&mut streams.writer, &input)
 }
 
+/// The status of the copying of an input, which reports its fault as the commands do.
+fn copying(alloc: Global, streams: &mut Streams) -> u8 {
+    match copy(alloc, streams) {
+        Ok(()) => 0,
+        Err(fault) => {
+            report(&mut streams.faults, fault.text());
+            1
+        }
+    }
+}
+
 impl Command {
-    /// Runs the command, reports its fault, and gives its status.
+    /// Runs the command, and gives its status.
     pub fn run(self, alloc: Global, streams: &mut Streams) -> u8 {
-        let ended = match self {
-            Command::Copying => copy(alloc, streams).map(|()| 0),
-            Command::Sim => lg_sim::run(alloc, &mut streams.reader, &mut streams.writer).map(
-                |end| end as u8,
-            ),
+        if let Command::Copying = self {
+            return copying(alloc, streams);
+        }
+        let numbers = Numbers {
+            members: 4,
+            confirmations: 3,
+            alpha: 5,
+            beta: 6,
+            interval_ms: 1000,
         };
-        match ended {
-            Ok(status) => status,
-            Err(fault) => {
-                let _dropped = streams.faults.write_all(fault.text().as_bytes());
-                1
-            }
+        let (reader, writer) = (&mut streams.reader, &mut streams.writer);
+        let faults = &mut streams.faults;
+        match self {
+            Command::Copying | Command::Sim => simulate(alloc, reader, writer, faults),
+            Command::Answer => answer_named(alloc, "b", reader, writer, faults),
+            Command::Order => order_lists(alloc, "a,b", "0,0,1,0", writer, faults),
+            Command::Timeouts => timeouts_of(alloc, &numbers, writer, faults),
         }
     }
 }
