@@ -84,7 +84,6 @@ impl<P: PairName> Feed<P> {
     /// The event waits to be published. The events that are published have to be accepted with it, and none may wait
     /// before. It takes memory for the event, and room in the writer's log. The only error is that memory was refused,
     /// and then nothing has changed.
-    #[tactic(auto, using(crate::proofs::UpdateLaws::room_taken))]
     pub fn append(&mut self, alloc: Global, event: &Event) -> Result<(), NoMemory>
         requires accepted { is_accepted (self.old.events ++ event.now ∷ []) ≡ true }
         requires none_waits { self.old.waiting ≡ [] }
