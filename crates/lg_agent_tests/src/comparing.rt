@@ -1,0 +1,86 @@
+//! Events and replies, compared.
+use lg_detector::{Event, Outgoing, Reply};
+use lg_packet::Packet;
+use lg_timing::Config;
+
+fn is_same_packet(one: &Packet, other: &Packet) -> bool {
+    one.sender == other.sender
+        && one.body == other.body
+        && one.claims.as_slice() == other.claims.as_slice()
+}
+
+fn is_same_config(one: &Config, other: &Config) -> bool {
+    one.interval_ms == other.interval_ms
+        && one.timeout_ms == other.timeout_ms
+        && one.history_limit == other.history_limit
+        && one.seeds.as_slice() == other.seeds.as_slice()
+        && one.name == other.name
+        && one.addr == other.addr
+}
+
+/// Whether two events are one.
+pub fn is_same_event(one: &Event, other: &Event) -> bool {
+    match (one, other) {
+        (
+            Event::Open { now, config },
+            Event::Open {
+                now: then,
+                config: stored,
+            },
+        ) => { now == then && is_same_config(config, stored) }
+        (
+            Event::Tick { now, words },
+            Event::Tick {
+                now: then,
+                words: stored,
+            },
+        ) => { now == then && words == stored }
+        (
+            Event::Heard {
+                now,
+                source,
+                packet,
+            },
+            Event::Heard {
+                now: then,
+                source: from,
+                packet: stored,
+            },
+        ) => now == then && source == from && is_same_packet(packet, stored),
+        (
+            Event::Ask { now, name },
+            Event::Ask {
+                now: then,
+                name: stored,
+            },
+        ) => { now == then && name == stored }
+        (Event::Health { now }, Event::Health { now: then }) => now == then,
+        (
+            Event::Pull { now, peer },
+            Event::Pull {
+                now: then,
+                peer: stored,
+            },
+        ) => { now == then && peer == stored }
+        _ => false,
+    }
+}
+
+fn is_same_outgoing(one: &Outgoing, other: &Outgoing) -> bool {
+    one.to == other.to && is_same_packet(&one.packet, &other.packet)
+}
+
+/// Whether two replies are one.
+pub fn is_same_reply(one: &Reply, other: &Reply) -> bool {
+    one.fired == other.fired
+        && one.sends.len() == other.sends.len()
+        && one
+            .sends
+            .iter()
+            .zip(other.sends.iter())
+            .all(|(sent, stored)| is_same_outgoing(sent, stored))
+        && one.changed.as_slice() == other.changed.as_slice()
+        && one.answer == other.answer
+        && one.ousted == other.ousted
+        && one.next == other.next
+}

@@ -1,0 +1,212 @@
+//! Worked events with their replies: each kind of event, each part of a reply, and what takes the most memory.
+use arrayvec::ArrayVec;
+use lg_detector::{Answer, Event, MAX_SENDS, Outgoing, Reply, Timer, TimerId};
+use lg_packet::Body;
+use lg_rules::{Addr, Claim, Incarnation, Name};
+use lg_testing::{ack, alive, at, failed, letter, local, packet, said, suspect};
+use lg_timing::{Config, Seed};
+
+/// An event, the reply to it, and whom the start of a round chose.
+#[derive(Drop)]
+pub(super) struct Row {
+    pub(super) event: Event,
+    pub(super) reply: Reply,
+    pub(super) chosen: Option<Name>,
+}
+
+/// The reply that says nothing, where this is the least deadline.
+fn nothing(next: u64) -> Reply {
+    let mut reply = Reply::default();
+    reply.next = next;
+    reply
+}
+
+/// A packet of b to a port.
+fn to(port: u16, body: Body, claims: &[Claim]) -> Outgoing {
+    Outgoing {
+        to: local(port),
+        packet: packet(b'b', body, claims),
+    }
+}
+
+/// One packet to be sent.
+fn one(outgoing: Outgoing) -> ArrayVec<Outgoing, MAX_SENDS> {
+    let mut sends = ArrayVec::new();
+    sends.push(outgoing);
+    sends
+}
+
+/// Eight packets of b, to the ports from 7001 on.
+fn eight(body: &Body, claims: &[Claim]) -> ArrayVec<Outgoing, MAX_SENDS> {
+    let mut sends = ArrayVec::new();
+    for port in 7001..7009 {
+        if !sends.is_full() {
+            sends.push(to(port, *body, claims));
+        }
+    }
+    sends
+}
+
+/// A packet of a that is heard at a moment.
+fn heard(now: u64, body: Body, claims: &[Claim]) -> Event {
+    Event::Heard {
+        now: at(now),
+        source: local(1),
+        packet: packet(b'a', body, claims),
+    }
+}
+
+/// b is opened at 0, with c as a seed.
+pub(super) fn opening() -> Row {
+    let mut config = Config::new(letter(b'b'), local(7000));
+    config.seeds.push(Seed {
+        name: letter(b'c'),
+        addr: local(7003),
+    });
+    Row {
+        event: Event::Open { now: at(0), config },
+        reply: nothing(0),
+        chosen: None,
+    }
+}
+
+/// A Ping for b at 10 that says that c is alive, and its Ack, with the one record that changed.
+pub(super) fn ping() -> Row {
+    let (number, target) = (7, letter(b'b'));
+    let claims = [alive(b'c', 0)];
+    let mut reply = nothing(0);
+    reply.sends = one(to(1, ack(number), &claims));
+    reply.changed = said(&claims);
+    Row {
+        event: heard(10, Body::Ping { number, target }, &claims),
+        reply,
+        chosen: None,
+    }
+}
+
+/// c is asked for at 20, and known.
+pub(super) fn question() -> Row {
+    let (now, name) = (at(20), letter(b'c'));
+    let mut reply = nothing(0);
+    reply.answer = Some(Answer::Status(Some(alive(b'c', 0))));
+    Row {
+        event: Event::Ask { now, name },
+        reply,
+        chosen: None,
+    }
+}
+
+/// The health is asked for at 5000.
+fn health() -> Row {
+    let mut reply = nothing(0);
+    reply.answer = Some(Answer::Health {
+        score: 0,
+        number: Incarnation::default(),
+        members: 2,
+    });
+    Row {
+        event: Event::Health { now: at(5000) },
+        reply,
+        chosen: None,
+    }
+}
+
+/// A tick at 4000 after an event at 5000: the round starts at 5000 with a Ping for c, and its direct timeout is next.
+fn round_start() -> Row {
+    let (number, target) = (1, letter(b'c'));
+    let (deadline, id) = (0, TimerId::RoundStart);
+    let mut reply = nothing(5500);
+    reply.fired = Some(Timer { deadline, id });
+    reply.sends = one(to(7003, Body::Ping { number, target }, &[alive(b'c', 0)]));
+    Row {
+        event: Event::Tick {
+            now: at(4000),
+            words: [0, 1, 2, 3, 4, 5, 6, 4_294_967_295],
+        },
+        reply,
+        chosen: Some(target),
+    }
+}
+
+/// A suspicion of c runs out at 9000, and c is taken as failed.
+fn suspicion() -> Row {
+    let (deadline, id) = (9000, TimerId::Suspicion(letter(b'c')));
+    let mut reply = nothing(9500);
+    reply.fired = Some(Timer { deadline, id });
+    reply.changed = said(&[failed(b'c', 0)]);
+    Row {
+        event: Event::Tick {
+            now: at(9500),
+            words: [0; 8],
+        },
+        reply,
+        chosen: None,
+    }
+}
+
+/// b asks the member at port 7002 for its table, and tells of itself.
+fn pull() -> Row {
+    let (now, peer): (_, Addr) = (at(5), local(7002));
+    let mut reply = nothing(0);
+    reply.sends = one(to(7002, Body::Pull { after: None }, &[alive(b'b', 0)]));
+    Row {
+        event: Event::Pull { now, peer },
+        reply,
+        chosen: None,
+    }
+}
+
+/// A Ping for b that suspects it beyond refuting: b is ousted.
+fn ousting() -> Row {
+    let (number, target) = (1, letter(b'b'));
+    let mut reply = nothing(0);
+    reply.sends = one(to(1, ack(number), &[]));
+    reply.ousted = true;
+    let claims = [suspect(b'b', 1_000_000_000, b'a')];
+    Row {
+        event: heard(10, Body::Ping { number, target }, &claims),
+        reply,
+        chosen: None,
+    }
+}
+
+/// Six claims come in, change six records, and go out with each of eight requests.
+fn full() -> Row {
+    let (number, target, addr) = (4_294_967_295, letter(b'c'), local(65535));
+    let claims = [
+        alive(b'c', 1_000_000_000),
+        suspect(b'd', 2, b'a'),
+        failed(b'e', 3),
+        alive(b'f', 4),
+        alive(b'g', 5),
+        alive(b'h', 6),
+    ];
+    let body = Body::PingReq {
+        number,
+        target,
+        addr,
+    };
+    let mut reply = nothing(u64::MAX);
+    reply.sends = eight(&body, &claims);
+    reply.changed = said(&claims);
+    Row {
+        event: heard(10, body, &claims),
+        reply,
+        chosen: None,
+    }
+}
+
+/// All of them.
+pub(super) fn all() -> [Row; 9] {
+    [
+        opening(),
+        ping(),
+        question(),
+        health(),
+        round_start(),
+        suspicion(),
+        pull(),
+        ousting(),
+        full(),
+    ]
+}

@@ -1,0 +1,10 @@
+//! The loops of a node over links, clocks and dice in memory, and a node over UDP.
+pub mod alone;
+mod asking;
+pub mod both;
+mod clocks;
+mod dice;
+mod links;
+mod receiving;
+mod refused_memory;
+mod ticking;

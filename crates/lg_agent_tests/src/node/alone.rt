@@ -1,0 +1,199 @@
+//! One loop of a node, a hundred turns at most. A run names what it meets, and a row what is seen of it.
+use super::clocks::{FixedDice, MemoryClock, Pauses};
+use super::links::{Call, MemoryLink, QUIET, Script};
+use crate::playing::{Case, Ending, Left, Outcome, Play, Shown};
+use arrayvec::ArrayVec;
+use lg_agent::{AgentName, Pass, Spent};
+use lg_node::{End, Ended, Why, receive_loop, tick_loop};
+use lg_testing::at;
+use std::alloc::Global;
+use std::sync::Wait;
+use std::sync::atomic::AtomicBool;
+use std::sync::atomic::Ordering::SeqCst;
+
+/// How many turns a loop may make.
+pub(super) const BOUND: u64 = 100;
+
+/// Which loop runs.
+#[derive(Clone, Copy)]
+pub enum Loop {
+    /// The receiving one.
+    Receiving,
+    /// The ticking one, until a moment.
+    Ticking { until: u64 },
+}
+
+/// What a loop meets.
+#[derive(Clone, Copy)]
+pub struct Run {
+    pub runs: Loop,
+    /// The moment of a call before the loop, if there is one.
+    pub called_at: Option<u64>,
+    /// The moment at which the loop begins.
+    pub now: u64,
+    /// What the link does.
+    pub script: Script,
+}
+
+impl Run {
+    /// The receiving loop with a link that does this.
+    pub(super) fn receiving(script: Script) -> Run {
+        Run {
+            runs: Loop::Receiving,
+            called_at: None,
+            now: 0,
+            script,
+        }
+    }
+
+    /// The ticking loop from 0 to a moment.
+    pub(super) fn ticking(until: u64) -> Run {
+        Run {
+            runs: Loop::Ticking { until },
+            called_at: None,
+            now: 0,
+            script: QUIET,
+        }
+    }
+
+    /// An agent of one place with this run.
+    pub(super) fn case<'a>(self) -> Case<'a> {
+        Case::new(1, Play::Loop(self))
+    }
+}
+
+/// What a loop did.
+#[derive(Drop)]
+pub struct LoopSeen {
+    /// How it ended.
+    pub end: End,
+    /// The first calls of its link, how many waited for a datagram, and how many failed.
+    pub calls: ArrayVec<Call, 16>,
+    pub received: u64,
+    pub failures: u64,
+    /// The pauses of its clock.
+    pub pauses: Pauses,
+    /// Whether the others are told to stop.
+    pub stop: bool,
+    /// How many calls its pass had answered.
+    pub answered: usize,
+}
+
+/// Runs the loop with a pass.
+fn run_loop<'a, A: AgentName, R: Wait>(
+    rt: &R,
+    alloc: Global,
+    pass: Pass<'_, A>,
+    link: MemoryLink<'a>,
+    clock: &MemoryClock,
+    runs: Loop,
+    stop: &AtomicBool,
+) -> Ended<MemoryLink<'a>, A> {
+    match runs {
+        Loop::Receiving => receive_loop(rt, alloc, pass, link, clock, stop, BOUND),
+        Loop::Ticking { until } => {
+            let dice = FixedDice { word: 0 };
+            tick_loop(rt, alloc, pass, link, clock, dice, at(until), stop, BOUND)
+        }
+    }
+}
+
+/// Runs the loop with the last pass.
+pub fn run_alone<A: AgentName, R: Wait>(
+    rt: &R,
+    alloc: Global,
+    passes: Vec<Pass<'_, A>>,
+    run: Run,
+    spents: Vec<Spent<A>>,
+) -> Left<A> {
+    let (mut passes, mut spents) = (passes, spents);
+    let Some(mut pass) = passes.pop() else {
+        let shown = Shown::Nothing;
+        return Left { spents, shown };
+    };
+    if let Some(moment) = run.called_at {
+        let _refused = pass.health(rt, alloc, at(moment)).is_err();
+    }
+    let stop = AtomicBool::new(false);
+    let clock = MemoryClock::new(run.now);
+    let link = MemoryLink::new(run.script, &stop);
+    let Ended { link, spent, end } = run_loop(rt, alloc, pass, link, &clock, run.runs, &stop);
+    let seen = LoopSeen {
+        end,
+        received: link.received,
+        failures: link.failures,
+        calls: link.calls,
+        pauses: clock.pauses(),
+        stop: stop.load(SeqCst),
+        answered: spent.calls().len(),
+    };
+    let _refused = spents.push(spent).is_err();
+    let shown = Shown::Loop(seen);
+    Left { spents, shown }
+}
+
+/// What the calls of a link are to be.
+#[derive(Clone, Copy)]
+pub(super) enum Calls<'a> {
+    /// These, of which a link keeps 16.
+    Are(&'a [Call]),
+    /// Packets alone, of which these were sent and the others not.
+    Sent(&'a [bool]),
+}
+
+/// Whether each call sent a packet or not, as these say.
+fn are_sent(calls: &[Call], wanted: &[bool]) -> bool {
+    calls.len() == wanted.len()
+        && calls.iter().zip(wanted).all(|(call, want)| match call {
+            Call::Receive { .. } => false,
+            Call::Send { sent, .. } => sent == want,
+        })
+}
+
+impl<'a> Calls<'a> {
+    /// Whether these are as they are to be.
+    fn are(self, calls: &[Call]) -> bool {
+        match self {
+            Calls::Are(wanted) => calls == wanted,
+            Calls::Sent(wanted) => are_sent(calls, wanted),
+        }
+    }
+}
+
+/// How a loop is to end, how many receivings and failures of its link there are to be, and how many entries.
+#[derive(Clone, Copy)]
+pub(super) struct Want<'a> {
+    pub(super) why: Why,
+    pub(super) dropped: u64,
+    pub(super) unsent: u64,
+    pub(super) turns: u64,
+    pub(super) received: u64,
+    pub(super) failures: u64,
+    pub(super) pauses: Pauses,
+    pub(super) calls: Calls<'a>,
+    pub(super) entries: u64,
+}
+
+impl<'a> Want<'a> {
+    /// Whether an outcome is as it is to be. Whatever the end, the others are told to stop.
+    pub(super) fn is(&self, outcome: &Outcome) -> bool {
+        let end = End {
+            why: self.why,
+            dropped: self.dropped,
+            unsent: self.unsent,
+            turns: self.turns,
+        };
+        match &outcome.shown {
+            Shown::Loop(seen) => {
+                seen.end == end
+                    && seen.received == self.received
+                    && seen.failures == self.failures
+                    && seen.pauses == self.pauses
+                    && self.calls.are(seen.calls.as_slice())
+                    && seen.stop
+                    && outcome.ending == Ending::closed(None, self.entries)
+            }
+            _ => false,
+        }
+    }
+}

@@ -1,0 +1,103 @@
+//! A node over UDP asks its seeds before its loops, of which the ticking one ends at once.
+use lg_agent::{CloseFault, Closed};
+use lg_detector::Event;
+use lg_node::{End, NodeEnd, Why, run_node};
+use lg_rules::Addr;
+use lg_testing::{at, letter, local};
+use lg_timing::{Config, Seed};
+use std::io;
+use std::net::{Ipv4Addr, Net, UdpSocket};
+use std::test::Fail;
+use std::time::Duration;
+
+/// The Pull of b at 127.0.0.1:17130 for the first records.
+const PULL_OF_B: &[u8; 21] =
+    b"SL\x01\x05\x01b\x00\x01\x01\x01b\x7f\x00\x00\x01\x42\xea\x00\x00\x00\x00";
+
+/// A port to which nothing can be sent.
+const NOWHERE: u16 = 0;
+
+/// The ports at which the seeds listen.
+const PORTS: [u16; 2] = [17131, 17132];
+
+/// The configuration of b, which knows c and d at these ports.
+fn config(first: u16, second: u16) -> Config {
+    let mut config = Config::new(letter(b'b'), local(17130));
+    for (name, port) in [(b'c', first), (b'd', second)] {
+        if !config.seeds.is_full() {
+            config.seeds.push(Seed {
+                name: letter(name),
+                addr: local(port),
+            });
+        }
+    }
+    config
+}
+
+/// A socket of a seed, which waits a second for a datagram.
+fn listening<R: Net>(rt: &R, port: u16) -> io::Result<UdpSocket> {
+    let socket = UdpSocket::bind(rt, (Ipv4Addr::from_octets([127, 0, 0, 1]), port))?;
+    socket.set_read_timeout(Some(Duration::from_millis(1000)))?;
+    Ok(socket)
+}
+
+/// Whether the Pull has come.
+fn has_come(socket: &UdpSocket) -> bool {
+    let mut buffer = [0; 64];
+    match socket.recv_from(&mut buffer) {
+        Ok((length, _)) => buffer.get(..length) == Some(PULL_OF_B.as_slice()),
+        Err(_) => false,
+    }
+}
+
+/// Whom the entries behind the opening asked, in order, where they asked two.
+fn asked(closed: &Result<Closed, CloseFault>) -> Option<(Addr, Addr)> {
+    let Ok(closed) = closed else {
+        return None;
+    };
+    let [_opening, first, second] = closed.history() else {
+        return None;
+    };
+    match (first.event(), second.event()) {
+        (Event::Pull { peer: first, .. }, Event::Pull { peer: second, .. }) => {
+            Some((first, second))
+        }
+        _ => None,
+    }
+}
+
+/// How the ticking loop ended, and whom the node asked, in order.
+fn seen_of(ran: &NodeEnd) -> (End, Option<(Addr, Addr)>) {
+    (ran.ticked, asked(&ran.closed))
+}
+
+/// Both seeds are asked, in order, also where a packet isn't sent; the ticking loop counts that one.
+#[test]
+fn each_seed_is_asked(rt: HostRuntime) -> Result<(), Fail> {
+    let [first, second] = PORTS;
+    let (one, two) = (listening(&rt, first)?, listening(&rt, second)?);
+    for (first, second, unsent) in [
+        (first, second, 0),
+        (NOWHERE, second, 1),
+        (first, NOWHERE, 1),
+    ] {
+        let config = config(first, second);
+        config.check()?;
+        let ran = run_node(&rt, rt.alloc(), &config, 1, at(0))?;
+        let end = End {
+            why: Why::Stopped,
+            dropped: 0,
+            unsent,
+            turns: 0,
+        };
+        let came = (
+            first == NOWHERE || has_come(&one),
+            second == NOWHERE || has_come(&two),
+        );
+        assert_eq!(rt;
+            (seen_of(&ran), came),
+            ((end, Some((local(first), local(second)))), (true, true))
+        );
+    }
+    Ok(())
+}

@@ -1,0 +1,256 @@
+//! A link in memory.
+ghost use Rattle.std.specs.Prelude.{◌≡◌, ◌+◌, ◌≤◌, MatchBool};
+
+use arrayvec::ArrayVec;
+use lg_node::{Link, LinkFault, MAX_DATAGRAM};
+use lg_rules::Addr;
+use lg_testing::local;
+use std::sync::atomic::AtomicBool;
+use std::sync::atomic::Ordering::SeqCst;
+
+/// A Ping of a for b, numbered 7.
+pub(super) const PING_7: &[u8; 13] = b"SL\x01\x01\x01a\x00\x00\x00\x07\x01b\x00";
+
+/// One numbered 8.
+const PING_8: &[u8; 13] = b"SL\x01\x01\x01a\x00\x00\x00\x08\x01b\x00";
+
+/// One numbered 7, with the claim that b is alive at 127.0.0.1:7000 with the incarnation 1,000,000,000.
+const OUSTING_PING: &[u8; 26] =
+    b"SL\x01\x01\x01a\x00\x00\x00\x07\x01b\x01\x01\x01b\x7f\x00\x00\x01\x1b\x58\x3b\x9a\xca\x00";
+
+/// The Acks of b with these numbers.
+const ACK_7: &[u8; 11] = b"SL\x01\x03\x01b\x00\x00\x00\x07\x00";
+
+const ACK_8: &[u8; 11] = b"SL\x01\x03\x01b\x00\x00\x00\x08\x00";
+
+/// The Ping of b for c with its first number.
+const PING_OF_C: &[u8; 13] = b"SL\x01\x01\x01b\x00\x00\x00\x01\x01c\x00";
+
+/// What comes over a link.
+#[derive(Clone, Copy)]
+pub enum Coming {
+    /// No datagram, in time.
+    Nothing,
+    /// A datagram of one byte, which is no packet.
+    OneByte,
+    /// A Ping numbered 7.
+    Ping7,
+    /// A Ping numbered 8.
+    Ping8,
+    /// A Ping numbered 7, with a claim that nothing can refute.
+    OustingPing,
+}
+
+impl Coming {
+    /// The bytes of the datagram; of none there are none.
+    fn bytes(self) -> &'static [u8] {
+        match self {
+            Coming::Nothing => b"",
+            Coming::OneByte => b"S",
+            Coming::Ping7 => PING_7,
+            Coming::Ping8 => PING_8,
+            Coming::OustingPing => OUSTING_PING,
+        }
+    }
+}
+
+/// What some bytes spell, of what is looked for.
+#[derive(Clone, Copy, PartialEq, Eq)]
+pub enum Spelled {
+    Ack7,
+    Ack8,
+    PingOfC,
+    Other,
+}
+
+impl Spelled {
+    /// What these bytes spell.
+    fn of(bytes: &[u8]) -> Spelled {
+        if bytes == &ACK_7[..] {
+            Spelled::Ack7
+        } else if bytes == &ACK_8[..] {
+            Spelled::Ack8
+        } else if bytes == &PING_OF_C[..] {
+            Spelled::PingOfC
+        } else {
+            Spelled::Other
+        }
+    }
+}
+
+/// One call of a link.
+#[derive(Clone, Copy, PartialEq, Eq)]
+pub enum Call {
+    /// It waited for a datagram, at most so many milliseconds.
+    Receive {
+        limit_ms: u64,
+    },
+    /// A packet was handed over for a port of 127.0.0.1, or for 0 where it was for another address, and was sent or not.
+    Send {
+        what: Spelled,
+        port: u16,
+        sent: bool,
+    },
+}
+
+/// The port of an address at 127.0.0.1, and 0 of another one.
+fn port_of(to: Addr) -> u16 {
+    if to.octets == [127, 0, 0, 1] {
+        to.port
+    } else {
+        0
+    }
+}
+
+impl Default for Call {
+    ghost is_default = { λ _. Unit {0} };
+
+    fn default() -> Self {
+        Call::Receive { limit_ms: 0 }
+    }
+}
+
+/// What a link does, call by call.
+#[derive(Clone, Copy)]
+pub struct Script {
+    /// What comes first; after the third nothing does.
+    pub first: Coming,
+    pub second: Coming,
+    pub third: Coming,
+    /// With which receiving the loop is told to stop, from 1, or 0 where it isn't.
+    pub stops_at: u64,
+    /// Which call fails, from 1, or 0 where none does.
+    pub fails_at: u64,
+}
+
+/// A link over which nothing comes, and of which no call fails.
+pub(super) const QUIET: Script = Script {
+    first: Coming::Nothing,
+    second: Coming::Nothing,
+    third: Coming::Nothing,
+    stops_at: 0,
+    fails_at: 0,
+};
+
+impl Script {
+    /// What comes with a receiving, from 1.
+    fn coming(&self, receiving: u64) -> Coming {
+        match receiving {
+            1 => self.first,
+            2 => self.second,
+            3 => self.third,
+            _ => Coming::Nothing,
+        }
+    }
+}
+
+/// A link that does what its script says, and keeps its first 16 calls.
+#[derive(Drop)]
+pub(super) struct MemoryLink<'a> {
+    script: Script,
+    stop: &'a AtomicBool,
+    /// How many calls were made.
+    made: u64,
+    /// How many of them waited for a datagram.
+    pub(super) received: u64,
+    pub(super) calls: ArrayVec<Call, 16>,
+    pub(super) failures: u64,
+}
+
+impl<'a> MemoryLink<'a> {
+    /// A link that was not called yet.
+    pub(super) fn new(script: Script, stop: &'a AtomicBool) -> MemoryLink<'a> {
+        MemoryLink {
+            script,
+            stop,
+            made: 0,
+            received: 0,
+            calls: ArrayVec::new(),
+            failures: 0,
+        }
+    }
+
+    /// Counts a call. Whether it fails, which is counted too.
+    fn fails(&mut self) -> bool
+        ensures { MatchBool result (self.new.failures ≡ self.old.failures + 1)
+            (self.new.failures ≡ self.old.failures) }
+    {
+        self.made = self.made.saturating_add(1);
+        if self.made != self.script.fails_at || self.failures == u64::MAX {
+            return false;
+        }
+        self.failures += 1;
+        true
+    }
+
+    /// Keeps a call, where there is room.
+    fn keep(&mut self, call: Call)
+        ensures { self.new.failures ≡ self.old.failures }
+    {
+        if !self.calls.is_full() {
+            self.calls.push(call);
+        }
+    }
+
+    /// What comes next.
+    fn next(&mut self) -> Coming
+        ensures { self.new.failures ≡ self.old.failures }
+    {
+        self.received = self.received.saturating_add(1);
+        if self.received == self.script.stops_at {
+            self.stop.store(true, SeqCst);
+        }
+        self.script.coming(self.received)
+    }
+}
+
+/// Puts bytes at the front of a buffer. Returns how many.
+pub(super) fn put(buffer: &mut [u8; MAX_DATAGRAM], bytes: &[u8]) -> usize
+    ensures { result ≤ MAX_DATAGRAM }
+{
+    let length = bytes.len().min(MAX_DATAGRAM);
+    buffer[..length].copy_from_slice(&bytes[..length]);
+    length
+}
+
+impl<'a> Link for MemoryLink<'a> {
+    ghost use Rattle.std.specs.Prelude.{false, []};
+
+    ghost tells = { false };
+
+    ghost log = { λ l. [] };
+
+    ghost failed = { λ l. l.failures };
+
+    fn send(&mut self, to: Addr, bytes: &[u8]) -> Result<(), LinkFault> {
+        let fails = self.fails();
+        self.keep(Call::Send {
+            what: Spelled::of(bytes),
+            port: port_of(to),
+            sent: !fails,
+        });
+        if fails { Err(LinkFault) } else { Ok(()) }
+    }
+
+    /// Each datagram comes from 127.0.0.1:7001.
+    fn receive(
+        &mut self,
+        buffer: &mut [u8; MAX_DATAGRAM],
+        limit_ms: u64,
+    ) -> Result<Option<(Addr, usize)>, LinkFault> {
+        let coming = self.next();
+        let fails = self.fails();
+        self.keep(Call::Receive { limit_ms });
+        if fails {
+            return Err(LinkFault);
+        }
+        match coming {
+            Coming::Nothing => Ok(None),
+            _ => Ok(Some((local(7001), put(buffer, coming.bytes())))),
+        }
+    }
+
+    fn failures(&self) -> u64 {
+        self.failures
+    }
+}

@@ -1,0 +1,108 @@
+//! Memory that is refused once: a loop whose call meets that ends with it, and nothing is lost. Where a thread's is
+//! refused, no loop makes a turn.
+use super::alone::Run;
+use super::both::{BothSeen, both_loops, seen_in};
+use super::links::{Call, Coming, Script};
+use crate::playing::{Ending, Outcome, Shown, told_at_last};
+use lg_agent::Refusal;
+use lg_node::{End, Why};
+
+/// How many packets were handed over.
+fn handed(calls: &[Call]) -> usize {
+    calls
+        .iter()
+        .filter(|call| matches!(call, Call::Send { .. }))
+        .count()
+}
+
+/// After how many turns a loop of two calls ends.
+#[derive(Clone, Copy)]
+struct Turns {
+    /// Where memory is refused to the first call.
+    first: u64,
+    /// Where it is to the second.
+    second: u64,
+    /// Where it is to neither.
+    neither: u64,
+    /// How many packets each answered call hands over.
+    packets: usize,
+}
+
+/// Whether the loop ended after these turns, with the call that met the refusal if one did. Each answered call, and no
+/// other, is in the pass's list and in the history, and handed its packets over.
+fn is_whole(outcome: &Outcome, want: Turns) -> bool {
+    let Shown::Loop(seen) = &outcome.shown else {
+        return false;
+    };
+    let refused = Why::Refused(Refusal::NoMemory);
+    let (why, turns) = match seen.answered {
+        0 => (refused, want.first),
+        1 => (refused, want.second),
+        _ => (Why::Stopped, want.neither),
+    };
+    let packets = want.packets.wrapping_mul(seen.answered);
+    let entries = (seen.answered as u64).wrapping_add(1);
+    seen.end.why == why
+        && seen.end.turns == turns
+        && seen.stop
+        && outcome.ending.entries == Some(entries)
+        && handed(seen.calls.as_slice()) == packets
+}
+
+/// Two Pings, each of which is answered where its call is; and ticks at 0 and 1000, with 50 pauses between.
+#[test]
+fn one_loop(rt: HostRuntime) {
+    let script = Script {
+        first: Coming::Ping7,
+        second: Coming::Ping8,
+        third: Coming::Nothing,
+        stops_at: 2,
+        fails_at: 0,
+    };
+    let receiving = Turns {
+        first: 1,
+        second: 2,
+        neither: 2,
+        packets: 1,
+    };
+    let ticking = Turns {
+        first: 1,
+        second: 52,
+        neither: 53,
+        packets: 0,
+    };
+    let rows = [
+        ("receiving", Run::receiving(script), receiving),
+        ("ticking", Run::ticking(1010), ticking),
+    ];
+    for (name, run, turns) in rows {
+        let outcome = told_at_last(&rt, rt.alloc(), run.case());
+        let met = outcome
+            .as_ref()
+            .is_ok_and(|outcome| is_whole(outcome, turns));
+        assert!(rt; met, "{name}");
+    }
+}
+
+/// Whether a thread was had for the receiving loop, or both loops made no turn: then the agent holds its opening alone.
+fn is_still(seen: (BothSeen, Ending)) -> bool {
+    let (both, ending) = seen;
+    let had_none = both.receiving.why == Why::Refused(Refusal::NoMemory)
+        && both.receiving.turns == 0;
+    let still = End {
+        why: Why::Stopped,
+        dropped: 0,
+        unsent: 0,
+        turns: 0,
+    };
+    !had_none || both.ticking == still && ending.entries == Some(1)
+}
+
+/// Both loops, where memory may be refused to the thread of the receiving one: then the ticking one makes no turn
+/// either.
+#[test]
+fn a_thread(rt: HostRuntime) {
+    let outcome = told_at_last(&rt, rt.alloc(), both_loops(false));
+    let seen = outcome.as_ref().ok().and_then(seen_in);
+    assert!(rt; seen.is_some_and(is_still));
+}

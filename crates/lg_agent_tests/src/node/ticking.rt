@@ -1,0 +1,129 @@
+//! Ticking loops, a hundred turns each at most. Each turn ticks, or pauses 20 ms or less.
+use super::alone::{BOUND, Calls, Run, Want};
+use super::clocks::Pauses;
+use super::links::{Call, Spelled};
+use crate::playing::{Case, told};
+use lg_agent::Refusal;
+use lg_node::Why;
+
+/// The first Ping of b, for c.
+const PING_OF_C: Call = Call::Send {
+    what: Spelled::PingOfC,
+    port: 7003,
+    sent: true,
+};
+
+/// A loop that ends after so many turns, of which so many pause, for so many milliseconds in all.
+fn ended(why: Why, turns: u64, count: u64, sum: u64, entries: u64) -> Want<'static> {
+    Want {
+        why,
+        dropped: 0,
+        unsent: 0,
+        turns,
+        received: 0,
+        failures: 0,
+        pauses: Pauses {
+            count,
+            longest: 20,
+            sum,
+        },
+        calls: Calls::Are(&[]),
+        entries,
+    }
+}
+
+/// The same, where c was pinged.
+fn pinged<'a>(want: Want<'a>, calls: &'a [Call]) -> Want<'a> {
+    let mut want = want;
+    want.calls = Calls::Are(calls);
+    want
+}
+
+/// The same, where one of three packets wasn't sent.
+fn lost<'a>(want: Want<'a>, sent: &'a [bool]) -> Want<'a> {
+    let mut want = want;
+    want.unsent = 1;
+    want.failures = 1;
+    want.calls = Calls::Sent(sent);
+    want
+}
+
+/// A loop that knows so many others, whose link fails at one call, from 1, or none.
+fn knows<'a>(until: u64, others: u8, fails_at: u64) -> Case<'a> {
+    let mut run = Run::ticking(until);
+    run.script.fails_at = fails_at;
+    let mut case = run.case();
+    case.others = others;
+    case
+}
+
+/// A loop that knows c, from a moment, after a call at 5000.
+fn goes_back<'a>(now: u64) -> Case<'a> {
+    let mut run = Run::ticking(5501);
+    run.called_at = Some(5000);
+    run.now = now;
+    let mut case = run.case();
+    case.others = 1;
+    case
+}
+
+/// A loop whose history has room for the opening and one tick.
+fn short<'a>() -> Case<'a> {
+    let mut case = Run::ticking(1010).case();
+    case.limit = 2;
+    case
+}
+
+#[test]
+fn ticking_loops(rt: HostRuntime) {
+    let stopped = Why::Stopped;
+    let full = Why::Refused(Refusal::HistoryFull(2));
+    let ping = [PING_OF_C];
+    // A round, and helpers that are due 500 ms later.
+    let round = ended(stopped, 28, 26, 520, 3);
+    let rows = [
+        // Nobody else is known: there are ticks at 0 and 1000, and pauses between and behind them.
+        ("alone", knows(1010, 0, 0), ended(stopped, 53, 51, 1020, 3)),
+        // After a call at 5000 the clock goes back. The round starts at 5000 all the same, so that helpers are due at
+        // 5500; the last pause before that is a shorter one where 20 ms don't fit.
+        (
+            "from 4000",
+            goes_back(4000),
+            pinged(ended(stopped, 78, 76, 1520, 4), &ping),
+        ),
+        (
+            "from 4008",
+            goes_back(4008),
+            pinged(ended(stopped, 78, 76, 1512, 4), &ping),
+        ),
+        ("pings c", knows(501, 1, 0), pinged(round, &ping)),
+        // A Ping, and half a second later two requests to helpers, of which one isn't sent: the others are handed over.
+        (
+            "1st lost",
+            knows(501, 3, 1),
+            lost(round, &[false, true, true]),
+        ),
+        (
+            "2nd lost",
+            knows(501, 3, 2),
+            lost(round, &[true, false, true]),
+        ),
+        (
+            "3rd lost",
+            knows(501, 3, 3),
+            lost(round, &[true, true, false]),
+        ),
+        // The moment doesn't come until which it runs.
+        (
+            "bound",
+            knows(1_000_000, 0, 0),
+            ended(Why::ReadBound, BOUND, 98, 1960, 3),
+        ),
+        ("full", short(), ended(full, 52, 50, 1000, 2)),
+    ];
+    for (name, case, want) in rows {
+        let outcome = told(&rt, rt.alloc(), case);
+        let met = outcome.as_ref().is_ok_and(|outcome| want.is(outcome));
+        assert!(rt; met, "{name}");
+    }
+}

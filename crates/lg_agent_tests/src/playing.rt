@@ -1,0 +1,309 @@
+//! Agents of b at 127.0.0.1:7000, which is opened at 0, that are played and closed. A case names what is done between,
+//! and its outcome tells what was seen and how the agent ended.
+ghost use Rattle.std.specs.Prelude.{◌≡◌, ◌<◌, ◌≤◌};
+
+use crate::agent::calls::{Row, Seen, steps};
+use crate::agent::many::work_all;
+use crate::comparing::is_same_reply;
+use crate::node::alone::{LoopSeen, Run, run_alone};
+use crate::node::both::{BothSeen, run_both};
+use lg_agent::{Agent, AgentName, CloseFault, Closed, Refusal, Spent, Unclosed};
+use lg_detector::{Detector, Reply};
+use lg_testing::{at, letter, local};
+use lg_timing::{Config, Seed};
+use lg_view::UnnamedBook;
+use std::alloc::Global;
+use std::marker::Brand;
+use std::rt;
+use std::sync::Wait;
+use std::thread::Threads;
+
+/// What is done with the passes of an agent.
+#[derive(Clone, Copy)]
+pub enum Play<'a> {
+    /// Calls and looks, one after the other.
+    Steps(&'a [Row]),
+    /// The last pass runs one loop of a node.
+    Loop(Run),
+    /// Two passes run both loops of a node, perhaps with a first receiving that fails.
+    Both { fails: bool },
+    /// Each pass makes so many calls, in a thread of its own.
+    Threads(&'a [u32]),
+}
+
+/// An agent, and what is done with it.
+#[derive(Clone, Copy)]
+pub struct Case<'a> {
+    /// How many places it has, 1 to 32.
+    pub places: usize,
+    /// The limit on its history.
+    pub limit: u64,
+    /// How many of c, d and e it knows, at the ports from 7003 on.
+    pub others: u8,
+    /// Whether everything is handed in at the first closing. Else what the first pass left comes with the second.
+    pub at_once: bool,
+    pub play: Play<'a>,
+}
+
+impl<'a> Case<'a> {
+    /// An agent that knows nobody else and is closed at once, with room for 20,000 entries.
+    pub fn new(places: usize, play: Play<'a>) -> Case<'a> {
+        Case {
+            places,
+            limit: 20_000,
+            others: 0,
+            at_once: true,
+            play,
+        }
+    }
+}
+
+/// What was seen while an agent was open.
+#[derive(Drop)]
+pub enum Shown {
+    /// The passes weren't had.
+    Nothing,
+    /// The first step that gave something else than it was to give, and what it gave.
+    Steps(Option<(usize, Seen)>),
+    Loop(LoopSeen),
+    Both(BothSeen),
+    /// How many things went wrong in the threads.
+    Threads(u64),
+}
+
+/// How an agent ended.
+#[derive(Clone, Copy, Debug, PartialEq, Eq)]
+pub struct Ending {
+    /// Why it wasn't closed at first, if it wasn't.
+    pub fault: Option<CloseFault>,
+    /// How many entries there were when it was closed, if it was.
+    pub entries: Option<u64>,
+    /// How many replies of its history a fresh detector gave too, up to the first that it didn't.
+    pub replayed: Option<u64>,
+}
+
+impl Ending {
+    /// An agent that was closed with so many entries, perhaps after a first closing that was refused.
+    pub fn closed(fault: Option<CloseFault>, entries: u64) -> Ending {
+        Ending {
+            fault,
+            entries: Some(entries),
+            replayed: Some(entries),
+        }
+    }
+}
+
+/// What a case tells.
+#[derive(Drop)]
+pub struct Outcome {
+    pub shown: Shown,
+    /// How many passes were given out after all had been.
+    pub later: usize,
+    pub ending: Ending,
+}
+
+/// What was seen, and what the passes left.
+#[derive(Drop)]
+pub struct Left<A: AgentName> {
+    pub spents: Vec<Spent<A>>,
+    pub shown: Shown,
+}
+
+/// The configuration of b with a limit on its history and default numbers, which knows so many of c, d and e.
+pub fn config(limit: u64, others: u8) -> Config {
+    let mut config = Config::new(letter(b'b'), local(7000));
+    config.history_limit = limit;
+    for index in 0..others.min(3) {
+        if !config.seeds.is_full() {
+            config.seeds.push(Seed {
+                name: letter(b'c' + index),
+                addr: local(7003 + u16::from(index)),
+            });
+        }
+    }
+    config
+}
+
+/// A list with room for what so many passes leave, at the second try where memory was refused at the first.
+fn room<A: AgentName>(alloc: Global, places: usize) -> Vec<Spent<A>> {
+    match Vec::with_capacity(alloc, places) {
+        Ok(list) => list,
+        Err(_) => Vec::with_capacity(alloc, places).unwrap_or(Vec::new(alloc)),
+    }
+}
+
+/// Plays all passes of an agent, unless memory for them is refused.
+fn run<A, R>(
+    rt: &R,
+    alloc: Global,
+    agent: &mut Agent<A>,
+    spents: Vec<Spent<A>>,
+    play: Play<'_>,
+) -> Left<A>
+where
+    A: AgentName + Send + Sync,
+    R: Threads + Wait + rt::Clock + Sync,
+{
+    let Ok(passes) = agent.passes(alloc) else {
+        let shown = Shown::Nothing;
+        return Left { spents, shown };
+    };
+    match play {
+        Play::Steps(rows) => steps(rt, alloc, passes, rows, spents),
+        Play::Loop(run) => run_alone(rt, alloc, passes, run, spents),
+        Play::Both { fails } => run_both(rt, alloc, passes, fails, spents),
+        Play::Threads(calls) => work_all(rt, alloc, passes, calls, spents),
+    }
+}
+
+/// Plays all passes of an agent, at the second try where memory for them was refused at the first.
+fn run_at_last<A, R>(
+    rt: &R,
+    alloc: Global,
+    agent: &mut Agent<A>,
+    spents: Vec<Spent<A>>,
+    play: Play<'_>,
+) -> Left<A>
+where
+    A: AgentName + Send + Sync,
+    R: Threads + Wait + rt::Clock + Sync,
+{
+    let Left { spents, shown } = run(rt, alloc, agent, spents, play);
+    match shown {
+        Shown::Nothing => run(rt, alloc, agent, spents, play),
+        shown => Left { spents, shown },
+    }
+}
+
+/// How many replies of the history a fresh detector gives to its events, up to the first that it doesn't.
+fn replayed(alloc: Global, closed: &Closed) -> Option<u64> {
+    let mut detector = Detector::blank(alloc).ok()?;
+    let mut reply = Reply::default();
+    let mut same: u64 = 0;
+    for entry in closed.history() {
+        let event = entry.event();
+        if !detector.accepts(&event) {
+            break;
+        }
+        detector.step(&event, &mut reply);
+        if !is_same_reply(&reply, &entry.reply()) {
+            break;
+        }
+        same = same.wrapping_add(1);
+    }
+    Some(same)
+}
+
+/// What is told of an agent that was closed.
+fn told_of(alloc: Global, fault: Option<CloseFault>, closed: &Closed) -> Ending {
+    Ending {
+        fault,
+        entries: Some(closed.count()),
+        replayed: replayed(alloc, closed),
+    }
+}
+
+/// Closes an agent, a second time with what the first pass left where that was kept back.
+fn end<A: AgentName, R: Wait>(
+    rt: &R,
+    alloc: Global,
+    agent: Agent<A>,
+    spents: Vec<Spent<A>>,
+    at_once: bool,
+) -> Ending {
+    let mut spents = spents;
+    let later = if at_once { None } else { spents.pop() };
+    match agent.close(rt, spents) {
+        Ok(closed) => told_of(alloc, None, &closed),
+        Err(unclosed) => end_again(rt, alloc, unclosed, later),
+    }
+}
+
+/// Closes an agent again, with one more of what the passes left, if there is one.
+fn end_again<A: AgentName, R: Wait>(
+    rt: &R,
+    alloc: Global,
+    unclosed: Unclosed<A>,
+    later: Option<Spent<A>>,
+) -> Ending {
+    let Unclosed {
+        fault,
+        agent,
+        spents,
+    } = unclosed;
+    let mut spents = spents;
+    if let Some(spent) = later {
+        let _refused = spents.push(spent).is_err();
+    }
+    match agent.close(rt, spents) {
+        Ok(closed) => told_of(alloc, Some(fault), &closed),
+        Err(unclosed) => {
+            let Unclosed {
+                fault,
+                agent,
+                spents: _,
+            } = unclosed;
+            agent.abandon(rt);
+            Ending {
+                fault: Some(fault),
+                entries: None,
+                replayed: None,
+            }
+        }
+    }
+}
+
+/// Opens an agent, plays it, and closes it.
+fn play_case<A, R>(
+    rt: &R,
+    alloc: Global,
+    book: UnnamedBook,
+    places: usize,
+    case: Case<'_>,
+) -> Result<Outcome, Refusal>
+where
+    A: AgentName + Send + Sync,
+    R: Threads + Wait + rt::Clock + Sync,
+    requires book { book.seen.book ≡ A.book }
+    requires places { (places ≡ A.places) × (0 < places) × (places ≤ 32) }
+{
+    let config = config(case.limit, case.others);
+    let Ok(()) = config.check() else {
+        return Err(Refusal::NoPlace);
+    };
+    let mut agent = Agent::<A>::open(rt, alloc, book, at(0), config, places)?;
+    let spents = room(alloc, places);
+    let Left { spents, shown } = run_at_last(rt, alloc, &mut agent, spents, case.play);
+    let later = match agent.passes(alloc) {
+        Ok(passes) => passes.len(),
+        Err(_) => 0,
+    };
+    Ok(Outcome {
+        shown,
+        later,
+        ending: end(rt, alloc, agent, spents, case.at_once),
+    })
+}
+
+/// What a case tells. The error is that the opening was refused.
+pub fn told<R>(rt: &R, alloc: Global, case: Case<'_>) -> Result<Outcome, Refusal>
+where
+    R: Threads + Wait + rt::Clock + Sync,
+{
+    let places = case.places;
+    if places == 0 || places > 32 {
+        return Err(Refusal::NoPlace);
+    }
+    play_case::<Brand, R>(rt, alloc, UnnamedBook::new(), places, case)
+}
+
+/// What a case tells, at the second try where the opening was refused memory at the first.
+pub fn told_at_last<R>(rt: &R, alloc: Global, case: Case<'_>) -> Result<Outcome, Refusal>
+where
+    R: Threads + Wait + rt::Clock + Sync,
+{
+    match told(rt, alloc, case) {
+        Err(Refusal::NoMemory) => told(rt, alloc, case),
+        other => other,
+    }
+}

@@ -1,0 +1,35 @@
+//! Published pairs of b at 127.0.0.1:7000, which is opened at 0.
+mod keeper;
+mod looks;
+mod playing;
+mod refused_memory;
+mod threads;
+
+use lg_detector::Event;
+use lg_testing::{alive, at, letter, local, packet, ping};
+use lg_timing::Config;
+
+/// The opening of b with the default numbers.
+fn opening() -> Event {
+    Event::Open {
+        now: at(0),
+        config: Config::new(letter(b'b'), local(7000)),
+    }
+}
+
+/// A Ping of a for b, at 0, that says that c is alive.
+fn ping_of_a() -> Event {
+    Event::Heard {
+        now: at(0),
+        source: local(1),
+        packet: packet(b'a', ping(7, b'b'), &[alive(b'c', 0)]),
+    }
+}
+
+/// A tick at 0, whose words are all 0.
+fn tick() -> Event {
+    Event::Tick {
+        now: at(0),
+        words: [0; 8],
+    }
+}

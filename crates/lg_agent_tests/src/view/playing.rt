@@ -1,0 +1,78 @@
+//! Pairs with two looks that are made, played and ended.
+ghost use Rattle.std.specs.Prelude.{◌≡◌};
+
+use super::keeper::Keeper;
+use super::looks::{Rows, play_looks};
+use super::refused_memory::goes_on;
+use super::threads::{Read, play_threads};
+use lg_view::{NoView, PairFault, PairName, UnnamedBook};
+use std::alloc::Global;
+use std::marker::Brand;
+use std::sync::Wait;
+use std::thread::Threads;
+
+/// What is done with a pair.
+#[derive(Clone, Copy)]
+pub(super) enum Play {
+    /// Two looks look on while events are published.
+    Looks,
+    /// Memory is refused once.
+    Refused,
+    /// A writer and two readers run at once.
+    Threads,
+}
+
+/// What was seen.
+#[derive(Clone, Copy)]
+pub(super) enum Shown {
+    /// What was to hold, and whether it did, unless no look was told of the opening.
+    Looks(Option<Rows>),
+    /// Whether all went well, at the second try where memory was refused.
+    Refused(bool),
+    /// How many events were published, and what each reader found.
+    Threads(u64, Read, Read),
+}
+
+/// What was seen of a pair, whether a look answered anything after its end, and how many events that look had seen.
+#[derive(Clone, Copy)]
+pub(super) struct Outcome {
+    pub(super) shown: Shown,
+    pub(super) ended: bool,
+    pub(super) seen: u64,
+}
+
+/// Makes a pair, plays it, and ends it.
+fn play_pair<P: PairName + Send + Sync, R: Threads + Wait + Sync>(
+    rt: &R,
+    alloc: Global,
+    book: UnnamedBook,
+    what: Play,
+) -> Result<Outcome, PairFault>
+    requires { book.seen.book ≡ P.book }
+{
+    let (mut keeper, mut looks) = Keeper::<P>::new(rt, alloc, book, 2)?;
+    let (Some(mut one), Some(mut two)) = (looks.pop(), looks.pop()) else {
+        keeper.end(rt);
+        return Err(PairFault::NoPlace);
+    };
+    let shown = match what {
+        Play::Looks => Shown::Looks(play_looks(rt, alloc, &mut keeper, &mut one, &mut two)),
+        Play::Refused => Shown::Refused(goes_on(rt, alloc, &mut keeper, &mut one)),
+        Play::Threads => play_threads(rt, alloc, &mut keeper, &mut one, &mut two),
+    };
+    keeper.end(rt);
+    Ok(Outcome {
+        shown,
+        ended: one.version() == Err(NoView),
+        seen: one.seen(),
+    })
+}
+
+/// What was seen of a pair. The error is that none was made.
+pub(super) fn told<R: Threads + Wait + Sync>(
+    rt: &R,
+    alloc: Global,
+    what: Play,
+) -> Result<Outcome, PairFault> {
+    play_pair::<Brand, R>(rt, alloc, UnnamedBook::new(), what)
+}
