@@ -39,5 +39,3 @@ pub use receipt::Receipt;
 pub use refusal::{CloseFault, Refusal};
 pub use spent::Spent;
 
-#[cfg(test)]
-mod tests;

@@ -23,5 +23,3 @@ pub use history::History;
 pub use laws::{histories_grow, replies_by_place};
 pub use lg_detector::NoMemory;
 
-#[cfg(test)]
-mod tests;

@@ -25,5 +25,3 @@ pub use running::{Side, run_loops};
 pub use ticking::tick_loop;
 pub use udp::UdpLink;
 
-#[cfg(test)]
-mod tests;

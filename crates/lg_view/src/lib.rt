@@ -29,5 +29,3 @@ pub use pairing::{PairFault, pair};
 pub use published::Published;
 pub use update::Update;
 
-#[cfg(test)]
-mod tests;
