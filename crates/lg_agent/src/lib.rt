@@ -38,4 +38,3 @@ pub use pass::Pass;
 pub use receipt::Receipt;
 pub use refusal::{CloseFault, Refusal};
 pub use spent::Spent;
-

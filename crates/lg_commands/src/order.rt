@@ -2,7 +2,8 @@
 ghost use Rattle.std.specs.Prelude.{◌≡◌, ◌≢◌, Ok, Err, IfErr, IfOk};
 ghost use Rattle.std.specs.Option.{option_map};
 ghost use Rattle.lg_rules.specs.Meaning.Rows.{name_cmp, is_among};
-ghost use Rattle.lg_commands.specs.Meaning.Choosing.{are_different, name_lines, names_in, order_text, word_of, words_in};
+ghost use Rattle.lg_commands.specs.Meaning.Choosing.{are_different, name_lines, names_in};
+ghost use Rattle.lg_commands.specs.Meaning.Choosing.{order_text, word_of, words_in};
 ghost use Rattle.lg_commands.specs.Meaning.Faults.{bad_list_text};
 ghost use Rattle.lg_commands.specs.Meaning.Running.{IsFaultOf};
 

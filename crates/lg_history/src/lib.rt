@@ -22,4 +22,3 @@ pub use entry::Entry;
 pub use history::History;
 pub use laws::{histories_grow, replies_by_place};
 pub use lg_detector::NoMemory;
-

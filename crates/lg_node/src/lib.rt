@@ -24,4 +24,3 @@ pub use receiving::receive_loop;
 pub use running::{Side, run_loops};
 pub use ticking::tick_loop;
 pub use udp::UdpLink;
-

@@ -1,5 +1,5 @@
 //! The set of timers.
-ghost use Rattle.std.specs.Prelude.{◌≡◌, ◌<◌, ◌≤◌, ◌==◌};
+ghost use Rattle.std.specs.Prelude.{◌≡◌, ◌<◌, ◌≤◌};
 ghost use Rattle.std.specs.Prelude.{false, List, [], length, position, slice_set};
 ghost use Rattle.std.specs.Option.{option_copied};
 ghost use Rattle.arrayvec.specs.ArrayVec.{array_vec_len};
@@ -91,21 +91,6 @@ impl Timers {
         Timers {
             timers: ArrayVec::new(),
         }
-    }
-
-    /// Whether there is no room for one more.
-    fn is_full(&self) -> bool
-        ensures full { result ≡ (length self.now == MAX_TIMERS) }
-        ensures few { length self.now ≤ MAX_TIMERS }
-    {
-        self.timers.is_full()
-    }
-
-    /// Whether a timer of an id is set.
-    fn is_set(&self, id: &TimerId) -> bool
-        ensures { result ≡ is_set id.now self.now }
-    {
-        place_of(&self.timers, id).is_some()
     }
 
     /// Sets one more timer. Fewer than [`MAX_TIMERS`] are set, and none of its id.

@@ -28,4 +28,3 @@ pub use look::{Look, MembersFault, NoView};
 pub use pairing::{PairFault, pair};
 pub use published::Published;
 pub use update::Update;
-

@@ -79,20 +79,18 @@ pub fn healthy(place: u64, members: u64, next: u64) -> Seen {
 /// The first step that gave something else than it was to, if there is one.
 pub fn wrong_step(outcome: &Result<Outcome, Refusal>) -> Option<usize> {
     match outcome {
-        Ok(Outcome {
-            shown: Shown::Steps(Some((step, _))),
-            ..
-        }) => Some(*step),
+        Ok(
+            Outcome {
+                shown: Shown::Steps(Some((step, _))),
+                ..
+            },
+        ) => Some(*step),
         _ => None,
     }
 }
 
 /// Whether each step gave what it was to, no pass was given out later, and the agent ended so.
-pub fn went(
-    outcome: &Result<Outcome, Refusal>,
-    fault: Option<CloseFault>,
-    entries: u64,
-) -> bool {
+pub fn went(outcome: &Result<Outcome, Refusal>, fault: Option<CloseFault>, entries: u64) -> bool {
     match outcome {
         Ok(outcome) => {
             matches!(outcome.shown, Shown::Steps(None))
@@ -141,7 +139,14 @@ fn each_call_and_look(rt: HostRuntime) {
         Call::Datagram(1, Heard::OneByte),
         Seen::Refused(Refusal::BadPacket(Fault::Short)),
     )];
-    check(&rt, rt.alloc(), "one byte", case(1, 0, 20_000, &short), None, 1);
+    check(
+        &rt,
+        rt.alloc(),
+        "one byte",
+        case(1, 0, 20_000, &short),
+        None,
+        1,
+    );
     // Looks, the first before a call and the others after it.
     let looks = [
         (0, Call::Version, Seen::Number(1)),
@@ -151,13 +156,27 @@ fn each_call_and_look(rt: HostRuntime) {
         (0, Call::Members, Seen::Number(1)),
         (0, Call::StatusOf(b'b'), Seen::Record(Some(alive_b()))),
     ];
-    check(&rt, rt.alloc(), "looks", case(1, 0, 20_000, &looks), None, 2);
+    check(
+        &rt,
+        rt.alloc(),
+        "looks",
+        case(1, 0, 20_000, &looks),
+        None,
+        2,
+    );
     // A call at 5000, and then a tick at 4000 in another thread: the round starts at 5000.
     let earlier = [
         (0, Call::Health(5000), healthy(1, 2, 0)),
         (1, Call::Tick(4000, 0), round(2, 5500)),
     ];
-    check(&rt, rt.alloc(), "an earlier moment", case(2, 1, 20_000, &earlier), None, 3);
+    check(
+        &rt,
+        rt.alloc(),
+        "an earlier moment",
+        case(2, 1, 20_000, &earlier),
+        None,
+        3,
+    );
 }
 
 #[test]
@@ -168,10 +187,24 @@ fn two_passes(rt: HostRuntime) {
         (1, Call::Health(1), healthy(2, 1, 0)),
         (0, Call::Health(1), healthy(3, 1, 0)),
     ];
-    check(&rt, rt.alloc(), "two passes", case(2, 0, 20_000, &three), None, 4);
+    check(
+        &rt,
+        rt.alloc(),
+        "two passes",
+        case(2, 0, 20_000, &three),
+        None,
+        4,
+    );
     let mut in_two = case(2, 0, 20_000, &three);
     in_two.at_once = false;
-    check(&rt, rt.alloc(), "one is missing", in_two, Some(CloseFault::Missing), 4);
+    check(
+        &rt,
+        rt.alloc(),
+        "one is missing",
+        in_two,
+        Some(CloseFault::Missing),
+        4,
+    );
     check(&rt, rt.alloc(), "no call", case(2, 0, 20_000, &[]), None, 1);
     // One pass hears of c, and then another one looks and asks, in another thread.
     let of_c = [
@@ -182,5 +215,12 @@ fn two_passes(rt: HostRuntime) {
         (1, Call::StatusOf(b'c'), Seen::Record(Some(alive_c()))),
         (1, Call::Ask(20), knows_c(2, 0)),
     ];
-    check(&rt, rt.alloc(), "another hears", case(2, 0, 20_000, &of_c), None, 3);
+    check(
+        &rt,
+        rt.alloc(),
+        "another hears",
+        case(2, 0, 20_000, &of_c),
+        None,
+        3,
+    );
 }

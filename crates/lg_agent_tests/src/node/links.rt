@@ -85,7 +85,8 @@ pub enum Call {
     Receive {
         limit_ms: u64,
     },
-    /// A packet was handed over for a port of 127.0.0.1, or for 0 where it was for another address, and was sent or not.
+    /// A packet was handed over for a port of 127.0.0.1, or for port 0 if it was for another address; it was sent or
+    /// not.
     Send {
         what: Spelled,
         port: u16,

@@ -73,8 +73,8 @@ fn receiving_loops(rt: HostRuntime) {
     let answers = [RECEIVE, RECEIVE, RECEIVE, yes_7];
     let mut answered = ended(stopped, 3, &answers, 2);
     answered.dropped = 1;
-    // Each call of the link fails in turn: two receivings, and two Acks between and behind them. The Ack behind one that
-    // wasn't sent is handed over.
+    // Each call of the link fails in turn: two receivings, and two Acks between and behind them. The Ack behind one
+    // that wasn't sent is handed over.
     let first = [RECEIVE];
     let second = [RECEIVE, no_7, RECEIVE, yes_8];
     let third = [RECEIVE, yes_7, RECEIVE];
