@@ -1,13 +1,12 @@
 //! Agents of one place and of two. Each case is a list of calls and looks, with what each gives.
 use super::calls::{Answered, Call, Heard, Row, Seen};
-use crate::playing::{Case, Ending, Outcome, Play, Shown, told};
+use crate::playing::{Case, Ending, Outcome, Play, Shown, told, told_at_last};
 use lg_agent::{CloseFault, Refusal};
 use lg_detector::Answer;
 use lg_packet::Fault;
 use lg_rules::{Record, Status};
 use lg_testing::{incarnation, letter, local};
 use std::alloc::Global;
-use std::process::Abort;
 use std::rt;
 use std::sync::Wait;
 use std::thread::Threads;
@@ -33,7 +32,7 @@ fn alive_b() -> Record {
 }
 
 /// An answer that says nothing, with this place and this next deadline.
-pub fn answered(place: u64, next: u64) -> Answered {
+fn answered(place: u64, next: u64) -> Answered {
     Answered {
         place,
         answer: None,
@@ -44,14 +43,14 @@ pub fn answered(place: u64, next: u64) -> Answered {
 }
 
 /// One with this many packets.
-pub fn sent(place: u64, sends: usize, next: u64) -> Seen {
+fn sent(place: u64, sends: usize, next: u64) -> Seen {
     let mut seen = answered(place, next);
     seen.sends = sends;
     Seen::Answered(seen)
 }
 
 /// The start of a round with one packet.
-pub fn round(place: u64, next: u64) -> Seen {
+fn round(place: u64, next: u64) -> Seen {
     let mut seen = answered(place, next);
     seen.starts = true;
     seen.sends = 1;
@@ -59,14 +58,14 @@ pub fn round(place: u64, next: u64) -> Seen {
 }
 
 /// c is known, and alive.
-pub fn knows_c(place: u64, next: u64) -> Seen {
+fn knows_c(place: u64, next: u64) -> Seen {
     let mut seen = answered(place, next);
     seen.answer = Some(Answer::Status(Some(alive_c())));
     Seen::Answered(seen)
 }
 
 /// The score is 0, and the own number, of so many members.
-pub fn healthy(place: u64, members: u64, next: u64) -> Seen {
+fn healthy(place: u64, members: u64, next: u64) -> Seen {
     let mut seen = answered(place, next);
     seen.answer = Some(Answer::Health {
         score: 0,
@@ -76,28 +75,15 @@ pub fn healthy(place: u64, members: u64, next: u64) -> Seen {
     Seen::Answered(seen)
 }
 
-/// The first step that gave something else than it was to, if there is one.
-pub fn wrong_step(outcome: &Result<Outcome, Refusal>) -> Option<usize> {
-    match outcome {
-        Ok(
-            Outcome {
-                shown: Shown::Steps(Some((step, _))),
-                ..
-            },
-        ) => Some(*step),
-        _ => None,
-    }
-}
+/// The first step that gave something else than it was to, how many passes were given out later, and how the agent
+/// ended.
+pub type SeenIn = (Option<(usize, Seen)>, usize, Ending);
 
-/// Whether each step gave what it was to, no pass was given out later, and the agent ended so.
-pub fn went(outcome: &Result<Outcome, Refusal>, fault: Option<CloseFault>, entries: u64) -> bool {
-    match outcome {
-        Ok(outcome) => {
-            matches!(outcome.shown, Shown::Steps(None))
-                && outcome.later == 0
-                && outcome.ending == Ending::closed(fault, entries)
-        }
-        Err(_) => false,
+/// What was seen in a case of steps.
+pub fn seen_in(outcome: &Outcome) -> Option<SeenIn> {
+    match &outcome.shown {
+        Shown::Steps(wrong) => Some((*wrong, outcome.later, outcome.ending)),
+        _ => None,
     }
 }
 
@@ -109,23 +95,38 @@ fn case<'a>(places: usize, others: u8, limit: u64, rows: &'a [Row]) -> Case<'a> 
     case
 }
 
-/// Plays a case, whose name says which failed. The agent is closed with so many entries, perhaps after a refusal.
-fn check<R>(
-    rt: &R,
-    alloc: Global,
-    name: &str,
-    case: Case<'_>,
-    fault: Option<CloseFault>,
-    entries: u64,
-)
+/// What is seen in a case.
+fn play<R>(rt: &R, alloc: Global, case: Case<'_>) -> Option<SeenIn>
 where
-    R: Threads + Wait + rt::Clock + Sync + Abort,
+    R: Threads + Wait + rt::Clock + Sync,
 {
-    let outcome = told(rt, alloc, case);
-    let step = wrong_step(&outcome);
-    assert!(rt; went(&outcome, fault, entries), "{name}, step {step:?}");
+    let outcome = told(rt, alloc, case).ok()?;
+    seen_in(&outcome)
 }
 
+/// Each call of the only pass, after each of which a look shows it, at the second try where the opening was refused
+/// memory at the first. After the calls c is known, and a round has begun.
+pub fn play_each_call<R>(rt: &R, alloc: Global) -> Result<Outcome, Refusal>
+where
+    R: Threads + Wait + rt::Clock + Sync,
+{
+    let rows = [
+        (0, Call::Datagram(0, Heard::PingOfC), sent(1, 1, 0)),
+        (0, Call::Version, Seen::Number(2)),
+        (0, Call::Tick(1, 0), round(2, 501)),
+        (0, Call::Version, Seen::Number(3)),
+        (0, Call::Ask(2), knows_c(3, 501)),
+        (0, Call::Version, Seen::Number(4)),
+        (0, Call::Health(3), healthy(4, 2, 501)),
+        (0, Call::Version, Seen::Number(5)),
+        (0, Call::Pull(4), sent(5, 1, 501)),
+        (0, Call::Version, Seen::Number(6)),
+        (0, Call::Members, Seen::Number(2)),
+    ];
+    told_at_last(rt, alloc, Case::new(1, Play::Steps(&rows)))
+}
+
+/// What each call and look gives, to one pass and to two, and how their agents end.
 #[test]
 fn each_call_and_look(rt: HostRuntime) {
     // The history has two entries at the most.
@@ -133,20 +134,12 @@ fn each_call_and_look(rt: HostRuntime) {
         (0, Call::Health(1), healthy(1, 1, 0)),
         (0, Call::Health(2), Seen::Refused(Refusal::HistoryFull(2))),
     ];
-    check(&rt, rt.alloc(), "full", case(1, 0, 2, &full), None, 2);
+    // A datagram of one byte.
     let short = [(
         0,
         Call::Datagram(1, Heard::OneByte),
         Seen::Refused(Refusal::BadPacket(Fault::Short)),
     )];
-    check(
-        &rt,
-        rt.alloc(),
-        "one byte",
-        case(1, 0, 20_000, &short),
-        None,
-        1,
-    );
     // Looks, the first before a call and the others after it.
     let looks = [
         (0, Call::Version, Seen::Number(1)),
@@ -156,56 +149,12 @@ fn each_call_and_look(rt: HostRuntime) {
         (0, Call::Members, Seen::Number(1)),
         (0, Call::StatusOf(b'b'), Seen::Record(Some(alive_b()))),
     ];
-    check(
-        &rt,
-        rt.alloc(),
-        "looks",
-        case(1, 0, 20_000, &looks),
-        None,
-        2,
-    );
-    // A call at 5000, and then a tick at 4000 in another thread: the round starts at 5000.
-    let earlier = [
-        (0, Call::Health(5000), healthy(1, 2, 0)),
-        (1, Call::Tick(4000, 0), round(2, 5500)),
-    ];
-    check(
-        &rt,
-        rt.alloc(),
-        "an earlier moment",
-        case(2, 1, 20_000, &earlier),
-        None,
-        3,
-    );
-}
-
-#[test]
-fn two_passes(rt: HostRuntime) {
     // Two calls of the first pass, and one of the second between them.
     let three = [
         (0, Call::Health(1), healthy(1, 1, 0)),
         (1, Call::Health(1), healthy(2, 1, 0)),
         (0, Call::Health(1), healthy(3, 1, 0)),
     ];
-    check(
-        &rt,
-        rt.alloc(),
-        "two passes",
-        case(2, 0, 20_000, &three),
-        None,
-        4,
-    );
-    let mut in_two = case(2, 0, 20_000, &three);
-    in_two.at_once = false;
-    check(
-        &rt,
-        rt.alloc(),
-        "one is missing",
-        in_two,
-        Some(CloseFault::Missing),
-        4,
-    );
-    check(&rt, rt.alloc(), "no call", case(2, 0, 20_000, &[]), None, 1);
     // One pass hears of c, and then another one looks and asks, in another thread.
     let of_c = [
         (0, Call::Datagram(10, Heard::PingOfC), sent(1, 1, 0)),
@@ -215,12 +164,42 @@ fn two_passes(rt: HostRuntime) {
         (1, Call::StatusOf(b'c'), Seen::Record(Some(alive_c()))),
         (1, Call::Ask(20), knows_c(2, 0)),
     ];
-    check(
-        &rt,
-        rt.alloc(),
-        "another hears",
-        case(2, 0, 20_000, &of_c),
-        None,
-        3,
-    );
+    // A call at 5000, and then a tick at 4000 in another thread: the round starts at 5000.
+    let earlier = [
+        (0, Call::Health(5000), healthy(1, 2, 0)),
+        (1, Call::Tick(4000, 0), round(2, 5500)),
+    ];
+    let (alloc, most) = (rt.alloc(), 20_000);
+    let mut in_two = case(2, 0, most, &three);
+    in_two.at_once = false;
+    let missing = Some(CloseFault::Missing);
+    let rows = [
+        ("full", play(&rt, alloc, case(1, 0, 2, &full)), None, 2),
+        ("short", play(&rt, alloc, case(1, 0, most, &short)), None, 1),
+        ("looks", play(&rt, alloc, case(1, 0, most, &looks)), None, 2),
+        (
+            "two passes",
+            play(&rt, alloc, case(2, 0, most, &three)),
+            None,
+            4,
+        ),
+        ("one is missing", play(&rt, alloc, in_two), missing, 4),
+        ("no call", play(&rt, alloc, case(2, 0, most, &[])), None, 1),
+        (
+            "another hears",
+            play(&rt, alloc, case(2, 0, most, &of_c)),
+            None,
+            3,
+        ),
+        (
+            "an earlier moment",
+            play(&rt, alloc, case(2, 1, most, &earlier)),
+            None,
+            3,
+        ),
+    ];
+    for (name, seen, fault, entries) in rows {
+        let want = (None, 0, Ending::closed(fault, entries));
+        assert_eq!(rt; seen, Some(want), "{name}");
+    }
 }
