@@ -4,3 +4,4 @@ mod faults;
 pub mod many;
 mod refused_memory;
 mod rows;
+mod seats;

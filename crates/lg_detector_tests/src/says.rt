@@ -81,18 +81,25 @@ pub(crate) fn claim_of(said: &Said) -> Claim {
     }
 }
 
-/// Adds a claim where there is room for it.
-fn add(list: &mut ArrayVec<Claim, MAX_CLAIMS>, claim: &Claim) {
-    if !list.is_full() {
-        list.push(*claim);
-    }
-}
-
 /// The first six of some claims.
 pub(crate) fn claims_of(said: &[Said]) -> ArrayVec<Claim, MAX_CLAIMS> {
     let mut list = ArrayVec::new();
     for one in said {
-        add(&mut list, &claim_of(one));
+        // Built anew of its parts, since the checker doesn't follow a whole claim into a generic call.
+        let Claim {
+            name,
+            addr,
+            status,
+            incarnation,
+        } = claim_of(one);
+        if !list.is_full() {
+            list.push(Claim {
+                name,
+                addr,
+                status,
+                incarnation,
+            });
+        }
     }
     list
 }

@@ -4,7 +4,7 @@ use crate::says::{Member, Said, are_said, claim_of, is_said, named, names_of};
 use arrayvec::ArrayVec;
 use lg_membership::{Applied, Deadline, MAX_MEMBERS, Membership, Origin, Presence};
 use lg_rules::{Claim, MAX_CLAIMS, Name, Record};
-use lg_testing::{at, failed, local};
+use lg_testing::{at, failed, local, said};
 use lg_timing::Config;
 use std::process::Abort;
 
@@ -112,8 +112,7 @@ fn table_of(membership: &Membership) -> ArrayVec<Record, MAX_MEMBERS> {
 
 /// The page behind a name, in a row that held another record before.
 fn page_of(membership: &Membership, after: Option<&Name>) -> ArrayVec<Record, MAX_CLAIMS> {
-    let mut row = ArrayVec::new();
-    row.push(failed(b'z', 9));
+    let mut row = said(&[failed(b'z', 9)]);
     membership.put_page(after, &mut row);
     row
 }
