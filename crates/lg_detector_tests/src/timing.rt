@@ -8,16 +8,17 @@ use lg_timing::{
     tables_are_logarithms,
 };
 
-/// A score of at most 8 after eight marks and after one more, the interval and the timeout at it, and a score after one
-/// mark below 0 and after two more.
+/// A score of at most 8 after seven marks of 1 and one of 2, and after one more, the interval and the timeout at it, and
+/// a score after one mark below 0 and after two more.
 fn scores() -> [u64; 6] {
     let config = Config::new(letter(b'b'), Addr::default());
     let mut high = Score::new(8);
-    for _ in 0..8 {
+    for _ in 0..7 {
         high.mark(1);
     }
-    let eight = high.value();
     high.mark(2);
+    let eight = high.value();
+    high.mark(1);
     let mut low = Score::new(8);
     low.mark(-1);
     let none = low.value();
