@@ -68,14 +68,15 @@ impl Asked<'_> {
     }
 }
 
-/// The option `--ID TEXT`, which is required.
-fn text_option<'a>(alloc: Global, id: &'a str, text: &'a str) -> Arg<'a>
+/// The option `--ID TEXT`, which is required, with its help.
+fn text_option<'a>(alloc: Global, id: &'a str, text: &'a str, help: &'a str) -> Arg<'a>
     ensures rule { rule_of result ≡ text_rule id.entry.now }
     ensures local { result.global ≡ false }
 {
     Arg::new(alloc, id)
         .long(id)
         .value_name(text)
+        .help(help)
         .required(true)
         .action(ArgAction::Set)
 }
@@ -85,12 +86,14 @@ fn answer_command<'a>(alloc: Global) -> Result<Command<'a>, AllocError>
     ensures app { IfOk result (λ command. app_of command ≡ answer_app) }
     ensures local { IfOk result (λ command. (fields_of command).has_globals ≡ false) }
 {
-    let name = text_option(alloc, "name", "NAME").help(
-        "The name of the detector, of 1 to 32 bytes of A-Z a-z 0-9 . _ -",
-    );
     Command::new(alloc, "answer")
         .about("Answers packets, a line of hex each, as a detector does")
-        .arg(name)
+        .arg(text_option(
+            alloc,
+            "name",
+            "NAME",
+            "The name of the detector, of 1 to 32 bytes of A-Z a-z 0-9 . _ -",
+        ))
 }
 
 /// The command `order --names LIST --words LIST`.
@@ -98,16 +101,20 @@ fn order_command<'a>(alloc: Global) -> Result<Command<'a>, AllocError>
     ensures app { IfOk result (λ command. app_of command ≡ order_app) }
     ensures local { IfOk result (λ command. (fields_of command).has_globals ≡ false) }
 {
-    let names = text_option(alloc, "names", "LIST").help(
-        "The names, 1 to 255 different ones between commas",
-    );
-    let words = text_option(alloc, "words", "LIST").help(
-        "The words, numbers from 0 to 4294967295 between commas",
-    );
     Command::new(alloc, "order")
         .about("Writes whom words choose to be probed, one after another of the names")
-        .arg(names)?
-        .arg(words)
+        .arg(text_option(
+            alloc,
+            "names",
+            "LIST",
+            "The names, 1 to 255 different ones between commas",
+        ))?
+        .arg(text_option(
+            alloc,
+            "words",
+            "LIST",
+            "The words, numbers from 0 to 4294967295 between commas",
+        ))
 }
 
 /// The command `sim`, which has no options.
@@ -120,14 +127,15 @@ fn sim_command<'a>(alloc: Global) -> Command<'a>
     )
 }
 
-/// The option `--ID N`, a number between two others, which count.
-fn number_option<'a>(alloc: Global, id: &'a str, least: u64, most: u64) -> Arg<'a>
+/// The option `--ID N`, a number between two others, which count, with its help.
+fn number_option<'a>(alloc: Global, id: &'a str, least: u64, most: u64, help: &'a str) -> Arg<'a>
     ensures rule { rule_of result ≡ number_rule id.entry.now least most }
     ensures local { result.global ≡ false }
 {
     Arg::new(alloc, id)
         .long(id)
         .value_name("N")
+        .help(help)
         .value_parser(ValueParser::unsigned(least, most))
         .action(ArgAction::Set)
 }
@@ -137,28 +145,32 @@ fn timeouts_command<'a>(alloc: Global) -> Result<Command<'a>, AllocError>
     ensures app { IfOk result (λ command. app_of command ≡ timeouts_app) }
     ensures local { IfOk result (λ command. (fields_of command).has_globals ≡ false) }
 {
-    let members = number_option(alloc, "members", 1, MAX_MEMBERS as u64).help(
-        "How many members there are, oneself among them",
-    );
-    let confirmations = number_option(alloc, "confirmations", 0, MAX_CONFIRMATIONS).help(
-        "After how many confirmations the timeout is the least",
-    );
-    let alpha = number_option(alloc, "alpha", 1, MAX_FACTOR).help(
-        "The factor of the least timeout",
-    );
-    let beta = number_option(alloc, "beta", 1, MAX_FACTOR).help(
-        "The greatest timeout over the least",
-    );
-    let interval = number_option(alloc, "interval-ms", MIN_INTERVAL_MS, MAX_INTERVAL_MS).help(
-        "The protocol period, in milliseconds",
-    );
+    let members = "How many members there are, oneself among them";
+    let confirmations = "After how many confirmations the timeout is the least";
+    let alpha = "The factor of the least timeout";
+    let beta = "The greatest timeout over the least";
+    let interval = "The protocol period, in milliseconds";
+    // Each option is made where it is added, so that none is to be dropped where adding another fails.
     Command::new(alloc, "timeouts")
         .about("Writes the timeouts of a suspicion, in milliseconds")
-        .arg(members.required(true))?
-        .arg(confirmations.default_value("3"))?
-        .arg(alpha.default_value("5"))?
-        .arg(beta.default_value("6"))?
-        .arg(interval.default_value("1000"))
+        .arg(number_option(alloc, "members", 1, MAX_MEMBERS as u64, members).required(true))?
+        .arg(number_option(
+            alloc,
+            "confirmations",
+            0,
+            MAX_CONFIRMATIONS,
+            confirmations,
+        ).default_value("3"))?
+        .arg(number_option(alloc, "alpha", 1, MAX_FACTOR, alpha).default_value("5"))?
+        .arg(number_option(alloc, "beta", 1, MAX_FACTOR, beta).default_value("6"))?
+        .arg(number_option(
+            alloc,
+            "interval-ms",
+            MIN_INTERVAL_MS,
+            MAX_INTERVAL_MS,
+            interval,
+        )
+        .default_value("1000"))
 }
 
 /// The command `node --config FILE --for-ms N`.
@@ -166,16 +178,12 @@ fn node_command<'a>(alloc: Global) -> Result<Command<'a>, AllocError>
     ensures app { IfOk result (λ command. app_of command ≡ node_app) }
     ensures local { IfOk result (λ command. (fields_of command).has_globals ≡ false) }
 {
-    let config = text_option(alloc, "config", "FILE").help(
-        "The file that has the node's configuration",
-    );
-    let for_ms = number_option(alloc, "for-ms", 1, MAX_RUN_MS).help(
-        "For how many milliseconds the node runs, at most a day",
-    );
+    let file = "The file that has the node's configuration";
+    let run = "For how many milliseconds the node runs, at most a day";
     Command::new(alloc, "node")
         .about("Runs a node, a member of a group, from a configuration")
-        .arg(config)?
-        .arg(for_ms.required(true))
+        .arg(text_option(alloc, "config", "FILE", file))?
+        .arg(number_option(alloc, "for-ms", 1, MAX_RUN_MS, run).required(true))
 }
 
 /// The program with its commands, one of which has to be named.
@@ -183,18 +191,19 @@ fn lg_command<'a>(alloc: Global) -> Result<Command<'a>, AllocError>
     ensures { IfOk result (λ command. app_of command ≡ lg_app) }
 {
     let answer = answer_command(alloc)?;
-    let order = order_command(alloc)?;
-    let timeouts = timeouts_command(alloc)?;
-    let sim = sim_command(alloc);
-    let node = node_command(alloc)?;
-    let lg = Command::new(alloc, "lg")
+    let with_answer = Command::new(alloc, "lg")
         .about("A SWIM failure detector with Lifeguard's extensions")
         .subcommand_required(true)
-        .subcommand(answer)?
-        .subcommand(order)?
-        .subcommand(timeouts)?
-        .subcommand(sim)?
-        .subcommand(node)?;
+        .subcommand(answer)?;
+    // Each command is made where it is added, so that few are to be dropped where memory is refused.
+    let order = order_command(alloc)?;
+    let with_order = with_answer.subcommand(order)?;
+    let timeouts = timeouts_command(alloc)?;
+    let with_timeouts = with_order.subcommand(timeouts)?;
+    let sim = sim_command(alloc);
+    let with_sim = with_timeouts.subcommand(sim)?;
+    let node = node_command(alloc)?;
+    let lg = with_sim.subcommand(node)?;
     Ok(lg)
 }
 

@@ -9,12 +9,12 @@ pub returns : goal.returns
 returns c =
     let named : app_of c.about.result ≡ app_of c.new.result = ap app_of_fields c.about.ensures in
     let top : app_of c.subcommand_required.result ≡ requiring (app_of c.about.result) = ap app_of_fields c.subcommand_required.ensures in
-    let answers = c.in_ok-subcommand.ensures.shape c.in_ok-answer.ensures.local
+    let with_answer = c.in_ok-with_answer.ensures.shape c.in_ok-answer.ensures.local
     ∙ ap₂ with_subcommand (top ∙ ap requiring (named ∙ c.new.ensures.app)) (ap (λ (a : App). a.top) c.in_ok-answer.ensures.app) in
-    let orders = c.in_ok-subcommand-2.ensures.shape c.in_ok-order.ensures.local
-    ∙ ap₂ with_subcommand answers (ap (λ (a : App). a.top) c.in_ok-order.ensures.app) in
-    let times = c.in_ok-subcommand-3.ensures.shape c.in_ok-timeouts.ensures.local
-    ∙ ap₂ with_subcommand orders (ap (λ (a : App). a.top) c.in_ok-timeouts.ensures.app) in
-    let sims = c.in_ok-subcommand-4.ensures.shape c.sim_command-sim.ensures.local
-    ∙ ap₂ with_subcommand times (ap (λ (a : App). a.top) c.sim_command-sim.ensures.app) in
-    c.in_ok-lg.ensures.shape c.in_ok-node.ensures.local ∙ ap₂ with_subcommand sims (ap (λ (a : App). a.top) c.in_ok-node.ensures.app)
+    let with_order = c.in_ok-with_order.ensures.shape c.in_ok-order.ensures.local
+    ∙ ap₂ with_subcommand with_answer (ap (λ (a : App). a.top) c.in_ok-order.ensures.app) in
+    let with_timeouts = c.in_ok-with_timeouts.ensures.shape c.in_ok-timeouts.ensures.local
+    ∙ ap₂ with_subcommand with_order (ap (λ (a : App). a.top) c.in_ok-timeouts.ensures.app) in
+    let with_sim = c.in_ok-with_sim.ensures.shape c.sim_command-sim.ensures.local
+    ∙ ap₂ with_subcommand with_timeouts (ap (λ (a : App). a.top) c.sim_command-sim.ensures.app) in
+    c.in_ok-lg.ensures.shape c.in_ok-node.ensures.local ∙ ap₂ with_subcommand with_sim (ap (λ (a : App). a.top) c.in_ok-node.ensures.app)

@@ -15,12 +15,12 @@ returns c =
       is = ap app_of_fields c.about.ensures ∙ c.new.ensures.app;
       local = ap (λ f. f.has_globals) c.about.ensures ∙ c.new.ensures.local;
     } in
-    let one = adds_rule _ _ c.help-config.result _ (text_rule (codes "config")) c.in_ok-arg.ensures
-    (ap (λ (a : Arg). a.global) c.help-config.ensures ∙ c.text_option.ensures.local)
-    (ap rule_of c.help-config.ensures ∙ c.text_option.ensures.rule) none in
+    let one = adds_rule _ _ c.text_option.result _ (text_rule (codes "config")) c.in_ok-arg.ensures
+    c.text_option.ensures.local
+    c.text_option.ensures.rule none in
     let two = λ (command : Command) (adds : AddsArg c.in_ok-arg.field-0 c.required.result command). adds_rule _ command c.required.result _ for_ms_rule adds
-    (ap (λ (a : Arg). a.global) c.required.ensures ∙ ap (λ (a : Arg). a.global) c.help-for_ms.ensures ∙ c.number_option.ensures.local)
-    (ap rule_of c.required.ensures ∙ ap required_rule (ap rule_of c.help-for_ms.ensures ∙ c.number_option.ensures.rule)) one in
+    (ap (λ (a : Arg). a.global) c.required.ensures ∙ c.number_option.ensures.local)
+    (ap rule_of c.required.ensures ∙ ap required_rule c.number_option.ensures.rule) one in
     record {
       app = IfOk-weaker c.arg-2.result _ _ (λ command adds. (two command adds).is) c.arg-2.ensures;
       local = IfOk-weaker c.arg-2.result _ _ (λ command adds. (two command adds).local) c.arg-2.ensures;

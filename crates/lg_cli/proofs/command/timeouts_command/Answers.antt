@@ -16,20 +16,20 @@ returns c =
       local = ap (λ f. f.has_globals) c.about.ensures ∙ c.new.ensures.local;
     } in
     let one = adds_rule _ _ c.required.result _ members_rule c.in_ok-arg.ensures
-    (ap (λ (a : Arg). a.global) c.required.ensures ∙ ap (λ (a : Arg). a.global) c.help-members.ensures ∙ c.number_option.ensures.local)
-    (ap rule_of c.required.ensures ∙ ap required_rule (ap rule_of c.help-members.ensures ∙ c.number_option.ensures.rule)) none in
+    (ap (λ (a : Arg). a.global) c.required.ensures ∙ c.number_option.ensures.local)
+    (ap rule_of c.required.ensures ∙ ap required_rule c.number_option.ensures.rule) none in
     let two = adds_rule _ _ c.default_value.result _ confirmations_rule c.in_ok-arg-2.ensures
-    (ap (λ (a : Arg). a.global) c.default_value.ensures ∙ ap (λ (a : Arg). a.global) c.help-confirmations.ensures ∙ c.number_option-2.ensures.local)
-    (ap rule_of c.default_value.ensures ∙ ap (λ r. default_rule r (codes "3")) (ap rule_of c.help-confirmations.ensures ∙ c.number_option-2.ensures.rule)) one in
+    (ap (λ (a : Arg). a.global) c.default_value.ensures ∙ c.number_option-2.ensures.local)
+    (ap rule_of c.default_value.ensures ∙ ap (λ r. default_rule r (codes "3")) c.number_option-2.ensures.rule) one in
     let three = adds_rule _ _ c.default_value-2.result _ alpha_rule c.in_ok-arg-3.ensures
-    (ap (λ (a : Arg). a.global) c.default_value-2.ensures ∙ ap (λ (a : Arg). a.global) c.help-alpha.ensures ∙ c.number_option-3.ensures.local)
-    (ap rule_of c.default_value-2.ensures ∙ ap (λ r. default_rule r (codes "5")) (ap rule_of c.help-alpha.ensures ∙ c.number_option-3.ensures.rule)) two in
+    (ap (λ (a : Arg). a.global) c.default_value-2.ensures ∙ c.number_option-3.ensures.local)
+    (ap rule_of c.default_value-2.ensures ∙ ap (λ r. default_rule r (codes "5")) c.number_option-3.ensures.rule) two in
     let four = adds_rule _ _ c.default_value-3.result _ beta_rule c.in_ok-arg-4.ensures
-    (ap (λ (a : Arg). a.global) c.default_value-3.ensures ∙ ap (λ (a : Arg). a.global) c.help-beta.ensures ∙ c.number_option-4.ensures.local)
-    (ap rule_of c.default_value-3.ensures ∙ ap (λ r. default_rule r (codes "6")) (ap rule_of c.help-beta.ensures ∙ c.number_option-4.ensures.rule)) three in
+    (ap (λ (a : Arg). a.global) c.default_value-3.ensures ∙ c.number_option-4.ensures.local)
+    (ap rule_of c.default_value-3.ensures ∙ ap (λ r. default_rule r (codes "6")) c.number_option-4.ensures.rule) three in
     let five = λ (command : Command) (adds : AddsArg c.in_ok-arg-4.field-0 c.default_value-4.result command). adds_rule _ command c.default_value-4.result _ interval_rule adds
-    (ap (λ (a : Arg). a.global) c.default_value-4.ensures ∙ ap (λ (a : Arg). a.global) c.help-interval.ensures ∙ c.number_option-5.ensures.local)
-    (ap rule_of c.default_value-4.ensures ∙ ap (λ r. default_rule r (codes "1000")) (ap rule_of c.help-interval.ensures ∙ c.number_option-5.ensures.rule)) four in
+    (ap (λ (a : Arg). a.global) c.default_value-4.ensures ∙ c.number_option-5.ensures.local)
+    (ap rule_of c.default_value-4.ensures ∙ ap (λ r. default_rule r (codes "1000")) c.number_option-5.ensures.rule) four in
     record {
       app = IfOk-weaker c.arg-5.result _ _ (λ command adds. (five command adds).is) c.arg-5.ensures;
       local = IfOk-weaker c.arg-5.result _ _ (λ command adds. (five command adds).local) c.arg-5.ensures;
