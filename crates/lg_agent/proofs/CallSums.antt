@@ -1,12 +1,16 @@
 -- The entries of a history are the opening's and one for each answered call.
-use Rattle.std.proofs.Common.{◌≡◌, ℕ, ◌+◌, ◌<◌, ◌≤◌, ◌==◌, Bool, true, false, cond, if◌then◌else◌, List, [], ◌∷◌, length, refl, ap, sym, ◌∙◌, arith, zero-add, All}
+use Rattle.std.proofs.Common.{◌≡◌, ℕ, ◌+◌, ◌<◌, ◌≤◌, ◌==◌, Bool, true, false, cond, if◌then◌else◌, List, [], ◌∷◌, ◌++◌, length, drop, refl, ap, sym, ◌∙◌, arith, zero-add, All}
 use Rattle.std.specs.List.{sum_by}
 use Rattle.std.proofs.lemmas.Bool.{eqb-true, eq-eqb, ne_eqb}
 use Rattle.std.proofs.lemmas.List.Elements.{All-head, All-tail}
-use Rattle.std.proofs.lemmas.List.Sums.{sum_by-cons}
+use Rattle.std.proofs.lemmas.List.{length-drop}
+use Rattle.std.proofs.lemmas.List.Sums.{sum_by-cons, prefix_len-le-length}
+use Rattle.std.specs.Prelude.{nat_lt}
 use Rattle.lg_history.specs.Meaning.History.{Entry, IsSeat, Seated, positions}
 use Rattle.lg_agent.specs.Meaning.Ledger.{Own}
-use Rattle.lg_agent.specs.Meaning.Closing.{times}
+use Rattle.lg_history.specs.Meaning.Rest.{made_by}
+use Rattle.lg_history.proofs.Rests.{made_by-join}
+use Rattle.lg_agent.specs.Meaning.Closing.{times, below}
 use Rattle.lg_agent.proofs.ClosingLaws.{times-cons, times_no}
 
 -- how many entries of a history each of some passes has, added up
@@ -57,24 +61,39 @@ none_at_zero (s ∷ all) seats =
     let isnt : (s.seat == 0) ≡ false = ne_eqb s.seat 0 (λ is. absurd (omega (arith, here, is))) in
     times_no s all 0 isnt ∙ none_at_zero all (All-tail Low s all seats)
 
-lengths : (h : List Entry) (all : List Own) → All (λ s. s.mine ≡ positions s.seat 0 h) all → sum_by (λ s. length s.mine) all ≡ had 0 h all
+lengths : (h : List Entry) (all : List Own) → All (λ s. s.gone + length s.mine ≡ length (positions s.seat 0 h)) all → sum_by (λ s. s.gone + length s.mine) all ≡ had 0 h all
 lengths h [] same = refl
 lengths h (s ∷ all) same =
-    let Same : Own → Type 0 = λ o. o.mine ≡ positions o.seat 0 h in
-    let here : length s.mine ≡ length (positions s.seat 0 h) = ap length (All-head Same s all same) in
-    let rest : sum_by (λ (o : Own). length o.mine) all ≡ had 0 h all = lengths h all (All-tail Same s all same) in
-    let left = sum_by-cons (λ (o : Own). length o.mine) s all in
+    let Same : Own → Type 0 = λ o. o.gone + length o.mine ≡ length (positions o.seat 0 h) in
+    let here : s.gone + length s.mine ≡ length (positions s.seat 0 h) = All-head Same s all same in
+    let rest : sum_by (λ (o : Own). o.gone + length o.mine) all ≡ had 0 h all = lengths h all (All-tail Same s all same) in
+    let left = sum_by-cons (λ (o : Own). o.gone + length o.mine) s all in
     let right = sum_by-cons (λ (o : Own). length (positions o.seat 0 h)) s all in
     left ∙ rw (here, rest) (sym right)
 
 -- the sum
-pub calls_sum : (places : ℕ) (h : List Entry) (all : List Own) → Seated places h → ((p : ℕ) → 0 < p → p ≤ places → times all p ≡ 1) → All (λ s. 0 < s.seat) all → All (λ s. s.mine ≡ positions s.seat 0 h) all
-    → length h ≡ 1 + sum_by (λ s. length s.mine) all
+pub calls_sum : (places : ℕ) (h : List Entry) (all : List Own) → Seated places h → ((p : ℕ) → 0 < p → p ≤ places → times all p ≡ 1) → All (λ s. 0 < s.seat) all → All (λ s. s.gone + length s.mine ≡ length (positions s.seat 0 h)) all
+    → length h ≡ 1 + sum_by (λ s. s.gone + length s.mine) all
 calls_sum places [] all seated one_each low same = absurd seated
 calls_sum places (x ∷ h) all seated one_each low same =
     let mine = lengths (x ∷ h) all same in
     let split : had 0 (x ∷ h) all ≡ times all x.seat + had 1 h all = had-cons 0 x h all in
     let none : times all x.seat ≡ 0 = ap (times all) seated.0 ∙ none_at_zero all low in
     let rest : had 1 h all ≡ length h = had-all places 1 h all one_each seated.1 in
-    let total : sum_by (λ (s : Own). length s.mine) all ≡ length h = mine ∙ (split ∙ omega (arith, none, rest)) in
+    let total : sum_by (λ (s : Own). s.gone + length s.mine) all ≡ length h = mine ∙ (split ∙ omega (arith, none, rest)) in
     rw total (omega arith)
+
+-- how many positions a seat has
+length-positions : (seat n : ℕ) (h : List Entry) → length (positions seat n h) ≡ made_by seat h
+length-positions seat n [] = refl
+length-positions seat n (x ∷ h) = one_more (x.seat == seat) n (positions seat (n + 1) h) ∙ (ap (λ (k : ℕ). cond (x.seat == seat) 1 0 + k) (length-positions seat (n + 1) h) ∙ sym (sum_by-cons (λ (y : Entry). cond (y.seat == seat) 1 0) x h))
+
+-- As many calls of a pass as entries of its place, of which the first were cut off.
+pub all_calls : (gone h : List Entry) (s : Own) → s.gone + below (length gone) s.mine ≡ made_by s.seat gone → drop (below (length gone) s.mine) s.mine ≡ positions s.seat (length gone) h → s.gone + length s.mine ≡ length (positions s.seat 0 (gone ++ h))
+all_calls gone h s cut mine =
+    let first : ℕ = below (length gone) s.mine in
+    let few : first ≤ length s.mine = prefix_len-le-length (λ (n : ℕ). nat_lt n (length gone)) s.mine in
+    let rest : length (drop first s.mine) ≡ made_by s.seat h = ap length mine ∙ length-positions s.seat (length gone) h in
+    let long = length-drop first s.mine in
+    let whole : length (positions s.seat 0 (gone ++ h)) ≡ made_by s.seat gone + made_by s.seat h = length-positions s.seat 0 (gone ++ h) ∙ made_by-join s.seat gone h in
+    omega (arith, cut, few, rest, long, whole)

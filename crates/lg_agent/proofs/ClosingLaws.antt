@@ -1,5 +1,5 @@
 -- What is known where closing finds no fault.
-use Rattle.std.proofs.Common.{◌≡◌, ℕ, zero, suc, ◌+◌, ◌-◌, ◌<◌, ◌≤◌, ◌==◌, Bool, true, false, ◌||◌, not, cond, if◌then◌else◌, List, [], ◌∷◌, length, get_or, refl, ap, sym, ◌∙◌, subst, arith, zero-add, All}
+use Rattle.std.proofs.Common.{◌≡◌, ℕ, zero, suc, ◌+◌, ◌-◌, ◌<◌, ◌≤◌, ◌==◌, Bool, true, false, ◌||◌, not, cond, if◌then◌else◌, List, [], ◌∷◌, length, get_or, drop, refl, ap, sym, ◌∙◌, subst, arith, zero-add, All}
 use Rattle.std.specs.Prelude.{Option, Some, None, option_map, nat_eq, nat_lt}
 use Rattle.std.specs.List.{list_any, find, range_with_len}
 use Rattle.std.specs.Option.{option_or}
@@ -10,10 +10,11 @@ use Rattle.std.proofs.lemmas.List.Elements.{All-nil, All-cons, All-head, All-tai
 use Rattle.std.proofs.lemmas.List.Sums.{sum_by-cons}
 use Rattle.lg_rules.proofs.KeyOrder.{names_equal}
 use Rattle.lg_history.specs.Meaning.History.{Entry, positions}
+use Rattle.lg_history.specs.Meaning.Rest.{of_seat}
 use Rattle.lg_agent.specs.declared.refusal.CloseFault.{CloseFault}
 use Rattle.lg_agent.specs.declared.refusal.CloseFault.TheVariants.{Missing, Foreign, Differs}
-use Rattle.lg_agent.specs.Meaning.Ledger.{Own, own_name}
-use Rattle.lg_agent.specs.Meaning.Closing.{times, is_foreign, is_missing, first_difference, difference, difference_at, least_difference, close_fault}
+use Rattle.lg_agent.specs.Meaning.Ledger.{Ledger, Own, own_name, all_events}
+use Rattle.lg_agent.specs.Meaning.Closing.{times, is_foreign, is_missing, below, first_difference, difference, difference_at, least_difference, close_fault}
 
 -- The places in order, one step on.
 pub places_more : (n i : ℕ) → i < n → range_with_len (i + 1) (n - i) ≡ (i + 1) ∷ range_with_len (i + 1 + 1) (n - (i + 1))
@@ -107,7 +108,7 @@ or_none : (a b : Option CloseFault) → option_or a b ≡ None → (a ≡ None) 
 or_none None b e = (refl, e)
 or_none (Some x) b e = absurd cc
 
-pub no_difference : (h : List Entry) (all : List Own) (a n p : ℕ) → least_difference h all (range_with_len a n) ≡ None → a ≤ p → p < a + n → difference_at h (find (λ s. s.seat == p) all) ≡ None
+pub no_difference : (h : Ledger) (all : List Own) (a n p : ℕ) → least_difference h all (range_with_len a n) ≡ None → a ≤ p → p < a + n → difference_at h (find (λ s. s.seat == p) all) ≡ None
 no_difference h all a zero p e low high = absurd (omega arith)
 no_difference h all a (suc n) p e low high = elim (nat_eq p a) as (λ (b : Bool). nat_eq p a ≡ b → difference_at h (find (λ s. s.seat == p) all) ≡ None) [
   | true ↦ λ is. ap (λ (q : ℕ). difference_at h (find (λ s. s.seat == q) all)) (eqb-true p a is) ∙ (or_none _ _ e).0
@@ -128,31 +129,41 @@ map_none : (seat : ℕ) (o : Option ℕ) → option_map (λ (i : ℕ). Differs s
 map_none seat None e = refl
 map_none seat (Some i) e = absurd cc
 
--- What no fault says.
-pub record Found (places : ℕ) (h : List Entry) (all : List Own) : Type 0 where
-  pub belong : All (Belongs (own_name h) places all) all
-  pub one_each : (p : ℕ) → 0 < p → p ≤ places → times all p ≡ 1
-  pub mine : All (λ s. s.mine ≡ positions s.seat 0 h) all
+-- calls that differ nowhere: as many are cut off as entries of the place, and the other positions are those of its place
+same_calls : (seat calls cut lesser : ℕ) (o : Option ℕ) → (if calls == cut then option_map (λ (i : ℕ). Differs seat i) o else Some (Differs seat lesser)) ≡ None → (calls ≡ cut) × (o ≡ None)
+same_calls seat calls cut lesser o e = elim (calls == cut) as (λ (b : Bool). (calls == cut) ≡ b → (if b then option_map (λ (i : ℕ). Differs seat i) o else Some (Differs seat lesser)) ≡ None → (calls ≡ cut) × (o ≡ None)) [
+  | true ↦ λ is none. (eqb-true calls cut is, map_none seat o none)
+  | false ↦ λ isnt none. absurd cc
+] refl e
 
-pub found : (places : ℕ) (h : List Entry) (all : List Own) → close_fault places h all ≡ None → Found places h all
-found places h all e =
+-- What no fault says.
+pub record Found (l : Ledger) (all : List Own) : Type 0 where
+  pub belong : All (Belongs (own_name (all_events l)) l.places all) all
+  pub one_each : (p : ℕ) → 0 < p → p ≤ l.places → times all p ≡ 1
+  pub cut : All (λ s. s.gone + below (length l.past) s.mine ≡ of_seat l.cut s.seat) all
+  pub mine : All (λ s. drop (below (length l.past) s.mine) s.mine ≡ positions s.seat (length l.past) l.history) all
+
+pub found : (l : Ledger) (all : List Own) → close_fault l all ≡ None → Found l all
+found l all e =
+    let name : List ℕ = own_name (all_events l) in
     let three = no_fault _ _ _ e in
-    let none = none_in_list (is_foreign (own_name h) places all) all three.0 in
-    let each : All (Belongs (own_name h) places all) all = λ k d low. belongs (own_name h) places all (get_or all k d) (none k d low) in
+    let none = none_in_list (is_foreign name l.places all) all three.0 in
+    let each : All (Belongs name l.places all) all = λ k d low. belongs name l.places all (get_or all k d) (none k d low) in
+    let same : (k : ℕ) (d : Own) → k < length all → difference l (get_or all k d) ≡ None = λ k d low.
+        let s : Own = get_or all k d in
+        let b : Belongs name l.places all s = each k d low in
+        let at : difference_at l (find (λ (o : Own). o.seat == s.seat) all) ≡ None = no_difference l all 1 l.places s.seat three.2 (omega (arith, b.low)) (omega (arith, b.high)) in
+        sym (ap (difference_at l) (find_only all k d low b.once)) ∙ at in
     record {
       belong = each;
       one_each = λ p low high.
-          let here : is_missing all p ≡ false = none_in_range (is_missing all) 1 places p three.1 (omega arith) (omega arith) in
+          let here : is_missing all p ≡ false = none_in_range (is_missing all) 1 l.places p three.1 (omega arith) (omega arith) in
           let some : 0 < times all p = grind (arith, nat_tests, here) in
-          let one = one_with (Belongs (own_name h) places all) all p each some in
+          let one = one_with (Belongs name l.places all) all p each some in
           let most : times all p ≤ 1 = subst (λ (q : ℕ). times all q ≤ 1) one.2 one.1.once in
           omega (arith, some, most);
-      mine = λ k d low.
-          let s : Own = get_or all k d in
-          let b : Belongs (own_name h) places all s = each k d low in
-          let at : difference_at h (find (λ (o : Own). o.seat == s.seat) all) ≡ None = no_difference h all 1 places s.seat three.2 (omega (arith, b.low)) (omega (arith, b.high)) in
-          let is : difference h s ≡ None = sym (ap (difference_at h) (find_only all k d low b.once)) ∙ at in
-          no_first_difference 0 s.mine (positions s.seat 0 h) (map_none s.seat _ is);
+      cut = λ k d low. (same_calls _ _ _ _ _ (same k d low)).0;
+      mine = λ k d low. no_first_difference _ _ _ (same_calls _ _ _ _ _ (same k d low)).1;
     }
 
 -- within a list the default of a look-up doesn't matter

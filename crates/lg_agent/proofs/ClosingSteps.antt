@@ -8,7 +8,7 @@ use Rattle.std.proofs.lemmas.List.{drop_more}
 use Rattle.std.proofs.Math.ListN.{drop_of_length-le}
 use Rattle.lg_history.specs.Meaning.History.{Entry, positions}
 use Rattle.lg_agent.specs.declared.refusal.CloseFault.{CloseFault}
-use Rattle.lg_agent.specs.Meaning.Ledger.{Own}
+use Rattle.lg_agent.specs.Meaning.Ledger.{Ledger, Own}
 use Rattle.lg_agent.specs.Meaning.Closing.{times, is_missing, first_difference, difference_at, least_difference}
 use Rattle.lg_agent.proofs.ClosingLaws.{places_more}
 
@@ -33,15 +33,15 @@ or_none : (a b : Option CloseFault) → is_some a ≡ false → option_or a b �
 or_none None b e = refl
 or_none (Some x) b e = absurd cc
 
-abbrev pub least_from : List Entry → List Own → ℕ → ℕ → Option CloseFault
+abbrev pub least_from : Ledger → List Own → ℕ → ℕ → Option CloseFault
 least_from h all places i = least_difference h all (range_with_len (i + 1) (places - i))
 
-pub least_here : (h : List Entry) (all : List Own) (places i : ℕ) (whole fault : Option CloseFault) → i < places → whole ≡ least_from h all places i → fault ≡ difference_at h (find (λ s. s.seat == (i + 1)) all) → is_some fault ≡ true → fault ≡ whole
+pub least_here : (h : Ledger) (all : List Own) (places i : ℕ) (whole fault : Option CloseFault) → i < places → whole ≡ least_from h all places i → fault ≡ difference_at h (find (λ s. s.seat == (i + 1)) all) → is_some fault ≡ true → fault ≡ whole
 least_here h all places i whole fault low is found some =
     let rest : Option CloseFault = least_from h all places (i + 1) in
     or_some fault rest some ∙ (ap (λ (o : Option CloseFault). option_or o rest) found ∙ sym (is ∙ ap (least_difference h all) (places_more places i low)))
 
-pub least_more : (h : List Entry) (all : List Own) (places i : ℕ) (whole fault : Option CloseFault) → i < places → whole ≡ least_from h all places i → fault ≡ difference_at h (find (λ s. s.seat == (i + 1)) all) → is_some fault ≡ false → whole ≡ least_from h all places (i + 1)
+pub least_more : (h : Ledger) (all : List Own) (places i : ℕ) (whole fault : Option CloseFault) → i < places → whole ≡ least_from h all places i → fault ≡ difference_at h (find (λ s. s.seat == (i + 1)) all) → is_some fault ≡ false → whole ≡ least_from h all places (i + 1)
 least_more h all places i whole fault low is found none =
     let rest : Option CloseFault = least_from h all places (i + 1) in
     is ∙ (ap (least_difference h all) (places_more places i low) ∙ (ap (λ (o : Option CloseFault). option_or o rest) (sym found) ∙ or_none fault rest none))
@@ -53,7 +53,7 @@ pub find_more : (all : List Own) (i p : ℕ) (d : Own) (whole : Option Own) → 
 find_more all i p d whole low is other = is ∙ (ap (find (λ (s : Own). s.seat == p)) (drop_more all i d low) ∙ rw (ne_eqb (get_or all i d).seat p other) refl)
 
 -- all entries were gone through, and a pass has more positions
-pub ends_later : (mine : List ℕ) (h : List Entry) (seat f i : ℕ) (whole : Option ℕ) → whole ≡ first_difference f (drop f mine) (positions seat i (drop i h)) → length h ≤ i → f < length mine → Some f ≡ whole
-ends_later mine h seat f i whole is gone low =
-    let none : drop i h ≡ [] = drop_of_length-le h gone in
+pub ends_later : (mine : List ℕ) (h : List Entry) (seat base gone f i : ℕ) (whole : Option ℕ) → whole ≡ first_difference (gone + f) (drop f mine) (positions seat (base + i) (drop i h)) → length h ≤ i → f < length mine → Some (gone + f) ≡ whole
+ends_later mine h seat base gone f i whole is all low =
+    let none : drop i h ≡ [] = drop_of_length-le h all in
     sym (is ∙ rw (none, drop_more mine f 0 low) refl)

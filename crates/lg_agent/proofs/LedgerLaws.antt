@@ -1,55 +1,77 @@
 -- How the history of a ledger begins, and how it grows.
-use Rattle.std.proofs.Common.{◌≡◌, ℕ, ◌+◌, ◌<◌, ◌≤◌, Bool, true, false, ◌||◌, cond, leb, ltb, eqb, List, [], ◌∷◌, ◌++◌, length, Some, None, IsTrue, refl, ap, sym, ◌∙◌, subst, arith, inl, inr, ◌⊎◌, length-append}
+use Rattle.std.proofs.Common.{◌≡◌, ℕ, ◌+◌, ◌<◌, ◌≤◌, Bool, true, false, ◌||◌, cond, leb, ltb, eqb, List, [], ◌∷◌, ◌++◌, length, Some, None, IsTrue, refl, ap, sym, ◌∙◌, subst, arith, inl, inr, ◌⊎◌, length-append, append_assoc, take}
+use Rattle.std.proofs.lemmas.List.{take-append-le, take_all}
 use Rattle.std.specs.Prelude.{is_ok}
 use Rattle.lg_timing.specs.declared.config.Config.{Config}
 use Rattle.lg_timing.specs.Meaning.Config.{check_of, IsChecked}
 use Rattle.lg_timing.proofs.ConfigLemmas.{ranges}
 use Rattle.lg_detector.specs.declared.event.Event.{Event}
 use Rattle.lg_detector.specs.declared.event.Event.TheVariants.{Open}
-use Rattle.lg_detector.specs.Meaning.Step.{is_accepted, is_open, reply_after}
+use Rattle.lg_detector.specs.Meaning.Step.{is_accepted, is_open, reply_after, most_events}
 use Rattle.lg_detector.specs.Support.State.{State}
 use Rattle.lg_detector.specs.Support.Step.{accepts_of, state_after}
 use Rattle.lg_detector.proofs.Accepting.{accepts-after}
 use Rattle.lg_history.specs.Meaning.History.{Entry, entry, events, Seated, IsLegal}
-use Rattle.lg_history.proofs.Legal.{events-append, may_follow, grown, opened}
+use Rattle.lg_history.specs.Meaning.Rest.{IsRest}
+use Rattle.lg_history.proofs.Legal.{events-append, length-events, may_follow, opened}
+use Rattle.lg_history.proofs.Rests.{whole_events, whole_length, rest_accepted, rest_grows}
 use Rattle.lg_agent.specs.declared.refusal.Refusal.{Refusal}
 use Rattle.lg_agent.specs.declared.refusal.Refusal.TheVariants.{NoPlace, HistoryFull, NoMemory}
-use Rattle.lg_agent.specs.Meaning.Ledger.{Ledger, own_name, own_limit}
+use Rattle.lg_agent.specs.Meaning.Ledger.{Ledger, own_name, own_limit, count_of}
 use Rattle.lg_agent.specs.Meaning.Calls.{refusal_of, IsRefusal}
 
--- the name stays where entries follow
-pub name-append : (places : ℕ) (h : List Entry) (x : Entry) → Seated places h → own_name (h ++ x ∷ []) ≡ own_name h
-name-append places [] x seated = absurd seated
-name-append places (y ∷ h) x seated = refl
+-- the name stays where events follow
+pub name-append : (f g : List Event) → 0 < length f → own_name (f ++ g) ≡ own_name f
+name-append [] g some = absurd (omega (arith, some))
+name-append (x ∷ f) g some = refl
 
-pub limit-append : (places : ℕ) (h : List Entry) (x : Entry) → Seated places h → own_limit (h ++ x ∷ []) ≡ own_limit h
-limit-append places [] x seated = absurd seated
-limit-append places (y ∷ h) x seated = refl
+pub limit-append : (f g : List Event) → 0 < length f → own_limit (f ++ g) ≡ own_limit f
+limit-append [] g some = absurd (omega (arith, some))
+limit-append (x ∷ f) g some = refl
 
--- A history that isn't full, and the detector after its events, go on by an event of a seat.
-pub record GoesOn (places : ℕ) (h : List Entry) (s : State) (seat : ℕ) (e : Event) (x : Entry) : Type 0 where
+seated_some : (places : ℕ) (h : List Entry) → Seated places h → 0 < length h
+seated_some places [] seated = absurd seated
+seated_some places (x ∷ h) seated = omega arith
+
+-- A history that isn't full, of which the first entries may have been cut off, and the detector after its events, go on
+-- by an event of a seat.
+pub record GoesOn (places : ℕ) (past : List Event) (cut : List ℕ) (h : List Entry) (s : State) (seat : ℕ) (e : Event) (x : Entry) : Type 0 where
   pub accepts : IsTrue (accepts_of s e)
-  pub accepted : is_accepted (events h ++ e ∷ []) ≡ true
-  pub legal : IsLegal places (h ++ x ∷ [])
-  pub events_are : events (h ++ x ∷ []) ≡ events h ++ e ∷ []
+  pub accepted : is_accepted ((past ++ events h) ++ e ∷ []) ≡ true
+  pub rest : IsRest places past cut (h ++ x ∷ [])
+  pub events_are : past ++ events (h ++ x ∷ []) ≡ (past ++ events h) ++ e ∷ []
   pub counted : length (h ++ x ∷ []) ≡ length h + 1
-  pub name : own_name (h ++ x ∷ []) ≡ own_name h
-  pub limit : own_limit (h ++ x ∷ []) ≡ own_limit h
+  pub name : own_name (past ++ events (h ++ x ∷ [])) ≡ own_name (past ++ events h)
+  pub limit : own_limit (past ++ events (h ++ x ∷ [])) ≡ own_limit (past ++ events h)
 
-pub goes_on : (places : ℕ) (h : List Entry) (s : State) (seat : ℕ) (e : Event) → IsLegal places h → s ≡ state_after (events h) → is_open e ≡ false → length h < 4000000000 → 0 < seat → seat ≤ places
-    → GoesOn places h s seat e (entry seat e (reply_after (events h) e))
-goes_on places h s seat e legal after shut few low high =
-    let x : Entry = entry seat e (reply_after (events h) e) in
-    let accepted : is_accepted (events h ++ e ∷ []) ≡ true = may_follow places h e legal shut few in
+pub goes_on : (places : ℕ) (past : List Event) (cut : List ℕ) (h : List Entry) (s : State) (seat : ℕ) (e : Event) → IsRest places past cut h → s ≡ state_after (past ++ events h) → is_open e ≡ false → length h + length past < 4000000000 → 0 < seat → seat ≤ places
+    → GoesOn places past cut h s seat e (entry seat e (reply_after (past ++ events h) e))
+goes_on places past cut h s seat e rest after shut few low high =
+    let x : Entry = entry seat e (reply_after (past ++ events h) e) in
+    let w : List Entry = rest.gone ++ h in
+    let whole : events w ≡ past ++ events h = whole_events places past cut h rest in
+    let long : length w ≡ length h + length past = whole_length places past cut h rest in
+    let some : 0 < length (past ++ events h) = let have = seated_some places w rest.legal.seated in let count = length-events w in let same : length (events w) ≡ length (past ++ events h) = ap length whole in omega (arith, have, count, same) in
+    let accepted : is_accepted ((past ++ events h) ++ e ∷ []) ≡ true = sym (ap (λ (l : List Event). is_accepted (l ++ e ∷ [])) whole) ∙ may_follow places w e rest.legal shut (omega (arith, few, long)) in
+    let are : past ++ events (h ++ x ∷ []) ≡ (past ++ events h) ++ e ∷ [] = ap (λ (l : List Event). past ++ l) (events-append h x) ∙ sym (append_assoc past (events h) (e ∷ [])) in
     record {
-      accepts = ap (λ (t : State). accepts_of t e) after ∙ (accepts-after (events h) e legal.accepted ∙ accepted);
+      accepts = ap (λ (t : State). accepts_of t e) after ∙ (accepts-after (past ++ events h) e (rest_accepted places past cut h rest) ∙ accepted);
       accepted = accepted;
-      legal = grown places seat h e (reply_after (events h) e) legal shut few low high refl;
-      events_are = events-append h x;
+      rest = rest_grows places seat past cut h e (reply_after (past ++ events h) e) rest shut few low high refl;
+      events_are = are;
       counted = length-append h (x ∷ []);
-      name = name-append places h x legal.seated;
-      limit = limit-append places h x legal.seated;
+      name = ap own_name are ∙ name-append (past ++ events h) (e ∷ []) some;
+      limit = ap own_limit are ∙ limit-append (past ++ events h) (e ∷ []) some;
     }
+
+-- what was cut off stays where an event is published
+pub past_stays : (base : ℕ) (f g : List Event) (e : Event) → f ≡ take base f ++ g → base ≡ length (take base f) → take base (f ++ e ∷ []) ≡ take base f
+past_stays base f g e split is =
+    take-append-le base f (e ∷ []) (let both = length-append (take base f) g in let all = ap length split in omega (arith, both, all, is))
+
+-- a whole list is what was cut off
+pub past_whole : (n : ℕ) (f : List Event) → n ≡ length f → take n f ≡ f
+past_whole n f is = take_all n f (omega (arith, is))
 
 -- the history of an opening alone
 pub record Begins (places now : ℕ) (config : Config) : Type 0 where
@@ -70,11 +92,12 @@ begins places now config good =
     }
 
 -- what a ledger refuses a call for is a refusal of a call
-refused_by : (lacks full : Bool) (limit : ℕ) (seen : List Event) (e : Refusal) → cond lacks (Some NoPlace) (cond full (Some (HistoryFull limit)) None) ≡ Some e → IsRefusal seen e
-refused_by true full limit seen e is = let same : NoPlace ≡ e = cc in subst (IsRefusal seen) same tt
-refused_by false true limit seen e is = let same : HistoryFull limit ≡ e = cc in subst (IsRefusal seen) same tt
-refused_by false false limit seen e is = absurd cc
+refused_by : (lacks ended full : Bool) (most limit : ℕ) (seen : List Event) (e : Refusal) → cond lacks (Some NoPlace) (cond ended (Some (HistoryFull most)) (cond full (Some (HistoryFull limit)) None)) ≡ Some e → IsRefusal seen e
+refused_by true ended full most limit seen e is = let same : NoPlace ≡ e = cc in subst (IsRefusal seen) same tt
+refused_by false true full most limit seen e is = let same : HistoryFull most ≡ e = cc in subst (IsRefusal seen) same tt
+refused_by false false true most limit seen e is = let same : HistoryFull limit ≡ e = cc in subst (IsRefusal seen) same tt
+refused_by false false false most limit seen e is = absurd cc
 
 pub refused_so : (l : Ledger) (seat : ℕ) (seen : List Event) (e : Refusal) → (refusal_of l seat ≡ Some e) ⊎ ((e ≡ NoMemory) × (refusal_of l seat ≡ None)) → IsRefusal seen e
-refused_so l seat seen e (inl is) = refused_by ((eqb seat 0) || (ltb l.places seat)) (leb l.limit (length l.history)) l.limit seen e is
+refused_so l seat seen e (inl is) = refused_by ((eqb seat 0) || (ltb l.places seat)) (leb most_events (count_of l)) (leb l.limit (length l.history)) most_events l.limit seen e is
 refused_so l seat seen e (inr is) = subst (IsRefusal seen) (sym is.0) tt

@@ -5,3 +5,4 @@ pub mod CallSums
 pub mod ClosingSteps
 pub mod ChoiceSteps
 pub mod UnclosedLaws
+pub mod SeatCounts

@@ -1,7 +1,8 @@
 -- What a pass has seen, before and after a call; and fresh passes.
-use Rattle.std.proofs.Common.{true, ◌≡◌, ℕ, ◌+◌, ◌<◌, ◌≤◌, List, [], ◌∷◌, ◌++◌, length, All, ap, sym, ◌∙◌, subst, arith, length-append}
+use Rattle.std.proofs.Common.{true, ◌≡◌, ℕ, zero, suc, drop, append_assoc, ◌+◌, ◌<◌, ◌≤◌, List, [], ◌∷◌, ◌++◌, length, All, ap, sym, ◌∙◌, subst, arith, length-append}
 use Rattle.std.specs.Prelude.{Result, Ok, Err, IfOk}
 use mathlib.Core.List.{IsPrefix}
+use Rattle.std.proofs.lemmas.List.{length-drop}
 use Rattle.std.proofs.lemmas.List.Elements.{All-nil, All-cons, All-head, All-tail, All-append}
 use Rattle.lg_detector.specs.declared.event.Event.{Event}
 use Rattle.lg_detector.specs.Meaning.Step.{is_accepted, is_open, reply_after}
@@ -11,20 +12,20 @@ use Rattle.lg_view.proofs.Fronts.{prefix_shorter}
 use Rattle.lg_view.specs.Meaning.Views.{begins_open}
 use Rattle.lg_agent.specs.declared.receipt.Receipt.{Receipt}
 use Rattle.lg_agent.specs.declared.refusal.Refusal.{Refusal}
-use Rattle.lg_agent.specs.Meaning.Ledger.{Ledger, Own}
+use Rattle.lg_agent.specs.Meaning.Ledger.{Ledger, Own, all_events, count_of}
 use Rattle.lg_agent.specs.Meaning.Calls.{with_entry, IsAnswered, IsCall, IsFresh, AreFresh}
 
 pub answered_by : (l : Ledger) (seat : ℕ) (seen : List Event) (e : Event) (r : Receipt) (now : List Event)
-    → length seen ≤ length l.history → r.place ≡ length l.history → r.reply ≡ reply_after (events l.history) e
-    → IsPrefix seen (events (with_entry l seat e).history) → now ≡ events (with_entry l seat e).history → is_accepted now ≡ true
+    → length seen ≤ count_of l → r.place ≡ count_of l → r.reply ≡ reply_after (all_events l) e
+    → IsPrefix seen (all_events (with_entry l seat e)) → now ≡ all_events (with_entry l seat e) → is_accepted now ≡ true
     → IsAnswered seen e r now
 answered_by l seat seen e r now short place reply begins all accepted =
-    let x : Entry = entry seat e (reply_after (events l.history) e) in
-    let are : events (l.history ++ x ∷ []) ≡ events l.history ++ e ∷ [] = events-append l.history x in
-    let long : length (events l.history) ≡ length l.history = length-events l.history in
+    let x : Entry = entry seat e (reply_after (all_events l) e) in
+    let are : all_events (with_entry l seat e) ≡ all_events l ++ e ∷ [] = ap (λ (f : List Event). l.past ++ f) (events-append l.history x) ∙ sym (append_assoc l.past (events l.history) (e ∷ [])) in
+    let long : length (all_events l) ≡ count_of l = let both = length-append l.past (events l.history) in let count = length-events l.history in omega (arith, both, count) in
     record {
-      before = events l.history;
-      begins = prefix_shorter seen (events l.history) (events (l.history ++ x ∷ [])) begins (e ∷ [], sym are) (omega arith);
+      before = all_events l;
+      begins = prefix_shorter seen (all_events l) (all_events (with_entry l seat e)) begins (e ∷ [], sym are) (omega (arith, short, long));
       ends = all ∙ are;
       accepted = accepted;
       place = long ∙ sym place;
@@ -35,8 +36,8 @@ pub all_below : (m n : ℕ) (xs : List ℕ) → m ≤ n → All (λ k. k < m) xs
 all_below m n xs le all k d at = let h = all k d at in omega arith
 
 pub fresh-append : (name : List ℕ) (n : ℕ) (passes : List Own) (p : Own) → AreFresh name n passes → IsFresh name (n + length passes + 1) p → AreFresh name n (passes ++ p ∷ [])
-fresh-append name n [] p fresh last = (record { name = last.name; seat = last.seat ∙ omega arith; seen = last.seen; mine = last.mine }, tt)
-fresh-append name n (x ∷ passes) p fresh last = (fresh.0, fresh-append name (n + 1) passes p fresh.1 (record { name = last.name; seat = last.seat ∙ omega arith; seen = last.seen; mine = last.mine }))
+fresh-append name n [] p fresh last = (record { name = last.name; seat = last.seat ∙ omega arith; seen = last.seen; gone = last.gone; mine = last.mine }, tt)
+fresh-append name n (x ∷ passes) p fresh last = (fresh.0, fresh-append name (n + 1) passes p fresh.1 (record { name = last.name; seat = last.seat ∙ omega arith; seen = last.seen; gone = last.gone; mine = last.mine }))
 
 pub all-front : {A : Type 0} (P : A → Type 0) (xs ys : List A) → All P (xs ++ ys) → All P xs
 all-front P [] ys a = All-nil P
@@ -47,12 +48,12 @@ all-last P [] x a = All-head P x [] a
 all-last P (y ∷ xs) x a = all-last P xs x (All-tail P y (xs ++ x ∷ []) a)
 
 pub answered_if : (l : Ledger) (seat : ℕ) (seen : List Event) (e : Event) (result : Result Receipt Refusal) (after : Ledger) (now : List Event)
-    → length seen ≤ length l.history → IfOk result (λ r. (after ≡ with_entry l seat e) × (r.place ≡ length l.history) × (r.reply ≡ reply_after (events l.history) e))
-    → IsPrefix seen (events after.history) → now ≡ events after.history → is_accepted now ≡ true
+    → length seen ≤ count_of l → IfOk result (λ r. (after ≡ with_entry l seat e) × (r.place ≡ count_of l) × (r.reply ≡ reply_after (all_events l) e))
+    → IsPrefix seen (all_events after) → now ≡ all_events after → is_accepted now ≡ true
     → IfOk result (λ r. IsAnswered seen e r now)
 answered_if l seat seen e (Ok r) after now short done begins all accepted =
     let is : after ≡ with_entry l seat e = done.0 in
-    answered_by l seat seen e r now short done.1 done.2 (subst (λ (k : Ledger). IsPrefix seen (events k.history)) is begins) (all ∙ ap (λ (k : Ledger). events k.history) is) accepted
+    answered_by l seat seen e r now short done.1 done.2 (subst (λ (k : Ledger). IsPrefix seen (all_events k)) is begins) (all ∙ ap all_events is) accepted
 answered_if l seat seen e (Err f) after now short done begins all accepted = tt
 
 pub open_prefix : (xs ys : List Event) → IsPrefix xs ys → begins_open xs ≡ true → begins_open ys ≡ true
@@ -63,22 +64,35 @@ open_prefix (x ∷ xs) (y ∷ ys) p opens = let head : y ≡ x = cc (p.1) in ap 
 pub all_one_more : (n x : ℕ) (xs : List ℕ) → All (λ k. k < n) xs → x < n → All (λ k. k < n) (xs ++ x ∷ [])
 all_one_more n x xs all low = All-append (λ (k : ℕ). k < n) xs (x ∷ []) all (All-cons (λ (k : ℕ). k < n) x [] low (All-nil (λ (k : ℕ). k < n)))
 
--- a pass after an answered call has seen the opening, and all its calls
-pub keeps_up : (seen : List Event) (e : Event) (r : Receipt) (now : List Event) (mine more : List ℕ) → begins_open seen ≡ true → All (λ k. k < length seen) mine → IsAnswered seen e r now → more ≡ mine ++ r.place ∷ []
-    → (begins_open now ≡ true) × All (λ k. k < length now) more
-keeps_up seen e r now mine more opens below answered grown =
+-- the positions that are left when the first were cut off
+pub all_drop : (P : ℕ → Type 0) (n : ℕ) (xs : List ℕ) → All P xs → All P (drop n xs)
+all_drop P zero xs all = all
+all_drop P (suc n) [] all = all
+all_drop P (suc n) (x ∷ xs) all = all_drop P n xs (All-tail P x xs all)
+
+-- a pass after an answered call has seen the opening, and all its calls, and more events than it made calls
+pub keeps_up : (seen : List Event) (e : Event) (r : Receipt) (now : List Event) (gone moved : ℕ) (mine more : List ℕ) → begins_open seen ≡ true → All (λ k. k < length seen) mine → gone + length mine < length seen
+    → moved ≤ length mine → IsAnswered seen e r now → more ≡ drop moved mine ++ r.place ∷ []
+    → (begins_open now ≡ true) × All (λ k. k < length now) more × (gone + moved + length more < length now)
+keeps_up seen e r now gone moved mine more opens below fewer few answered grown =
     let step : length now ≡ length answered.before + 1 = ap length answered.ends ∙ length-append answered.before (e ∷ []) in
     let front : length answered.before ≡ length seen + length answered.begins.0 = ap length (sym answered.begins.1) ∙ length-append seen answered.begins.0 in
-    let begins : IsPrefix answered.before now = (e ∷ [], sym answered.ends) in (
+    let begins : IsPrefix answered.before now = (e ∷ [], sym answered.ends) in
+    let rest : length (drop moved mine) + moved ≡ length mine = let cut = length-drop moved mine in omega (arith, cut, few) in
+    let count : length more ≡ length (drop moved mine) + 1 = ap length grown ∙ length-append (drop moved mine) (r.place ∷ []) in (
       open_prefix answered.before now begins (open_prefix seen answered.before answered.begins opens),
-      rw grown (all_one_more (length now) r.place mine (all_below (length seen) (length now) mine (omega (arith, step, front)) below) (let place = answered.place in omega (arith, step, place))),
+      rw grown (all_one_more (length now) r.place (drop moved mine) (all_below (length seen) (length now) (drop moved mine) (omega (arith, step, front)) (all_drop (λ (k : ℕ). k < length seen) moved mine below)) (let place = answered.place in omega (arith, step, place))),
+      omega (arith, step, front, rest, count, fewer),
     )
 
-pub call_of : (before after : Own) (e : Event) (r : Receipt) → All (λ k. k < length before.seen) before.mine → IsAnswered before.seen e r after.seen → after.mine ≡ before.mine ++ r.place ∷ [] → after.seat ≡ before.seat → after.name ≡ before.name → IsCall before e r after
-call_of before after e r below answered mine seat name =
+pub call_of : (before after : Own) (e : Event) (r : Receipt) (moved : ℕ) → All (λ k. k < length before.seen) before.mine → IsAnswered before.seen e r after.seen → moved ≤ length before.mine → after.gone ≡ before.gone + moved → after.mine ≡ drop moved before.mine ++ r.place ∷ [] → after.seat ≡ before.seat → after.name ≡ before.name → IsCall before e r after
+call_of before after e r moved below answered few gone mine seat name =
     let front : length answered.before ≡ length before.seen + length answered.begins.0 = ap length (sym answered.begins.1) ∙ length-append before.seen answered.begins.0 in
     record {
       answered = answered;
+      moved = moved;
+      few = few;
+      gone = gone;
       mine = mine;
       later = all_below (length before.seen) r.place before.mine (let place = answered.place in omega (arith, front, place)) below;
       seat = seat;

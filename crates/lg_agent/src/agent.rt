@@ -5,10 +5,10 @@ ghost use Rattle.std.specs.Vec.{vec_capacity};
 ghost use Rattle.lg_timing.specs.Meaning.Config.{IsChecked};
 ghost use Rattle.lg_detector.specs.declared.event.Event.{Event as Happened};
 ghost use Rattle.lg_detector.specs.declared.event.Event.TheVariants.{Open};
-ghost use Rattle.lg_history.specs.Meaning.History.{events};
 ghost use Rattle.lg_view.specs.Meaning.Views.{begins_open};
 ghost use Rattle.lg_agent.specs.declared.refusal.Refusal.TheVariants.{NoMemory, NoPlace};
 ghost use Rattle.lg_agent.specs.Meaning.Calls.{AreFresh};
+ghost use Rattle.lg_agent.specs.Meaning.Ledger.{all_events};
 
 use crate::kept::Kept;
 use crate::name::AgentName;
@@ -113,7 +113,7 @@ impl<A: AgentName> Agent<A> {
             name: _,
             waiting: _,
         } = self;
-        drop(kept.into_inner().into_history(rt));
+        kept.into_inner().end(rt);
     }
 }
 
@@ -138,6 +138,7 @@ fn hand_out<'a, A: AgentName>(
             name,
             seat: passes.len() + 1,
             look,
+            gone: 0,
             mine: Vec::new(alloc),
         };
         passes.push_reserved(Pass { kept, own });
@@ -148,7 +149,7 @@ fn hand_out<'a, A: AgentName>(
 /// Tells each look, none of which has seen anything, of the history.
 fn tell_all<A: AgentName>(kept: &Kept<A>, looks: &mut [Look<A>])
     requires { All (λ look. look ≡ []) looks.old }
-    ensures told { All (λ look. look ≡ events kept.now.history) looks.new }
+    ensures told { All (λ look. look ≡ all_events kept.now) looks.new }
     ensures count { length looks.new ≡ length looks.old }
 {
     for look in looks {
@@ -160,7 +161,7 @@ impl<A: AgentName> Kept<A> {
     /// Tells a look that has seen nothing.
     fn tell_first(&self, look: &mut Look<A>)
         requires { look.old ≡ [] }
-        ensures { look.new ≡ events self.now.history }
+        ensures { look.new ≡ all_events self.now }
     {
         self.tell(look);
     }

@@ -1,69 +1,94 @@
 //! What is left of an agent that was closed.
-ghost use Rattle.std.specs.Prelude.{◌≡◌, ◌≤◌, ◌++◌, [], length, take, true, IfOk};
+ghost use Rattle.std.specs.Prelude.{◌≡◌, ◌≤◌, ◌+◌, ◌++◌, [], List, length, take, max, true, Some, None, IfOk, MatchOption};
+ghost use Rattle.lg_detector.specs.declared.event.Event.{Event as Happened};
 ghost use Rattle.lg_detector.specs.Meaning.Choice.{targets_after};
 ghost use Rattle.lg_detector.specs.Meaning.Step.{is_accepted};
 ghost use Rattle.lg_history.specs.Meaning.History.{Answered, events};
+ghost use Rattle.lg_history.specs.Meaning.Rest.{StandsFor};
+ghost use Rattle.lg_agent.specs.Meaning.Closing.{IsWell};
 
-use lg_detector::NoMemory;
+use lg_detector::{NoMemory, Summary};
 use lg_history::Entry;
 use lg_rules::Name;
 use std::alloc::Global;
 use std::marker::Model;
 
-/// The history of an agent that was closed. A contract sees it as the list of its entries.
+/// The history of an agent that was closed. A contract sees it as the list of the entries that are stored, how many were
+/// cut off before them, and what stands for these.
 #[derive(Drop)]
 pub struct Closed {
+    summary: Option<Summary>,
+    base: u64,
     entries: Vec<Entry>,
 }
 
 impl Model for Closed {
-    ghost use Rattle.std.specs.Prelude.{List, [], ◌≡◌, true};
-    ghost use Rattle.lg_detector.specs.Meaning.Step.{is_accepted};
-    ghost use Rattle.lg_history.specs.Meaning.History.{Entry, Answered, events};
+    ghost use Rattle.lg_agent.specs.Meaning.Closing.{Left, IsWell};
 
-    ghost Value = { List Entry };
+    ghost Value = { Left };
 
-    ghost view = { λ c. c.entries.items };
+    ghost view = { λ c. record { summary = c.summary; base = c.base; history = c.entries.items } };
 
     // Each reply is that of the definitions.
-    ghost invariant = { λ c. (is_accepted (events c.entries.items) ≡ true) × Answered [] c.entries.items };
+    ghost invariant = { λ c. IsWell record { summary = c.summary; base = c.base; history = c.entries.items } };
 }
 
 impl Closed {
     /// A history whose replies are those of the definitions.
-    pub(crate) fn over(entries: Vec<Entry>) -> Closed
-        requires accepted { is_accepted (events entries.items) ≡ true }
-        requires answered { Answered [] entries.items }
-        ensures { result ≡ entries.items }
+    pub(crate) fn over(summary: Option<Summary>, base: u64, entries: Vec<Entry>) -> Closed
+        requires { IsWell record { summary = summary; base = base; history = entries.items } }
+        ensures { result ≡ record { summary = summary; base = base; history = entries.items } }
     {
-        Closed { entries }
+        Closed {
+            summary,
+            base,
+            entries,
+        }
     }
 
-    /// The entries, the opening's first.
+    /// The entries that are stored: all, the opening's first, or those since the last rotation.
     pub fn history(&self) -> &[Entry]
-        ensures { result.now ≡ self.now }
+        ensures { result.now ≡ self.now.history }
     {
         self.entries.as_slice()
     }
 
-    /// How many entries there are, the opening's counted.
+    /// How many entries there were, the opening's and those that were cut off counted.
     pub fn count(&self) -> u64
-        ensures { result ≡ length self.now }
+        ensures { result ≡ length self.now.history + self.now.base }
     {
-        self.entries.len() as u64
+        self.base + self.entries.len() as u64
+    }
+
+    /// The position of the first entry that is stored.
+    pub fn base(&self) -> u64
+        ensures { result ≡ self.now.base }
+    {
+        self.base
+    }
+
+    /// What stands for the entries before it, if there were any.
+    pub fn summary(&self) -> Option<&Summary>
+        ensures { MatchOption result (self.now.summary ≡ None) (λ s. self.now.summary ≡ Some s.now) }
+    {
+        self.summary.as_ref()
     }
 
     /// Whom the starts of rounds chose (SWIM, section 4.3): the targets of the entries at the positions from `from` up
-    /// to `to`, which doesn't count, in order. It takes memory for the list. The only error is that memory was refused.
+    /// to `to`, which doesn't count, in order. Where `from` is below the first that is stored, it is taken as that. It
+    /// takes memory for the list. The only error is that memory was refused.
     pub fn choices(&self, alloc: Global, from: u64, to: u64) -> Result<Vec<Name>, NoMemory>
-        ensures gained { IfOk result (λ names. from ≤ to
-            → targets_after (take to (events self.now))
-            ≡ targets_after (take from (events self.now)) ++ names.items) }
-        ensures none { IfOk result (λ names. to ≤ from → names.items ≡ []) }
+        // After whatever events the summary stands for.
+        ensures gained { (f : List Happened) → StandsFor self.now.summary f
+            → is_accepted (f ++ events self.now.history) ≡ true
+            → IfOk result (λ names. max from self.now.base ≤ to
+            → targets_after (take to (f ++ events self.now.history))
+            ≡ targets_after (take (max from self.now.base) (f ++ events self.now.history)) ++ names.items) }
+        ensures none { IfOk result (λ names. to ≤ max from self.now.base → names.items ≡ []) }
     {
         let mut names = Vec::new(alloc);
-        for place in from..to.min(self.count()) {
-            if let Some(name) = self.entries[place as usize].chosen() {
+        for place in from.max(self.base)..to.min(self.count()) {
+            if let Some(name) = self.entries[(place - self.base) as usize].chosen() {
                 names.push(name)?;
             }
         }

@@ -1,10 +1,11 @@
 //! Closing: what the passes left is compared with the history.
-ghost use Rattle.std.specs.Prelude.{◌≡◌, ◌≤◌, ◌==◌, All, Any, length, None};
+ghost use Rattle.std.specs.Prelude.{◌≡◌, ◌≤◌, ◌<◌, ◌+◌, ◌^◌, ◌==◌, All, Any, drop, length, None};
 ghost use Rattle.std.specs.Prelude.{OnOk, IfOk, IfErr, IsErrAnd};
 ghost use Rattle.std.specs.List.{list_any, find, range_with_len};
 ghost use mathlib.Core.List.{IsPrefix};
-ghost use Rattle.lg_history.specs.Meaning.History.{positions, events};
-ghost use Rattle.lg_agent.specs.Meaning.Ledger.{own_name};
+ghost use Rattle.lg_history.specs.Meaning.History.{positions};
+ghost use Rattle.lg_history.specs.Meaning.Rest.{IsRest, StandsFor, of_seat};
+ghost use Rattle.lg_agent.specs.Meaning.Ledger.{own_name, all_events, count_of};
 ghost use Rattle.lg_agent.specs.Meaning.Closing.{times, is_foreign, is_missing, first_difference};
 ghost use Rattle.lg_agent.specs.Meaning.Closing.{difference, difference_at, least_difference};
 ghost use Rattle.lg_agent.specs.Meaning.Closing.{close_fault, unless_fault, IsClosed};
@@ -44,34 +45,27 @@ fn times<A: AgentName>(spents: &[Spent<A>], seat: usize) -> usize
 }
 
 impl<A: AgentName> Spent<A> {
-    /// The fault that its positions aren't those of its place in the history, if they aren't.
-    fn difference(&self, history: &[Entry]) -> Option<CloseFault>
-        ensures { result ≡ difference history.now self.now }
+    /// The first index of its calls, from the position at `moved` on, at which its positions differ from those of its
+    /// place among these entries, which stand from `base` on.
+    fn first_difference(&self, moved: usize, base: u64, history: &[Entry]) -> Option<u64>
+        requires moved { moved ≤ length self.now.mine }
+        requires base { length history.now + base < 2 ^ 64 }
+        ensures { result ≡ first_difference (self.now.gone + moved) (drop moved self.now.mine)
+            (positions self.now.seat base history.now) }
     {
-        match self.first_difference(history) {
-            Some(index) => Some(CloseFault::Differs {
-                seat: self.seat,
-                index,
-            }),
-            None => None,
-        }
-    }
-
-    /// The first index at which its positions differ from those of its place in the history, if they do.
-    fn first_difference(&self, history: &[Entry]) -> Option<u64>
-        ensures { result ≡ first_difference 0 self.now.mine (positions self.now.seat 0 history.now) }
-    {
-        let mut found = 0;
+        // What was seen is an accepted list.
+        let _seen = self.look.seen();
+        let mut found = moved;
         for place in 0..history.len() {
             if history[place].seat() == self.seat {
-                if found >= self.mine.len() || self.mine[found] != place as u64 {
-                    return Some(found as u64);
+                if found >= self.mine.len() || self.mine[found] != base + place as u64 {
+                    return Some(self.gone + found as u64);
                 }
                 found += 1;
             }
         }
         if found < self.mine.len() {
-            return Some(found as u64);
+            return Some(self.gone + found as u64);
         }
         None
     }
@@ -82,7 +76,7 @@ impl<A: AgentName> Kept<A> {
     /// positions are those of its place in the history. Else it is the fault that is the first in the order
     /// [`CloseFault::Foreign`], [`CloseFault::Missing`], [`CloseFault::Differs`]. It takes no memory.
     pub fn audit(&self, spents: &[Spent<A>]) -> Result<(), CloseFault>
-        ensures { result ≡ unless_fault (close_fault self.now.places self.now.history spents.now) }
+        ensures { result ≡ unless_fault (close_fault self.now spents.now) }
     {
         if self.has_foreign(spents) {
             return Err(CloseFault::Foreign);
@@ -98,7 +92,7 @@ impl<A: AgentName> Kept<A> {
 
     /// Whether one of them doesn't belong here.
     fn has_foreign(&self, spents: &[Spent<A>]) -> bool
-        ensures { result ≡ list_any (is_foreign (own_name self.now.history) self.now.places spents.now) spents.now }
+        ensures { result ≡ list_any (is_foreign (own_name (all_events self.now)) self.now.places spents.now) spents.now }
     {
         for spent in spents {
             if self.is_foreign(spents, spent) {
@@ -110,7 +104,7 @@ impl<A: AgentName> Kept<A> {
 
     /// Whether this one of them doesn't belong here.
     fn is_foreign(&self, spents: &[Spent<A>], spent: &Spent<A>) -> bool
-        ensures { result ≡ is_foreign (own_name self.now.history) self.now.places spents.now spent.now }
+        ensures { result ≡ is_foreign (own_name (all_events self.now)) self.now.places spents.now spent.now }
     {
         let seat = spent.seat();
         spent.name() != self.name() || seat == 0 || seat > self.places() || times(spents, seat) > 1
@@ -130,7 +124,7 @@ impl<A: AgentName> Kept<A> {
 
     /// The difference at the least place that has one.
     fn least_difference(&self, spents: &[Spent<A>]) -> Option<CloseFault>
-        ensures { result ≡ least_difference self.now.history spents.now (range_with_len 1 self.now.places) }
+        ensures { result ≡ least_difference self.now spents.now (range_with_len 1 self.now.places) }
     {
         for place in 0..self.places() {
             let fault = self.difference_at(spents, place + 1);
@@ -143,31 +137,56 @@ impl<A: AgentName> Kept<A> {
 
     /// The difference at a place, if there is one.
     fn difference_at(&self, spents: &[Spent<A>], seat: usize) -> Option<CloseFault>
-        ensures { result ≡ difference_at self.now.history (find (λ s. s.seat == seat) spents.now) }
+        ensures { result ≡ difference_at self.now (find (λ s. s.seat == seat) spents.now) }
     {
         for spent in spents {
             if spent.seat() == seat {
-                return spent.difference(self.history());
+                return self.difference(spent);
             }
         }
         None
     }
 
+    /// The fault that the calls of one of them aren't the entries of its place, if they aren't.
+    fn difference(&self, spent: &Spent<A>) -> Option<CloseFault>
+        ensures { result ≡ difference self.now spent.now }
+    {
+        // So the positions fit.
+        let _count = self.count();
+        let (calls, moved) = spent.cut_at(self.base());
+        let cut = self.cut_off(spent.seat);
+        if calls != cut {
+            return Some(CloseFault::Differs {
+                seat: spent.seat,
+                index: calls.min(cut),
+            });
+        }
+        match spent.first_difference(moved, self.base(), self.history()) {
+            Some(index) => Some(CloseFault::Differs {
+                seat: spent.seat,
+                index,
+            }),
+            None => None,
+        }
+    }
+
     /// As [`Kept::audit`], and where that finds nothing, whether one of them has seen more events than the history has.
     /// No run meets that; it would be told as a difference behind the last call.
     fn judge(&self, spents: &[Spent<A>]) -> Result<(), CloseFault>
-        ensures audited { OnOk result (close_fault self.now.places self.now.history spents.now ≡ None) }
-        ensures short { OnOk result (All (λ s. length s.seen ≤ length self.now.history) spents.now) }
+        ensures audited { OnOk result (close_fault self.now spents.now ≡ None) }
+        ensures short { OnOk result (All (λ s. length s.seen ≤ count_of self.now) spents.now) }
         ensures refused { IfErr result (IsRefusedClosing self.now.places spents.now) }
         ensures named { self.now.places ≡ A.places }
     {
-        let entries = self.history().len() as u64;
+        // What is stored is the end of a legal history.
+        let _history = self.history();
+        let events = self.count();
         self.audit(spents)?;
         for spent in spents {
-            if spent.seen() > entries {
+            if spent.seen() > events {
                 return Err(CloseFault::Differs {
                     seat: spent.seat(),
-                    index: spent.calls().len() as u64,
+                    index: spent.made(),
                 });
             }
         }
@@ -176,8 +195,8 @@ impl<A: AgentName> Kept<A> {
 
     /// What each of them has seen begins the events of the history.
     fn compare_all(&self, spents: &[Spent<A>])
-        requires { All (λ s. length s.seen ≤ length self.now.history) spents.now }
-        ensures { All (λ s. IsPrefix s.seen (events self.now.history)) spents.now }
+        requires { All (λ s. length s.seen ≤ count_of self.now) spents.now }
+        ensures { All (λ s. IsPrefix s.seen (all_events self.now)) spents.now }
     {
         for spent in spents {
             self.compare_one(spent);
@@ -186,8 +205,8 @@ impl<A: AgentName> Kept<A> {
 
     /// What this one has seen begins the events of the history.
     fn compare_one(&self, spent: &Spent<A>)
-        requires { length spent.now.seen ≤ length self.now.history }
-        ensures { IsPrefix spent.now.seen (events self.now.history) }
+        requires { length spent.now.seen ≤ count_of self.now }
+        ensures { IsPrefix spent.now.seen (all_events self.now) }
     {
         self.compare(&spent.look);
     }
@@ -240,10 +259,11 @@ impl<A: AgentName> Agent<A> {
 
 /// The history of an agent whose passes agree with it.
 fn closed<A: AgentName, R: Wait>(rt: &R, kept: Kept<A>, spents: Vec<Spent<A>>) -> Closed
-    requires audited { close_fault kept.places kept.history spents.items ≡ None }
-    requires short { All (λ s. length s.seen ≤ length kept.history) spents.items }
+    requires audited { close_fault kept spents.items ≡ None }
+    requires short { All (λ s. length s.seen ≤ count_of kept) spents.items }
     ensures { IsClosed A.places result spents.items }
 {
     kept.compare_all(spents.as_slice());
-    Closed::over(kept.into_history(rt))
+    let (entries, base, summary) = kept.into_history(rt);
+    Closed::over(summary, base, entries)
 }

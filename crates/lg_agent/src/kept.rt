@@ -1,18 +1,20 @@
 //! The value under the lock: a history, the detector that is after its events, and the feed that publishes them.
-ghost use Rattle.std.specs.Prelude.{◌≡◌, ◌<◌, ◌≤◌, ◌⊎◌, length, true, false, Some, None};
-ghost use Rattle.std.specs.Prelude.{MatchResult, IfOk, IfErr, OnErr};
+ghost use Rattle.std.specs.Prelude.{◌≡◌, ◌<◌, ◌≤◌, ◌+◌, ◌⊎◌, [], ℕ, All, length, true, false, Some, None, get_or};
+ghost use Rattle.std.specs.Prelude.{MatchResult, MatchOption, IfOk, IfErr, OnErr};
 ghost use mathlib.Core.List.{IsPrefix};
 ghost use Rattle.lg_detector.specs.Meaning.Step.{is_open, is_accepted, reply_after};
-ghost use Rattle.lg_history.specs.Meaning.History.{IsLegal, events};
+ghost use Rattle.lg_detector.specs.Support.State.{State};
+ghost use Rattle.lg_history.specs.Meaning.History.{IsLegal, Answered};
+ghost use Rattle.lg_history.specs.Meaning.Rest.{IsRest, StandsFor, AnsweredFrom, AreCut, made_by, of_seat};
 ghost use Rattle.lg_agent.specs.declared.refusal.Refusal.TheVariants.{NoMemory};
-ghost use Rattle.lg_agent.specs.Meaning.Ledger.{own_name, own_limit};
-ghost use Rattle.lg_agent.specs.Meaning.Calls.{with_entry, refusal_of, IsAnswered, IsRefusal};
+ghost use Rattle.lg_agent.specs.Meaning.Ledger.{own_name, own_limit, all_events, count_of};
+ghost use Rattle.lg_agent.specs.Meaning.Calls.{with_entry, refusal_of, IsAnswered, IsRefusal, IsRotated};
 
 use crate::name::AgentName;
 use crate::receipt::Receipt;
 use crate::refusal::Refusal;
 use left_right::Absorb;
-use lg_detector::{Detector, Event, Reply};
+use lg_detector::{Detector, Event, MAX_EVENTS, Reply, Summary};
 use lg_history::{Entry, History};
 use lg_rules::Name;
 use lg_view::{Feed, Look, Published, Update};
@@ -22,18 +24,28 @@ use std::sync::Wait;
 
 mod opening;
 
-/// The value under an agent's lock. A contract sees it as the number of its places, its limit, and its history.
+/// How many seats there are: that of the opening, and one for each of the 32 places that there can be.
+pub(crate) const SEATS: usize = 33;
+
+/// The value under an agent's lock. A contract sees it as the number of its places, its limit, the entries that are
+/// stored, and what stands for those that were cut off before them.
 ///
-/// Whenever the lock is free, the history is legal, its events are those that are published, and the detector is after
-/// them.
+/// Whenever the lock is free, the history is the end of a legal one, the events of the whole are those that are
+/// published, and the detector is after them.
 pub struct Kept<A: AgentName>
 where
     Published<A>: Absorb<Update<A>, State = [Event; 0]>,
 {
     places: usize,
     limit: u64,
-    /// How many entries there are.
+    /// How many entries there were since the opening, that one included.
     count: u64,
+    /// How many of them were cut off.
+    base: u64,
+    /// What stands for those, where there are any.
+    summary: Option<Summary>,
+    /// How many of them each seat made.
+    cut: [u64; SEATS],
     name: Name,
     history: History,
     detector: Detector,
@@ -44,46 +56,95 @@ impl<A: AgentName> Model for Kept<A>
 where
     Published<A>: Absorb<Update<A>, State = [Event; 0]>,
 {
-    ghost use Rattle.std.specs.Prelude.{◌≡◌, ◌<◌, ◌≤◌, [], length, None};
+    ghost use Rattle.std.specs.Prelude.{◌≡◌, ◌<◌, ◌≤◌, ◌+◌, ◌++◌, [], length, take, None};
     ghost use Rattle.lg_detector.specs.Support.Step.{state_after};
-    ghost use Rattle.lg_history.specs.Meaning.History.{IsLegal, events};
+    ghost use Rattle.lg_history.specs.Meaning.History.{events};
+    ghost use Rattle.lg_history.specs.Meaning.Rest.{IsRest, StandsFor};
     ghost use Rattle.lg_agent.specs.Meaning.Ledger.{Ledger, own_name, own_limit};
 
     ghost Value = { Ledger };
 
-    ghost view = { λ k. record { places = k.places; limit = k.limit; history = k.history.entries } };
+    ghost view = { λ k. record {
+      places = k.places;
+      limit = k.limit;
+      summary = k.summary;
+      cut = k.cut;
+      past = take k.base k.feed.events;
+      history = k.history.entries;
+    } };
 
-    ghost invariant = { λ k. IsLegal k.places k.history.entries
+    ghost invariant = { λ k. IsRest k.places (take k.base k.feed.events) k.cut k.history.entries
+        × StandsFor k.summary (take k.base k.feed.events)
         × (k.history.prepared ≡ None)
-        × (k.detector ≡ state_after (events k.history.entries))
-        × (k.feed.events ≡ events k.history.entries)
+        × (k.detector ≡ state_after k.feed.events)
+        × (k.feed.events ≡ take k.base k.feed.events ++ events k.history.entries)
         × (k.feed.waiting ≡ [])
-        × (k.count ≡ length k.history.entries)
-        × (k.name ≡ own_name k.history.entries)
-        × (k.limit ≡ own_limit k.history.entries)
+        × (k.count ≡ length k.history.entries + length (take k.base k.feed.events))
+        × (k.base ≡ length (take k.base k.feed.events))
+        × (k.name ≡ own_name k.feed.events)
+        × (k.limit ≡ own_limit k.feed.events)
         × (k.limit ≤ 4000000000)
         × (0 < k.places)
         × (k.places ≤ 32)
-        × (k.places ≡ A.places) };
+        × (k.places ≡ A.places)
+        × (length k.cut ≡ 33) };
 }
 
 impl<A: AgentName> Kept<A> {
-    /// The history: in every state it is one that a single thread could have made, with the places that `A` names.
+    /// The entries that are stored: in every state they are the end of a history that a single thread could have made,
+    /// with the places that `A` names; and the whole of one, where nothing was cut off.
+    #[tactic(auto, using(lg_history::proofs::Rests::rest_none))]
     pub fn history(&self) -> &[Entry]
         ensures same { result.now ≡ self.now.history }
-        ensures legal { IsLegal self.now.places self.now.history }
-        // It is full where it has as many entries as its opening allows.
-        ensures limit { self.now.limit ≡ own_limit self.now.history }
+        ensures legal { self.now.past ≡ [] → IsLegal self.now.places self.now.history }
+        ensures rest { IsRest self.now.places self.now.past self.now.cut self.now.history }
+        // What was cut off, a summary stands for.
+        ensures base { StandsFor self.now.summary self.now.past }
+        // It is full where as many entries are stored as its opening allows.
+        ensures limit { self.now.limit ≡ own_limit (all_events self.now) }
         ensures named { self.now.places ≡ A.places }
     {
         self.history.entries()
     }
 
-    /// How many entries the history has, the opening's counted.
+    /// How many entries there were since the opening, that one counted.
     pub fn count(&self) -> u64
-        ensures { result ≡ length self.now.history }
+        ensures { result ≡ count_of self.now }
     {
         self.count
+    }
+
+    /// How many of them were cut off.
+    pub fn base(&self) -> u64
+        ensures { result ≡ length self.now.past }
+    {
+        self.base
+    }
+
+    /// How many of them a seat made.
+    pub fn cut_off(&self, seat: usize) -> u64
+        ensures { result ≡ of_seat self.now.cut seat }
+    {
+        let cut = self.cut.as_slice();
+        if seat < cut.len() {
+            cut[seat]
+        } else {
+            0
+        }
+    }
+
+    /// What stands for the entries that were cut off, if any were.
+    pub fn summary(&self) -> Option<&Summary>
+        ensures same { MatchOption result (self.now.summary ≡ None) (λ s. self.now.summary ≡ Some s.now) }
+        ensures base { StandsFor self.now.summary self.now.past }
+        // All events are accepted. Each reply that is stored is that of the definitions after all events before it, and
+        // the one that the summary leads to.
+        ensures accepted { is_accepted (all_events self.now) ≡ true }
+        ensures answered { Answered self.now.past self.now.history }
+        ensures from { (s : State) → self.now.summary ≡ Some s → AnsweredFrom s self.now.history }
+        ensures seats { AreCut self.now.places self.now.past self.now.cut }
+    {
+        self.summary.as_ref()
     }
 
     /// How many places there are, 1 to 32.
@@ -97,7 +158,7 @@ impl<A: AgentName> Kept<A> {
 
     /// The member's own name, which the opening gave.
     pub fn name(&self) -> Name
-        ensures { result ≡ own_name self.now.history }
+        ensures { result ≡ own_name (all_events self.now) }
     {
         self.name
     }
@@ -106,8 +167,9 @@ impl<A: AgentName> Kept<A> {
     /// has to be no opening.
     ///
     /// It is refused with [`Refusal::NoPlace`] where the seat isn't from 1 to the number of places, else with
-    /// [`Refusal::HistoryFull`] where the history has as many entries as it may have, else with [`Refusal::NoMemory`]
-    /// where memory was refused, for the entry, the published event, or their room. Then nothing has changed.
+    /// [`Refusal::HistoryFull`] where there were as many events as a detector accepts, or as many entries are stored as
+    /// may be, else with [`Refusal::NoMemory`] where memory was refused, for the entry, the published event, or their
+    /// room. Then nothing has changed.
     pub fn apply<R: Wait>(
         &mut self,
         rt: &R,
@@ -117,8 +179,8 @@ impl<A: AgentName> Kept<A> {
     ) -> Result<Receipt, Refusal>
         requires { is_open event.now ≡ false }
         ensures answered { IfOk result (λ r. (self.new ≡ with_entry self.old seat event.now)
-            × (r.place ≡ length self.old.history)
-            × (r.reply ≡ reply_after (events self.old.history) event.now)) }
+            × (r.place ≡ count_of self.old)
+            × (r.reply ≡ reply_after (all_events self.old) event.now)) }
         ensures refused { OnErr result (self.new ≡ self.old) }
         // Which refusal it is.
         ensures exact { MatchResult result (λ _. refusal_of self.old seat ≡ None)
@@ -128,7 +190,10 @@ impl<A: AgentName> Kept<A> {
         if seat == 0 || seat > self.places {
             return Err(Refusal::NoPlace);
         }
-        if self.count >= self.limit {
+        if self.count >= MAX_EVENTS {
+            return Err(Refusal::HistoryFull(MAX_EVENTS));
+        }
+        if self.history.len() >= self.limit {
             return Err(Refusal::HistoryFull(self.limit));
         }
         if self.history.prepare(alloc, seat, event).is_err() {
@@ -148,11 +213,31 @@ impl<A: AgentName> Kept<A> {
         Ok(Receipt { place, reply })
     }
 
+    /// Cuts all stored entries off: a summary of all events so far stands for them, and they are counted with those of
+    /// their seats. It answers how many they were. It is no event: what is published, and who has seen what of it,
+    /// stays.
+    ///
+    /// The only refusal is [`Refusal::NoMemory`], where the summary had no memory. Then nothing has changed.
+    pub fn rotate(&mut self, alloc: Global) -> Result<u64, Refusal>
+        ensures rotated { IfOk result (λ n. (n ≡ length self.old.history) × IsRotated self.old self.new) }
+        ensures refused { IfErr result (λ e. (e ≡ NoMemory) × (self.new ≡ self.old)) }
+    {
+        let Ok(summary) = self.detector.summary(alloc) else {
+            return Err(Refusal::NoMemory);
+        };
+        let dropped = self.history.len();
+        count_seats(&mut self.cut, self.history.entries());
+        self.history.clear();
+        self.summary = Some(summary);
+        self.base = self.count;
+        Ok(dropped)
+    }
+
     /// Tells a reader the events of the history, which begin with what it has seen. It has to have seen no more.
     pub fn tell(&self, look: &mut Look<A>)
-        requires { length look.old ≤ length self.now.history }
-        ensures begins { IsPrefix look.old (events self.now.history) }
-        ensures told { look.new ≡ events self.now.history }
+        requires { length look.old ≤ count_of self.now }
+        ensures begins { IsPrefix look.old (all_events self.now) }
+        ensures told { look.new ≡ all_events self.now }
         ensures accepted { is_accepted look.new ≡ true }
     {
         self.feed.tell(look);
@@ -160,8 +245,8 @@ impl<A: AgentName> Kept<A> {
 
     /// What a reader has seen begins the events of the history, if it is no longer.
     pub fn compare(&self, look: &Look<A>)
-        requires { length look.now ≤ length self.now.history }
-        ensures { IsPrefix look.now (events self.now.history) }
+        requires { length look.now ≤ count_of self.now }
+        ensures { IsPrefix look.now (all_events self.now) }
     {
         self.feed.compare(look);
     }
@@ -200,22 +285,40 @@ impl<A: AgentName> Kept<A> {
         drop(self.into_history(rt));
     }
 
-    /// Ends the feed, and keeps the history.
-    pub(crate) fn into_history<R: Wait>(self, rt: &R) -> Vec<Entry>
-        ensures same { result.items ≡ self.history }
-        ensures legal { IsLegal self.places self.history }
+    /// Ends the feed, and keeps the entries, how many were cut off before them, and what stands for these.
+    pub(crate) fn into_history<R: Wait>(self, rt: &R) -> (Vec<Entry>, u64, Option<Summary>)
+        ensures same { result.0.items ≡ self.history }
+        ensures base { result.1 ≡ length self.past }
+        ensures summary { result.2 ≡ self.summary }
+        ensures rest { IsRest self.places self.past self.cut self.history }
+        ensures stands { StandsFor self.summary self.past }
         ensures named { self.places ≡ A.places }
     {
         let Kept {
             places: _,
             limit: _,
             count: _,
+            base,
+            summary,
+            cut: _,
             name: _,
             history,
             detector: _,
             feed,
         } = self;
         feed.end(rt);
-        history.into_entries()
+        (history.into_entries(), base, summary)
+    }
+}
+
+/// Adds to the number of each seat how many of these entries it made.
+fn count_seats(counts: &mut [u64; SEATS], entries: &[Entry])
+    requires seats { All (λ x. x.seat ≤ 32) entries.now }
+    requires room { (seat : ℕ) → of_seat counts.old seat + length entries.now ≤ 4000000000 }
+    ensures counts { (seat : ℕ) → of_seat counts.new seat ≡ of_seat counts.old seat + made_by seat entries.now }
+    ensures long { length counts.new ≡ 33 }
+{
+    for entry in entries {
+        counts[entry.seat()] += 1;
     }
 }

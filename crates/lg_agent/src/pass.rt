@@ -5,8 +5,8 @@ ghost use Rattle.lg_packet.specs.declared.packet.Packet.{Packet as Read};
 ghost use Rattle.lg_packet.specs.Meaning.Reading.{packet_of};
 ghost use Rattle.lg_detector.specs.declared.event.Event.TheVariants.{Tick, Heard, Ask, Health, Pull};
 ghost use Rattle.lg_detector.specs.Meaning.Step.{is_open};
-ghost use Rattle.lg_agent.specs.declared.refusal.Refusal.TheVariants.{BadPacket};
-ghost use Rattle.lg_agent.specs.Meaning.Calls.{IsCall, IsRefusal, IsBadPacket};
+ghost use Rattle.lg_agent.specs.declared.refusal.Refusal.TheVariants.{BadPacket, NoMemory};
+ghost use Rattle.lg_agent.specs.Meaning.Calls.{IsCall, IsRefusal, IsBadPacket, IsRotatedPass};
 
 use crate::kept::Kept;
 use crate::name::AgentName;
@@ -149,6 +149,16 @@ impl<'a, A: AgentName> Pass<'a, A> {
         ensures refusal { IfErr result (IsRefusal self.old.seen) }
     {
         self.call(rt, alloc, &Event::Pull { now, peer })
+    }
+
+    /// Cuts the entries that are stored off the history; a summary of all events so far stands for them. It answers how
+    /// many they were. It is no event, and makes no entry: what the pass has seen and how many calls it made stays. The
+    /// only refusal is [`Refusal::NoMemory`], and then nothing has changed.
+    pub fn rotate<R: Wait>(&mut self, rt: &R, alloc: Global) -> Result<u64, Refusal>
+        ensures rotated { MatchResult result (λ _. IsRotatedPass self.old self.new)
+            (λ e. (e ≡ NoMemory) × (self.new ≡ self.old)) }
+    {
+        self.own.rotate(self.kept, rt, alloc)
     }
 
     /// What the pass leaves.

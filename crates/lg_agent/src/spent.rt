@@ -1,7 +1,10 @@
 //! What a pass keeps, and leaves when it is finished.
-ghost use Rattle.std.specs.Prelude.{◌≡◌, length, vec_len, false, MatchResult, IfErr};
+ghost use Rattle.std.specs.Prelude.{◌≡◌, ◌+◌, ◌≤◌, drop, length, vec_len, false, MatchResult, IfErr};
+ghost use Rattle.std.specs.Vec.{vec_capacity};
 ghost use Rattle.lg_detector.specs.Meaning.Step.{is_open};
-ghost use Rattle.lg_agent.specs.Meaning.Calls.{IsCall, IsRefusal};
+ghost use Rattle.lg_agent.specs.declared.refusal.Refusal.TheVariants.{NoMemory};
+ghost use Rattle.lg_agent.specs.Meaning.Calls.{IsCall, IsRefusal, IsRotatedPass};
+ghost use Rattle.lg_agent.specs.Meaning.Closing.{below};
 
 use crate::kept::Kept;
 use crate::name::AgentName;
@@ -20,20 +23,24 @@ pub struct Spent<A: AgentName> {
     pub(crate) name: Name,
     pub(crate) seat: usize,
     pub(crate) look: Look<A>,
+    /// How many of its calls were cut off from its positions.
+    pub(crate) gone: u64,
     pub(crate) mine: Vec<u64>,
 }
 
 impl<A: AgentName> Model for Spent<A> {
-    ghost use Rattle.std.specs.Prelude.{◌≡◌, ◌<◌, length, true, All};
+    ghost use Rattle.std.specs.Prelude.{◌≡◌, ◌<◌, ◌≤◌, ◌+◌, length, true, All};
     ghost use Rattle.lg_view.specs.Meaning.Views.{begins_open};
     ghost use Rattle.lg_agent.specs.Meaning.Ledger.{Own};
 
     ghost Value = { Own };
 
-    ghost view = { λ s. record { name = s.name; seat = s.seat; seen = s.look; mine = s.mine.items } };
+    ghost view = { λ s. record { name = s.name; seat = s.seat; seen = s.look; gone = s.gone; mine = s.mine.items } };
 
     // It has seen the opening, and all its calls.
-    ghost invariant = { λ s. (begins_open s.look ≡ true) × All (λ k. k < length s.look) s.mine.items };
+    ghost invariant = { λ s. (begins_open s.look ≡ true)
+        × All (λ k. k < length s.look) s.mine.items
+        × (s.gone + length s.mine.items < length s.look) };
 }
 
 impl<A: AgentName> Spent<A> {
@@ -58,7 +65,23 @@ impl<A: AgentName> Spent<A> {
         self.look.seen()
     }
 
-    /// The positions of its answered calls in the history, in order.
+    /// How many of its answered calls it has no positions of any more: the first ones, whose entries were cut off.
+    pub fn gone(&self) -> u64
+        ensures { result ≡ self.now.gone }
+    {
+        self.gone
+    }
+
+    /// How many calls it had answered.
+    pub fn made(&self) -> u64
+        ensures { result ≡ self.now.gone + length self.now.mine }
+    {
+        // What was seen is an accepted list.
+        let _seen = self.look.seen();
+        self.gone + self.mine.len() as u64
+    }
+
+    /// The positions of its other answered calls in the history, in order.
     pub fn calls(&self) -> &[u64]
         ensures { result.now ≡ self.now.mine }
     {
@@ -82,11 +105,71 @@ impl<A: AgentName> Spent<A> {
             return Err(Refusal::NoMemory);
         }
         let mut guard = kept.lock(rt);
+        let base = guard.base();
         let answer = guard.call(rt, alloc, self.seat, &mut self.look, event);
         MutexGuard::unlock(guard);
         if let Ok(receipt) = &answer {
+            let moved = cut_positions(base, &mut self.mine);
+            self.gone += moved as u64;
             self.mine.push_reserved(receipt.place);
         }
         answer
     }
+
+    /// How many of its calls have their entries before the base, and how many positions these have.
+    pub(crate) fn cut_at(&self, base: u64) -> (u64, usize)
+        ensures moved { result.1 ≡ below base self.now.mine }
+        ensures few { result.1 ≤ length self.now.mine }
+        ensures calls { result.0 ≡ self.now.gone + result.1 }
+    {
+        // What was seen is an accepted list.
+        let _seen = self.look.seen();
+        let moved = below(base, self.mine.as_slice());
+        (self.gone + moved as u64, moved)
+    }
+
+    /// A rotation, under the lock, which is taken once.
+    pub(crate) fn rotate<R: Wait>(
+        &mut self,
+        kept: &Mutex<Kept<A>>,
+        rt: &R,
+        alloc: Global,
+    ) -> Result<u64, Refusal>
+        ensures rotated { MatchResult result (λ _. IsRotatedPass self.old self.new)
+            (λ e. (e ≡ NoMemory) × (self.new ≡ self.old)) }
+    {
+        let mut guard = kept.lock(rt);
+        let answer = guard.rotate(alloc);
+        let base = guard.base();
+        MutexGuard::unlock(guard);
+        if answer.is_ok() {
+            // What was seen is an accepted list.
+            let _seen = self.look.seen();
+            let moved = cut_positions(base, &mut self.mine);
+            self.gone += moved as u64;
+        }
+        answer
+    }
+}
+
+/// How many of these positions are below the base.
+fn below(base: u64, mine: &[u64]) -> usize
+    ensures count { result ≡ below base mine.now }
+    ensures few { result ≤ length mine.now }
+{
+    mine.iter().take_while(|place| **place < base).count()
+}
+
+/// Cuts the positions below the base off, and answers how many they were.
+fn cut_positions(base: u64, mine: &mut Vec<u64>) -> usize
+    ensures count { result ≡ below base mine.old.items }
+    ensures few { result ≤ length mine.old.items }
+    ensures rest { mine.new.items ≡ drop result mine.old.items }
+    ensures room { vec_capacity mine.new ≡ vec_capacity mine.old }
+{
+    let moved = below(base, mine.as_slice());
+    if moved > 0 {
+        drop(mine.drain(..moved));
+    }
+    moved
 }

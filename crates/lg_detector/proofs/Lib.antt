@@ -16,3 +16,4 @@ pub mod Accepting
 pub mod AcceptedLists
 pub mod Deadlines
 pub mod ChoiceLaws
+pub mod Summaries

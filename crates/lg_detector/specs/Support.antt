@@ -10,3 +10,4 @@ pub mod Joining
 pub mod Step
 pub mod Reached
 pub mod Kept
+pub mod Summary

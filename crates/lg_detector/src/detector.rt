@@ -110,6 +110,32 @@ impl Detector {
         Ok(Detector { parts })
     }
 
+    /// An equal detector. It takes memory for it; the only error is that memory was refused.
+    pub(crate) fn copy(&self, alloc: Global) -> Result<Detector, NoMemory>
+        ensures { IfOk result (λ detector. detector ≡ self.now) }
+    {
+        let parts = &self.parts;
+        let round = match &parts.round {
+            Some(round) => Some(round.copy()),
+            None => None,
+        };
+        let parts = Box::new(
+            alloc,
+            Parts {
+                events: parts.events,
+                moment: parts.moment,
+                score: parts.score,
+                timers: parts.timers.copy(),
+                order: parts.order.copy(),
+                number: parts.number,
+                round,
+                relays: parts.relays.copy(),
+                membership: parts.membership.copy(),
+            },
+        )?;
+        Ok(Detector { parts })
+    }
+
     /// Whether an event can come next: an opening with a good configuration first and never again, and at most
     /// 4,000,000,000 events in all.
     pub fn accepts(&self, event: &Event) -> bool

@@ -14,6 +14,7 @@ mod detector;
 mod event;
 mod message;
 mod reply;
+mod summary;
 
 pub use detector::{
     Detector, MAX_EVENTS, NoMemory, accepted_lists, states_lead_on, windows_have_each,
@@ -22,3 +23,4 @@ pub use event::Event;
 pub use lg_rules::MAX_MEMBERS;
 pub use lg_timers::{Timer, TimerId};
 pub use reply::{Answer, MAX_CHANGED, MAX_SENDS, Outgoing, Reply};
+pub use summary::{Summary, summaries_lead_on};

@@ -53,6 +53,18 @@ impl Queue {
         }
     }
 
+    /// An equal queue. It takes no memory.
+    pub fn copy(&self) -> Queue
+        ensures { result ≡ self.now }
+    {
+        let mut rows = ArrayVec::new();
+        rows.try_extend_from_slice(&self.rows).unwrap();
+        Queue {
+            lambda: self.lambda,
+            rows,
+        }
+    }
+
     /// The claims with their sends, in the order of the members' names.
     pub fn queued(&self) -> &[Queued]
         ensures { result.now ≡ self.now.rows }

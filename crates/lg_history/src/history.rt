@@ -125,6 +125,14 @@ impl History {
         self.prepared = None;
     }
 
+    /// Drops all entries, and what is prepared, if anything is. It keeps the memory of the list.
+    pub fn clear(&mut self)
+        ensures { self.new ≡ record { entries = []; prepared = None } }
+    {
+        self.withdraw();
+        self.entries.clear();
+    }
+
     /// Adds the entry of what is prepared, with this reply, behind all others. Where nothing is prepared it changes
     /// nothing.
     ///

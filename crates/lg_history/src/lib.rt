@@ -20,5 +20,5 @@ mod sizes;
 
 pub use entry::Entry;
 pub use history::History;
-pub use laws::{histories_grow, replies_by_place};
+pub use laws::{histories_grow, replies_by_place, rests_go_on};
 pub use lg_detector::NoMemory;

@@ -15,7 +15,7 @@ ghost use Rattle.lg_membership.specs.Support.Room.{HasPlace};
 
 use crate::applied::{Applied, Deadline, Presence};
 use crate::origin::Origin;
-use crate::suspicions::{Suspicions, suspect};
+use crate::suspicions::{Suspicions, copy_suspicions, suspect};
 use arrayvec::ArrayVec;
 use lg_gossip::Queue;
 use lg_rules::{Addr, Claim, Heard, MAX_CLAIMS, Members, Name, Own, OwnHeard, Record};
@@ -169,6 +169,23 @@ impl Membership {
             members: Members::new(&name),
             suspicions: Suspicions::new(),
             queue: Queue::new(1),
+        }
+    }
+
+    /// An equal member. It takes no memory.
+    pub fn copy(&self) -> Membership
+        ensures { result ≡ self.now }
+    {
+        let config = match &self.config {
+            Some(config) => Some(config.copy()),
+            None => None,
+        };
+        Membership {
+            config,
+            own: self.own,
+            members: self.members.copy(),
+            suspicions: copy_suspicions(self.suspicions.as_slice()),
+            queue: self.queue.copy(),
         }
     }
 

@@ -13,6 +13,18 @@ pub struct Suspected {
     pub suspicion: Suspicion,
 }
 
+impl Suspected {
+    /// An equal one. It takes no memory.
+    pub(crate) fn copy(&self) -> Suspected
+        ensures { result ≡ self.now }
+    {
+        Suspected {
+            name: self.name,
+            suspicion: self.suspicion.copy(),
+        }
+    }
+}
+
 /// Suspicions stand in the order of the members' names.
 impl Keyed for Suspected {
     ghost use Rattle.lg_membership.specs.Meaning.Suspicions.{suspected_name};

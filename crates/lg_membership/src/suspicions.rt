@@ -1,5 +1,5 @@
 //! What claims about others change of the suspicions.
-ghost use Rattle.std.specs.Prelude.{◌≡◌, ◌≤◌, map, None, Some};
+ghost use Rattle.std.specs.Prelude.{◌≡◌, ◌≤◌, length, map, None, Some};
 ghost use Rattle.arrayvec.specs.ArrayVec.{array_vec_len};
 ghost use Rattle.lg_rules.specs.Meaning.Claim.{accuser_of};
 ghost use Rattle.lg_rules.specs.Meaning.Rows.{name_cmp, row_at, Rises};
@@ -19,6 +19,18 @@ use lg_timing::{Config, Moment};
 
 /// The suspicions of the others, in the order of their names.
 pub type Suspicions = ArrayVec<Suspected, MAX_OTHERS>;
+
+/// Copies of suspicions.
+pub(crate) fn copy_suspicions(suspicions: &[Suspected]) -> Suspicions
+    requires { length suspicions.now ≤ MAX_OTHERS }
+    ensures { result.items ≡ suspicions.now }
+{
+    let mut copies = ArrayVec::new();
+    for suspected in suspicions {
+        copies.push(suspected.copy());
+    }
+    copies
+}
 
 /// A member is suspected, in the place of an older suspicion of it; before the opening nobody is.
 fn raise(

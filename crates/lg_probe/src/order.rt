@@ -101,6 +101,23 @@ impl Order {
         }
     }
 
+    /// An equal order. It takes no memory.
+    pub fn copy(&self) -> Order
+        ensures { result ≡ self.now }
+    {
+        let mut names = ArrayVec::new();
+        names.try_extend_from_slice(&self.names).unwrap();
+        let mut chosen = ArrayVec::new();
+        chosen.try_extend_from_slice(&self.chosen).unwrap();
+        let mut remaining = ArrayVec::new();
+        remaining.try_extend_from_slice(&self.remaining).unwrap();
+        Order {
+            names,
+            chosen,
+            remaining,
+        }
+    }
+
     /// The names that have joined and not left, at most 255, in the order of names (SWIM, section 4.3).
     pub fn names(&self) -> &[Name]
         ensures names { result.now ≡ self.now.names }

@@ -88,6 +88,15 @@ impl Relays {
         }
     }
 
+    /// Equal relays. It takes no memory.
+    pub fn copy(&self) -> Relays
+        ensures { result ≡ self.now }
+    {
+        let mut open = ArrayVec::new();
+        open.try_extend_from_slice(&self.open).unwrap();
+        Relays { open }
+    }
+
     /// How many relays are open, at most 64.
     pub fn len(&self) -> usize
         ensures count { result ≡ length self.now }

@@ -49,6 +49,23 @@ impl Round {
         }
     }
 
+    /// An equal round. It takes no memory.
+    pub fn copy(&self) -> Round
+        ensures { result ≡ self.now }
+    {
+        let mut asked = ArrayVec::new();
+        asked.try_extend_from_slice(&self.asked).unwrap();
+        let mut silent = ArrayVec::new();
+        silent.try_extend_from_slice(&self.silent).unwrap();
+        Round {
+            number: self.number,
+            target: self.target,
+            asked,
+            silent,
+            acked: self.acked,
+        }
+    }
+
     /// The number of the probe.
     pub fn number(&self) -> u32
         ensures { result ≡ self.now.number }

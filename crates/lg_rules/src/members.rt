@@ -150,6 +150,19 @@ fn hear_in(records: &mut ArrayVec<Record, MAX_OTHERS>, live: &mut usize, claim: 
 }
 
 impl Members {
+    /// An equal table. It takes no memory.
+    pub fn copy(&self) -> Members
+        ensures { result ≡ self.now }
+    {
+        let mut records = ArrayVec::new();
+        records.try_extend_from_slice(&self.records).unwrap();
+        Members {
+            own: self.own,
+            records,
+            live: self.live,
+        }
+    }
+
     /// No other member is known.
     pub fn new(own: &Name) -> Members
         ensures { result ≡ known_of own.now [] }

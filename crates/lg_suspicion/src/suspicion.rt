@@ -71,6 +71,19 @@ impl Default for Suspicion {
 }
 
 impl Suspicion {
+    /// An equal suspicion. It takes no memory.
+    pub fn copy(&self) -> Suspicion
+        ensures { result ≡ self.now }
+    {
+        let mut accusers = ArrayVec::new();
+        accusers.try_extend_from_slice(&self.accusers).unwrap();
+        Suspicion {
+            raised: self.raised,
+            timeout: self.timeout,
+            accusers,
+        }
+    }
+
     /// The suspicion that `accuser` raises at the moment `now` among `live` members that haven't failed, 1
     /// to [`MAX_LIVE`], of which oneself is one and the suspected member another.
     pub fn raise(now: Moment, accuser: &Name, live: u64, config: &Config) -> Suspicion

@@ -93,6 +93,15 @@ impl Timers {
         }
     }
 
+    /// Equal timers. It takes no memory.
+    pub fn copy(&self) -> Timers
+        ensures { result ≡ self.now }
+    {
+        let mut timers = ArrayVec::new();
+        timers.try_extend_from_slice(&self.timers).unwrap();
+        Timers { timers }
+    }
+
     /// Sets one more timer. Fewer than [`MAX_TIMERS`] are set, and none of its id.
     pub fn set(&mut self, timer: Timer)
         requires room { length self.old < MAX_TIMERS }

@@ -1,29 +1,47 @@
 -- What calls and looks do, and which calls are refused.
-use Rattle.std.specs.Prelude.{◌≡◌, ℕ, ◌+◌, ◌<◌, true, ◌||◌, nat_lt, nat_le, ◌==◌}
+use Rattle.std.specs.Prelude.{◌≡◌, ℕ, ◌+◌, ◌<◌, true, ◌||◌, nat_lt, nat_le, ◌==◌, ◌≤◌, drop}
 use Rattle.std.specs.Prelude.{if◌then◌else◌}
 use Rattle.std.specs.Prelude.{List, [], ◌∷◌, ◌++◌, length, Option, Some, None, All}
 use mathlib.Core.List.{IsPrefix}
 use Rattle.lg_detector.specs.declared.event.Event.{Event}
-use Rattle.lg_detector.specs.Meaning.Step.{is_accepted, reply_after}
-use Rattle.lg_history.specs.Meaning.History.{entry, events}
+use Rattle.lg_detector.specs.Meaning.Step.{is_accepted, reply_after, most_events}
+use Rattle.lg_detector.specs.Support.State.{State}
+use Rattle.lg_detector.specs.Support.Summary.{IsSummary}
+use Rattle.lg_history.specs.Meaning.History.{entry}
+use Rattle.lg_history.specs.Meaning.Rest.{made_by, of_seat}
 use Rattle.lg_view.specs.Meaning.Views.{begins_open}
 use Rattle.lg_packet.specs.declared.fault.Fault.{Fault}
 use Rattle.lg_agent.specs.declared.receipt.Receipt.{Receipt}
 use Rattle.lg_agent.specs.declared.refusal.Refusal.{Refusal}
 use Rattle.lg_agent.specs.declared.refusal.Refusal.TheVariants.{BadPacket, NoMemory, HistoryFull}
 use Rattle.lg_agent.specs.declared.refusal.Refusal.TheVariants.{Behind, NoPlace, NoView}
-use Rattle.lg_agent.specs.Meaning.Ledger.{Ledger, Own}
+use Rattle.lg_agent.specs.Meaning.Ledger.{Ledger, Own, all_events, count_of}
 
 -- the ledger with one more entry: the seat's event, and the reply that the definitions give to it there
 abbrev pub with_entry : Ledger → ℕ → Event → Ledger
-with_entry l seat e = record l { history = l.history ++ entry seat e (reply_after (events l.history) e) ∷ [] }
+with_entry l seat e = record l { history = l.history ++ entry seat e (reply_after (all_events l) e) ∷ [] }
 
--- Why the ledger refuses a call of a seat, if it does: there is no such place, or the history is full.
+-- A ledger whose entries are all cut off: none is stored, a summary stands for all events so far, and each seat's number
+-- of entries cut off has grown by those that it had stored.
+pub record IsRotated (before after : Ledger) : Type 0 where
+  pub history : after.history ≡ []
+  pub past : after.past ≡ all_events before
+  pub summary : State
+  pub kept : after.summary ≡ Some summary
+  pub of_all : IsSummary summary (all_events before)
+  pub cut : (seat : ℕ) → of_seat after.cut seat ≡ of_seat before.cut seat + made_by seat before.history
+  pub places : after.places ≡ before.places
+  pub limit : after.limit ≡ before.limit
+
+-- Why the ledger refuses a call of a seat, if it does: there is no such place, a detector accepts no more events, or as
+-- many entries are stored as may be.
 abbrev pub refusal_of : Ledger → ℕ → Option Refusal
 refusal_of l seat =
     if (seat == 0) || nat_lt l.places seat
     then Some NoPlace
-    else (if nat_le l.limit (length l.history) then Some (HistoryFull l.limit) else None)
+    else (if nat_le most_events (count_of l)
+    then Some (HistoryFull most_events)
+    else (if nat_le l.limit (length l.history) then Some (HistoryFull l.limit) else None))
 
 -- An answered call, by what its caller has seen before and after. There is an accepted list of events which begins
 -- with all that the caller had seen and ends with the call's event. The event stands at the receipt's place, and the
@@ -36,11 +54,26 @@ pub record IsAnswered (seen : List Event) (e : Event) (r : Receipt) (now : List 
   pub place : length before ≡ r.place
   pub reply : r.reply ≡ reply_after before e
 
--- An answered call of a pass: its place is one more of the pass's positions, and later than all of them.
+-- An answered call of a pass: its place is one more of the pass's positions, and later than all of them. The first of
+-- these, whose entries were cut off, may have become a number before.
 pub record IsCall (before : Own) (e : Event) (r : Receipt) (after : Own) : Type 0 where
   pub answered : IsAnswered before.seen e r after.seen
-  pub mine : after.mine ≡ before.mine ++ r.place ∷ []
+  pub moved : ℕ
+  pub few : moved ≤ length before.mine
+  pub gone : after.gone ≡ before.gone + moved
+  pub mine : after.mine ≡ drop moved before.mine ++ r.place ∷ []
   pub later : All (λ k. k < r.place) before.mine
+  pub seat : after.seat ≡ before.seat
+  pub name : after.name ≡ before.name
+
+-- A pass after a rotation: it has seen what it had seen and made as many calls, and the first of its positions may have
+-- become a number.
+pub record IsRotatedPass (before after : Own) : Type 0 where
+  pub moved : ℕ
+  pub few : moved ≤ length before.mine
+  pub gone : after.gone ≡ before.gone + moved
+  pub mine : after.mine ≡ drop moved before.mine
+  pub seen : after.seen ≡ before.seen
   pub seat : after.seat ≡ before.seat
   pub name : after.name ≡ before.name
 
@@ -63,6 +96,7 @@ IsBadPacket r = (fault : Fault) × (r ≡ BadPacket fault)
 pub record IsLook (before after : Own) : Type 0 where
   pub begins : IsPrefix before.seen after.seen
   pub accepted : is_accepted after.seen ≡ true
+  pub gone : after.gone ≡ before.gone
   pub mine : after.mine ≡ before.mine
   pub seat : after.seat ≡ before.seat
   pub name : after.name ≡ before.name
@@ -72,6 +106,7 @@ pub record IsFresh (agent : List ℕ) (place : ℕ) (pass : Own) : Type 0 where
   pub name : pass.name ≡ agent
   pub seat : pass.seat ≡ place
   pub seen : begins_open pass.seen ≡ true
+  pub gone : pass.gone ≡ 0
   pub mine : pass.mine ≡ []
 
 -- fresh passes, in the order of their places, which follow n

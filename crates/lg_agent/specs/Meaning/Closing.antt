@@ -1,15 +1,19 @@
 -- Which fault closing finds, and what is known of an agent that is closed.
 use Rattle.std.specs.Prelude.{◌≡◌, ◌⊎◌, ℕ, ◌+◌, ◌<◌, ◌≤◌, ◌==◌, Bool, ◌||◌, not}
-use Rattle.std.specs.Prelude.{nat_eq, nat_lt, if◌then◌else◌}
+use Rattle.std.specs.Prelude.{nat_eq, nat_lt, if◌then◌else◌, ◌++◌, drop, true}
 use Rattle.std.specs.Prelude.{List, [], ◌∷◌, length, Option, Some, None, Result, Ok, Err, option_map, All, Any}
-use Rattle.std.specs.List.{count_by, sum_by, list_any, find, range_with_len}
+use Rattle.std.specs.List.{count_by, prefix_len, sum_by, list_any, find, range_with_len}
 use Rattle.std.specs.Option.{option_or}
 use Rattle.std.specs.Cmp.Lexicographic.{pointwise}
 use mathlib.Core.List.{IsPrefix}
-use Rattle.lg_history.specs.Meaning.History.{Entry, events, positions, IsLegal}
+use Rattle.lg_detector.specs.declared.event.Event.{Event}
+use Rattle.lg_detector.specs.Support.State.{State}
+use Rattle.lg_detector.specs.Meaning.Step.{is_accepted}
+use Rattle.lg_history.specs.Meaning.History.{Entry, events, positions, Answered, IsLegal}
+use Rattle.lg_history.specs.Meaning.Rest.{made_by, of_seat, StandsFor, IsRest}
 use Rattle.lg_agent.specs.declared.refusal.CloseFault.{CloseFault}
 use Rattle.lg_agent.specs.declared.refusal.CloseFault.TheVariants.{Missing, Foreign, Differs}
-use Rattle.lg_agent.specs.Meaning.Ledger.{Own, own_name}
+use Rattle.lg_agent.specs.Meaning.Ledger.{Ledger, Own, own_name, all_events, count_of}
 
 -- how many of these passes have a place
 abbrev pub times : List Own → ℕ → ℕ
@@ -31,47 +35,63 @@ first_difference n [] (y ∷ ys) = Some n
 first_difference n (x ∷ xs) [] = Some n
 first_difference n (x ∷ xs) (y ∷ ys) = if x == y then first_difference (n + 1) xs ys else Some n
 
--- where a pass's positions differ from those that its place has in the history
-abbrev pub difference : List Entry → Own → Option CloseFault
-difference h s = option_map (λ i. Differs s.seat i) (first_difference 0 s.mine (positions s.seat 0 h))
+-- how many of a pass's first positions are those of entries that were cut off, of which there are `base`
+abbrev pub below : ℕ → List ℕ → ℕ
+below base mine = prefix_len (λ n. nat_lt n base) mine
 
-abbrev pub difference_at : List Entry → Option Own → Option CloseFault
-difference_at h None = None
-difference_at h (Some s) = difference h s
+-- Where a pass's calls differ from the entries of its place, those that were cut off by their number, the others by their
+-- positions. The calls are counted from 0; where the numbers differ it is the lesser of the two.
+abbrev pub difference : Ledger → Own → Option CloseFault
+difference l s =
+    let base = length l.past in
+    let cut = of_seat l.cut s.seat in
+    let calls = s.gone + below base s.mine in
+    if calls == cut
+    then option_map (λ i. Differs s.seat i) (first_difference calls (drop (below base s.mine) s.mine) (positions s.seat base l.history))
+    else Some (Differs s.seat (if nat_lt calls cut then calls else cut))
+
+abbrev pub difference_at : Ledger → Option Own → Option CloseFault
+difference_at l None = None
+difference_at l (Some s) = difference l s
 
 -- the first such difference, going through these places
-abbrev pub least_difference : List Entry → List Own → List ℕ → Option CloseFault
-least_difference h all [] = None
-least_difference h all (p ∷ ps) =
-    option_or (difference_at h (find (λ s. s.seat == p) all)) (least_difference h all ps)
+abbrev pub least_difference : Ledger → List Own → List ℕ → Option CloseFault
+least_difference l all [] = None
+least_difference l all (p ∷ ps) =
+    option_or (difference_at l (find (λ s. s.seat == p) all)) (least_difference l all ps)
 
--- The fault of closing: some pass is foreign, else some place has none, else the least place whose positions differ.
-abbrev pub close_fault : ℕ → List Entry → List Own → Option CloseFault
-close_fault places h all =
-    if list_any (is_foreign (own_name h) places all) all
+-- The fault of closing: some pass is foreign, else some place has none, else the least place whose calls differ.
+abbrev pub close_fault : Ledger → List Own → Option CloseFault
+close_fault l all =
+    if list_any (is_foreign (own_name (all_events l)) l.places all) all
     then Some Foreign
-    else (if list_any (is_missing all) (range_with_len 1 places)
+    else (if list_any (is_missing all) (range_with_len 1 l.places)
     then Some Missing
-    else least_difference h all (range_with_len 1 places))
+    else least_difference l all (range_with_len 1 l.places))
 
 -- what is answered where there may be a fault
 abbrev pub unless_fault : Option CloseFault → Result (Unit {0}) CloseFault
 unless_fault None = Ok tt
 unless_fault (Some fault) = Err fault
 
--- One of the passes has seen more events than the history has, and the fault is told as a difference behind its last
--- call.
-pub record SawMore (h : List Entry) (fault : CloseFault) (s : Own) : Type 0 where
-  pub more : length h < length s.seen
-  pub behind : fault ≡ Differs s.seat (length s.mine)
+-- A ledger of a legal history, of which the first entries may have been cut off.
+pub record IsLegalLedger (places : ℕ) (l : Ledger) : Type 0 where
+  pub places_are : l.places ≡ places
+  pub rest : IsRest places l.past l.cut l.history
+  pub base : StandsFor l.summary l.past
+
+-- One of the passes has seen more events than there are, and the fault is told as a difference behind its last call.
+pub record SawMore (l : Ledger) (fault : CloseFault) (s : Own) : Type 0 where
+  pub more : count_of l < length s.seen
+  pub behind : fault ≡ Differs s.seat (s.gone + length s.mine)
 
 -- A closing is refused with this fault: there is a legal history by which it is the fault of closing, or by which there
 -- is none, and one of the passes has seen more events than that history has.
 pub record IsRefusedClosing (places : ℕ) (all : List Own) (fault : CloseFault) : Type 0 where
-  pub history : List Entry
-  pub legal : IsLegal places history
-  pub found : (close_fault places history all ≡ Some fault)
-      ⊎ ((close_fault places history all ≡ None) × Any (SawMore history fault) all)
+  pub ledger : Ledger
+  pub legal : IsLegalLedger places ledger
+  pub found : (close_fault ledger all ≡ Some fault)
+      ⊎ ((close_fault ledger all ≡ None) × Any (SawMore ledger fault) all)
 
 -- whatever the history: some place has none of the passes
 abbrev pub LacksOne : ℕ → List Own → Type 0
@@ -81,19 +101,39 @@ LacksOne places all = (p : ℕ) × (0 < p) × (p ≤ places) × (times all p ≡
 abbrev pub IsMisplaced : ℕ → List Own → Own → Type 0
 IsMisplaced places all s = (s.seat ≡ 0) ⊎ (places < s.seat) ⊎ (1 < times all s.seat)
 
--- A pass agrees with the history: it bears its name and has one of its places, its positions are those of its place,
--- and what it has seen begins the events.
-pub record Agrees (places : ℕ) (h : List Entry) (s : Own) : Type 0 where
-  pub name : s.name ≡ own_name h
+-- What is left of an agent: a summary of the entries that were cut off, if any were, how many these are, and the others.
+pub record Left : Type 0 where
+  pub summary : Option State
+  pub base : ℕ
+  pub history : List Entry
+
+-- what is left is the end of a list of entries whose events are accepted and whose replies are those of the definitions
+pub record IsWell (c : Left) : Type 0 where
+  pub past : List Event
+  pub base : length past ≡ c.base
+  pub summary : StandsFor c.summary past
+  pub accepted : is_accepted (past ++ events c.history) ≡ true
+  pub answered : Answered past c.history
+
+-- A pass agrees with a whole history, of which the first `base` entries were cut off: it bears its name and has one of
+-- its places, as many of its calls were cut off as entries of its place, its positions are those of its place from the
+-- base on, and what it has seen begins the events.
+pub record Agrees (places : ℕ) (gone h : List Entry) (s : Own) : Type 0 where
+  pub name : s.name ≡ own_name (events (gone ++ h))
   pub low : 0 < s.seat
   pub high : s.seat ≤ places
-  pub mine : s.mine ≡ positions s.seat 0 h
-  pub seen : IsPrefix s.seen (events h)
+  pub cut : s.gone + below (length gone) s.mine ≡ made_by s.seat gone
+  pub mine : drop (below (length gone) s.mine) s.mine ≡ positions s.seat (length gone) h
+  pub seen : IsPrefix s.seen (events (gone ++ h))
 
--- An agent is closed: its history is legal, each place has exactly one of the passes, each pass agrees with the
--- history, and the entries are the opening's and one for each answered call.
-pub record IsClosed (places : ℕ) (h : List Entry) (all : List Own) : Type 0 where
-  pub legal : IsLegal places h
+-- An agent is closed: there are entries that were cut off, with which its history is legal and of whose events the
+-- summary is; each place has exactly one of the passes, each pass agrees with the history, and the entries, those that
+-- were cut off too, are the opening's and one for each answered call.
+pub record IsClosed (places : ℕ) (c : Left) (all : List Own) : Type 0 where
+  pub gone : List Entry
+  pub base : length gone ≡ c.base
+  pub summary : StandsFor c.summary (events gone)
+  pub legal : IsLegal places (gone ++ c.history)
   pub one_each : (p : ℕ) → 0 < p → p ≤ places → times all p ≡ 1
-  pub agree : All (Agrees places h) all
-  pub calls : length h ≡ 1 + sum_by (λ s. length s.mine) all
+  pub agree : All (Agrees places gone c.history) all
+  pub calls : length c.history + c.base ≡ 1 + sum_by (λ s. s.gone + length s.mine) all

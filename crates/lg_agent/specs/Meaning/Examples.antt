@@ -5,12 +5,13 @@ use Rattle.std.proofs.Math.Nat.{zero-lt-suc, lt-suc_self, le_refl}
 use Rattle.std.proofs.lemmas.List.Elements.{All-nil}
 use Rattle.lg_detector.specs.declared.event.Event.TheVariants.{Health}
 use Rattle.lg_detector.specs.Meaning.Examples.{by_computing, b, c, opening, nothing}
-use Rattle.lg_history.specs.Meaning.History.{Entry, entry, positions, IsSeat, IsLegal}
+use Rattle.lg_history.specs.Meaning.History.{Entry, entry, events, positions, IsSeat, IsLegal}
+use Rattle.lg_history.specs.Meaning.Rest.{of_seat, IsRest}
 use Rattle.lg_agent.specs.declared.refusal.Refusal.TheVariants.{HistoryFull, NoPlace}
 use Rattle.lg_agent.specs.declared.refusal.CloseFault.TheVariants.{Missing, Foreign, Differs}
-use Rattle.lg_agent.specs.Meaning.Ledger.{Ledger, Own, own_name}
+use Rattle.lg_agent.specs.Meaning.Ledger.{Ledger, Own, own_name, all_events}
 use Rattle.lg_agent.specs.Meaning.Calls.{refusal_of}
-use Rattle.lg_agent.specs.Meaning.Closing.{first_difference, close_fault, IsRefusedClosing, LacksOne, IsMisplaced}
+use Rattle.lg_agent.specs.Meaning.Closing.{first_difference, close_fault, IsLegalLedger, IsRefusedClosing, LacksOne, IsMisplaced}
 
 abbrev asked : ℕ → Entry
 asked seat = entry seat (Health 20) (nothing 0)
@@ -18,12 +19,15 @@ asked seat = entry seat (Health 20) (nothing 0)
 abbrev history : List Entry
 history = entry 0 (opening 0) (nothing 0) ∷ asked 1 ∷ asked 2 ∷ asked 1 ∷ []
 
-it_is_the_history_of_b : own_name history ≡ b ∷ []
+it_is_the_history_of_b : own_name (events history) ≡ b ∷ []
 it_is_the_history_of_b = refl
 
 -- There are two places, and four entries at the most.
 abbrev ledger : Ledger
-ledger = record { places = 2; limit = 4; history = history }
+ledger = record { places = 2; limit = 4; summary = None; cut = []; past = []; history = history }
+
+abbrev alone : Ledger
+alone = record ledger { places = 1 }
 
 nobody_is_at_zero : refusal_of ledger 0 ≡ Some NoPlace
 nobody_is_at_zero = refl
@@ -39,7 +43,7 @@ with_room_for_one = refl
 
 -- What the passes left.
 abbrev left_by : List ℕ → ℕ → List ℕ → Own
-left_by name seat mine = record { name = name; seat = seat; seen = []; mine = mine }
+left_by name seat mine = record { name = name; seat = seat; seen = []; gone = 0; mine = mine }
 
 abbrev first : Own
 first = left_by (b ∷ []) 1 (1 ∷ 3 ∷ [])
@@ -47,35 +51,65 @@ first = left_by (b ∷ []) 1 (1 ∷ 3 ∷ [])
 abbrev second : Own
 second = left_by (b ∷ []) 2 (2 ∷ [])
 
-they_agree_in_any_order : close_fault 2 history (second ∷ first ∷ []) ≡ None
+they_agree_in_any_order : close_fault ledger (second ∷ first ∷ []) ≡ None
 they_agree_in_any_order = refl
 
-the_second_is_missing : close_fault 2 history (first ∷ []) ≡ Some Missing
+the_second_is_missing : close_fault ledger (first ∷ []) ≡ Some Missing
 the_second_is_missing = refl
 
-one_of_another_agent_is_foreign : close_fault 1 history (left_by (c ∷ []) 1 (1 ∷ 3 ∷ []) ∷ []) ≡ Some Foreign
+one_of_another_agent_is_foreign : close_fault alone (left_by (c ∷ []) 1 (1 ∷ 3 ∷ []) ∷ []) ≡ Some Foreign
 one_of_another_agent_is_foreign = refl
 
-a_place_that_is_not_there_is_foreign : close_fault 1 history (first ∷ second ∷ []) ≡ Some Foreign
+a_place_that_is_not_there_is_foreign : close_fault alone (first ∷ second ∷ []) ≡ Some Foreign
 a_place_that_is_not_there_is_foreign = refl
 
 -- Nobody is at the second place either, but that comes after.
-a_place_twice_is_foreign : close_fault 2 history (first ∷ first ∷ []) ≡ Some Foreign
+a_place_twice_is_foreign : close_fault ledger (first ∷ first ∷ []) ≡ Some Foreign
 a_place_twice_is_foreign = refl
 
-a_call_was_forgotten : close_fault 2 history (second ∷ left_by (b ∷ []) 1 (1 ∷ []) ∷ []) ≡ Some (Differs 1 1)
+a_call_was_forgotten : close_fault ledger (second ∷ left_by (b ∷ []) 1 (1 ∷ []) ∷ []) ≡ Some (Differs 1 1)
 a_call_was_forgotten = refl
 
-one_was_invented : close_fault 2 history (left_by (b ∷ []) 2 (2 ∷ 3 ∷ []) ∷ first ∷ []) ≡ Some (Differs 2 1)
+one_was_invented : close_fault ledger (left_by (b ∷ []) 2 (2 ∷ 3 ∷ []) ∷ first ∷ []) ≡ Some (Differs 2 1)
 one_was_invented = refl
 
 of_two_the_lesser_place :
-    close_fault 2 history (left_by (b ∷ []) 2 [] ∷ left_by (b ∷ []) 1 (1 ∷ 2 ∷ []) ∷ [])
+    close_fault ledger (left_by (b ∷ []) 2 [] ∷ left_by (b ∷ []) 1 (1 ∷ 2 ∷ []) ∷ [])
     ≡ Some (Differs 1 1)
 of_two_the_lesser_place = refl
 
 they_are_the_same : first_difference 0 (1 ∷ 3 ∷ []) (positions 1 0 history) ≡ None
 they_are_the_same = refl
+
+-- All four entries are cut off, and the second pass makes a call, which is the fifth.
+abbrev rotated : Ledger
+rotated = record {
+  places = 2;
+  limit = 4;
+  summary = None;
+  cut = 1 ∷ 2 ∷ 1 ∷ [];
+  past = events history;
+  history = asked 2 ∷ [];
+}
+
+there_is_room_again : refusal_of rotated 2 ≡ None
+there_is_room_again = refl
+
+-- A pass that made its calls into a number, and one that still has their positions.
+abbrev counts : Own
+counts = record (left_by (b ∷ []) 1 []) { gone = 2 }
+
+abbrev lists : Own
+lists = left_by (b ∷ []) 2 (2 ∷ 4 ∷ [])
+
+they_agree_by_number_and_position : close_fault rotated (counts ∷ lists ∷ []) ≡ None
+they_agree_by_number_and_position = refl
+
+a_call_that_was_cut_off_is_missing : close_fault rotated (record counts { gone = 1 } ∷ lists ∷ []) ≡ Some (Differs 1 1)
+a_call_that_was_cut_off_is_missing = refl
+
+the_last_is_missing : close_fault rotated (counts ∷ left_by (b ∷ []) 2 (2 ∷ []) ∷ []) ≡ Some (Differs 2 1)
+the_last_is_missing = refl
 
 -- The history before any call is legal.
 abbrev fresh : List Entry
@@ -85,11 +119,24 @@ it_is_legal : (places : ℕ) → IsLegal places fresh
 unfolding by_computing
 it_is_legal places = record { accepted = refl; seated = (refl, All-nil (IsSeat places)); answered = (refl, tt) }
 
+nobody : (seat : ℕ) → of_seat [] seat ≡ 0
+nobody seat = refl
+
+abbrev begun : ℕ → Ledger
+begun places = record { places = places; limit = 4; summary = None; cut = []; past = []; history = fresh }
+
+its_ledger_is_legal : (places : ℕ) → IsLegalLedger places (begun places)
+its_ledger_is_legal places = record {
+  places_are = refl;
+  rest = record { gone = []; past_is = refl; legal = it_is_legal places; counted = nobody };
+  base = refl;
+}
+
 abbrev idle : Own
 idle = left_by (b ∷ []) 1 []
 
 one_of_two_alone_is_refused : IsRefusedClosing 2 (idle ∷ []) Missing
-one_of_two_alone_is_refused = record { history = fresh; legal = it_is_legal 2; found = inl refl }
+one_of_two_alone_is_refused = record { ledger = begun 2; legal = its_ledger_is_legal 2; found = inl refl }
 
 nobody_has_the_second_place : LacksOne 2 (idle ∷ [])
 nobody_has_the_second_place = (2, zero-lt-suc 1, le_refl 2, refl)
@@ -104,7 +151,7 @@ ahead = record idle { seen = opening 0 ∷ Health 20 ∷ [] }
 what_it_saw_is_told_behind_its_calls : IsRefusedClosing 1 (ahead ∷ []) (Differs 1 0)
 what_it_saw_is_told_behind_its_calls =
     record {
-      history = fresh;
-      legal = it_is_legal 1;
+      ledger = begun 1;
+      legal = its_ledger_is_legal 1;
       found = inr (refl, (0, ahead, zero-lt-suc 0, refl, record { more = lt-suc_self 1; behind = refl }));
     }

@@ -1,20 +1,35 @@
 -- What contracts see of the value under the lock, of a pass, and of an agent.
-use Rattle.std.specs.Prelude.{ℕ, List, [], ◌∷◌}
+use Rattle.std.specs.Prelude.{ℕ, ◌+◌, List, [], ◌∷◌, ◌++◌, length, Option}
 use Rattle.lg_detector.specs.declared.event.Event.{Event}
 use Rattle.lg_detector.specs.declared.event.Event.TheVariants.{Open}
-use Rattle.lg_history.specs.Meaning.History.{Entry}
+use Rattle.lg_detector.specs.Support.State.{State}
+use Rattle.lg_history.specs.Meaning.History.{Entry, events}
 
--- The value under the lock: how many passes there are, how many entries there may be, and the entries.
+-- The value under the lock: how many passes there are, how many entries may be stored, and the entries that are stored.
+-- Where others were cut off before them: a summary of these, how many of them each seat made, and their events.
 pub record Ledger : Type 0 where
   pub places : ℕ
   pub limit : ℕ
+  pub summary : Option State
+  pub cut : List ℕ
+  pub past : List Event
   pub history : List Entry
 
--- A pass: the name of its agent, its place, the events that it has seen, and the positions of its answered calls.
+-- all events since the opening, that one included
+abbrev pub all_events : Ledger → List Event
+all_events l = l.past ++ events l.history
+
+-- how many
+abbrev pub count_of : Ledger → ℕ
+count_of l = length l.history + length l.past
+
+-- A pass: the name of its agent, its place, the events that it has seen, and of its answered calls the positions, but
+-- for the first so many, whose entries were cut off.
 pub record Own : Type 0 where
   pub name : List ℕ
   pub seat : ℕ
   pub seen : List Event
+  pub gone : ℕ
   pub mine : List ℕ
 
 -- An agent: its name, and for each place that waits for a pass the events that it was told of.
@@ -32,12 +47,12 @@ abbrev pub limit_in : Event → ℕ
 limit_in (Open now config) = config.history_limit
 limit_in _ = 0
 
--- the most entries that a history may have: those that its opening allows
-abbrev pub own_limit : List Entry → ℕ
+-- the most entries that may be stored: those that the opening allows
+abbrev pub own_limit : List Event → ℕ
 own_limit [] = 0
-own_limit (x ∷ h) = limit_in x.event
+own_limit (e ∷ f) = limit_in e
 
--- the name of the member whose history it is: that of its opening
-abbrev pub own_name : List Entry → List ℕ
+-- the name of the member whose events these are: that of its opening
+abbrev pub own_name : List Event → List ℕ
 own_name [] = []
-own_name (x ∷ h) = name_in x.event
+own_name (e ∷ f) = name_in e

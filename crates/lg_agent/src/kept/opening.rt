@@ -1,14 +1,15 @@
 //! How the value under the lock begins: with the entry of the opening, which is published.
-ghost use Rattle.std.specs.Prelude.{◌≡◌, ◌<◌, ◌≤◌, ◌⊎◌, [], ◌∷◌};
+ghost use Rattle.std.specs.Prelude.{◌≡◌, ℕ, ◌<◌, ◌≤◌, ◌⊎◌, [], ◌∷◌, ◌++◌};
 ghost use Rattle.std.specs.Prelude.{All, IfOk, IfErr, OnOk, IsTrue, vec_len, None, true};
 ghost use Rattle.lg_timing.specs.Meaning.Config.{IsChecked};
 ghost use Rattle.lg_detector.specs.declared.event.Event.TheVariants.{Open};
 ghost use Rattle.lg_detector.specs.Meaning.Step.{is_accepted, reply_after};
 ghost use Rattle.lg_detector.specs.Support.Step.{accepts_of, state_after};
 ghost use Rattle.lg_history.specs.Meaning.History.{entry};
+ghost use Rattle.lg_history.specs.Meaning.Rest.{of_seat};
 ghost use Rattle.lg_agent.specs.declared.refusal.Refusal.TheVariants.{NoMemory, NoPlace};
 
-use super::Kept;
+use super::{Kept, SEATS};
 use crate::name::AgentName;
 use crate::refusal::Refusal;
 use lg_detector::{Detector, Event, NoMemory, Reply};
@@ -38,8 +39,12 @@ impl<A: AgentName> Kept<A> {
         ensures kept { IfOk result (λ r. r.0 ≡ record {
           places = places;
           limit = config.history_limit;
+          summary = None;
+          cut = r.0.cut;
+          past = [];
           history = entry 0 (Open now config) (reply_after [] (Open now config)) ∷ [];
         }) }
+        ensures none_cut { IfOk result (λ r. (seat : ℕ) → of_seat r.0.cut seat ≡ 0) }
         ensures looks { IfOk result (λ r. (vec_len r.1 ≡ places) × All (λ look. look ≡ []) r.1.items) }
         ensures refused { IfErr result (λ e. (e ≡ NoMemory) ⊎ (e ≡ NoPlace)) }
     {
@@ -68,8 +73,12 @@ impl<A: AgentName> Kept<A> {
         ensures kept { IfOk result (λ k. k ≡ record {
           places = places;
           limit = config.history_limit;
+          summary = None;
+          cut = k.cut;
+          past = [];
           history = entry 0 (Open now config) (reply_after [] (Open now config)) ∷ [];
         }) }
+        ensures none_cut { IfOk result (λ k. (seat : ℕ) → of_seat k.cut seat ≡ 0) }
         ensures refused { IfErr result (λ e. e ≡ NoMemory) }
     {
         let mut feed = feed;
@@ -84,6 +93,9 @@ impl<A: AgentName> Kept<A> {
             places,
             limit,
             count: 1,
+            base: 0,
+            summary: None,
+            cut: [0; SEATS],
             name,
             history,
             detector,

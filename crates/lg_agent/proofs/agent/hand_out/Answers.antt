@@ -11,7 +11,7 @@ loop-look-preserved g c =
     let was : c.loop-look.looks.items ≡ c.pop.new.self.items ++ c.in-Some.look ∷ [] = search rules in
     let Ready : List Event → Type 0 = λ k. begins_open k ≡ true in
     let ready : All Ready (c.pop.new.self.items ++ c.in-Some.look ∷ []) = subst (All Ready) was c.loop-look.invariant.ready in
-    let made : Own = record { name = c.args.name; seat = c.len.result + 1; seen = c.in-Some.look; mine = c.new.result.items } in
+    let made : Own = record { name = c.args.name; seat = c.len.result + 1; seen = c.in-Some.look; gone = 0; mine = c.new.result.items } in
     let grown : c.push_reserved.new.self.items ≡ c.loop-look.passes.items ++ made ∷ [] = cc in
     let popped : vec_len c.loop-look.looks ≡ vec_len c.pop.new.self + 1 = omega (arith, c.loop-look.looks.ok, c.pop.new.self.ok, ap length was ∙ length-append c.pop.new.self.items (c.in-Some.look ∷ [])) in
     record {
@@ -20,6 +20,7 @@ loop-look-preserved g c =
         name = refl;
         seat = omega (arith, c.loop-look.passes.ok, c.len.ensures);
         seen = all-last Ready c.pop.new.self.items _ ready;
+        gone = refl;
         mine = c.new.ensures.items;
       }));
       seen = λ f all. let both = c.loop-look.invariant.seen f all in let Same : List Event → Type 0 = λ k. k ≡ f in let Saw : Own → Type 0 = λ p. p.seen ≡ f in let left : All Same (c.pop.new.self.items ++ c.in-Some.look ∷ []) = subst (All Same) was both.0 in

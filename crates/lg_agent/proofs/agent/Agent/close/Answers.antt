@@ -1,5 +1,5 @@
 use Rattle.std.proofs.Common.{◌≡◌, ◌≤◌, List, All, length, subst}
-use Rattle.lg_agent.specs.Meaning.Ledger.{Own}
+use Rattle.lg_agent.specs.Meaning.Ledger.{Own, count_of}
 use Rattle.lg_agent.specs.Meaning.Closing.{IsRefusedClosing, close_fault}
 use Rattle.lg_agent.proofs.UnclosedLaws.{missing_lacks, misplaced_foreign, misplaced_unclosed}
 use Rattle.lg_agent.proofs.agent.Agent.close.Goals as goal
@@ -17,10 +17,10 @@ returns-in-Err-clause-foreign g c =
     misplaced_foreign g.A.AgentName.places all c.in-Err.fault refused
 
 pub closed-requires-clause-short : goal.closed-requires-clause-short
-closed-requires-clause-short g c = subst (λ (l : List Own). All (λ (s : Own). length s.seen ≤ length c.into_inner-kept.result.history) l) c.as_slice.ensures.value c.in_default.ensures.short
+closed-requires-clause-short g c = subst (λ (l : List Own). All (λ (s : Own). length s.seen ≤ count_of c.into_inner-kept.result) l) c.as_slice.ensures.value c.in_default.ensures.short
 
 pub returns-clause-foreign : goal.returns-clause-foreign
 returns-clause-foreign g c =
     let all : List Own = c.args.spents.items in
-    let none : close_fault c.into_inner-kept.result.places c.into_inner-kept.result.history all ≡ _ = rw (← c.as_slice.ensures.value) c.in_default.ensures.audited in
-    λ some. misplaced_unclosed c.into_inner-kept.result.places c.into_inner-kept.result.history all none (rw c.judge.ensures.named some)
+    let none : close_fault c.into_inner-kept.result all ≡ _ = rw (← c.as_slice.ensures.value) c.in_default.ensures.audited in
+    λ some. misplaced_unclosed c.into_inner-kept.result all none (rw c.judge.ensures.named some)

@@ -5,5 +5,5 @@ use Rattle.lg_agent.proofs.kept.Kept.least_difference.Given as goal
 
 abbrev pub invariant-loop-place : goal.invariant-loop-place
 invariant-loop-place g l = record {
-  rest : least_difference l.self.history l.spents (range_with_len 1 l.self.places) ≡ least_difference l.self.history l.spents (range_with_len (l.place + 1) (l.self.places - l.place));
+  rest : least_difference l.self l.spents (range_with_len 1 l.self.places) ≡ least_difference l.self l.spents (range_with_len (l.place + 1) (l.self.places - l.place));
 }

@@ -1,14 +1,26 @@
-use Rattle.std.proofs.Common.{◌≡◌, ◌∷◌, ◌++◌, [], subst}
+use Rattle.std.proofs.Common.{rules, ◌≡◌, ◌≤◌, ◌+◌, ◌∷◌, ◌++◌, [], length, refl, subst, drop, arith}
 use Rattle.std.specs.Prelude.{Result, IfOk}
 use Rattle.lg_agent.specs.declared.receipt.Receipt.{Receipt}
 use Rattle.lg_agent.specs.declared.refusal.Refusal.{Refusal}
-use Rattle.lg_agent.specs.Meaning.Calls.{IsAnswered}
-use Rattle.lg_agent.proofs.PassLaws.{keeps_up}
+use Rattle.lg_agent.specs.Meaning.Calls.{IsAnswered, IsCall}
+use Rattle.lg_agent.specs.Meaning.Ledger.{Own}
+use Rattle.lg_agent.proofs.PassLaws.{keeps_up, call_of}
 use Rattle.lg_agent.proofs.spent.Spent.call.Goals as goal
 
 pub invariant_of-self-in-Ok : goal.invariant_of-self-in-Ok
 invariant_of-self-in-Ok g c =
     let s = c.self.inside in
     let answered : IsAnswered s.look c.args.event.now c.in-Ok.receipt c.call-answer.new.look = subst (λ (o : Result Receipt Refusal). IfOk o (λ r. IsAnswered s.look c.args.event.now r c.call-answer.new.look)) c.in-Ok.is c.call-answer.ensures.answered in
-    let grown : c.push_reserved.new.self.items ≡ s.mine.items ++ c.in-Ok.receipt.place ∷ [] = cc in
-    keeps_up s.look c.args.event.now c.in-Ok.receipt c.call-answer.new.look s.mine.items _ c.self.invariant.0 c.self.invariant.1 answered grown
+    let grown : c.push_reserved.new.self.items ≡ drop c.cut_positions-moved.result s.mine.items ++ c.in-Ok.receipt.place ∷ [] = search rules in
+    keeps_up s.look c.args.event.now c.in-Ok.receipt c.call-answer.new.look s.gone c.cut_positions-moved.result s.mine.items _ c.self.invariant.0 c.self.invariant.1 c.self.invariant.2 (search rules) answered grown
+
+pub returns-in-Ok-clause-answered : goal.returns-in-Ok-clause-answered
+returns-in-Ok-clause-answered g c =
+    let s = c.self.inside in
+    let answered : IsAnswered s.look c.args.event.now c.in-Ok.receipt c.call-answer.new.look = subst (λ (o : Result Receipt Refusal). IfOk o (λ r. IsAnswered s.look c.args.event.now r c.call-answer.new.look)) c.in-Ok.is c.call-answer.ensures.answered in
+    let grown : c.push_reserved.new.self.items ≡ drop c.cut_positions-moved.result s.mine.items ++ c.in-Ok.receipt.place ∷ [] = search rules in
+    let before : Own = record { name = s.name; seat = s.seat; seen = s.look; gone = s.gone; mine = s.mine.items } in
+    let after : Own = record { name = s.name; seat = s.seat; seen = c.call-answer.new.look; gone = s.gone + c.cut_positions-moved.result; mine = c.push_reserved.new.self.items } in
+    let few : c.cut_positions-moved.result ≤ length s.mine.items = search rules in
+    let is : IsCall before c.args.event.now c.in-Ok.receipt after = call_of before after c.args.event.now c.in-Ok.receipt c.cut_positions-moved.result c.self.invariant.1 answered few refl grown refl refl in
+    rw (← c.self.view_is, c.in-Ok.is) is

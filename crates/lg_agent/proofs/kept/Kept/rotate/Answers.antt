@@ -1,0 +1,23 @@
+use Rattle.std.proofs.Common.{rules, ◌≡◌, ◌≤◌, ◌+◌, ◌++◌, [], List, ℕ, All, length, take, sym, ap, ◌∙◌, subst, arith, refl}
+use Rattle.lg_detector.specs.declared.event.Event.{Event}
+use Rattle.lg_detector.specs.Support.Step.{state_after}
+use Rattle.lg_detector.proofs.AcceptedLists.{accepted_few}
+use Rattle.lg_history.specs.Meaning.History.{Entry, events}
+use Rattle.lg_history.specs.Meaning.Rest.{of_seat, made_by, IsRest}
+use Rattle.lg_history.proofs.Rests.{seats-rest, rest_cut, cut_room}
+use Rattle.lg_agent.proofs.LedgerLaws.{past_whole}
+use Rattle.lg_agent.proofs.kept.Kept.rotate.Goals as goal
+
+pub count_seats-requires-clause-seats : goal.count_seats-requires-clause-seats
+count_seats-requires-clause-seats g c =
+    let k = c.self.inside in
+    let rest = c.self.invariant.0 in
+    let seats : All (λ x. x.seat ≤ k.places) k.history.entries = seats-rest k.places rest.gone k.history.entries rest.legal.seated in
+    let same : c.entries.result.now ≡ k.history.entries = search rules in
+    subst (λ (h : List Entry). All (λ x. x.seat ≤ 32) h) (sym same) (λ n d low. let at = seats n d low in let most = c.self.invariant.12 in omega (arith, at, most))
+
+pub count_seats-requires-clause-room : goal.count_seats-requires-clause-room
+count_seats-requires-clause-room g c =
+    let k = c.self.inside in
+    let same : c.entries.result.now ≡ k.history.entries = search rules in
+    λ seat. subst (λ (h : List Entry). of_seat k.cut seat + length h ≤ 4000000000) (sym same) (cut_room k.places (take k.base k.feed.events) k.cut k.history.entries c.self.invariant.0 seat)
