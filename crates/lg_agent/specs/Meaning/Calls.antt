@@ -66,9 +66,10 @@ pub record IsCall (before : Own) (e : Event) (r : Receipt) (after : Own) : Type 
   pub seat : after.seat ≡ before.seat
   pub name : after.name ≡ before.name
 
--- A pass after a rotation: it has seen what it had seen and made as many calls, and the first of its positions may have
--- become a number.
+-- A pass after a rotation: it has seen what it had seen, all its calls among it, and made as many calls. The first of its
+-- positions may have become a number.
 pub record IsRotatedPass (before after : Own) : Type 0 where
+  pub early : All (λ k. k < length before.seen) before.mine
   pub moved : ℕ
   pub few : moved ≤ length before.mine
   pub gone : after.gone ≡ before.gone + moved
