@@ -3,5 +3,6 @@ pub mod calls;
 mod faults;
 pub mod many;
 mod refused_memory;
+mod rotating;
 mod rows;
 mod seats;

@@ -78,16 +78,21 @@ pub struct Ending {
     pub fault: Option<CloseFault>,
     /// How many entries there were when it was closed, if it was.
     pub entries: Option<u64>,
-    /// How many replies of its history a fresh detector gave too, up to the first that it didn't.
+    /// How many of them were cut off.
+    pub base: Option<u64>,
+    /// Up to which entry a detector gave the replies of the history too: a fresh one, or the one that the summary of the
+    /// entries cut off resumes.
     pub replayed: Option<u64>,
 }
 
 impl Ending {
-    /// An agent that was closed with so many entries, perhaps after a first closing that was refused.
+    /// An agent that was closed with so many entries, none of which was cut off, perhaps after a first closing that was
+    /// refused.
     pub fn closed(fault: Option<CloseFault>, entries: u64) -> Ending {
         Ending {
             fault,
             entries: Some(entries),
+            base: Some(0),
             replayed: Some(entries),
         }
     }
@@ -175,11 +180,19 @@ where
     }
 }
 
-/// How many replies of the history a fresh detector gives to its events, up to the first that it doesn't.
+/// A detector that is after the entries that were cut off.
+fn resumed(alloc: Global, closed: &Closed) -> Option<Detector> {
+    match closed.summary() {
+        Some(summary) => Detector::resume(alloc, summary).ok(),
+        None => Detector::blank(alloc).ok(),
+    }
+}
+
+/// Up to which entry a detector that is after those that were cut off gives the replies of the history to its events.
 fn replayed(alloc: Global, closed: &Closed) -> Option<u64> {
-    let mut detector = Detector::blank(alloc).ok()?;
+    let mut detector = resumed(alloc, closed)?;
     let mut reply = Reply::default();
-    let mut same: u64 = 0;
+    let mut same = closed.base();
     for entry in closed.history() {
         let event = entry.event();
         if !detector.accepts(&event) {
@@ -199,6 +212,7 @@ fn told_of(alloc: Global, fault: Option<CloseFault>, closed: &Closed) -> Ending 
     Ending {
         fault,
         entries: Some(closed.count()),
+        base: Some(closed.base()),
         replayed: replayed(alloc, closed),
     }
 }
@@ -247,6 +261,7 @@ fn end_again<A: AgentName, R: Wait>(
             Ending {
                 fault: Some(fault),
                 entries: None,
+                base: None,
                 replayed: None,
             }
         }

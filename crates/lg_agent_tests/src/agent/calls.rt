@@ -38,6 +38,8 @@ pub enum Call {
     Health(u64),
     /// The member at port 7001 is asked for its table.
     Pull(u64),
+    /// The stored entries are cut off.
+    Rotate,
     Version,
     Deadline,
     /// How many members there are.
@@ -65,7 +67,7 @@ pub struct Answered {
 pub enum Seen {
     Answered(Answered),
     Refused(Refusal),
-    /// A version, a deadline, or a number of members.
+    /// A version, a deadline, a number of members, or how many entries were cut off.
     Number(u64),
     Record(Option<Record>),
     /// Memory was refused, and yet something had changed; or there is no such pass.
@@ -120,7 +122,7 @@ fn seen_of(answer: Result<Receipt, Refusal>) -> Seen {
     }
 }
 
-/// What a look at a number gave.
+/// What gives a number gave.
 fn number_of(answer: Result<u64, Refusal>) -> Seen {
     match answer {
         Ok(number) => Seen::Number(number),
@@ -160,6 +162,7 @@ pub fn step<A: AgentName, R: Wait>(
         Call::Ask(now) => seen_of(pass.ask(rt, alloc, at(now), &letter(b'c'))),
         Call::Health(now) => seen_of(pass.health(rt, alloc, at(now))),
         Call::Pull(now) => seen_of(pass.pull(rt, alloc, at(now), local(7001))),
+        Call::Rotate => number_of(pass.rotate(rt, alloc)),
         Call::Version => number_of(pass.version()),
         Call::Deadline => number_of(pass.next_deadline()),
         Call::Members => members_of(pass.members(alloc)),

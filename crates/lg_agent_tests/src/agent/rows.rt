@@ -65,7 +65,7 @@ fn knows_c(place: u64, next: u64) -> Seen {
 }
 
 /// The score is 0, and the own number, of so many members.
-fn healthy(place: u64, members: u64, next: u64) -> Seen {
+pub fn healthy(place: u64, members: u64, next: u64) -> Seen {
     let mut seen = answered(place, next);
     seen.answer = Some(Answer::Health {
         score: 0,
@@ -88,7 +88,7 @@ pub fn seen_in(outcome: &Outcome) -> Option<SeenIn> {
 }
 
 /// A case of so many places that knows so many others, with a limit on its history.
-fn case<'a>(places: usize, others: u8, limit: u64, rows: &'a [Row]) -> Case<'a> {
+pub fn case<'a>(places: usize, others: u8, limit: u64, rows: &'a [Row]) -> Case<'a> {
     let mut case = Case::new(places, Play::Steps(rows));
     case.others = others;
     case.limit = limit;
@@ -96,7 +96,7 @@ fn case<'a>(places: usize, others: u8, limit: u64, rows: &'a [Row]) -> Case<'a> 
 }
 
 /// What is seen in a case.
-fn play<R>(rt: &R, alloc: Global, case: Case<'_>) -> Option<SeenIn>
+pub fn play<R>(rt: &R, alloc: Global, case: Case<'_>) -> Option<SeenIn>
 where
     R: Threads + Wait + rt::Clock + Sync,
 {

@@ -1,7 +1,7 @@
 //! One loop of a node, a hundred turns at most. A run names what it meets, and a row what is seen of it.
 use super::clocks::{FixedDice, MemoryClock, Pauses};
 use super::links::{Call, MemoryLink, QUIET, Script};
-use crate::playing::{Case, Ending, Left, Outcome, Play, Shown};
+use crate::playing::{Case, Left, Outcome, Play, Shown};
 use arrayvec::ArrayVec;
 use lg_agent::{AgentName, Pass, Spent};
 use lg_node::{End, Ended, Why, receive_loop, tick_loop};
@@ -191,7 +191,9 @@ impl<'a> Want<'a> {
                     && seen.pauses == self.pauses
                     && self.calls.are(seen.calls.as_slice())
                     && seen.stop
-                    && outcome.ending == Ending::closed(None, self.entries)
+                    && outcome.ending.fault.is_none()
+                    && outcome.ending.entries == Some(self.entries)
+                    && outcome.ending.replayed == Some(self.entries)
             }
             _ => false,
         }

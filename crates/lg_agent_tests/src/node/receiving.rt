@@ -3,7 +3,6 @@ use super::alone::{BOUND, Calls, Run, Want};
 use super::clocks::Pauses;
 use super::links::{Call, Coming, QUIET, Script, Spelled};
 use crate::playing::told;
-use lg_agent::Refusal;
 use lg_node::Why;
 
 /// A turn waits 20 ms for a datagram.
@@ -82,9 +81,8 @@ fn receiving_loops(rt: HostRuntime) {
     // A claim ousts the member: the packets of the reply that says so are handed over first.
     let ousting = comes(Coming::OustingPing, Coming::Ping8, Coming::Nothing, 0);
     let last_ack = [RECEIVE, yes_7];
-    // The history has room for the opening and one Ping.
-    let pings = comes(Coming::Ping7, Coming::Ping8, Coming::Nothing, 0);
-    let full = Why::Refused(Refusal::HistoryFull(2));
+    // The history has room for the opening and one Ping: with the second one it is rotated.
+    let both = [RECEIVE, yes_7, RECEIVE, yes_8];
     let quiet = [RECEIVE; 16];
     let rows = [
         ("answers", 20_000, third_ping, answered),
@@ -114,7 +112,7 @@ fn receiving_loops(rt: HostRuntime) {
             ousting,
             ended(Why::Ousted, 1, &last_ack, 2),
         ),
-        ("full", 2, pings, ended(full, 2, &third, 2)),
+        ("full", 2, two_pings(0), ended(stopped, 2, &both, 3)),
     ];
     for (name, limit, script, want) in rows {
         let mut case = Run::receiving(script).case();

@@ -3,7 +3,6 @@ use super::alone::{BOUND, Calls, Run, Want};
 use super::clocks::Pauses;
 use super::links::{Call, Spelled};
 use crate::playing::{Case, told};
-use lg_agent::Refusal;
 use lg_node::Why;
 
 /// The first Ping of b, for c.
@@ -67,7 +66,7 @@ fn goes_back<'a>(now: u64) -> Case<'a> {
     case
 }
 
-/// A loop whose history has room for the opening and one tick.
+/// A loop whose history has room for the opening and one tick: with the second one it is rotated.
 fn short<'a>() -> Case<'a> {
     let mut case = Run::ticking(1010).case();
     case.limit = 2;
@@ -77,7 +76,6 @@ fn short<'a>() -> Case<'a> {
 #[test]
 fn ticking_loops(rt: HostRuntime) {
     let stopped = Why::Stopped;
-    let full = Why::Refused(Refusal::HistoryFull(2));
     let ping = [PING_OF_C];
     // A round, and helpers that are due 500 ms later.
     let round = ended(stopped, 28, 26, 520, 3);
@@ -119,7 +117,7 @@ fn ticking_loops(rt: HostRuntime) {
             knows(1_000_000, 0, 0),
             ended(Why::ReadBound, BOUND, 98, 1960, 3),
         ),
-        ("full", short(), ended(full, 52, 50, 1000, 2)),
+        ("full", short(), ended(stopped, 53, 51, 1020, 3)),
     ];
     for (name, case, want) in rows {
         let outcome = told(&rt, rt.alloc(), case);
