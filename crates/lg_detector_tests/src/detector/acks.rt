@@ -102,11 +102,6 @@ const EARLY: &[Case] = &[
     ),
 ];
 
-#[test]
-fn counts_from_the_asking_on(rt: HostRuntime) {
-    play(&rt, rt.alloc(), EARLY);
-}
-
 /// An Ack that counts cancels the asking, and ends neither the round nor the next. One that comes after its round does
 /// nothing.
 const IN_TIME_AND_LATE: &[Case] = &[
@@ -139,11 +134,6 @@ const IN_TIME_AND_LATE: &[Case] = &[
     ),
 ];
 
-#[test]
-fn an_ack_in_time_and_a_late_one(rt: HostRuntime) {
-    play(&rt, rt.alloc(), IN_TIME_AND_LATE);
-}
-
 /// Two probes failed, and of the third two Acks come: the first alone marks the score.
 const TWO_ACKS: Case = (
     "two Acks",
@@ -166,7 +156,12 @@ const TWO_ACKS: Case = (
     ],
 );
 
+/// Each case of single Acks and Nacks.
+const PLAYED: &[&[Case]] = &[EARLY, IN_TIME_AND_LATE, &[TWO_ACKS]];
+
 #[test]
-fn the_first_ack_marks(rt: HostRuntime) {
-    play(&rt, rt.alloc(), &[TWO_ACKS]);
+fn hears_acks_and_nacks(rt: HostRuntime) {
+    for cases in PLAYED {
+        play(&rt, rt.alloc(), cases);
+    }
 }

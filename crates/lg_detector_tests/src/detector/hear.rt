@@ -34,11 +34,6 @@ const GOSSIP: &[Case] = &[
     ),
 ];
 
-#[test]
-fn gossips_what_it_heard(rt: HostRuntime) {
-    play(&rt, rt.alloc(), GOSSIP);
-}
-
 /// Pings at any moments leave the deadline as it is.
 const OUT_OF_ORDER: Case = (
     "moments out of order",
@@ -94,11 +89,6 @@ const SIX_CLAIMS: Case = (
     ],
 );
 
-#[test]
-fn lists_changes_by_name(rt: HostRuntime) {
-    play(&rt, rt.alloc(), &[SIX_CLAIMS]);
-}
-
 /// Of two accusations of one number the first alone is refuted. Who is ousted stays so.
 const REFUTED: &[Case] = &[
     (
@@ -122,11 +112,6 @@ const REFUTED: &[Case] = &[
         ],
     ),
 ];
-
-#[test]
-fn refutes_once_and_stays_ousted(rt: HostRuntime) {
-    play(&rt, rt.alloc(), REFUTED);
-}
 
 /// A claim about b, whose number is 0, in a Ping; its record then, what changes and is sent of it, and whether it is
 /// ousted.
@@ -249,7 +234,12 @@ const TWO_ADDRESSES: Case = (
     ],
 );
 
+/// Each case of packets on a b that is open.
+const PLAYED: &[&[Case]] = &[GOSSIP, &[SIX_CLAIMS], REFUTED, &[TWO_ADDRESSES]];
+
 #[test]
-fn sends_what_it_heard(rt: HostRuntime) {
-    play(&rt, rt.alloc(), &[TWO_ADDRESSES]);
+fn hears_packets(rt: HostRuntime) {
+    for cases in PLAYED {
+        play(&rt, rt.alloc(), cases);
+    }
 }

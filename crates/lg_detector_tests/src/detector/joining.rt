@@ -23,11 +23,6 @@ const ASKS: Case = (
     ],
 );
 
-#[test]
-fn asks_for_the_first_records(rt: HostRuntime) {
-    play(&rt, rt.alloc(), &[ASKS]);
-}
-
 /// b answers by a Page with the next records, six at most, after the claims of the Pull were said.
 const ANSWERS: &[Case] = &[
     (
@@ -102,11 +97,6 @@ const ANSWERS: &[Case] = &[
     ),
 ];
 
-#[test]
-fn answers_by_the_next_records(rt: HostRuntime) {
-    play(&rt, rt.alloc(), ANSWERS);
-}
-
 /// The last of six claims isn't that of the greatest name: b asks for what comes after it. A shorter Page is the last.
 const PAGES: Case = (
     "pages",
@@ -164,11 +154,6 @@ const PAGES: Case = (
     ],
 );
 
-#[test]
-fn goes_on_after_a_full_page(rt: HostRuntime) {
-    play(&rt, rt.alloc(), &[PAGES]);
-}
-
 /// c is queued once, and may be sent four times among two members: what is asked, answered and heard of a table takes
 /// nothing of that.
 #[test]
@@ -190,4 +175,14 @@ fn takes_nothing_of_the_queue(rt: HostRuntime) {
     }
     let last = [Takes(Ping(0, 2, "b", &[])), Acks(2, &[])];
     play_on(&rt, &mut b, "the fifth Ack", &last);
+}
+
+/// Each case of Pulls and Pages.
+const PLAYED: &[&[Case]] = &[&[ASKS], ANSWERS, &[PAGES]];
+
+#[test]
+fn joins(rt: HostRuntime) {
+    for cases in PLAYED {
+        play(&rt, rt.alloc(), cases);
+    }
 }

@@ -66,17 +66,12 @@ const TWO_SEEDS: Case = (
     ],
 );
 
-#[test]
-fn opens_once(rt: HostRuntime) {
-    play_blank(&rt, rt.alloc(), &[TWO_OPENINGS]);
-}
+/// Each case of an opening.
+const PLAYED: &[&[Case]] = &[&[TWO_OPENINGS], &[BAD_CONFIGURATIONS], &[TWO_SEEDS]];
 
 #[test]
-fn refuses_bad_configurations(rt: HostRuntime) {
-    play_blank(&rt, rt.alloc(), &[BAD_CONFIGURATIONS]);
-}
-
-#[test]
-fn knows_its_seeds(rt: HostRuntime) {
-    play_blank(&rt, rt.alloc(), &[TWO_SEEDS]);
+fn opens(rt: HostRuntime) {
+    for cases in PLAYED {
+        play_blank(&rt, rt.alloc(), cases);
+    }
 }

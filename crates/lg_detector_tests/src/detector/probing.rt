@@ -62,11 +62,6 @@ const A_SUSPECT: &[Case] = &[
     ),
 ];
 
-#[test]
-fn probes_a_suspect(rt: HostRuntime) {
-    play(&rt, rt.alloc(), A_SUSPECT);
-}
-
 /// b suspects a member that doesn't ack, and pings it with that record next.
 const NO_ACK: Case = (
     "c",
@@ -87,11 +82,6 @@ const NO_ACK: Case = (
         AnswersHealth(0, 0, 2),
     ],
 );
-
-#[test]
-fn suspects_who_does_not_ack(rt: HostRuntime) {
-    play(&rt, rt.alloc(), &[NO_ACK]);
-}
 
 /// Each word picks one of the helpers that are left, in the order of names: f, d and then e. Of two others d, which is
 /// suspected, helps; e, which has failed, doesn't.
@@ -141,11 +131,6 @@ const HELPERS: &[Case] = &[
         ],
     ),
 ];
-
-#[test]
-fn asks_who_can_help(rt: HostRuntime) {
-    play(&rt, rt.alloc(), HELPERS);
-}
 
 /// By its configuration b asks no helpers, and a round counts from the greatest moment that was handed in.
 const OPENED_OTHERWISE: &[Case] = &[
@@ -224,11 +209,6 @@ const FILLED: &[Case] = &[
     ),
 ];
 
-#[test]
-fn fills_one_after_another(rt: HostRuntime) {
-    play(&rt, rt.alloc(), FILLED);
-}
-
 /// The timers of a round stand as they were set at its start, whatever becomes of the score meanwhile: the two
 /// refutations and the probe that failed make 3. The greatest score stays what it is, where a probe fails and a helper
 /// sends no Nack.
@@ -286,11 +266,6 @@ const SCORES: &[Case] = &[
     ),
 ];
 
-#[test]
-fn takes_the_score_at_the_start(rt: HostRuntime) {
-    play(&rt, rt.alloc(), SCORES);
-}
-
 /// A target that has failed meanwhile: its Ack counts, and where none comes, the round marks and nobody is suspected.
 /// A helper that has failed meanwhile: its Ack counts.
 const TARGET_FAILED: &[Case] = &[
@@ -344,11 +319,6 @@ const TARGET_FAILED: &[Case] = &[
     ),
 ];
 
-#[test]
-fn a_target_that_failed(rt: HostRuntime) {
-    play(&rt, rt.alloc(), TARGET_FAILED);
-}
-
 /// A member that joins in the middle of a round is a candidate at once, and one that failed is none. Then nobody is
 /// left, so the next round begins.
 const IN_TURN: Case = (
@@ -370,7 +340,20 @@ const IN_TURN: Case = (
     ],
 );
 
+/// Each case of rounds on a b that is open.
+const PLAYED: &[&[Case]] = &[
+    A_SUSPECT,
+    &[NO_ACK],
+    HELPERS,
+    FILLED,
+    SCORES,
+    TARGET_FAILED,
+    &[IN_TURN],
+];
+
 #[test]
-fn chooses_each_in_turn(rt: HostRuntime) {
-    play(&rt, rt.alloc(), &[IN_TURN]);
+fn probes(rt: HostRuntime) {
+    for cases in PLAYED {
+        play(&rt, rt.alloc(), cases);
+    }
 }

@@ -124,36 +124,6 @@ const REQUESTS: &[Case] = &[
     ),
 ];
 
-#[test]
-fn relays_and_nacks(rt: HostRuntime) {
-    play(&rt, rt.alloc(), &[NACKED]);
-}
-
-#[test]
-fn ends_a_relay(rt: HostRuntime) {
-    play(&rt, rt.alloc(), &[ENDED]);
-}
-
-#[test]
-fn acks_in_time(rt: HostRuntime) {
-    play(&rt, rt.alloc(), &[ACKED]);
-}
-
-#[test]
-fn scales_no_relay(rt: HostRuntime) {
-    play(&rt, rt.alloc(), &[UNSCALED]);
-}
-
-#[test]
-fn numbers_probes_and_relays_together(rt: HostRuntime) {
-    play(&rt, rt.alloc(), &[NUMBERED]);
-}
-
-#[test]
-fn hears_requests(rt: HostRuntime) {
-    play(&rt, rt.alloc(), REQUESTS);
-}
-
 /// 64 relays are open.
 const FULL: &[Step<'static>] = &[
     Takes(From(10, "a", 7001, Request(5, "c", 7003), &[])),
@@ -210,7 +180,20 @@ const OUT_OF_ORDER: Case = (
     ],
 );
 
+/// Each case of a relay.
+const PLAYED: &[&[Case]] = &[
+    &[NACKED],
+    &[ENDED],
+    &[ACKED],
+    &[UNSCALED],
+    &[NUMBERED],
+    REQUESTS,
+    &[OUT_OF_ORDER],
+];
+
 #[test]
-fn counts_from_the_latest_moment(rt: HostRuntime) {
-    play(&rt, rt.alloc(), &[OUT_OF_ORDER]);
+fn relays(rt: HostRuntime) {
+    for cases in PLAYED {
+        play(&rt, rt.alloc(), cases);
+    }
 }

@@ -20,11 +20,6 @@ const IDLE: Case = (
     ],
 );
 
-#[test]
-fn is_idle_before_the_deadline(rt: HostRuntime) {
-    play(&rt, rt.alloc(), &[IDLE]);
-}
-
 /// One timer fires a tick.
 const THREE_DUE: Case = (
     "three timers are due",
@@ -68,11 +63,6 @@ const FIVE_AT_ONCE: Case = (
     ],
 );
 
-#[test]
-fn fires_one_timer_a_tick_and_ties_in_order(rt: HostRuntime) {
-    play(&rt, rt.alloc(), &[THREE_DUE, FIVE_AT_ONCE]);
-}
-
 /// Ticks count from the greatest moment that was handed in.
 const OUT_OF_ORDER: Case = (
     "moments out of order",
@@ -112,11 +102,6 @@ const SCALED: Case = (
         Next(4000),
     ],
 );
-
-#[test]
-fn scales_the_interval(rt: HostRuntime) {
-    play(&rt, rt.alloc(), &[SCALED]);
-}
 
 /// a, d and e are known.
 const OTHERS: Step<'static> = Hears(0, &[Alive("a", 0), Alive("d", 0), Alive("e", 0)]);
@@ -240,7 +225,12 @@ const ENDED: &[Case] = &[
     ),
 ];
 
+/// Each case of ticks on a b that is open.
+const PLAYED: &[&[Case]] = &[&[IDLE], &[THREE_DUE, FIVE_AT_ONCE], &[SCALED], ENDED];
+
 #[test]
-fn an_ended_suspicion_never_fires(rt: HostRuntime) {
-    play(&rt, rt.alloc(), ENDED);
+fn fires_timers(rt: HostRuntime) {
+    for cases in PLAYED {
+        play(&rt, rt.alloc(), cases);
+    }
 }

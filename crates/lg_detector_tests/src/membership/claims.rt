@@ -42,11 +42,6 @@ const OPENINGS: &[Case] = &[
     ),
 ];
 
-#[test]
-fn the_opening_forgets_what_was_known(rt: HostRuntime) {
-    play(&rt, OPENINGS);
-}
-
 /// Records are in the order of names.
 const RECORDS: Case = (
     "four members",
@@ -59,11 +54,6 @@ const RECORDS: Case = (
         Records(&["d", "z", "b"], &[Alive("b", 0), Alive("d", 2)]),
     ],
 );
-
-#[test]
-fn records_are_in_the_order_of_names(rt: HostRuntime) {
-    play(&rt, &[RECORDS]);
-}
 
 /// What a suspicion did by which it was raised, with this deadline.
 const RAISED_TO_32000: Applied = Applied {
@@ -154,11 +144,6 @@ const SUSPICIONS: &[Case] = &[
     ),
 ];
 
-#[test]
-fn accusers_move_the_deadline(rt: HostRuntime) {
-    play(&rt, SUSPICIONS);
-}
-
 /// A member joins those that haven't failed, and leaves them.
 const PLACES: Case = (
     "joining and leaving",
@@ -175,11 +160,6 @@ const PLACES: Case = (
         Places(2000, Failed("b", 0), Presence::Stays, 2),
     ],
 );
-
-#[test]
-fn a_member_joins_those_that_have_not_failed_and_leaves_them(rt: HostRuntime) {
-    play(&rt, &[PLACES]);
-}
 
 /// A suspicion of oneself is refuted once, and what nothing refutes ousts.
 const OF_ITSELF: &[Case] = &[
@@ -227,11 +207,6 @@ const OF_ITSELF: &[Case] = &[
     ),
 ];
 
-#[test]
-fn a_suspicion_of_oneself_is_refuted_or_ousts(rt: HostRuntime) {
-    play(&rt, OF_ITSELF);
-}
-
 /// 256 names are known: another finds no room, and the record of c is still raised.
 const FULL: &[Step] = &[
     Live(MAX_MEMBERS),
@@ -252,4 +227,14 @@ fn knows_256_names(rt: HostRuntime) {
         assert!(rt; applied == expected, "{number}: {applied:?}");
     }
     play_on(&rt, &mut b, "256 names", FULL);
+}
+
+/// Each case of claims.
+const PLAYED: &[&[Case]] = &[OPENINGS, &[RECORDS], SUSPICIONS, &[PLACES], OF_ITSELF];
+
+#[test]
+fn claims_change_the_table(rt: HostRuntime) {
+    for cases in PLAYED {
+        play(&rt, cases);
+    }
 }

@@ -61,11 +61,6 @@ const QUEUED: &[Case] = &[
     ),
 ];
 
-#[test]
-fn claims_are_queued_where_they_are_new(rt: HostRuntime) {
-    play(&rt, QUEUED);
-}
-
 /// A Ping to a suspected member begins with its record, of which only the claim on d counts as sent by it. That record
 /// is the one that is known, and not what is queued.
 const BUDDIES: &[Case] = &[
@@ -100,7 +95,12 @@ const BUDDIES: &[Case] = &[
     ),
 ];
 
+/// Each case of packets.
+const PLAYED: &[&[Case]] = &[QUEUED, BUDDIES];
+
 #[test]
-fn a_ping_to_a_suspected_member_begins_with_its_record(rt: HostRuntime) {
-    play(&rt, BUDDIES);
+fn packets_take_what_is_queued(rt: HostRuntime) {
+    for cases in PLAYED {
+        play(&rt, cases);
+    }
 }
