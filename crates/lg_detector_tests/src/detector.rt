@@ -11,6 +11,7 @@ mod open;
 mod playing;
 mod probing;
 mod relaying;
+mod resuming;
 mod tick;
 
 pub(crate) use happening::Happens;

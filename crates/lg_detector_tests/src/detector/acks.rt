@@ -68,7 +68,7 @@ fn counts_acks_and_nacks(rt: HostRuntime) {
 }
 
 /// An Ack or a Nack that came before its sender was asked doesn't count.
-const EARLY: &[Case] = &[
+pub(super) const EARLY: &[Case] = &[
     (
         "an early Ack",
         &[
@@ -135,7 +135,7 @@ const IN_TIME_AND_LATE: &[Case] = &[
 ];
 
 /// Two probes failed, and of the third two Acks come: the first alone marks the score.
-const TWO_ACKS: Case = (
+pub(super) const TWO_ACKS: Case = (
     "two Acks",
     &[
         Takes(Ping(0, 1, "z", &[Alive("c", 0)])),

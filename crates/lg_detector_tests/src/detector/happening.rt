@@ -27,6 +27,8 @@ pub(crate) enum Says {
 /// What an opening sets beside the default numbers.
 #[derive(Clone, Copy)]
 pub(crate) enum Setting {
+    /// Another name in the place of b, and its port.
+    Own(Member, u16),
     /// A seed at a port.
     Seed(Member, u16),
     /// The time of a round.
@@ -35,6 +37,10 @@ pub(crate) enum Setting {
     Indirect(u64),
     /// The greatest score.
     MaxScore(u64),
+    /// How long an Ack is waited for.
+    Timeout(u64),
+    /// The factor of the least suspicion timeout.
+    Alpha(u64),
 }
 
 /// What happens to the detector, at a moment.
@@ -89,6 +95,10 @@ pub(super) fn body_of(says: &Says) -> Body {
 /// Sets one number or seed of a configuration.
 fn set(config: &mut Config, setting: &Setting) {
     match setting {
+        Setting::Own(member, port) => {
+            config.name = named(member);
+            config.addr = local(*port);
+        }
         Setting::Seed(member, port) => {
             if !config.seeds.is_full() {
                 config.seeds.push(Seed {
@@ -100,6 +110,8 @@ fn set(config: &mut Config, setting: &Setting) {
         Setting::Interval(interval) => config.interval_ms = *interval,
         Setting::Indirect(indirect) => config.indirect = *indirect,
         Setting::MaxScore(score) => config.max_score = *score,
+        Setting::Timeout(timeout) => config.timeout_ms = *timeout,
+        Setting::Alpha(alpha) => config.alpha = *alpha,
     }
 }
 

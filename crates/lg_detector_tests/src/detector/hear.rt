@@ -90,7 +90,7 @@ const SIX_CLAIMS: Case = (
 );
 
 /// Of two accusations of one number the first alone is refuted. Who is ousted stays so.
-const REFUTED: &[Case] = &[
+pub(super) const REFUTED: &[Case] = &[
     (
         "two accusations of one number",
         &[
@@ -218,7 +218,7 @@ fn a_flood_of_accusers(rt: HostRuntime) {
 }
 
 /// An accusation is sent as it was heard; the record stays as the first one made it, and fails at its address.
-const TWO_ADDRESSES: Case = (
+pub(super) const TWO_ADDRESSES: Case = (
     "accused at two addresses",
     &[
         OTHERS,

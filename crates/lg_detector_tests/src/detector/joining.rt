@@ -24,7 +24,7 @@ const ASKS: Case = (
 );
 
 /// b answers by a Page with the next records, six at most, after the claims of the Pull were said.
-const ANSWERS: &[Case] = &[
+pub(super) const ANSWERS: &[Case] = &[
     (
         "four members",
         &[

@@ -36,7 +36,7 @@ const THREE_DUE: Case = (
 
 /// The end of a round fires before suspicions, these before the start of a round, and among them a name before those
 /// that it begins. Two helpers sent no Nack, so the score is 2 at the start.
-const FIVE_AT_ONCE: Case = (
+pub(super) const FIVE_AT_ONCE: Case = (
     "five timers at 5000",
     &[
         Takes(Ping(
@@ -200,7 +200,7 @@ fn claims_renew_or_end_a_suspicion(rt: HostRuntime) {
 }
 
 /// No tick fires a suspicion that was ended by a claim: the next deadline is that of the round.
-const ENDED: &[Case] = &[
+pub(super) const ENDED: &[Case] = &[
     (
         "alive",
         &[
