@@ -1,4 +1,5 @@
 pub mod AskingLaws
+pub mod CallingLaws
 pub mod PassesLaws
 pub mod SendingLaws
 pub mod TurnLaws

@@ -14,7 +14,7 @@ three_are all two one (n ∷ none) r t a len x y z =
     absurd (omega (arith, len, ap length x ∙ length-append two (a ∷ []), ap length y ∙ length-append one (t ∷ []), ap length z ∙ length-append (n ∷ none) (r ∷ [])))
 
 fresh_is : (config : Config) (start place : ℕ) (p : Own) → IsFresh config.name place p → p.seen ≡ Open start config ∷ [] → p ≡ fresh config start place
-fresh_is config start place p is seen = let a = is.name in let b = is.seat in let c = is.mine in rw (← seen, ← a, ← b, ← c) refl
+fresh_is config start place p is seen = let a = is.name in let b = is.seat in let c = is.gone in let d = is.mine in rw (← seen, ← a, ← b, ← c, ← d) refl
 
 pub three_fresh : (config : Config) (start : ℕ) (r t a : Own) → AreFresh config.name 0 (r ∷ t ∷ a ∷ []) → All (λ (p : Own). p.seen ≡ Open start config ∷ []) (r ∷ t ∷ a ∷ [])
     → (r ≡ fresh config start 1) × (t ≡ fresh config start 2) × (a ≡ fresh config start 3)

@@ -5,6 +5,7 @@ ghost use Rattle.lg_agent.specs.Meaning.Calls.{IsRefusal};
 ghost use Rattle.lg_node.specs.Meaning.Turns.{line};
 ghost use Rattle.lg_node.specs.Meaning.Nodes.{Asked};
 
+use crate::calling;
 use crate::clock::Clock;
 use crate::link::Link;
 use crate::turned::Turned;
@@ -31,7 +32,7 @@ pub(crate) fn ask_each<A: AgentName, R: Wait, L: Link, C: Clock>(
 {
     let mut unsent = 0;
     for seed in seeds {
-        let receipt = pass.pull(rt, alloc, clock.now(), seed.addr)?;
+        let receipt = calling::pull(rt, alloc, pass, clock.now(), seed.addr)?;
         unsent += Turned::of(link, &receipt).unsent;
     }
     Ok(unsent)

@@ -12,7 +12,8 @@ pub enum Why {
     Ousted,
     /// Receiving failed.
     LinkFailed,
-    /// A call or a look of the pass was refused, for another reason than that bytes are no packet.
+    /// A call or a look of the pass was refused, for another reason than that bytes are no packet. A call that is
+    /// refused because the history is full was made again after a rotation, or memory for that was refused.
     Refused(Refusal),
     /// It made as many turns as it may.
     ReadBound,

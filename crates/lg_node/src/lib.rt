@@ -2,6 +2,7 @@
 #![tactic(auto)]
 
 mod asking;
+mod calling;
 mod clock;
 mod dice;
 mod ending;

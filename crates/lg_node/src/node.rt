@@ -40,7 +40,7 @@ pub struct NodeEnd {
     /// The members, the own record included, in the order of their names, as both loops left them. It is refused as
     /// [`Pass::members`](lg_agent::Pass::members) is.
     pub members: Result<Vec<Record>, Refusal>,
-    /// The history, or why the agent wasn't closed.
+    /// The history from the last rotation on, if there was one, or why the agent wasn't closed.
     pub closed: Result<Closed, CloseFault>,
 }
 
@@ -218,9 +218,13 @@ where
 /// most 1,000,000,000 turns a loop. Then the members are read, and the agent is closed. A node that hears of no member
 /// goes on alone.
 ///
+/// A full history ends nothing, whether a seed is asked or a loop runs: it is rotated, and the node goes on with a
+/// summary in place of its entries. So it never has more than the configuration's `history_limit`. What ends a loop is
+/// told at [`receive_loop`](crate::receive_loop) and [`tick_loop`](crate::tick_loop).
+///
 /// The configuration has to be checked. The error says why there were no loops: [`NodeFault::Socket`],
-/// [`NodeFault::Clock`], or [`NodeFault::Refused`] where memory was refused, where no reader could be had for a pass,
-/// or where the history is full before all seeds are asked.
+/// [`NodeFault::Clock`], or [`NodeFault::Refused`] where memory was refused, or where no reader could be had for a
+/// pass.
 pub fn run_node<R>(
     rt: &R,
     alloc: Global,

@@ -5,6 +5,7 @@ ghost use Rattle.lg_node.specs.Meaning.Links.LinkEvent.{Received};
 ghost use Rattle.lg_node.specs.Meaning.Turns.{line, receives, Ran};
 ghost use Rattle.lg_node.specs.Support.Took.{Took};
 
+use crate::calling;
 use crate::clock::Clock;
 use crate::ending::{End, Ended, Why};
 use crate::link::{Link, MAX_DATAGRAM};
@@ -36,7 +37,7 @@ fn hear<A: AgentName, R: Wait, L: Link>(
         → Took receives L.tells (line log (L.failed link.old)) (line (L.log link.new) (L.failed link.new))
         pass.old pass.new result }
 {
-    match pass.datagram(rt, alloc, now, source, bytes) {
+    match calling::datagram(rt, alloc, pass, now, source, bytes) {
         Ok(receipt) => Turned::of(link, &receipt),
         Err(refusal) => match refusal {
             Refusal::BadPacket(_) => Turned::dropped(),
@@ -105,9 +106,13 @@ fn receive_turns<A: AgentName, R: Wait, L: Link, C: Clock>(
 /// Hears the datagrams that come over a link, and hands the packets of the replies to it, until it is told to stop.
 ///
 /// It makes at most so many turns, each of which waits 20 ms for a datagram. A datagram whose bytes are no packet is
-/// dropped, a packet that isn't sent is lost, and both are counted. It ends with [`Why::LinkFailed`] where receiving
-/// failed, with [`Why::Refused`] where a call was refused for another reason than the bytes, and with [`Why::Ousted`]
-/// behind a reply that says so. Whatever its end is, it tells the others to stop.
+/// dropped, a packet that isn't sent is lost, and both are counted. A full history ends nothing: it is rotated, as
+/// [`Pass::rotate`] tells, and the datagram is heard then.
+///
+/// It ends with [`Why::LinkFailed`] where receiving failed, with [`Why::Refused`] where a datagram whose bytes are a
+/// packet couldn't be heard, and with [`Why::Ousted`] behind a reply that says so. A datagram can't be heard where
+/// memory was refused, also for the rotation, or where the history is still full behind one: another pass has filled
+/// it meanwhile, or there were as many events as a detector accepts. Whatever its end is, it tells the others to stop.
 pub fn receive_loop<A: AgentName, R: Wait, L: Link, C: Clock>(
     rt: &R,
     alloc: Global,

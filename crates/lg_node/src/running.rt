@@ -52,7 +52,7 @@ trait Start {
 impl Start for Brand {
     ghost use Rattle.std.specs.Prelude.{[]};
 
-    ghost own = { record { name = []; seat = 0; seen = []; mine = [] } };
+    ghost own = { record { name = []; seat = 0; seen = []; gone = 0; mine = [] } };
 
     ghost line = { record { log = []; failed = 0 } };
 

@@ -4,6 +4,7 @@ ghost use Rattle.std.specs.List.{flat_map};
 ghost use Rattle.lg_node.specs.Meaning.Turns.{line, ticks_before, words_in, Ran, Threw};
 ghost use Rattle.lg_node.specs.Support.Took.{Took};
 
+use crate::calling;
 use crate::clock::Clock;
 use crate::dice::Dice;
 use crate::ending::{End, Ended, Why};
@@ -43,7 +44,7 @@ fn tick_turn<A: AgentName, R: Wait, L: Link, C: Clock, D: Dice>(
         clock.pause((deadline - moment).min(PAUSE_MS));
         return Turned::on();
     }
-    match pass.tick(rt, alloc, now, dice.words()) {
+    match calling::tick(rt, alloc, pass, now, dice.words()) {
         Ok(receipt) => Turned::of(link, &receipt),
         Err(refusal) => Turned::end(Why::Refused(refusal)),
     }
@@ -100,8 +101,13 @@ fn tick_turns<A: AgentName, R: Wait, L: Link, C: Clock, D: Dice>(
 /// or a moment comes.
 ///
 /// It makes at most so many turns. One that doesn't tick pauses to the deadline, but 20 ms at most. A packet that isn't
-/// sent is lost, and counted. It ends with [`Why::Refused`] where a call or a look was refused, and with
-/// [`Why::Ousted`] behind a reply that says so. Whatever its end is, it tells the others to stop.
+/// sent is lost, and counted. A full history ends nothing: it is rotated, as [`Pass::rotate`] tells, and the tick is
+/// made then, with the same words.
+///
+/// It ends with [`Why::Refused`] where no tick could be made or a look was refused, and with [`Why::Ousted`] behind a
+/// reply that says so. No tick can be made where memory was refused, also for the rotation, or where the history is
+/// still full behind one: another pass has filled it meanwhile, or there were as many events as a detector accepts.
+/// Whatever its end is, it tells the others to stop.
 pub fn tick_loop<A: AgentName, R: Wait, L: Link, C: Clock, D: Dice + Drop>(
     rt: &R,
     alloc: Global,

@@ -1,8 +1,8 @@
 -- Worked turns of b, which is opened at 0.
 use Rattle.std.specs.Prelude.{◌≡◌, ℕ, ◌<◌, List, [], ◌∷◌, Bool, true, false, Some, None, Ok, refl}
 use Rattle.std.specs.List.{flat_map, sum_by}
-use Rattle.std.proofs.Common.{lit≤, lit<}
-use Rattle.std.proofs.lemmas.List.Elements.{All-nil}
+use Rattle.std.proofs.Common.{lit≤, lit<, inr}
+use Rattle.std.proofs.lemmas.List.Elements.{All-nil, All-cons}
 use Rattle.lg_packet.specs.declared.packet.Body.TheVariants.{Ping}
 use Rattle.lg_packet.specs.declared.packet.Packet.{Packet}
 use Rattle.lg_packet.specs.Meaning.Reading.{name_at, head_at, body_at, claims_at, packet_at, packet_of}
@@ -14,13 +14,14 @@ use Rattle.lg_detector.specs.declared.reply.Outgoing.{Outgoing}
 use Rattle.lg_detector.specs.Meaning.Step.{reply_after}
 use Rattle.lg_detector.specs.Meaning.Examples.{by_computing, a, b, at, opening, nothing, acks, ticks}
 use Rattle.lg_agent.specs.declared.receipt.Receipt.{Receipt}
-use Rattle.lg_agent.specs.declared.refusal.Refusal.TheVariants.{HistoryFull}
+use Rattle.lg_agent.specs.declared.refusal.Refusal.TheVariants.{HistoryFull, NoMemory}
 use Rattle.lg_agent.specs.Meaning.Ledger.{Own}
 use Rattle.lg_agent.specs.Meaning.Calls.{IsCall}
 use Rattle.lg_node.specs.declared.ending.Why.TheVariants.{Ousted, LinkFailed, Refused}
 use Rattle.lg_node.specs.Meaning.Links.{handed, lost}
 use Rattle.lg_node.specs.Meaning.Links.LinkEvent.{Received, Silent, Handed}
-use Rattle.lg_node.specs.Meaning.Turns.{Turn, deeds, drops, losses, peers_in, stops, Follows, SeesDue, SeesNoneDue}
+use Rattle.lg_node.specs.Meaning.Turns.{Turn, deeds, drops, losses, peers_in, stops, IsTurn, Follows}
+use Rattle.lg_node.specs.Meaning.Turns.{SeesDue, SeesNoneDue}
 use Rattle.lg_node.specs.Meaning.Turns.Turn.{Quiet, Broken, Dropped, Heard, Unheard, Ticked, Pulled}
 
 -- a Ping of a for b, numbered 7, and the Ack to it
@@ -41,7 +42,7 @@ abbrev answer : Receipt
 answer = record { place = 1; reply = record (nothing 0) { sends = record { items = acks 7 [] } } }
 
 abbrev pass : List Event → List ℕ → Own
-pass seen mine = record { name = b ∷ []; seat = 1; seen = seen; mine = mine }
+pass seen mine = record { name = b ∷ []; seat = 1; seen = seen; gone = 0; mine = mine }
 
 abbrev before : Own
 before = pass (opening 0 ∷ []) []
@@ -64,6 +65,9 @@ it_is_called = record {
     place = refl;
     reply = refl;
   };
+  moved = 0;
+  few = lit≤ tt;
+  gone = refl;
   mine = refl;
   later = All-nil (λ k. k < 1);
   seat = refl;
@@ -115,6 +119,52 @@ all_are_handed_over = refl
 one_of_three : lost (true ∷ false ∷ true ∷ []) ≡ 1
 one_of_three = refl
 
+-- The history has room for two entries, so it is full when the Ping is heard again. It is rotated, and both are one
+-- call: the call before has become a number.
+abbrev again : Receipt
+again = record { place = 2; reply = reply_after (opening 0 ∷ asked ∷ []) asked }
+
+abbrev rotated : List Event → List ℕ → Own
+rotated seen mine = record (pass seen mine) { gone = 1 }
+
+it_is_one_call : IsCall after asked again (rotated (opening 0 ∷ asked ∷ asked ∷ []) (2 ∷ []))
+unfolding by_computing
+it_is_one_call = record {
+  answered = record {
+    before = opening 0 ∷ asked ∷ [];
+    begins = ([], refl);
+    ends = refl;
+    accepted = refl;
+    place = refl;
+    reply = refl;
+  };
+  moved = 1;
+  few = lit≤ tt;
+  gone = refl;
+  mine = refl;
+  later = All-cons (λ k. k < 2) 1 [] (lit< tt) (All-nil (λ k. k < 2));
+  seat = refl;
+  name = refl;
+}
+
+-- Or memory for that call is refused: the pass was rotated, and made no call.
+it_is_not_heard : IsTurn after (Unheard 20 (at 1) ping_bytes NoMemory) (rotated (opening 0 ∷ asked ∷ []) [])
+it_is_not_heard = (
+  inr (
+    record {
+      early = All-cons (λ k. k < 2) 1 [] (lit< tt) (All-nil (λ k. k < 2));
+      moved = 1;
+      few = lit≤ tt;
+      gone = refl;
+      mine = refl;
+      seen = refl;
+      seat = refl;
+      name = refl;
+    }
+  ),
+  tt,
+)
+
 -- What ends a loop.
 ousting_does : stops (Ticked 20 [] (record answer { reply = record answer.reply { ousted = true } }) []) ≡ Some Ousted
 ousting_does = refl
@@ -138,7 +188,7 @@ later = pass (opening 0 ∷ ticks 0 ∷ []) (1 ∷ [])
 it_is_due : SeesDue before 0 before
 unfolding by_computing
 it_is_due = record {
-  look = record { begins = ([], refl); accepted = refl; mine = refl; seat = refl; name = refl };
+  look = record { begins = ([], refl); accepted = refl; gone = refl; mine = refl; seat = refl; name = refl };
   due = 0;
   deadline = refl;
   come = lit≤ tt;
@@ -148,7 +198,7 @@ it_is_due = record {
 none_is_due : SeesNoneDue later 999 later
 unfolding by_computing
 none_is_due = record {
-  look = record { begins = ([], refl); accepted = refl; mine = refl; seat = refl; name = refl };
+  look = record { begins = ([], refl); accepted = refl; gone = refl; mine = refl; seat = refl; name = refl };
   due = 1000;
   deadline = refl;
   later = lit< tt;

@@ -32,7 +32,8 @@ pub record Asked (tells : Bool) (seeds : List Seed) (k k' : Line) (p q : Own) (u
 
 -- the pass at a place of an agent that was opened at a moment: it has seen the opening, and made no call
 abbrev pub fresh : Config → ℕ → ℕ → Own
-fresh config start place = record { name = config.name; seat = place; seen = Open start config ∷ []; mine = [] }
+fresh config start place =
+    record { name = config.name; seat = place; seen = Open start config ∷ []; gone = 0; mine = [] }
 
 -- the end of a loop that makes no turn
 abbrev pub unstarted : End

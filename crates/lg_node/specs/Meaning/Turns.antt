@@ -1,5 +1,5 @@
 -- What a loop does, turn by turn, and how it ends.
-use Rattle.std.specs.Prelude.{◌≡◌, ℕ, ◌+◌, ◌<◌, ◌≤◌}
+use Rattle.std.specs.Prelude.{◌≡◌, ◌⊎◌, ℕ, ◌+◌, ◌<◌, ◌≤◌}
 use Rattle.std.specs.Prelude.{Bool, true, false, nat_lt, if◌then◌else◌}
 use Rattle.std.specs.Prelude.{List, [], ◌∷◌, ◌++◌, length, All, Option, Some, None, Ok, Err}
 use Rattle.std.specs.List.{flat_map, sum_by}
@@ -14,7 +14,7 @@ use Rattle.lg_agent.specs.declared.receipt.Receipt.{Receipt}
 use Rattle.lg_agent.specs.declared.refusal.Refusal.{Refusal}
 use Rattle.lg_agent.specs.declared.refusal.Refusal.TheVariants.{NoMemory, NoView}
 use Rattle.lg_agent.specs.Meaning.Ledger.{Own}
-use Rattle.lg_agent.specs.Meaning.Calls.{IsCall, IsLook, IsRefusal}
+use Rattle.lg_agent.specs.Meaning.Calls.{IsCall, IsLook, IsRefusal, IsRotatedPass}
 use Rattle.lg_node.specs.declared.ending.End.{End}
 use Rattle.lg_node.specs.declared.ending.Why.{Why}
 use Rattle.lg_node.specs.declared.ending.Why.TheVariants.{Stopped, Ousted, LinkFailed, Refused, ReadBound}
@@ -127,8 +127,14 @@ pub record SeesNoneDue (p : Own) (now : ℕ) (q : Own) : Type 0 where
   pub deadline : IsDeadline q.seen due
   pub later : now < due
 
+-- A pass whose call was refused: it is as it was, or it was rotated, since the history was full, and then the call was
+-- refused again.
+abbrev pub MadeNoCall : Own → Own → Type 0
+MadeNoCall p q = (q ≡ p) ⊎ IsRotatedPass p q
+
 -- What a turn does with the pass: where a datagram is a packet, it is heard; where the next deadline has come, there is
--- a tick. Each packet of the reply was sent or not.
+-- a tick. Each packet of the reply was sent or not. A call counts once, also where it was refused since the history was
+-- full, and was made again after a rotation.
 abbrev pub IsTurn : Own → Turn → Own → Type 0
 IsTurn p Quiet q = q ≡ p
 IsTurn p Broken q = q ≡ p
@@ -136,11 +142,11 @@ IsTurn p (Dropped source bytes) q = (q ≡ p) × ((fault : Fault) × (packet_of 
 IsTurn p (Heard now source bytes k r sent) q =
     (packet_of bytes ≡ Ok k) × IsCall p (events.Heard now source k) r q
     × (length sent ≡ length r.reply.sends.items)
-IsTurn p (Unheard now source bytes e) q = (q ≡ p) × IsRefusal p.seen e
+IsTurn p (Unheard now source bytes e) q = MadeNoCall p q × IsRefusal p.seen e
 IsTurn p (Paused now) q = SeesNoneDue p now q
 IsTurn p (Ticked now words r sent) q =
     (m : Own) × SeesDue p now m × IsCall m (events.Tick now words) r q × (length sent ≡ length r.reply.sends.items)
-IsTurn p (Unticked now words e) q = SeesDue p now q × IsRefusal q.seen e
+IsTurn p (Unticked now words e) q = (m : Own) × SeesDue p now m × MadeNoCall m q × IsRefusal m.seen e
 IsTurn p (Unseen e) q = (q ≡ p) × (e ≡ NoView)
 IsTurn p (Pulled now peer r sent) q =
     IsCall p (events.Pull now peer) r q × (length sent ≡ length r.reply.sends.items)

@@ -3,7 +3,7 @@ use Rattle.lg_node.specs.Meaning.Turns.{line}
 use Rattle.lg_node.proofs.node.run_opened.Goals as goal
 
 pub returns-in_default-clause-refused : goal.returns-in_default-clause-refused
-returns-in_default-clause-refused g c = (record { name = []; seat = 0; seen = []; mine = [] }, tt)
+returns-in_default-clause-refused g c = (record { name = []; seat = 0; seen = []; gone = 0; mine = [] }, tt)
 
 pub returns-clause-left : goal.returns-clause-left
 returns-clause-left g c = λ start name told.

@@ -64,7 +64,12 @@ returns-in-Err-tick g c = λ until low. let e = c.in-Ok.ensures in let f = c.in-
   record {
     turn = Unticked c.args.now c.words.result c.in-Err-tick.refusal;
     kind_is = before_until c.args.now until low;
-    is = rw f.answered (record { look = e.1; due = c.in-Ok.deadline; deadline = e.0; come = omega (arith, c.if-moment-deadline.false, c.milliseconds-moment.ensures.milliseconds) }, f.refusal);
+    is = (
+      c.next_deadline.new.self,
+      record { look = e.1; due = c.in-Ok.deadline; deadline = e.0; come = omega (arith, c.if-moment-deadline.false, c.milliseconds-moment.ensures.milliseconds) },
+      f.answered,
+      f.refusal,
+    );
     told = λ yes. sym (append-nil (g.L.Link.log c.args.link.now));
     failed = omega arith;
     why = sym end.why;

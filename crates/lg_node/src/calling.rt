@@ -1,0 +1,104 @@
+//! The calls of a loop: one that is refused because the history is full is made again, once, after a rotation.
+ghost use Rattle.std.specs.Prelude.{◌≡◌, ◌⊎◌, ℕ, Ok, Err, MatchResult, IfOk, IfErr, OnErr};
+ghost use Rattle.lg_packet.specs.declared.fault.Fault.{Fault as Broken};
+ghost use Rattle.lg_packet.specs.declared.packet.Packet.{Packet as Read};
+ghost use Rattle.lg_packet.specs.Meaning.Reading.{packet_of};
+ghost use Rattle.lg_detector.specs.declared.event.Event.TheVariants.{Tick, Heard, Pull};
+ghost use Rattle.lg_agent.specs.declared.refusal.Refusal.TheVariants.{BadPacket, NoMemory, HistoryFull};
+ghost use Rattle.lg_agent.specs.Meaning.Calls.{IsCall, IsRefusal, IsBadPacket, IsRotatedPass};
+ghost use Rattle.lg_node.specs.Meaning.Turns.{MadeNoCall};
+
+use lg_agent::{AgentName, Pass, Receipt, Refusal};
+use lg_rules::Addr;
+use lg_timing::Moment;
+use std::alloc::Global;
+use std::sync::Wait;
+
+/// Rotates a pass whose call was refused, where that was because the history is full. The error is that the call isn't
+/// to be made again: it was refused for something else, or memory for the rotation was refused.
+fn make_room<A: AgentName, R: Wait>(
+    rt: &R,
+    alloc: Global,
+    pass: &mut Pass<'_, A>,
+    refusal: Refusal,
+) -> Result<(), Refusal>
+    ensures rotated { MatchResult result (λ _. IsRotatedPass pass.old pass.new)
+        (λ e. (pass.new ≡ pass.old) × ((e ≡ refusal) ⊎ (e ≡ NoMemory))) }
+    ensures other { ((limit : ℕ) × (refusal ≡ HistoryFull limit)) ⊎ (result ≡ Err refusal) }
+{
+    match refusal {
+        Refusal::HistoryFull(_) => {
+            pass.rotate(rt, alloc)?;
+            Ok(())
+        }
+        _ => Err(refusal),
+    }
+}
+
+/// [`Pass::datagram`], made again after a rotation where the history was full.
+pub(crate) fn datagram<A: AgentName, R: Wait>(
+    rt: &R,
+    alloc: Global,
+    pass: &mut Pass<'_, A>,
+    now: Moment,
+    source: Addr,
+    bytes: &[u8],
+) -> Result<Receipt, Refusal>
+    ensures answered { IfOk result (λ r. (p : Read) × (packet_of bytes.now ≡ Ok p)
+        × IsCall pass.old (Heard now source p) r pass.new) }
+    ensures refused { OnErr result (MadeNoCall pass.old pass.new) }
+    ensures bad { (f : Broken) → packet_of bytes.now ≡ Err f
+        → (result ≡ Err (BadPacket f)) × (pass.new ≡ pass.old) }
+    ensures only { (f : Broken) → result ≡ Err (BadPacket f) → packet_of bytes.now ≡ Err f }
+    ensures refusal { IfErr result (λ e. IsBadPacket e ⊎ IsRefusal pass.old.seen e) }
+{
+    match pass.datagram(rt, alloc, now, source, bytes) {
+        Ok(receipt) => Ok(receipt),
+        Err(unheard) => {
+            make_room(rt, alloc, pass, unheard)?;
+            pass.datagram(rt, alloc, now, source, bytes)
+        }
+    }
+}
+
+/// [`Pass::tick`], made again after a rotation where the history was full, with the same words.
+pub(crate) fn tick<A: AgentName, R: Wait>(
+    rt: &R,
+    alloc: Global,
+    pass: &mut Pass<'_, A>,
+    now: Moment,
+    words: [u32; 8],
+) -> Result<Receipt, Refusal>
+    ensures answered { MatchResult result (λ r. IsCall pass.old (Tick now words) r pass.new)
+        (λ _. MadeNoCall pass.old pass.new) }
+    ensures refusal { IfErr result (IsRefusal pass.old.seen) }
+{
+    match pass.tick(rt, alloc, now, words) {
+        Ok(receipt) => Ok(receipt),
+        Err(unticked) => {
+            make_room(rt, alloc, pass, unticked)?;
+            pass.tick(rt, alloc, now, words)
+        }
+    }
+}
+
+/// [`Pass::pull`], made again after a rotation where the history was full.
+pub(crate) fn pull<A: AgentName, R: Wait>(
+    rt: &R,
+    alloc: Global,
+    pass: &mut Pass<'_, A>,
+    now: Moment,
+    peer: Addr,
+) -> Result<Receipt, Refusal>
+    ensures answered { MatchResult result (λ r. IsCall pass.old (Pull now peer) r pass.new)
+        (λ _. MadeNoCall pass.old pass.new) }
+    ensures refusal { IfErr result (IsRefusal pass.old.seen) }
+{
+    match pass.pull(rt, alloc, now, peer) {
+        Ok(receipt) => Ok(receipt),
+        Err(unasked) => {
+            make_room(rt, alloc, pass, unasked)?;
+            pass.pull(rt, alloc, now, peer)
+        }
+    }
+}
