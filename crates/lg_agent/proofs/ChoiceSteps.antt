@@ -72,8 +72,8 @@ names_more c w from place i d told names more low at is so_far grown f stands ac
 pub ends_same : (xs : List Event) (a b place to : ℕ) → b ≡ min to (length xs) → b ≤ place → (a ≤ b → place ≤ b) → a ≤ place → a ≤ to → take to xs ≡ take place xs
 ends_same xs a b place to is far near low le = ⊎_elim
     (λ (none : b < a). ⊎_elim
-        (λ (short : length xs < to). let least : min to (length xs) ≡ length xs = min-eq_right (omega (arith, short)) in take_all to xs (omega (arith, short)) ∙ sym (take_all place xs (omega (arith, is, least, none, low))))
-        (λ (long : to ≤ length xs). let least : min to (length xs) ≡ to = min-eq_left long in absurd (omega (arith, is, least, none, le)))
-        (cases_lt (length xs) to))
+    (λ (short : length xs < to). let least : min to (length xs) ≡ length xs = min-eq_right (omega (arith, short)) in take_all to xs (omega (arith, short)) ∙ sym (take_all place xs (omega (arith, is, least, none, low))))
+    (λ (long : to ≤ length xs). let least : min to (length xs) ≡ to = min-eq_left long in absurd (omega (arith, is, least, none, le)))
+    (cases_lt (length xs) to))
     (λ (some : a ≤ b). let end = near some in let here : place ≡ min to (length xs) = omega (arith, is, far, end) in sym (ap (λ (n : ℕ). take n xs) here ∙ take_min to xs))
     (cases_lt b a)

@@ -150,10 +150,10 @@ found l all e =
     let none = none_in_list (is_foreign name l.places all) all three.0 in
     let each : All (Belongs name l.places all) all = λ k d low. belongs name l.places all (get_or all k d) (none k d low) in
     let same : (k : ℕ) (d : Own) → k < length all → difference l (get_or all k d) ≡ None = λ k d low.
-        let s : Own = get_or all k d in
-        let b : Belongs name l.places all s = each k d low in
-        let at : difference_at l (find (λ (o : Own). o.seat == s.seat) all) ≡ None = no_difference l all 1 l.places s.seat three.2 (omega (arith, b.low)) (omega (arith, b.high)) in
-        sym (ap (difference_at l) (find_only all k d low b.once)) ∙ at in
+    let s : Own = get_or all k d in
+    let b : Belongs name l.places all s = each k d low in
+    let at : difference_at l (find (λ (o : Own). o.seat == s.seat) all) ≡ None = no_difference l all 1 l.places s.seat three.2 (omega (arith, b.low)) (omega (arith, b.high)) in
+    sym (ap (difference_at l) (find_only all k d low b.once)) ∙ at in
     record {
       belong = each;
       one_each = λ p low high.

@@ -105,9 +105,9 @@ rotated_call p m q e r turned call =
     let rest : length m.mine + turned.moved ≡ length p.mine = let cut = ap length turned.mine in let long = length-drop turned.moved p.mine in let few = turned.few in omega (arith, cut, long, few) in
     let answered : IsAnswered p.seen e r q.seen = subst (λ (f : List Event). IsAnswered f e r q.seen) turned.seen call.answered in
     let mine : q.mine ≡ drop (turned.moved + call.moved) p.mine ++ r.place ∷ [] =
-        call.mine ∙ ap (λ (l : List ℕ). l ++ r.place ∷ []) (ap (λ (l : List ℕ). drop call.moved l) turned.mine ∙ drop-drop call.moved turned.moved p.mine) in
+    call.mine ∙ ap (λ (l : List ℕ). l ++ r.place ∷ []) (ap (λ (l : List ℕ). drop call.moved l) turned.mine ∙ drop-drop call.moved turned.moved p.mine) in
     call_of p q e r (turned.moved + call.moved) turned.early answered (let few = call.few in omega (arith, rest, few)) (let one = turned.gone in let two = call.gone in omega (arith, one, two)) mine
-        (call.seat ∙ turned.seat) (call.name ∙ turned.name)
+    (call.seat ∙ turned.seat) (call.name ∙ turned.name)
 
 -- looks that were all told of one list, which begins with an opening
 pub all_begin : (f : List Event) (looks : List (List Event)) → begins_open f ≡ true → All (λ k. k ≡ f) looks → All (λ k. begins_open k ≡ true) looks

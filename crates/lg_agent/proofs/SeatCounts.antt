@@ -38,7 +38,6 @@ most_made seat i h =
     let least = min-le_right i (length h) in
     omega (arith, made, few, least)
 
-
 -- there is no number for a seat behind the last
 pub beyond : (counts : List ℕ) (seat : ℕ) → length counts ≤ seat → 0 ≡ of_seat counts seat
 beyond counts seat few = sym (get_or-eq_default counts 0 few)

@@ -1,5 +1,6 @@
 //! What is left of an agent that was closed.
-ghost use Rattle.std.specs.Prelude.{◌≡◌, ◌≤◌, ◌+◌, ◌++◌, [], List, length, take, max, true, Some, None, IfOk, MatchOption};
+ghost use Rattle.std.specs.Prelude.{◌≡◌, ◌≤◌, ◌+◌, ◌++◌, [], List, length, take, max, true, Some, None};
+ghost use Rattle.std.specs.Prelude.{IfOk, MatchOption};
 ghost use Rattle.lg_detector.specs.declared.event.Event.{Event as Happened};
 ghost use Rattle.lg_detector.specs.Meaning.Choice.{targets_after};
 ghost use Rattle.lg_detector.specs.Meaning.Step.{is_accepted};
@@ -13,8 +14,8 @@ use lg_rules::Name;
 use std::alloc::Global;
 use std::marker::Model;
 
-/// The history of an agent that was closed. A contract sees it as the list of the entries that are stored, how many were
-/// cut off before them, and what stands for these.
+/// The history of an agent that was closed. A contract sees it as the list of the entries that are stored, how many
+/// were cut off before them, and what stands for these.
 #[derive(Drop)]
 pub struct Closed {
     summary: Option<Summary>,

@@ -92,7 +92,8 @@ impl<A: AgentName> Kept<A> {
 
     /// Whether one of them doesn't belong here.
     fn has_foreign(&self, spents: &[Spent<A>]) -> bool
-        ensures { result ≡ list_any (is_foreign (own_name (all_events self.now)) self.now.places spents.now) spents.now }
+        ensures { result
+            ≡ list_any (is_foreign (own_name (all_events self.now)) self.now.places spents.now) spents.now }
     {
         for spent in spents {
             if self.is_foreign(spents, spent) {

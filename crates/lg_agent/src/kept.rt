@@ -126,11 +126,7 @@ impl<A: AgentName> Kept<A> {
         ensures { result ≡ of_seat self.now.cut seat }
     {
         let cut = self.cut.as_slice();
-        if seat < cut.len() {
-            cut[seat]
-        } else {
-            0
-        }
+        if seat < cut.len() { cut[seat] } else { 0 }
     }
 
     /// What stands for the entries that were cut off, if any were.

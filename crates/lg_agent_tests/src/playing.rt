@@ -80,8 +80,8 @@ pub struct Ending {
     pub entries: Option<u64>,
     /// How many of them were cut off.
     pub base: Option<u64>,
-    /// Up to which entry a detector gave the replies of the history too: a fresh one, or the one that the summary of the
-    /// entries cut off resumes.
+    /// Up to which entry a detector gave the replies of the history too: a fresh one, or the one that the summary of
+    /// the entries cut off resumes.
     pub replayed: Option<u64>,
 }
 

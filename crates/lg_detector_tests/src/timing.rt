@@ -8,8 +8,8 @@ use lg_timing::{
     tables_are_logarithms,
 };
 
-/// A score of at most 8 after seven marks of 1 and one of 2, and after one more, the interval and the timeout at it, and
-/// a score after one mark below 0 and after two more.
+/// A score of at most 8 after seven marks of 1 and one of 2, and after one more, the interval and the timeout at it,
+/// and a score after one mark below 0 and after two more.
 fn scores() -> [u64; 6] {
     let config = Config::new(letter(b'b'), Addr::default());
     let mut high = Score::new(8);

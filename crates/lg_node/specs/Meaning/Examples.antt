@@ -151,17 +151,17 @@ it_is_one_call = record {
 it_is_not_heard : IsTurn after (Unheard 20 (at 1) ping_bytes NoMemory) (rotated (opening 0 ∷ asked ∷ []) [])
 it_is_not_heard = (
   inr (
-    record {
-      early = All-cons (λ k. k < 2) 1 [] (lit< tt) (All-nil (λ k. k < 2));
-      moved = 1;
-      few = lit≤ tt;
-      gone = refl;
-      mine = refl;
-      seen = refl;
-      seat = refl;
-      name = refl;
-    }
-  ),
+      record {
+        early = All-cons (λ k. k < 2) 1 [] (lit< tt) (All-nil (λ k. k < 2));
+        moved = 1;
+        few = lit≤ tt;
+        gone = refl;
+        mine = refl;
+        seen = refl;
+        seat = refl;
+        name = refl;
+      }
+      ),
   tt,
 )
 

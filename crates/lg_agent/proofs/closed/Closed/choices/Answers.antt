@@ -40,15 +40,15 @@ returns-clause-gained c =
     let me : Left = record { summary = c.self.inside.summary; base = c.self.inside.base; history = c.self.inside.entries.items } in
     let long : c.count.result ≡ length me.history + me.base = c.count.ensures ∙ ap (λ (l : Left). length l.history + l.base) (sym c.self.view_is) in
     let known : (f : List Event) → StandsFor me.summary f → is_accepted (f ++ events me.history) ≡ true → max c.args.from me.base ≤ c.args.to
-        → targets_after (take c.args.to (f ++ events me.history)) ≡ targets_after (take (max c.args.from me.base) (f ++ events me.history)) ++ c.loop-place.names.items =
+    → targets_after (take c.args.to (f ++ events me.history)) ≡ targets_after (take (max c.args.from me.base) (f ++ events me.history)) ++ c.loop-place.names.items =
     λ f stands accepted le.
-        let w = c.self.invariant in
-        let base : length f ≡ me.base = stands_long me.summary f w.past stands w.summary ∙ w.base in
-        let both = length-append f (events me.history) in
-        let count = length-events me.history in
-        let whole : c.count.result ≡ length (f ++ events me.history) = omega (arith, long, base, both, count) in
-        let end : c.min-place-end.result ≡ min c.args.to (length (f ++ events me.history)) = c.min-place-end.ensures ∙ ap (min c.args.to) whole in
-        let start : c.max-place.result ≡ max c.args.from me.base = search rules in
-        let same = ends_same (f ++ events me.history) c.max-place.result c.min-place-end.result c.loop-place.place c.args.to end c.loop-place-test.false c.loop-place.auto.place-end c.loop-place.auto.place (omega (arith, start, le)) in
-        ap targets_after same ∙ c.loop-place.invariant.gained f stands accepted in
+    let w = c.self.invariant in
+    let base : length f ≡ me.base = stands_long me.summary f w.past stands w.summary ∙ w.base in
+    let both = length-append f (events me.history) in
+    let count = length-events me.history in
+    let whole : c.count.result ≡ length (f ++ events me.history) = omega (arith, long, base, both, count) in
+    let end : c.min-place-end.result ≡ min c.args.to (length (f ++ events me.history)) = c.min-place-end.ensures ∙ ap (min c.args.to) whole in
+    let start : c.max-place.result ≡ max c.args.from me.base = search rules in
+    let same = ends_same (f ++ events me.history) c.max-place.result c.min-place-end.result c.loop-place.place c.args.to end c.loop-place-test.false c.loop-place.auto.place-end c.loop-place.auto.place (omega (arith, start, le)) in
+    ap targets_after same ∙ c.loop-place.invariant.gained f stands accepted in
     rw (← c.self.view_is) known
