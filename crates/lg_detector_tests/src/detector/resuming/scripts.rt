@@ -1,6 +1,6 @@
-//! What happens to each member of the worked scripts: of those in `examples`, and of those in `cases/sim.case`,
-//! `sim_packets.case` and `sim_replies.case` that have anything else. Each stands as the script has it, but that a
-//! claim of an incarnation above 0 is about port 7000, and that who is pulled is at port 7002.
+//! What happens to members of the worked scripts: of all in `examples`, and of some in `cases/sim.case`,
+//! `sim_packets.case` and `sim_replies.case`. Each stands as the script has it, but that a claim of an incarnation
+//! above 0 is about port 7000, and that who is pulled is at port 7002.
 use crate::detector::happening::Happens::{Ask, First, From, Health, Opens, Pull, TickBy};
 use crate::detector::happening::Says::{self, Nack, Page, PullAfter, PullFirst, Request};
 use crate::detector::happening::Setting::{Alpha, Indirect, Own, Seed, Timeout};
@@ -8,7 +8,7 @@ use crate::detector::playing::Case;
 use crate::detector::playing::Step::Takes;
 use crate::says::Said::{Alive, AliveAt, FailedAt, SuspectAt};
 
-/// Each member that anything happens to once it was opened, with its opening first.
+/// Members that something happens to once they were opened, with the opening first.
 pub(super) const SCRIPTS: &[Case] = &[
     (
         "probe.sim, a",
