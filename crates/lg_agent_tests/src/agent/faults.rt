@@ -10,16 +10,40 @@ ghost use Rattle.lg_agent.specs.Meaning.Ledger.{Own};
 ghost use Rattle.lg_agent.specs.Meaning.Closing.{close_fault};
 ghost use Rattle.lg_agent.specs.declared.refusal.CloseFault.TheVariants.{Missing, Foreign, Differs};
 
-/// Two passes of the agent b, of which the first made the first and the third call, and the second made the second.
+/// Two passes of the agent b, of which the first made the first and the third call, and the second made the second. In
+/// the last case the opening and the first call are cut off.
 fn worked_faults()
     ensures foreign { (now : ℕ) (config : Config) (e : Event) (r : Reply) → config.name ≡ 98 ∷ []
-        → close_fault 2
-        (entry 0 (Open now config) r ∷ entry 1 e r ∷ entry 2 e r ∷ entry 1 e r ∷ [])
-        (record { name = 120 ∷ []; seat = 1; seen = []; mine = 1 ∷ 3 ∷ [] }
-        ∷ record { name = 98 ∷ []; seat = 2; seen = []; mine = 2 ∷ [] } ∷ []) ≡ Some Foreign }
+        → close_fault (record {
+          places = 2;
+          limit = 9;
+          summary = None;
+          cut = [];
+          past = [];
+          history = entry 0 (Open now config) r ∷ entry 1 e r ∷ entry 2 e r ∷ entry 1 e r ∷ [];
+        })
+        (record { name = 120 ∷ []; seat = 1; seen = []; gone = 0; mine = 1 ∷ 3 ∷ [] }
+        ∷ record { name = 98 ∷ []; seat = 2; seen = []; gone = 0; mine = 2 ∷ [] } ∷ []) ≡ Some Foreign }
     ensures lost { (now : ℕ) (config : Config) (e : Event) (r : Reply) → config.name ≡ 98 ∷ []
-        → close_fault 2
-        (entry 0 (Open now config) r ∷ entry 1 e r ∷ entry 2 e r ∷ entry 1 e r ∷ [])
-        (record { name = 98 ∷ []; seat = 1; seen = []; mine = [] }
-        ∷ record { name = 98 ∷ []; seat = 2; seen = []; mine = 2 ∷ [] } ∷ []) ≡ Some (Differs 1 0) }
+        → close_fault (record {
+          places = 2;
+          limit = 9;
+          summary = None;
+          cut = [];
+          past = [];
+          history = entry 0 (Open now config) r ∷ entry 1 e r ∷ entry 2 e r ∷ entry 1 e r ∷ [];
+        })
+        (record { name = 98 ∷ []; seat = 1; seen = []; gone = 0; mine = [] }
+        ∷ record { name = 98 ∷ []; seat = 2; seen = []; gone = 0; mine = 2 ∷ [] } ∷ []) ≡ Some (Differs 1 0) }
+    ensures cut { (now : ℕ) (config : Config) (e : Event) (r : Reply) → config.name ≡ 98 ∷ []
+        → close_fault (record {
+          places = 2;
+          limit = 9;
+          summary = None;
+          cut = 1 ∷ 1 ∷ [];
+          past = Open now config ∷ e ∷ [];
+          history = entry 2 e r ∷ entry 1 e r ∷ [];
+        })
+        (record { name = 98 ∷ []; seat = 1; seen = []; gone = 0; mine = 3 ∷ [] }
+        ∷ record { name = 98 ∷ []; seat = 2; seen = []; gone = 0; mine = 2 ∷ [] } ∷ []) ≡ Some (Differs 1 0) }
 {}
