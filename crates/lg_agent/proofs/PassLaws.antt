@@ -2,7 +2,7 @@
 use Rattle.std.proofs.Common.{true, ◌≡◌, ℕ, zero, suc, drop, append_assoc, ◌+◌, ◌<◌, ◌≤◌, List, [], ◌∷◌, ◌++◌, length, All, ap, sym, ◌∙◌, subst, arith, length-append}
 use Rattle.std.specs.Prelude.{Result, Ok, Err, IfOk}
 use mathlib.Core.List.{IsPrefix}
-use Rattle.std.proofs.lemmas.List.{length-drop, drop-drop}
+use Rattle.std.proofs.lemmas.List.{length-drop}
 use Rattle.std.proofs.lemmas.List.Elements.{All-nil, All-cons, All-head, All-tail, All-append}
 use Rattle.lg_detector.specs.declared.event.Event.{Event}
 use Rattle.lg_detector.specs.Meaning.Step.{is_accepted, is_open, reply_after}
@@ -13,7 +13,7 @@ use Rattle.lg_view.specs.Meaning.Views.{begins_open}
 use Rattle.lg_agent.specs.declared.receipt.Receipt.{Receipt}
 use Rattle.lg_agent.specs.declared.refusal.Refusal.{Refusal}
 use Rattle.lg_agent.specs.Meaning.Ledger.{Ledger, Own, all_events, count_of}
-use Rattle.lg_agent.specs.Meaning.Calls.{with_entry, IsAnswered, IsCall, IsRotatedPass, IsFresh, AreFresh}
+use Rattle.lg_agent.specs.Meaning.Calls.{with_entry, IsAnswered, IsCall, IsFresh, AreFresh}
 
 pub answered_by : (l : Ledger) (seat : ℕ) (seen : List Event) (e : Event) (r : Receipt) (now : List Event)
     → length seen ≤ count_of l → r.place ≡ count_of l → r.reply ≡ reply_after (all_events l) e
@@ -98,16 +98,6 @@ call_of before after e r moved below answered few gone mine seat name =
       seat = seat;
       name = name;
     }
-
--- a rotation, and then a call, are a call
-pub rotated_call : (p m q : Own) (e : Event) (r : Receipt) → IsRotatedPass p m → IsCall m e r q → IsCall p e r q
-rotated_call p m q e r turned call =
-    let rest : length m.mine + turned.moved ≡ length p.mine = let cut = ap length turned.mine in let long = length-drop turned.moved p.mine in let few = turned.few in omega (arith, cut, long, few) in
-    let answered : IsAnswered p.seen e r q.seen = subst (λ (f : List Event). IsAnswered f e r q.seen) turned.seen call.answered in
-    let mine : q.mine ≡ drop (turned.moved + call.moved) p.mine ++ r.place ∷ [] =
-    call.mine ∙ ap (λ (l : List ℕ). l ++ r.place ∷ []) (ap (λ (l : List ℕ). drop call.moved l) turned.mine ∙ drop-drop call.moved turned.moved p.mine) in
-    call_of p q e r (turned.moved + call.moved) turned.early answered (let few = call.few in omega (arith, rest, few)) (let one = turned.gone in let two = call.gone in omega (arith, one, two)) mine
-    (call.seat ∙ turned.seat) (call.name ∙ turned.name)
 
 -- looks that were all told of one list, which begins with an opening
 pub all_begin : (f : List Event) (looks : List (List Event)) → begins_open f ≡ true → All (λ k. k ≡ f) looks → All (λ k. begins_open k ≡ true) looks

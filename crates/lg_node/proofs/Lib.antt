@@ -1,5 +1,4 @@
 pub mod AskingLaws
-pub mod CallingLaws
 pub mod PassesLaws
 pub mod SendingLaws
 pub mod TurnLaws
