@@ -51,22 +51,30 @@ const ONE_AFTER_ANOTHER: &[Case] = &[
     ),
 ];
 
-/// Plays of b, opened at 0.
-const PLAYS: &[&[Case]] = &[
-    ONE_AFTER_ANOTHER,
+/// Plays of b, opened at 0, in which it probes.
+const PROBES: &[&[Case]] = &[
     probing::A_SUSPECT,
     &[probing::NO_ACK, probing::IN_TURN],
     probing::HELPERS,
     probing::FILLED,
     probing::SCORES,
     probing::TARGET_FAILED,
+];
+
+/// Plays in which packets come that answer, or that are handed on.
+const ANSWERS: &[&[Case]] = &[
     acks::EARLY,
     &[acks::TWO_ACKS],
     &[relaying::NACKED, relaying::ENDED, relaying::ACKED],
     &[relaying::NUMBERED, relaying::OUT_OF_ORDER],
+    joining::ANSWERS,
+];
+
+/// Plays of claims and of suspicions.
+const CLAIMS: &[&[Case]] = &[
+    ONE_AFTER_ANOTHER,
     &[tick::FIVE_AT_ONCE],
     tick::ENDED,
-    joining::ANSWERS,
     hear::REFUTED,
     &[hear::TWO_ADDRESSES],
 ];
@@ -158,12 +166,27 @@ fn resume_each(rt: &impl Abort, alloc: Global, opening: &Opening, cases: &[Case]
     }
 }
 
-#[test]
-fn goes_on_wherever_it_is_resumed(rt: HostRuntime) {
-    play(&rt, rt.alloc(), ONE_AFTER_ANOTHER);
-    for cases in PLAYS {
-        resume_each(&rt, rt.alloc(), &Some(Opens(0, &[])), cases);
+/// Resumes detectors at each place of each play of b.
+fn resume_all(rt: &impl Abort, alloc: Global, plays: &[&[Case]]) {
+    for cases in plays {
+        resume_each(rt, alloc, &Some(Opens(0, &[])), cases);
     }
+}
+
+#[test]
+fn goes_on_wherever_it_probes(rt: HostRuntime) {
+    resume_all(&rt, rt.alloc(), PROBES);
+}
+
+#[test]
+fn goes_on_wherever_it_is_answered(rt: HostRuntime) {
+    resume_all(&rt, rt.alloc(), ANSWERS);
+}
+
+#[test]
+fn goes_on_wherever_it_hears_claims(rt: HostRuntime) {
+    play(&rt, rt.alloc(), ONE_AFTER_ANOTHER);
+    resume_all(&rt, rt.alloc(), CLAIMS);
 }
 
 #[test]
