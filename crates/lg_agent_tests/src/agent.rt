@@ -1,5 +1,6 @@
 //! Agents: their calls and looks, how they are closed, and threads that share one.
 pub mod calls;
+mod choosing;
 mod faults;
 pub mod many;
 mod refused_memory;
