@@ -22,11 +22,11 @@ use Rattle.lg_agent.specs.Meaning.Closing.{Left, IsWell}
 -- of them are answered after each.
 pub stands_long : (o : Option State) (f g : List Event) → StandsFor o f → StandsFor o g → length f ≡ length g
 stands_long None f g one other = ap length (one ∙ sym other)
-stands_long (Some s) f g one other = sym (events-after f) ∙ (ap (λ (t : State). t.events) (sym one ∙ other) ∙ events-after g)
+stands_long (Some s) f g one other = sym (events-after f) ∙ (ap (λ (t : State). t.events) (sym one.0 ∙ other.0) ∙ events-after g)
 
 pub stands_answered : (o : Option State) (f g : List Event) (h : List Entry) → StandsFor o f → StandsFor o g → is_accepted (f ++ events h) ≡ true → is_accepted (g ++ events h) ≡ true → Answered f h → Answered g h
 stands_answered None f g h one other all more answered = subst (λ (l : List Event). Answered l h) (one ∙ sym other) answered
-stands_answered (Some s) f g h one other all more answered = answered_after s g h other more (answered_from s f h one all answered)
+stands_answered (Some s) f g h one other all more answered = answered_after s g h other.0 more (answered_from s f h one.0 all answered)
 
 -- the reply of each entry, where those before it are answered
 pub answered_at : (f : List Event) (h : List Entry) (i : ℕ) (d : Entry) → Answered f h → i < length h → (get_or h i d).reply ≡ reply_after (f ++ take i (events h)) (get_or h i d).event

@@ -4,5 +4,6 @@ pub mod ClosingLaws
 pub mod CallSums
 pub mod ClosingSteps
 pub mod ChoiceSteps
+pub mod WindowSteps
 pub mod UnclosedLaws
 pub mod SeatCounts

@@ -6,7 +6,7 @@ ghost use Rattle.lg_detector.specs.Meaning.Choice.{targets_after};
 ghost use Rattle.lg_detector.specs.Meaning.Step.{is_accepted};
 ghost use Rattle.lg_history.specs.Meaning.History.{Answered, events};
 ghost use Rattle.lg_history.specs.Meaning.Rest.{StandsFor};
-ghost use Rattle.lg_agent.specs.Meaning.Closing.{IsWell};
+ghost use Rattle.lg_agent.specs.Meaning.Closing.{HasWindows, IsWell};
 
 use lg_detector::{NoMemory, Summary};
 use lg_history::Entry;
@@ -61,16 +61,20 @@ impl Closed {
         self.base + self.entries.len() as u64
     }
 
-    /// The position of the first entry that is stored.
+    /// The position of the first entry that is stored: how many were cut off before it.
     pub fn base(&self) -> u64
-        ensures { result ≡ self.now.base }
+        ensures same { result ≡ self.now.base }
+        // Whatever events the summary stands for, they are as many, and none where there is no summary.
+        ensures length { (f : List Happened) → StandsFor self.now.summary f → result ≡ length f }
     {
         self.base
     }
 
     /// What stands for the entries before it, if there were any.
     pub fn summary(&self) -> Option<&Summary>
-        ensures { MatchOption result (self.now.summary ≡ None) (λ s. self.now.summary ≡ Some s.now) }
+        ensures same { MatchOption result (self.now.summary ≡ None) (λ s. self.now.summary ≡ Some s.now) }
+        // There are events that it stands for, behind which the stored entries have the replies of the definitions.
+        ensures well { IsWell self.now }
     {
         self.summary.as_ref()
     }
@@ -86,6 +90,12 @@ impl Closed {
             → targets_after (take to (f ++ events self.now.history))
             ≡ targets_after (take (max from self.now.base) (f ++ events self.now.history)) ++ names.items) }
         ensures none { IfOk result (λ names. to ≤ max from self.now.base → names.items ≡ []) }
+        // While the others stay the same, any 2p - 1 choices in a row have each of p.
+        ensures windows { (f : List Happened) → StandsFor self.now.summary f
+            → is_accepted (f ++ events self.now.history) ≡ true
+            → IfOk result (λ names. max from self.now.base ≤ to
+            → HasWindows (take (max from self.now.base) (f ++ events self.now.history))
+            (take to (f ++ events self.now.history)) names.items) }
     {
         let mut names = Vec::new(alloc);
         for place in from.max(self.base)..to.min(self.count()) {

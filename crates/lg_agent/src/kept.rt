@@ -6,7 +6,7 @@ ghost use Rattle.lg_detector.specs.Meaning.Step.{is_open, is_accepted, reply_aft
 ghost use Rattle.lg_detector.specs.Support.State.{State};
 ghost use Rattle.lg_history.specs.Meaning.History.{IsLegal, Answered};
 ghost use Rattle.lg_history.specs.Meaning.Rest.{IsRest, StandsFor, AnsweredFrom, AreCut, made_by, of_seat};
-ghost use Rattle.lg_agent.specs.declared.refusal.Refusal.TheVariants.{NoMemory};
+ghost use Rattle.lg_agent.specs.declared.refusal.Refusal.TheVariants.{Behind, NoMemory};
 ghost use Rattle.lg_agent.specs.Meaning.Ledger.{own_name, own_limit, all_events, count_of};
 ghost use Rattle.lg_agent.specs.Meaning.Calls.{with_entry, refusal_of, IsAnswered, IsRefusal, IsRotated};
 
@@ -262,6 +262,11 @@ impl<A: AgentName> Kept<A> {
         ensures history { IfOk result (λ r. self.new ≡ with_entry self.old seat event.now) }
         ensures refused { OnErr result ((self.new ≡ self.old) × (look.new ≡ look.old)) }
         ensures refusal { IfErr result (IsRefusal look.old) }
+        // Which refusal it is.
+        ensures exact { IfErr result (λ e. ((count_of self.old < length look.old)
+            × (e ≡ Behind (length look.old) (count_of self.old)))
+            ⊎ (refusal_of self.old seat ≡ Some e)
+            ⊎ ((e ≡ NoMemory) × (refusal_of self.old seat ≡ None))) }
     {
         let seen = look.seen();
         let here = self.count();

@@ -24,7 +24,7 @@ use std::marker::Model;
 use std::sync::{Mutex, Wait};
 
 /// A thread's access to the agent. A contract sees the name of its agent, its place, the events that it has seen, and
-/// the positions of its answered calls.
+/// of its answered calls the positions, but for the first so many, whose entries were cut off.
 ///
 /// Each call takes the lock, and may wait for it. An answered one makes one entry of the history, and its reply is the
 /// one that the definitions give to its event after a list of events which begins with all that the pass had seen. A

@@ -14,7 +14,8 @@ pub enum Refusal {
     BadPacket(Fault),
     /// Memory was refused.
     NoMemory,
-    /// The history has as many entries as it may have: this limit of the configuration.
+    /// As many entries are stored as may be, this limit of the configuration; or there were 4,000,000,000 events, which
+    /// is then the number here.
     HistoryFull(u64),
     /// The pass has seen more events than are published. No run meets this.
     Behind {
@@ -53,11 +54,13 @@ pub enum CloseFault {
     /// Some [`Spent`](crate::Spent) bears another agent's name, or has a place that isn't there, or one that another
     /// has as well.
     Foreign,
-    /// The positions that a [`Spent`](crate::Spent) lists aren't those that its place has in the history.
+    /// The calls that a [`Spent`](crate::Spent) tells of aren't those of its place in the history: of the entries that were
+    /// cut off their number, of the others the positions.
     Differs {
         /// The least such place.
         seat: usize,
-        /// The first index at which the two lists differ; one of them may end there.
+        /// The first index, counted from the opening on, at which the two lists differ; one of them may end there. Where
+        /// the numbers differ, it is the lesser of the two.
         index: u64,
     },
 }

@@ -2,6 +2,7 @@
 pub mod calls;
 mod choosing;
 mod faults;
+pub mod leaving;
 pub mod many;
 mod refused_memory;
 mod rotating;

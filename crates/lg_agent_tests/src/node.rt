@@ -7,4 +7,5 @@ mod dice;
 mod links;
 mod receiving;
 mod refused_memory;
+pub mod rotating;
 mod ticking;

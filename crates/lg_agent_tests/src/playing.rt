@@ -3,10 +3,12 @@
 ghost use Rattle.std.specs.Prelude.{◌≡◌, ◌<◌, ◌≤◌};
 
 use crate::agent::calls::{Row, Seen, steps};
-use crate::agent::many::work_all;
+use crate::agent::leaving::{Leaving, leave};
+use crate::agent::many::{Tally, Task, work_all};
 use crate::comparing::is_same_reply;
 use crate::node::alone::{LoopSeen, Run, run_alone};
 use crate::node::both::{BothSeen, run_both};
+use crate::node::rotating::{StreamSeen, run_stream};
 use lg_agent::{Agent, AgentName, CloseFault, Closed, Refusal, Spent, Unclosed};
 use lg_detector::{Detector, Reply};
 use lg_testing::{at, letter, local};
@@ -27,8 +29,12 @@ pub enum Play<'a> {
     Loop(Run),
     /// Two passes run both loops of a node, perhaps with a first receiving that fails.
     Both { fails: bool },
-    /// Each pass makes so many calls, in a thread of its own.
-    Threads(&'a [u32]),
+    /// Each pass has a task, in a thread of its own.
+    Threads(&'a [Task]),
+    /// Calls and looks, of which the passes tell what they leave.
+    Leaves(&'a [Row]),
+    /// One loop of a node after the other: many datagrams, and then many ticks.
+    Stream,
 }
 
 /// An agent, and what is done with it.
@@ -67,8 +73,11 @@ pub enum Shown {
     Steps(Option<(usize, Seen)>),
     Loop(LoopSeen),
     Both(BothSeen),
-    /// How many things went wrong in the threads.
-    Threads(u64),
+    /// What the calls of the threads came to.
+    Threads(Tally),
+    /// What the passes left.
+    Leaves(Leaving),
+    Stream(StreamSeen),
 }
 
 /// How an agent ended.
@@ -157,7 +166,9 @@ where
         Play::Steps(rows) => steps(rt, alloc, passes, rows, spents),
         Play::Loop(run) => run_alone(rt, alloc, passes, run, spents),
         Play::Both { fails } => run_both(rt, alloc, passes, fails, spents),
-        Play::Threads(calls) => work_all(rt, alloc, passes, calls, spents),
+        Play::Threads(tasks) => work_all(rt, alloc, passes, tasks, spents),
+        Play::Leaves(rows) => leave(rt, alloc, passes, rows, spents),
+        Play::Stream => run_stream(rt, alloc, passes, spents),
     }
 }
 

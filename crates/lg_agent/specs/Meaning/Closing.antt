@@ -1,6 +1,6 @@
 -- Which fault closing finds, and what is known of an agent that is closed.
 use Rattle.std.specs.Prelude.{◌≡◌, ◌⊎◌, ℕ, ◌+◌, ◌<◌, ◌≤◌, ◌==◌, Bool, ◌||◌, not}
-use Rattle.std.specs.Prelude.{nat_eq, nat_lt, if◌then◌else◌, ◌++◌, drop, true}
+use Rattle.std.specs.Prelude.{nat_eq, nat_lt, if◌then◌else◌, ◌++◌, drop, reverse, true}
 use Rattle.std.specs.Prelude.{List, [], ◌∷◌, length, Option, Some, None, Result, Ok, Err, option_map, All, Any}
 use Rattle.std.specs.List.{count_by, prefix_len, sum_by, list_any, find, range_with_len}
 use Rattle.std.specs.Option.{option_or}
@@ -8,7 +8,12 @@ use Rattle.std.specs.Cmp.Lexicographic.{pointwise}
 use mathlib.Core.List.{IsPrefix}
 use Rattle.lg_detector.specs.declared.event.Event.{Event}
 use Rattle.lg_detector.specs.Support.State.{State}
-use Rattle.lg_detector.specs.Meaning.Step.{is_accepted}
+use Rattle.lg_rules.specs.Meaning.Rows.{name_cmp, is_among}
+use Rattle.lg_probe.specs.Meaning.Order.{window}
+use Rattle.lg_detector.specs.Meaning.Log.{Log}
+use Rattle.lg_detector.specs.Meaning.Probing.{others}
+use Rattle.lg_detector.specs.Meaning.Window.{AreOthers}
+use Rattle.lg_detector.specs.Meaning.Step.{is_accepted, log_of}
 use Rattle.lg_history.specs.Meaning.History.{Entry, events, positions, Answered, IsLegal}
 use Rattle.lg_history.specs.Meaning.Rest.{made_by, of_seat, StandsFor, IsRest}
 use Rattle.lg_agent.specs.declared.refusal.CloseFault.{CloseFault}
@@ -114,6 +119,17 @@ pub record IsWell (c : Left) : Type 0 where
   pub summary : StandsFor c.summary past
   pub accepted : is_accepted (past ++ events c.history) ≡ true
   pub answered : Answered past c.history
+
+-- Whom rounds chose between a list of events and a longer one that it begins (SWIM, section 4.3): if throughout the
+-- others that haven't failed are the same and have p names, any 2p - 1 choices in a row have each of them; if there are
+-- none, nobody is chosen.
+pub record HasWindows (before whole : List Event) (names : List (List ℕ)) : Type 0 where
+  pub each : (stretch : Log) (name : List ℕ) → log_of (reverse whole) ≡ stretch ++ log_of (reverse before)
+      → AreOthers (others (log_of (reverse before))) stretch (log_of (reverse before))
+      → is_among name_cmp name (others (log_of (reverse before))) ≡ true
+      → window (others (log_of (reverse before))) ≤ length names → is_among name_cmp name names ≡ true
+  pub none : (stretch : Log) → log_of (reverse whole) ≡ stretch ++ log_of (reverse before)
+      → AreOthers [] stretch (log_of (reverse before)) → names ≡ []
 
 -- A pass agrees with a whole history, of which the first `base` entries were cut off: it bears its name and has one of
 -- its places, as many of its calls were cut off as entries of its place, its positions are those of its place from the

@@ -1,9 +1,12 @@
 -- Worked refusals and faults of closing. b is opened at 0; the first pass made a call, then the second, then the first.
-use Rattle.std.specs.Prelude.{◌≡◌, ℕ, List, [], ◌∷◌, Some, None, refl}
-use Rattle.std.proofs.Common.{inl, inr}
+use Rattle.std.specs.Prelude.{◌≡◌, ◌≤◌, ◌+◌, ℕ, Bool, List, [], ◌∷◌, length, Some, None, if◌then◌else◌, refl}
+use Rattle.std.proofs.Common.{inl, inr, ap, arith}
+use Rattle.std.proofs.lemmas.Bool.{le-leb}
 use Rattle.std.proofs.Math.Nat.{zero-lt-suc, lt-suc_self, le_refl}
 use Rattle.std.proofs.lemmas.List.Elements.{All-nil}
 use Rattle.lg_detector.specs.declared.event.Event.TheVariants.{Health}
+use Rattle.lg_detector.specs.declared.event.Event.{Event}
+use Rattle.lg_detector.specs.Meaning.Step.{most_events}
 use Rattle.lg_detector.specs.Meaning.Examples.{by_computing, b, c, opening, nothing}
 use Rattle.lg_history.specs.Meaning.History.{Entry, entry, events, positions, IsSeat, IsLegal}
 use Rattle.lg_history.specs.Meaning.Rest.{of_seat, IsRest}
@@ -37,6 +40,13 @@ nobody_is_at_three = refl
 
 it_is_full : refusal_of ledger 2 ≡ Some (HistoryFull 4)
 it_is_full = refl
+
+-- where a detector accepts no more events either, that is told
+no_more_events : (past : List Event) → most_events ≤ length past
+    → refusal_of (record ledger { past = past }) 2 ≡ Some (HistoryFull most_events)
+no_more_events past many =
+    ap (λ (b : Bool). if b then Some (HistoryFull most_events) else Some (HistoryFull 4))
+    (le-leb most_events (4 + length past) (omega (arith, many)))
 
 with_room_for_one : refusal_of (record ledger { limit = 5 }) 2 ≡ None
 with_room_for_one = refl

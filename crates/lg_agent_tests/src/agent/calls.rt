@@ -78,7 +78,7 @@ pub enum Seen {
 pub type Row = (usize, Call, Seen);
 
 /// The bytes of the Ping of a turn.
-fn ping_of(turn: u32) -> ArrayVec<u8, MAX_PACKET> {
+pub fn ping_of(turn: u32) -> ArrayVec<u8, MAX_PACKET> {
     let member = letter(b'c' + (turn % 16) as u8);
     let claims = [claim(member, Status::Alive, turn / 64)];
     let mut bytes = ArrayVec::new();
@@ -196,7 +196,7 @@ fn step_at_last<A: AgentName, R: Wait>(
 
 /// Makes the calls and looks in order, up to the first that gives something else than it is to give. Those of the first
 /// pass are made in this thread, and each of the others in another one, where that can be had.
-fn first_wrong<A: AgentName + Send + Sync, R: Threads + Wait + Sync>(
+pub(super) fn first_wrong<A: AgentName + Send + Sync, R: Threads + Wait + Sync>(
     rt: &R,
     alloc: Global,
     passes: &mut [Pass<'_, A>],

@@ -168,3 +168,29 @@ fn tells_whom_rounds_chose(rt: HostRuntime) {
         assert!(rt; met, "{name}");
     }
 }
+
+/// Whether an agent with eight entries has this base and so many entries behind it, each from the first place or the
+/// opening, and a summary for those before the base.
+fn is_left(closed: &Closed, base: u64, stored: usize) -> bool {
+    let made_here = closed
+        .history()
+        .iter()
+        .all(|entry| entry.seat() == 1 || base == 0);
+    closed.count() == 8
+        && closed.base() == base
+        && closed.history().len() == stored
+        && closed.summary().is_some() == (base > 0)
+        && made_here
+}
+
+/// What is left behind a rotation, and without one.
+#[test]
+fn keeps_what_follows_a_rotation(rt: HostRuntime) {
+    for (cut, base, stored) in [(NEVER, 0, 8), (0, 1, 7), (6, 7, 1), (7, 8, 0)] {
+        let closed = told(&rt, rt.alloc(), cut);
+        let met = closed
+            .as_ref()
+            .is_ok_and(|closed| is_left(closed, base, stored));
+        assert!(rt; met, "{cut}");
+    }
+}

@@ -1,11 +1,15 @@
 //! Memory that is refused once: what fails with it has changed nothing, and goes well the next time.
-use super::rows::{play_each_call, seen_in};
-use crate::playing::Outcome;
+use super::rotating::fills_it;
+use super::rows::{case, play_each_call, seen_in};
+use crate::playing::{Outcome, told_at_last};
 
-/// Whether each step gave what it was to, no pass was given out later, and the agent was closed with six entries.
-fn is_whole(outcome: &Outcome) -> bool {
+/// Whether each step gave what it was to, no pass was given out later, and the agent was closed with so many entries, of
+/// which so many were cut off.
+fn is_whole(outcome: &Outcome, entries: u64, base: u64) -> bool {
     match seen_in(outcome) {
-        Some((None, 0, ending)) => ending.fault.is_none() && ending.entries == Some(6),
+        Some((None, 0, ending)) => {
+            ending.fault.is_none() && ending.entries == Some(entries) && ending.base == Some(base)
+        }
         _ => false,
     }
 }
@@ -14,7 +18,19 @@ fn is_whole(outcome: &Outcome) -> bool {
 #[test]
 fn goes_on_after_refused_memory(rt: HostRuntime) {
     let met = match play_each_call(&rt, rt.alloc()) {
-        Ok(outcome) => is_whole(&outcome),
+        Ok(outcome) => is_whole(&outcome, 6, 0),
+        Err(_) => false,
+    };
+    assert!(rt; met);
+}
+
+/// A history that is filled and rotated: a rotation that was refused memory has cut nothing off, and the next one cuts
+/// all that there is.
+#[test]
+fn rotates_after_refused_memory(rt: HostRuntime) {
+    let rows = fills_it();
+    let met = match told_at_last(&rt, rt.alloc(), case(1, 0, 3, &rows)) {
+        Ok(outcome) => is_whole(&outcome, 4, 3),
         Err(_) => false,
     };
     assert!(rt; met);

@@ -2,10 +2,10 @@
 use super::calls::{Call, Row, Seen};
 use super::rows::{case, healthy, play};
 use crate::playing::Ending;
-use lg_agent::Refusal;
+use lg_agent::{CloseFault, Refusal};
 
 /// One pass fills the history twice. Its places go on behind those that were cut off, and so do the versions.
-fn fills_it() -> [Row; 7] {
+pub(super) fn fills_it() -> [Row; 7] {
     let full = Seen::Refused(Refusal::HistoryFull(3));
     [
         (0, Call::Health(1), healthy(1, 1, 0)),
@@ -37,8 +37,8 @@ fn takes_turns() -> [Row; 12] {
     ]
 }
 
-/// What each call gives around rotations, and how many entries there were when the agent is closed and how many of them
-/// were cut off.
+/// What each call gives around rotations, and how many entries there were when the agent is closed, perhaps at the
+/// second try, and how many of them were cut off.
 #[test]
 fn goes_on_after_a_rotation(rt: HostRuntime) {
     let alloc = rt.alloc();
@@ -47,23 +47,35 @@ fn goes_on_after_a_rotation(rt: HostRuntime) {
         (0, Call::Rotate, Seen::Number(1)),
         (0, Call::Rotate, Seen::Number(0)),
     ];
+    let turns = takes_turns();
+    let mut in_two = case(2, 0, 3, &turns);
+    in_two.at_once = false;
     let rows = [
         (
             "one pass",
             play(&rt, alloc, case(1, 0, 3, &fills_it())),
+            None,
             4,
             3,
         ),
-        ("twice", play(&rt, alloc, case(1, 0, 3, &twice)), 1, 1),
+        ("twice", play(&rt, alloc, case(1, 0, 3, &twice)), None, 1, 1),
         (
             "two passes",
-            play(&rt, alloc, case(2, 0, 3, &takes_turns())),
+            play(&rt, alloc, case(2, 0, 3, &turns)),
+            None,
+            8,
+            7,
+        ),
+        (
+            "one is missing",
+            play(&rt, alloc, in_two),
+            Some(CloseFault::Missing),
             8,
             7,
         ),
     ];
-    for (name, seen, entries, base) in rows {
-        let mut ending = Ending::closed(None, entries);
+    for (name, seen, fault, entries, base) in rows {
+        let mut ending = Ending::closed(fault, entries);
         ending.base = Some(base);
         assert_eq!(rt; seen, Some((None, 0, ending)), "{name}");
     }

@@ -125,7 +125,7 @@ pub fn run_alone<A: AgentName, R: Wait>(
         calls: link.calls,
         pauses: clock.pauses(),
         stop: stop.load(SeqCst),
-        answered: spent.calls().len(),
+        answered: spent.made() as usize,
     };
     let _refused = spents.push(spent).is_err();
     let shown = Shown::Loop(seen);
@@ -172,9 +172,18 @@ pub(super) struct Want<'a> {
     pub(super) pauses: Pauses,
     pub(super) calls: Calls<'a>,
     pub(super) entries: u64,
+    /// How many of these were cut off.
+    pub(super) base: u64,
 }
 
 impl<'a> Want<'a> {
+    /// The same, where so many entries were cut off.
+    pub(super) fn behind(self, base: u64) -> Want<'a> {
+        let mut want = self;
+        want.base = base;
+        want
+    }
+
     /// Whether an outcome is as it is to be. Whatever the end, the others are told to stop.
     pub(super) fn is(&self, outcome: &Outcome) -> bool {
         let end = End {
@@ -193,6 +202,7 @@ impl<'a> Want<'a> {
                     && seen.stop
                     && outcome.ending.fault.is_none()
                     && outcome.ending.entries == Some(self.entries)
+                    && outcome.ending.base == Some(self.base)
                     && outcome.ending.replayed == Some(self.entries)
             }
             _ => false,

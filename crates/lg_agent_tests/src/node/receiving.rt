@@ -51,6 +51,7 @@ fn ended(why: Why, turns: u64, calls: &[Call], entries: u64) -> Want<'_> {
         },
         calls: Calls::Are(calls),
         entries,
+        base: 0,
     }
 }
 
@@ -112,7 +113,12 @@ fn receiving_loops(rt: HostRuntime) {
             ousting,
             ended(Why::Ousted, 1, &last_ack, 2),
         ),
-        ("full", 2, two_pings(0), ended(stopped, 2, &both, 3)),
+        (
+            "full",
+            2,
+            two_pings(0),
+            ended(stopped, 2, &both, 3).behind(2),
+        ),
     ];
     for (name, limit, script, want) in rows {
         let mut case = Run::receiving(script).case();

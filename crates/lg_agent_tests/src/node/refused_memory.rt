@@ -26,6 +26,27 @@ struct Turns {
     neither: u64,
     /// How many packets each answered call hands over.
     packets: usize,
+    /// How many entries are cut off for the second call.
+    cut: u64,
+}
+
+impl Turns {
+    /// The same, where the history has room for two entries: for the second call these are cut off.
+    fn in_little_room(self) -> Turns {
+        let mut turns = self;
+        turns.cut = 2;
+        turns
+    }
+
+    /// Whether so many entries may be cut off once so many calls were answered. A rotation may have been answered whose
+    /// call was refused then.
+    fn allow(&self, answered: usize, base: Option<u64>) -> bool {
+        match answered {
+            0 => base == Some(0),
+            1 => base == Some(0) || base == Some(self.cut),
+            _ => base == Some(self.cut),
+        }
+    }
 }
 
 /// Whether the loop ended after these turns, with the call that met the refusal if one did. Each answered call, and no
@@ -46,10 +67,12 @@ fn is_whole(outcome: &Outcome, want: Turns) -> bool {
         && seen.end.turns == turns
         && seen.stop
         && outcome.ending.entries == Some(entries)
+        && want.allow(seen.answered, outcome.ending.base)
         && handed(seen.calls.as_slice()) == packets
 }
 
-/// Two Pings, each of which is answered where its call is; and ticks at 0 and 1000, with 50 pauses between.
+/// Two Pings, each of which is answered where its call is; and ticks at 0 and 1000, with 50 pauses between. The history
+/// has room for all, or for two entries.
 #[test]
 fn one_loop(rt: HostRuntime) {
     let script = Script {
@@ -64,19 +87,26 @@ fn one_loop(rt: HostRuntime) {
         second: 2,
         neither: 2,
         packets: 1,
+        cut: 0,
     };
     let ticking = Turns {
         first: 1,
         second: 52,
         neither: 53,
         packets: 0,
+        cut: 0,
     };
+    let (little_1, little_2) = (receiving.in_little_room(), ticking.in_little_room());
     let rows = [
-        ("receiving", Run::receiving(script), receiving),
-        ("ticking", Run::ticking(1010), ticking),
+        ("receiving", Run::receiving(script), 20_000, receiving),
+        ("ticking", Run::ticking(1010), 20_000, ticking),
+        ("receiving, full", Run::receiving(script), 2, little_1),
+        ("ticking, full", Run::ticking(1010), 2, little_2),
     ];
-    for (name, run, turns) in rows {
-        let outcome = told_at_last(&rt, rt.alloc(), run.case());
+    for (name, run, limit, turns) in rows {
+        let mut case = run.case();
+        case.limit = limit;
+        let outcome = told_at_last(&rt, rt.alloc(), case);
         let met = outcome
             .as_ref()
             .is_ok_and(|outcome| is_whole(outcome, turns));

@@ -28,6 +28,7 @@ fn ended(why: Why, turns: u64, count: u64, sum: u64, entries: u64) -> Want<'stat
         },
         calls: Calls::Are(&[]),
         entries,
+        base: 0,
     }
 }
 
@@ -117,7 +118,7 @@ fn ticking_loops(rt: HostRuntime) {
             knows(1_000_000, 0, 0),
             ended(Why::ReadBound, BOUND, 98, 1960, 3),
         ),
-        ("full", short(), ended(stopped, 53, 51, 1020, 3)),
+        ("full", short(), ended(stopped, 53, 51, 1020, 3).behind(2)),
     ];
     for (name, case, want) in rows {
         let outcome = told(&rt, rt.alloc(), case);

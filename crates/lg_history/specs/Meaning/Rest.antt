@@ -18,7 +18,7 @@ of_seat counts seat = get_or counts seat 0
 -- What stands for the entries that were cut off, by their events: a summary of these, and nothing where there are none.
 abbrev pub StandsFor : Option State → List Event → Type 0
 StandsFor None f = f ≡ []
-StandsFor (Some s) f = IsSummary s f
+StandsFor (Some s) f = IsSummary s f × (0 < length f)
 
 -- Entries that follow others, which were cut off: these had the events of `past`, and `cut` says how many each seat
 -- made. There are such entries with which the whole is legal.

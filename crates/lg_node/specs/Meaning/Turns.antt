@@ -127,8 +127,7 @@ pub record SeesNoneDue (p : Own) (now : ℕ) (q : Own) : Type 0 where
   pub deadline : IsDeadline q.seen due
   pub later : now < due
 
--- A pass whose call was refused: it is as it was, or it was rotated, since the history was full, and then the call was
--- refused again.
+-- A pass whose call was refused: it is as it was, or it was rotated.
 abbrev pub MadeNoCall : Own → Own → Type 0
 MadeNoCall p q = (q ≡ p) ⊎ IsRotatedPass p q
 

@@ -9,6 +9,7 @@ use Rattle.lg_history.specs.Meaning.Rest.{StandsFor}
 use Rattle.lg_history.proofs.Legal.{length-events}
 use Rattle.lg_agent.specs.Meaning.Closing.{Left}
 use Rattle.lg_agent.proofs.ChoiceSteps.{names_more, stands_long, ends_same}
+use Rattle.lg_agent.proofs.WindowSteps.{has_windows}
 use Rattle.lg_agent.proofs.closed.Closed.choices.Goals.{in-Some+in_ok-push, in_default}
 use Rattle.lg_agent.proofs.closed.Closed.choices.Goals as goal
 
@@ -52,3 +53,6 @@ returns-clause-gained c =
     let same = ends_same (f ++ events me.history) c.max-place.result c.min-place-end.result c.loop-place.place c.args.to end c.loop-place-test.false c.loop-place.auto.place-end c.loop-place.auto.place (omega (arith, start, le)) in
     ap targets_after same ∙ c.loop-place.invariant.gained f stands accepted in
     rw (← c.self.view_is) known
+
+pub returns-clause-windows : goal.returns-clause-windows
+returns-clause-windows c = λ f stands accepted le. has_windows _ _ _ (returns-clause-gained c f stands accepted le)

@@ -20,7 +20,7 @@ returns-clause-from g c =
     let k = c.self.inside in
     let past : List Event = take k.base k.feed.events in
     let known : (s : State) → k.summary ≡ Some s → AnsweredFrom s k.history.entries = λ s is.
-    let stands : IsSummary s past = subst (λ (o : Option State). StandsFor o past) is c.self.invariant.1 in
+    let stands : IsSummary s past = (subst (λ (o : Option State). StandsFor o past) is c.self.invariant.1).0 in
     answered_from s past k.history.entries stands (rest_accepted k.places past k.cut k.history.entries c.self.invariant.0) (rest_answered k.places past k.cut k.history.entries c.self.invariant.0) in
     rw (← c.self.view_is) known
 

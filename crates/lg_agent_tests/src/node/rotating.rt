@@ -1,0 +1,199 @@
+//! A node whose history is full again and again goes on as one that has room for all: the same datagrams and ticks give
+//! the same packets, in the same order.
+use super::clocks::{FixedDice, MemoryClock};
+use super::links::put;
+use crate::agent::calls::ping_of;
+use crate::playing::{Case, Ending, Left, Play, Shown, told};
+use lg_agent::{AgentName, Pass, Spent};
+use lg_node::{Clock, End, Link, LinkFault, MAX_DATAGRAM, Why, receive_loop, tick_loop};
+use lg_rules::Addr;
+use lg_testing::{at, local};
+use std::alloc::Global;
+use std::rt;
+use std::sync::Wait;
+use std::sync::atomic::AtomicBool;
+use std::sync::atomic::Ordering::SeqCst;
+use std::thread::Threads;
+
+/// How many datagrams come, one a millisecond.
+const DATAGRAMS: u32 = 20_000;
+
+/// How long the ticking loop goes on behind them, in milliseconds.
+const TICKING_MS: u64 = 60_000;
+
+/// More turns than a loop makes here.
+const BOUND: u64 = 1_000_000;
+
+/// What was handed over to a link.
+#[derive(Clone, Copy, Debug, Default, PartialEq, Eq)]
+struct Sent {
+    packets: u64,
+    /// A sum over their ports and bytes, which tells their order too.
+    digest: u64,
+}
+
+impl Sent {
+    /// Adds a byte.
+    fn add(&mut self, byte: u8) {
+        self.digest = (self.digest ^ u64::from(byte)).wrapping_mul(0x0100_0000_01b3);
+    }
+
+    /// Adds a packet.
+    fn add_packet(&mut self, to: Addr, bytes: &[u8]) {
+        self.packets = self.packets.saturating_add(1);
+        let [high, low] = to.port.to_be_bytes();
+        self.add(high);
+        self.add(low);
+        for byte in bytes {
+            self.add(*byte);
+        }
+    }
+}
+
+/// A link over which datagrams come, with each of which a millisecond passes. Behind the last one it tells the loop to
+/// stop.
+#[derive(Drop)]
+struct StreamLink<'a> {
+    clock: &'a MemoryClock,
+    stop: &'a AtomicBool,
+    /// How many datagrams have come.
+    come: u32,
+    sent: Sent,
+}
+
+impl<'a> StreamLink<'a> {
+    fn new(clock: &'a MemoryClock, stop: &'a AtomicBool) -> StreamLink<'a> {
+        StreamLink {
+            clock,
+            stop,
+            come: 0,
+            sent: Sent::default(),
+        }
+    }
+}
+
+impl<'a> Link for StreamLink<'a> {
+    ghost use Rattle.std.specs.Prelude.{false, []};
+
+    ghost tells = { false };
+
+    ghost log = { λ l. [] };
+
+    ghost failed = { λ l. 0 };
+
+    fn send(&mut self, to: Addr, bytes: &[u8]) -> Result<(), LinkFault> {
+        self.sent.add_packet(to, bytes);
+        Ok(())
+    }
+
+    fn receive(
+        &mut self,
+        buffer: &mut [u8; MAX_DATAGRAM],
+        _limit_ms: u64,
+    ) -> Result<Option<(Addr, usize)>, LinkFault> {
+        if self.come >= DATAGRAMS {
+            self.stop.store(true, SeqCst);
+            return Ok(None);
+        }
+        let bytes = ping_of(self.come);
+        self.come += 1;
+        self.clock.pause(1);
+        Ok(Some((local(7001), put(buffer, bytes.as_slice()))))
+    }
+
+    fn failures(&self) -> u64 {
+        0
+    }
+}
+
+/// What the two loops did.
+#[derive(Clone, Copy, Debug, PartialEq, Eq)]
+pub struct StreamSeen {
+    receiving: End,
+    ticking: End,
+    /// What each handed over, and how many calls of each were answered.
+    sent: [Sent; 2],
+    made: [u64; 2],
+}
+
+/// Runs the receiving loop until all datagrams have come, and then the ticking one.
+pub fn run_stream<A: AgentName, R: Wait>(
+    rt: &R,
+    alloc: Global,
+    passes: Vec<Pass<'_, A>>,
+    spents: Vec<Spent<A>>,
+) -> Left<A> {
+    let (mut passes, mut spents) = (passes, spents);
+    let (Some(second), Some(first)) = (passes.pop(), passes.pop()) else {
+        let shown = Shown::Nothing;
+        return Left { spents, shown };
+    };
+    let clock = MemoryClock::new(0);
+    let stop = AtomicBool::new(false);
+    let link = StreamLink::new(&clock, &stop);
+    let received = receive_loop(rt, alloc, first, link, &clock, &stop, BOUND);
+    stop.store(false, SeqCst);
+    let until = at(u64::from(DATAGRAMS) + TICKING_MS);
+    let link = StreamLink::new(&clock, &stop);
+    let dice = FixedDice { word: 0 };
+    let ticked = tick_loop(rt, alloc, second, link, &clock, dice, until, &stop, BOUND);
+    let seen = StreamSeen {
+        receiving: received.end,
+        ticking: ticked.end,
+        sent: [received.link.sent, ticked.link.sent],
+        made: [received.spent.made(), ticked.spent.made()],
+    };
+    let _refused = spents.push(received.spent).is_err() || spents.push(ticked.spent).is_err();
+    let shown = Shown::Stream(seen);
+    Left { spents, shown }
+}
+
+/// What a node with this limit on its history did, and how its agent ended.
+fn played<R>(rt: &R, alloc: Global, limit: u64) -> Option<(StreamSeen, Ending)>
+where
+    R: Threads + Wait + rt::Clock + Sync,
+{
+    let mut case = Case::new(2, Play::Stream);
+    case.limit = limit;
+    let outcome = told(rt, alloc, case).ok()?;
+    match outcome.shown {
+        Shown::Stream(seen) => Some((seen, outcome.ending)),
+        _ => None,
+    }
+}
+
+/// Whether the receiving loop heard each datagram and answered it with an Ack, the ticking one ended in time, and so many
+/// entries were left at most.
+fn is_whole(seen: &StreamSeen, ending: &Ending, limit: u64) -> bool {
+    let datagrams = u64::from(DATAGRAMS);
+    let [heard, ticks] = seen.made;
+    let count = ticks.checked_add(datagrams + 1);
+    let left = count
+        .zip(ending.base)
+        .map(|(count, base)| count.wrapping_sub(base));
+    seen.receiving.why == Why::Stopped
+        && seen.receiving.turns == datagrams + 1
+        && heard == datagrams
+        && seen.sent[0].packets == datagrams
+        && seen.ticking.why == Why::Stopped
+        && ending.fault.is_none()
+        && ending.entries == count
+        && ending.replayed == count
+        && left.is_some_and(|left| left <= limit)
+}
+
+#[test]
+fn goes_on_when_its_history_is_full(rt: HostRuntime) {
+    let small = played(&rt, rt.alloc(), 64);
+    let large = played(&rt, rt.alloc(), 1_000_000);
+    let met = match (&small, &large) {
+        (Some((seen, ending)), Some((same, whole))) => {
+            seen == same
+                && is_whole(seen, ending, 64)
+                && is_whole(same, whole, 1_000_000)
+                && whole.base == Some(0)
+        }
+        _ => false,
+    };
+    assert!(rt; met, "{small:?} {large:?}");
+}
