@@ -13,7 +13,7 @@ use Rattle.lg_detector.specs.Support.State.{State}
 use Rattle.lg_detector.proofs.Accepting.{events-after}
 use Rattle.lg_detector.proofs.ChoiceLaws.{choice-gained}
 use Rattle.lg_history.specs.Meaning.History.{Entry, Answered, events}
-use Rattle.lg_history.specs.Meaning.Rest.{StandsFor, AnsweredFrom}
+use Rattle.lg_history.specs.Meaning.Rest.{StandsFor}
 use Rattle.lg_history.proofs.Legal.{length-events}
 use Rattle.lg_history.proofs.Rests.{answered_from, answered_after}
 use Rattle.lg_agent.specs.Meaning.Closing.{Left, IsWell}

@@ -9,7 +9,7 @@ use Rattle.std.proofs.lemmas.Bool.Decides.{nat_tests}
 use Rattle.std.proofs.lemmas.List.Elements.{All-nil, All-cons, All-head, All-tail}
 use Rattle.std.proofs.lemmas.List.Sums.{sum_by-cons}
 use Rattle.lg_rules.proofs.KeyOrder.{names_equal}
-use Rattle.lg_history.specs.Meaning.History.{Entry, positions}
+use Rattle.lg_history.specs.Meaning.History.{positions}
 use Rattle.lg_history.specs.Meaning.Rest.{of_seat}
 use Rattle.lg_agent.specs.declared.refusal.CloseFault.{CloseFault}
 use Rattle.lg_agent.specs.declared.refusal.CloseFault.TheVariants.{Missing, Foreign, Differs}

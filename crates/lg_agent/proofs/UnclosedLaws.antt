@@ -6,11 +6,10 @@ use Rattle.std.specs.Option.{option_or}
 use Rattle.std.proofs.lemmas.Bool.{eqb-true}
 use Rattle.std.proofs.lemmas.Bool.Decides.{nat_tests}
 use Rattle.std.proofs.lemmas.List.Folds.{list_any_at}
-use Rattle.lg_history.specs.Meaning.History.{Entry, positions}
 use Rattle.lg_agent.specs.declared.refusal.CloseFault.{CloseFault}
 use Rattle.lg_agent.specs.declared.refusal.CloseFault.TheVariants.{Missing, Foreign, Differs}
 use Rattle.lg_agent.specs.Meaning.Ledger.{Ledger, Own, own_name, all_events}
-use Rattle.lg_agent.specs.Meaning.Closing.{times, is_foreign, is_missing, first_difference, difference_at, least_difference, close_fault, IsRefusedClosing, LacksOne, IsMisplaced}
+use Rattle.lg_agent.specs.Meaning.Closing.{times, is_foreign, is_missing, difference_at, least_difference, close_fault, IsRefusedClosing, LacksOne, IsMisplaced}
 
 -- a fault that only Differs is isn't Missing
 differs_only : (seat : ℕ) (o : Option ℕ) → option_map (λ (i : ℕ). Differs seat i) o ≡ Some Missing → ⊥

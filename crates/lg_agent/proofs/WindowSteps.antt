@@ -10,7 +10,7 @@ use Rattle.lg_detector.specs.Meaning.Choice.{targets_after}
 use Rattle.lg_detector.specs.Meaning.Log.{Log, Came, Fired, AckHeard, NackHeard, Relayed, OfGroup}
 use Rattle.lg_detector.specs.Meaning.Probing.{is_round_start, others, chosen}
 use Rattle.lg_detector.specs.Meaning.Step.{log_of}
-use Rattle.lg_detector.specs.Meaning.Window.{targets, AreOthers}
+use Rattle.lg_detector.specs.Meaning.Window.{targets}
 use Rattle.lg_detector.proofs.WindowLaws.{each_target, no_target}
 use Rattle.lg_agent.specs.Meaning.Closing.{HasWindows}
 

@@ -9,10 +9,10 @@ use Rattle.lg_detector.specs.declared.event.Event.{Event}
 use Rattle.lg_detector.specs.Meaning.Step.{most_events}
 use Rattle.lg_detector.specs.Meaning.Examples.{by_computing, b, c, opening, nothing}
 use Rattle.lg_history.specs.Meaning.History.{Entry, entry, events, positions, IsSeat, IsLegal}
-use Rattle.lg_history.specs.Meaning.Rest.{of_seat, IsRest}
+use Rattle.lg_history.specs.Meaning.Rest.{of_seat}
 use Rattle.lg_agent.specs.declared.refusal.Refusal.TheVariants.{HistoryFull, NoPlace}
 use Rattle.lg_agent.specs.declared.refusal.CloseFault.TheVariants.{Missing, Foreign, Differs}
-use Rattle.lg_agent.specs.Meaning.Ledger.{Ledger, Own, own_name, all_events}
+use Rattle.lg_agent.specs.Meaning.Ledger.{Ledger, Own, own_name}
 use Rattle.lg_agent.specs.Meaning.Calls.{refusal_of}
 use Rattle.lg_agent.specs.Meaning.Closing.{first_difference, close_fault, IsLegalLedger, IsRefusedClosing, LacksOne, IsMisplaced}
 

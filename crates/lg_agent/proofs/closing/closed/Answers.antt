@@ -1,13 +1,13 @@
-use Rattle.std.proofs.Common.{rules, ◌≡◌, ◌+◌, ◌++◌, ℕ, List, All, length, drop, get_or, refl, subst, sym, ap, ◌∙◌, arith}
+use Rattle.std.proofs.Common.{◌≡◌, ◌+◌, ◌++◌, ℕ, List, All, length, drop, get_or, refl, subst, sym, ap, ◌∙◌}
 use Rattle.std.specs.List.{sum_by}
 use mathlib.Core.List.{IsPrefix}
 use Rattle.lg_detector.specs.declared.event.Event.{Event}
 use Rattle.lg_history.specs.Meaning.History.{Entry, events, positions}
-use Rattle.lg_history.specs.Meaning.Rest.{made_by, of_seat, IsRest, StandsFor}
+use Rattle.lg_history.specs.Meaning.Rest.{made_by, IsRest, StandsFor}
 use Rattle.lg_history.proofs.Legal.{length-events}
 use Rattle.lg_history.proofs.Rests.{whole_events, whole_length, rest_accepted, rest_answered}
 use Rattle.lg_agent.specs.Meaning.Ledger.{Ledger, Own, own_name, all_events}
-use Rattle.lg_agent.specs.Meaning.Closing.{Left, Agrees, IsClosed, IsWell, below}
+use Rattle.lg_agent.specs.Meaning.Closing.{Agrees, IsClosed, IsWell, below}
 use Rattle.lg_agent.proofs.ClosingLaws.{found, Found}
 use Rattle.lg_agent.proofs.CallSums.{calls_sum, all_calls}
 use Rattle.lg_agent.proofs.closing.closed.Goals as goal

@@ -1,6 +1,5 @@
-use Rattle.std.proofs.Common.{rules, ◌≡◌, ◌<◌, ◌≤◌, ◌+◌, ℕ, length, get_or, take, sym, ap, ◌∙◌, subst, arith}
+use Rattle.std.proofs.Common.{◌<◌, ◌≤◌, ◌+◌, ℕ, length, get_or, sym, ap, ◌∙◌, subst, arith}
 use Rattle.std.proofs.lemmas.List.{take_all, length-set}
-use Rattle.std.proofs.lemmas.List.Sums.{count_by-le-length}
 use Rattle.lg_history.specs.Meaning.History.{Entry}
 use Rattle.lg_history.specs.Meaning.Rest.{made_by, of_seat}
 use Rattle.lg_agent.proofs.SeatCounts.{counts_more, most_made}

@@ -1,4 +1,4 @@
-use Rattle.std.proofs.Common.{◌≡◌, ◌∙◌, List, length, sym, ap}
+use Rattle.std.proofs.Common.{◌≡◌, ◌∙◌, List, length, sym}
 use Rattle.lg_detector.specs.declared.event.Event.{Event}
 use Rattle.lg_history.specs.Meaning.Rest.{StandsFor}
 use Rattle.lg_agent.specs.Meaning.Closing.{Left}

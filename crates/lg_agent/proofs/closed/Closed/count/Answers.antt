@@ -1,4 +1,4 @@
-use Rattle.std.proofs.Common.{◌≡◌, ◌≤◌, ◌+◌, length, arith, length-append}
+use Rattle.std.proofs.Common.{arith, length-append}
 use Rattle.lg_detector.proofs.AcceptedLists.{accepted_few}
 use Rattle.lg_history.specs.Meaning.History.{events}
 use Rattle.lg_history.proofs.Legal.{length-events}

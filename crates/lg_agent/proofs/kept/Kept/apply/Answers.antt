@@ -1,11 +1,9 @@
-use Rattle.std.proofs.Common.{rules, ◌≡◌, ◌+◌, ◌∷◌, ◌++◌, [], length, List, ap, sym, ◌∙◌, arith, refl, ℕ, take, subst}
+use Rattle.std.proofs.Common.{rules, ◌≡◌, ◌∷◌, ◌++◌, [], List, ap, sym, ◌∙◌, arith, refl, take}
 use Rattle.std.specs.Prelude.{Some, None}
 use Rattle.lg_detector.specs.declared.event.Event.{Event}
 use Rattle.lg_detector.specs.Meaning.Step.{reply_after}
-use Rattle.lg_detector.specs.Support.State.{State}
 use Rattle.lg_detector.specs.Support.Step.{state_after}
 use Rattle.lg_history.specs.Meaning.History.{Entry, HistoryValue, entry, events, completed}
-use Rattle.lg_history.specs.Meaning.Rest.{IsRest, StandsFor}
 use Rattle.lg_view.specs.Meaning.Views.{Stream}
 use Rattle.lg_agent.specs.Meaning.Ledger.{own_name, own_limit}
 use Rattle.lg_agent.proofs.LedgerLaws.{goes_on, GoesOn, past_stays}

@@ -1,11 +1,7 @@
-use Rattle.std.proofs.Common.{rules, ◌≡◌, ◌≤◌, ◌+◌, ◌++◌, [], List, ℕ, All, length, take, sym, ap, ◌∙◌, subst, arith, refl}
-use Rattle.lg_detector.specs.declared.event.Event.{Event}
-use Rattle.lg_detector.specs.Support.Step.{state_after}
-use Rattle.lg_detector.proofs.AcceptedLists.{accepted_few}
-use Rattle.lg_history.specs.Meaning.History.{Entry, events}
-use Rattle.lg_history.specs.Meaning.Rest.{of_seat, made_by, IsRest}
-use Rattle.lg_history.proofs.Rests.{seats-rest, rest_cut, cut_room}
-use Rattle.lg_agent.proofs.LedgerLaws.{past_whole}
+use Rattle.std.proofs.Common.{rules, ◌≡◌, ◌≤◌, ◌+◌, List, All, length, take, sym, subst, arith}
+use Rattle.lg_history.specs.Meaning.History.{Entry}
+use Rattle.lg_history.specs.Meaning.Rest.{of_seat}
+use Rattle.lg_history.proofs.Rests.{seats-rest, cut_room}
 use Rattle.lg_agent.proofs.kept.Kept.rotate.Goals as goal
 
 pub count_seats-requires-clause-seats : goal.count_seats-requires-clause-seats

@@ -1,11 +1,9 @@
-use Rattle.std.proofs.Common.{rules, ◌≡◌, ◌≤◌, ◌<◌, ◌++◌, [], List, ℕ, length, take, true, sym, ap, ◌∙◌, subst, arith, refl}
-use Rattle.std.specs.Prelude.{Option, Some, None}
+use Rattle.std.proofs.Common.{◌≡◌, List, length, take, subst, arith}
+use Rattle.std.specs.Prelude.{Option, Some}
 use Rattle.lg_detector.specs.declared.event.Event.{Event}
-use Rattle.lg_detector.specs.Meaning.Step.{is_accepted}
 use Rattle.lg_detector.specs.Support.State.{State}
 use Rattle.lg_detector.specs.Support.Summary.{IsSummary}
-use Rattle.lg_history.specs.Meaning.History.{Entry, events, Answered}
-use Rattle.lg_history.specs.Meaning.Rest.{IsRest, StandsFor, AnsweredFrom, AreCut}
+use Rattle.lg_history.specs.Meaning.Rest.{StandsFor, AnsweredFrom}
 use Rattle.lg_history.proofs.Rests.{rest_accepted, rest_answered, rest_seats, answered_from}
 use Rattle.lg_agent.proofs.kept.Kept.summary.Goals as goal
 
