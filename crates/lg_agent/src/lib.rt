@@ -6,9 +6,9 @@
 //! [`Agent::close`] compares them all with the history and gives it.
 //!
 //! **In every state that the lock can hold, the history is the end of one that a single thread could have made**, and
-//! the whole of it where nothing was cut off: one entry a call, each with the reply that the definitions give after the entries before it. An answered call ends an accepted
-//! list of events which begins with all that its caller had seen. Every look answers by the member table, the timers or
-//! the length of such a list.
+//! the whole of it where nothing was cut off: one entry a call, each with the reply that the definitions give after the
+//! entries before it. An answered call ends an accepted list of events which begins with all that its caller had seen.
+//! Every look answers by the member table, the timers or the length of such a list.
 //!
 //! Where to read on:
 //! - the value under the lock, and what one call does to it: `kept.rt`; how it begins: `kept/opening.rt`;

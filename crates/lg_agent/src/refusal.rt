@@ -54,13 +54,13 @@ pub enum CloseFault {
     /// Some [`Spent`](crate::Spent) bears another agent's name, or has a place that isn't there, or one that another
     /// has as well.
     Foreign,
-    /// The calls that a [`Spent`](crate::Spent) tells of aren't those of its place in the history: of the entries that were
-    /// cut off their number, of the others the positions.
+    /// The calls that a [`Spent`](crate::Spent) tells of aren't those of its place in the history: of the entries that
+    /// were cut off their number, of the others the positions.
     Differs {
         /// The least such place.
         seat: usize,
-        /// The first index, counted from the opening on, at which the two lists differ; one of them may end there. Where
-        /// the numbers differ, it is the lesser of the two.
+        /// The first index, counted over all calls of the pass, at which the two lists differ; one of them may end
+        /// there. Where the numbers differ, it is the lesser of the two.
         index: u64,
     },
 }

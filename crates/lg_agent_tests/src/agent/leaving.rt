@@ -116,8 +116,8 @@ fn is_refused() -> Row {
     (0, Call::Datagram(1, Heard::OneByte), refused)
 }
 
-/// The first pass makes one call or two, the second one perhaps another, and rotates. A pass cuts its own positions with
-/// its next answered call or its own rotation, and never before.
+/// The first pass makes one call or two, the second one perhaps another, and rotates. A pass cuts its own positions
+/// with its next answered call or its own rotation, and never before.
 #[test]
 fn cuts_its_positions(rt: HostRuntime) {
     let alloc = rt.alloc();

@@ -3,8 +3,8 @@ use super::rotating::fills_it;
 use super::rows::{case, play_each_call, seen_in};
 use crate::playing::{Outcome, told_at_last};
 
-/// Whether each step gave what it was to, no pass was given out later, and the agent was closed with so many entries, of
-/// which so many were cut off.
+/// Whether each step gave what it was to, no pass was given out later, and the agent was closed with so many entries,
+/// of which so many were cut off.
 fn is_whole(outcome: &Outcome, entries: u64, base: u64) -> bool {
     match seen_in(outcome) {
         Some((None, 0, ending)) => {

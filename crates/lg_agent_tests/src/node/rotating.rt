@@ -162,8 +162,8 @@ where
     }
 }
 
-/// Whether the receiving loop heard each datagram and answered it with an Ack, the ticking one ended in time, and so many
-/// entries were left at most.
+/// Whether the receiving loop heard each datagram and answered it with an Ack, the ticking one ended in time, and so
+/// many entries were left at most.
 fn is_whole(seen: &StreamSeen, ending: &Ending, limit: u64) -> bool {
     let datagrams = u64::from(DATAGRAMS);
     let [heard, ticks] = seen.made;
