@@ -3,21 +3,27 @@ ghost use Rattle.std.specs.Prelude.{◌≡◌};
 ghost use Rattle.lg_agent.specs.Meaning.Numbers.{refusal_number, close_fault_number};
 
 use lg_packet::Fault;
+use lg_view::NoView;
+use thiserror::Error;
 
 /// Why a call or a look was refused. It then has changed nothing, and made no entry.
 ///
 /// Where several are due, a call is refused by the first in this order: `BadPacket`, `NoMemory` for the pass's own
 /// list, `Behind`, `NoPlace`, `HistoryFull`, `NoMemory` for the history and the publication.
-#[derive(Clone, Copy, Debug, PartialEq, Eq)]
+#[derive(Clone, Copy, Debug, PartialEq, Eq, Error)]
 pub enum Refusal {
     /// The bytes are no packet.
+    #[error("the bytes are no packet: {0}")]
     BadPacket(Fault),
     /// Memory was refused.
+    #[error("memory was refused")]
     NoMemory,
     /// As many entries are stored as may be, this limit of the configuration; or there were 4,000,000,000 events, which
     /// is then the number here.
+    #[error("the history is full: {0} entries are its limit")]
     HistoryFull(u64),
     /// The pass has seen more events than are published. No run meets this.
+    #[error("the pass has seen {seen} events, and {here} are published")]
     Behind {
         /// How many events the pass has seen.
         seen: u64,
@@ -25,8 +31,10 @@ pub enum Refusal {
         here: u64,
     },
     /// There is no such place, or at an opening no reader could be had for one.
+    #[error("there is no such place, or no reader for one")]
     NoPlace,
     /// At a look: the published value wasn't handed out. While the agent is open, this doesn't come.
+    #[error("{view}", view = NoView)]
     NoView,
 }
 
@@ -47,15 +55,18 @@ impl Refusal {
 }
 
 /// Why an agent wasn't closed. Where several are due it is the first in the order `Foreign`, `Missing`, `Differs`.
-#[derive(Clone, Copy, Debug, PartialEq, Eq)]
+#[derive(Clone, Copy, Debug, PartialEq, Eq, Error)]
 pub enum CloseFault {
     /// Some place from 1 to the number of places has no [`Spent`](crate::Spent).
+    #[error("a place has no Spent")]
     Missing,
     /// Some [`Spent`](crate::Spent) bears another agent's name, or has a place that isn't there, or one that another
     /// has as well.
+    #[error("a Spent is another agent's, or has a place that isn't there, or that another Spent has")]
     Foreign,
     /// The calls that a [`Spent`](crate::Spent) tells of aren't those of its place in the history: of the entries that
     /// were cut off their number, of the others the positions.
+    #[error("the calls of place {seat} aren't those of the history, from call {index} on")]
     Differs {
         /// The least such place.
         seat: usize,

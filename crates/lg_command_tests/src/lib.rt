@@ -8,6 +8,8 @@ mod launch;
 #[cfg(test)]
 mod limits;
 #[cfg(test)]
+mod messages;
+#[cfg(test)]
 mod plays;
 #[cfg(test)]
 mod readers;

@@ -14,6 +14,7 @@ mod run;
 mod status;
 mod timeouts;
 
+pub use line::LineFault;
 pub use order::{BadList, OrderFault};
 pub use run::{answer_run, order_run, timeouts_run};
 pub use status::{BAD_INPUT, FAILED, USAGE, answer_named, order_lists, simulate, timeouts_of};

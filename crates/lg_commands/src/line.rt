@@ -3,13 +3,16 @@ ghost use Rattle.std.specs.Prelude.{◌≡◌};
 ghost use Rattle.lg_commands.specs.Meaning.Spelled.{fault_text};
 
 use lg_packet::Fault;
+use thiserror::Error;
 
 /// What is wrong with a line that should spell a packet in hex.
-#[derive(Clone, Copy, Debug, PartialEq, Eq)]
+#[derive(Clone, Copy, Debug, PartialEq, Eq, Error)]
 pub enum LineFault {
     /// It isn't pairs of hex digits.
+    #[error("a line has to be pairs of hex digits")]
     NotHex,
     /// It is the hex of bytes that are no packet.
+    #[error(transparent)]
     Refused(Fault),
 }
 

@@ -12,14 +12,17 @@ use lg_probe::choose_all;
 use lg_rules::{MAX_OTHERS, Name};
 use lg_text::{RunFault, number_in};
 use std::alloc::{AllocError, Global};
+use thiserror::Error;
 
 /// Which list of `order` is bad. The names are judged first.
-#[derive(Clone, Copy, Debug, PartialEq, Eq)]
+#[derive(Clone, Copy, Debug, PartialEq, Eq, Error)]
 pub enum BadList {
     /// Some part is no name, a name stands twice, or there are more than 255.
+    #[error("the names have to be 1 to {most} different ones between commas", most = MAX_OTHERS)]
     Names,
     /// The names are good, and some part of the words is no number of 1 to 16 digits up to
     /// 4,294,967,295.
+    #[error("the words have to be numbers from 0 to {most} between commas", most = u32::MAX)]
     Words,
 }
 
@@ -36,11 +39,13 @@ impl BadList {
 }
 
 /// Why `order` wrote no choices, or not all of them.
-#[derive(Clone, Copy, Debug, PartialEq, Eq)]
+#[derive(Clone, Copy, Debug, PartialEq, Eq, Error)]
 pub enum OrderFault {
     /// A list is bad; nothing was written.
+    #[error(transparent)]
     Bad(BadList),
     /// The run failed, by memory or by writing.
+    #[error(transparent)]
     Run(RunFault),
 }
 

@@ -3,19 +3,25 @@ ghost use Rattle.std.specs.Prelude.{◌≡◌};
 ghost use Rattle.lg_config.specs.Meaning.Faults.{fault_number};
 ghost use Rattle.lg_config.specs.declared.fault.ReadFault.TheVariants.{File};
 
+use crate::document::MAX_FILE;
 use lg_timing::ConfigFault;
+use thiserror::Error;
 
 /// Why a file means no configuration (this project's choice).
-#[derive(Clone, Copy, Debug, PartialEq, Eq)]
+#[derive(Clone, Copy, Debug, PartialEq, Eq, Error)]
 pub enum FileFault {
     /// A number is out of its range, or the seeds are too many, share a name or have the own one. Of several such
     /// faults it is the first in the order of [`ConfigFault`].
+    #[error(transparent)]
     Config(ConfigFault),
     /// The file has more than 65,536 bytes, isn't UTF-8 or isn't TOML.
+    #[error("the file has to be TOML in UTF-8, of at most {most} bytes", most = MAX_FILE)]
     Syntax,
     /// A key is unknown, the name is missing, or a value is of another TOML type than its key wants.
+    #[error("a key is unknown or has a value of another type, or the name is missing")]
     Key,
     /// A name, an address, a port or a seed is out of its form, or the dice are negative.
+    #[error("a name, an address, a port or a seed is out of its form, or the dice are negative")]
     Value,
 }
 
@@ -34,11 +40,13 @@ impl FileFault {
 }
 
 /// Why a file wasn't read.
-#[derive(Clone, Copy, Debug, PartialEq, Eq)]
+#[derive(Clone, Copy, Debug, PartialEq, Eq, Error)]
 pub enum ReadFault {
     /// Memory was refused, so nothing is known of the file.
+    #[error("memory was refused")]
     NoMemory,
     /// The file means no configuration.
+    #[error(transparent)]
     File(FileFault),
 }
 

@@ -29,6 +29,7 @@ use std::net::{Ipv4Addr, Net, UdpSocket};
 use std::rt;
 use std::sync::Wait;
 use std::thread::Threads;
+use thiserror::Error;
 
 /// How a node ended that had begun its loops.
 #[derive(Drop)]
@@ -45,13 +46,16 @@ pub struct NodeEnd {
 }
 
 /// Why a node ended before its loops.
-#[derive(Clone, Copy, Debug, PartialEq, Eq)]
+#[derive(Clone, Copy, Debug, PartialEq, Eq, Error)]
 pub enum NodeFault {
     /// The socket couldn't be bound to the configured address.
+    #[error("the socket can't be bound to the configured address")]
     Socket,
     /// The machine's clock couldn't be read.
+    #[error("the machine's clock can't be read")]
     Clock,
     /// The opening, the handing out of the passes, or the question to a seed was refused.
+    #[error(transparent)]
     Refused(Refusal),
 }
 

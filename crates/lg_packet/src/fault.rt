@@ -1,25 +1,37 @@
 //! What is wrong with bytes that are no packet.
 
+use lg_rules::{MAX_CLAIMS, MAX_INCARNATION};
+use thiserror::Error;
+
 /// Why some bytes are no packet: the fault of the first byte that can't stand where it stands, or
 /// [`Fault::Short`] where each can, and more are due.
-#[derive(Clone, Copy, Debug, PartialEq, Eq)]
+#[derive(Clone, Copy, Debug, PartialEq, Eq, Error)]
 pub enum Fault {
     /// The bytes end where another byte is due.
+    #[error("the bytes end before the packet does")]
     Short = 1,
     /// The first byte isn't `53`, or the second isn't `4c`.
+    #[error("a packet begins with the bytes 53 4c")]
     Magic = 2,
     /// The version isn't `01`.
+    #[error("the version has to be 1")]
     Version = 3,
     /// The kind isn't 1 to 6: a Ping, a PingReq, an Ack, a Nack, a Pull or a Page.
+    #[error("the kind of a packet has to be 1 to 6")]
     Kind = 4,
     /// The length of a name is out of its range, or a byte of a name may not stand in one.
+    #[error("a name has to be 1 to {most} bytes of A-Z a-z 0-9 . _ -", most = lg_rules::MAX_NAME)]
     Name = 5,
     /// There are more claims than a packet can have.
+    #[error("a packet has at most {most} claims", most = MAX_CLAIMS)]
     Count = 6,
     /// The kind of a claim isn't 1 to 3.
+    #[error("the kind of a claim has to be 1 to 3")]
     ClaimKind = 7,
     /// An incarnation is above 1,000,000,000, at the last of its four bytes.
+    #[error("an incarnation is at most {most}", most = MAX_INCARNATION)]
     Incarnation = 8,
     /// A byte follows the packet.
+    #[error("bytes follow the packet's end")]
     Trailing = 9,
 }

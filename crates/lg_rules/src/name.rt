@@ -7,18 +7,22 @@ ghost use Rattle.lg_rules.specs.Meaning.Name.{is_name_byte, bad_byte};
 use std::alloc::AllocError;
 use std::cmp::Ordering;
 use std::marker::Model;
+use thiserror::Error;
 
 /// The most bytes of a name: 32 (this project's choice).
 pub const MAX_NAME: usize = 32;
 
 /// Why some bytes are no name. A text that is too long is not judged byte by byte.
-#[derive(Clone, Copy, Debug, PartialEq, Eq)]
+#[derive(Clone, Copy, Debug, PartialEq, Eq, Error)]
 pub enum NameFault {
     /// There are no bytes.
+    #[error("a name is empty; it has 1 to {most} bytes", most = MAX_NAME)]
     Empty,
     /// There are more than 32 bytes.
+    #[error("a name is too long; it has 1 to {most} bytes", most = MAX_NAME)]
     TooLong,
     /// A byte is none of `A-Z a-z 0-9 . _ -`: the first such byte.
+    #[error("the byte {0} stands in a name; allowed are A-Z a-z 0-9 . _ -")]
     BadByte(u8),
 }
 

@@ -3,16 +3,21 @@ ghost use Rattle.std.specs.Prelude.{◌≡◌};
 ghost use Rattle.lg_text.specs.Meaning.Faults.{run_fault_text};
 ghost use Rattle.lg_text.specs.declared.fault.RunFault.TheVariants.{Memory};
 
+use crate::input::MAX_INPUT;
 use std::alloc::AllocError;
+use thiserror::Error;
 
 /// Why a run over an input wrote no text, or not all of it.
-#[derive(Clone, Copy, Debug, PartialEq, Eq)]
+#[derive(Clone, Copy, Debug, PartialEq, Eq, Error)]
 pub enum RunFault {
     /// Memory was refused; nothing was written.
+    #[error("memory was refused")]
     Memory = 1,
     /// The input was too long or couldn't be read; nothing was written.
+    #[error("the input can't be read, or has more than {most} bytes", most = MAX_INPUT)]
     Read = 2,
     /// The text couldn't be written; a beginning of it may have been.
+    #[error("the output can't be written")]
     Write = 3,
 }
 

@@ -5,6 +5,7 @@ ghost use Rattle.lg_timing.specs.Meaning.Config.{first_broken};
 
 use arrayvec::ArrayVec;
 use lg_rules::{Addr, MAX_LAMBDA, Name};
+use thiserror::Error;
 
 /// The shortest interval between probes, in milliseconds: 10 (this project's choice).
 pub const MIN_INTERVAL_MS: u64 = 10;
@@ -49,29 +50,40 @@ pub struct Seed {
 }
 
 /// What is wrong with a configuration: a field that is out of its range.
-#[derive(Clone, Copy, Debug, PartialEq, Eq)]
+#[derive(Clone, Copy, Debug, PartialEq, Eq, Error)]
 pub enum ConfigFault {
     /// `interval_ms` isn't 10 to 60,000.
+    #[error("interval_ms has to be {least} to {most}", least = MIN_INTERVAL_MS, most = MAX_INTERVAL_MS)]
     Interval = 1,
     /// `timeout_ms` isn't 1 to `interval_ms - 1`.
+    #[error("timeout_ms has to be at least 1 and less than interval_ms")]
     Timeout = 2,
     /// `indirect` isn't 0 to 8.
+    #[error("indirect has to be 0 to {most}", most = MAX_INDIRECT)]
     Indirect = 3,
     /// `max_score` isn't 0 to 20.
+    #[error("max_score has to be 0 to {most}", most = MAX_SCORE)]
     MaxScore = 4,
     /// `alpha` isn't 1 to 20.
+    #[error("alpha has to be 1 to {most}", most = MAX_FACTOR)]
     Alpha = 5,
     /// `beta` isn't 1 to 20.
+    #[error("beta has to be 1 to {most}", most = MAX_FACTOR)]
     Beta = 6,
     /// `confirmations` isn't 0 to 5.
+    #[error("confirmations has to be 0 to {most}", most = MAX_CONFIRMATIONS)]
     Confirmations = 7,
     /// `lambda` isn't 1 to 10.
+    #[error("lambda has to be 1 to {most}", most = MAX_LAMBDA)]
     Lambda = 8,
     /// `nack_thousandths` isn't 1 to 999.
+    #[error("nack_thousandths has to be {least} to {most}", least = MIN_NACK_THOUSANDTHS, most = MAX_NACK_THOUSANDTHS)]
     Nack = 9,
     /// `history_limit` isn't 2 to 1,000,000.
+    #[error("history_limit has to be {least} to {most}", least = MIN_HISTORY_LIMIT, most = MAX_HISTORY_LIMIT)]
     History = 10,
     /// Two seeds have one name, or a seed has the member's own name.
+    #[error("seeds may be at most {most}, with different names, none of them the member's own", most = MAX_SEEDS)]
     Seeds = 11,
 }
 

@@ -17,6 +17,7 @@ use lg_detector::MAX_MEMBERS;
 use lg_rules::{Name, Record};
 use std::alloc::Global;
 use std::marker::Model;
+use thiserror::Error;
 
 mod reading;
 
@@ -26,15 +27,18 @@ pub(crate) type LookReader<P> = Reader<Published<P>, (), Unruled>;
 /// The published value wasn't handed out, since the feed was ended; or what was handed out is after fewer events than
 /// the reader has seen. A look takes what was published last, so the second doesn't come; but no contract of
 /// `left_right` says so.
-#[derive(Clone, Copy, Debug, PartialEq, Eq)]
+#[derive(Clone, Copy, Debug, PartialEq, Eq, Error)]
+#[error("the published members weren't handed out")]
 pub struct NoView;
 
 /// Why a look has no members.
-#[derive(Clone, Copy, Debug, PartialEq, Eq)]
+#[derive(Clone, Copy, Debug, PartialEq, Eq, Error)]
 pub enum MembersFault {
     /// As [`NoView`].
+    #[error("{view}", view = NoView)]
     NoView,
     /// Memory was refused.
+    #[error("memory was refused")]
     NoMemory,
 }
 

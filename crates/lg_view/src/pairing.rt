@@ -11,13 +11,16 @@ use crate::published::Published;
 use left_right::writer::Writer;
 use std::alloc::Global;
 use std::sync::Wait;
+use thiserror::Error;
 
 /// Why no pair was made.
-#[derive(Clone, Copy, Debug, PartialEq, Eq)]
+#[derive(Clone, Copy, Debug, PartialEq, Eq, Error)]
 pub enum PairFault {
     /// Memory was refused.
+    #[error("memory was refused")]
     NoMemory,
     /// A reader wasn't given.
+    #[error("no reader was given for a place")]
     NoPlace,
 }
 

@@ -1,0 +1,244 @@
+//! What faults tell a person: the message of each, with what is allowed and the value at hand.
+use lg_agent::{CloseFault, Refusal};
+use lg_commands::{BadList, LineFault, OrderFault};
+use lg_config::{FileFault, ReadFault};
+use lg_node::{NodeFault, Why};
+use lg_packet::Fault;
+use lg_rules::NameFault;
+use lg_script::ScriptFault;
+use lg_text::RunFault;
+use lg_timing::ConfigFault;
+use lg_view::{MembersFault, NoView, PairFault};
+use std::alloc::Global;
+use std::error::Error;
+
+const NAMES: &[(NameFault, &str)] = &[
+    (NameFault::Empty, "a name is empty; it has 1 to 32 bytes"),
+    (
+        NameFault::TooLong,
+        "a name is too long; it has 1 to 32 bytes",
+    ),
+    (
+        NameFault::BadByte(b' '),
+        "the byte 32 stands in a name; allowed are A-Z a-z 0-9 . _ -",
+    ),
+];
+
+const CONFIGS: &[(ConfigFault, &str)] = &[
+    (ConfigFault::Interval, "interval_ms has to be 10 to 60000"),
+    (
+        ConfigFault::Timeout,
+        "timeout_ms has to be at least 1 and less than interval_ms",
+    ),
+    (ConfigFault::Indirect, "indirect has to be 0 to 8"),
+    (ConfigFault::MaxScore, "max_score has to be 0 to 20"),
+    (ConfigFault::Alpha, "alpha has to be 1 to 20"),
+    (ConfigFault::Beta, "beta has to be 1 to 20"),
+    (ConfigFault::Confirmations, "confirmations has to be 0 to 5"),
+    (ConfigFault::Lambda, "lambda has to be 1 to 10"),
+    (ConfigFault::Nack, "nack_thousandths has to be 1 to 999"),
+    (ConfigFault::History, "history_limit has to be 2 to 1000000"),
+    (
+        ConfigFault::Seeds,
+        "seeds may be at most 16, with different names, none of them the member's own",
+    ),
+];
+
+const PACKETS: &[(Fault, &str)] = &[
+    (Fault::Short, "the bytes end before the packet does"),
+    (Fault::Magic, "a packet begins with the bytes 53 4c"),
+    (Fault::Version, "the version has to be 1"),
+    (Fault::Kind, "the kind of a packet has to be 1 to 6"),
+    (
+        Fault::Name,
+        "a name has to be 1 to 32 bytes of A-Z a-z 0-9 . _ -",
+    ),
+    (Fault::Count, "a packet has at most 6 claims"),
+    (Fault::ClaimKind, "the kind of a claim has to be 1 to 3"),
+    (Fault::Incarnation, "an incarnation is at most 1000000000"),
+    (Fault::Trailing, "bytes follow the packet's end"),
+];
+
+const SCRIPTS: &[(ScriptFault, &str)] = &[
+    (
+        ScriptFault::Command,
+        "a line begins with set, open, tick, deliver, ask, health, pull or table",
+    ),
+    (
+        ScriptFault::Words,
+        "one space stands between two words, and each command takes words of its own",
+    ),
+    (ScriptFault::Value, "a word is out of its form or its range"),
+    (
+        ScriptFault::Double,
+        "a member with this name or port is open already",
+    ),
+    (ScriptFault::Full, "at most 16 members can be opened"),
+    (ScriptFault::Member, "no member of this name is open"),
+    (ScriptFault::Packet, "no packet of this number was sent"),
+];
+
+const RUNS: &[(RunFault, &str)] = &[
+    (RunFault::Memory, "memory was refused"),
+    (
+        RunFault::Read,
+        "the input can't be read, or has more than 1048576 bytes",
+    ),
+    (RunFault::Write, "the output can't be written"),
+];
+
+const LINES: &[(LineFault, &str)] = &[
+    (LineFault::NotHex, "a line has to be pairs of hex digits"),
+    (
+        LineFault::Refused(Fault::Version),
+        "the version has to be 1",
+    ),
+];
+
+const ORDERS: &[(OrderFault, &str)] = &[
+    (
+        OrderFault::Bad(BadList::Names),
+        "the names have to be 1 to 255 different ones between commas",
+    ),
+    (
+        OrderFault::Bad(BadList::Words),
+        "the words have to be numbers from 0 to 4294967295 between commas",
+    ),
+    (
+        OrderFault::Run(RunFault::Write),
+        "the output can't be written",
+    ),
+];
+
+const FILES: &[(FileFault, &str)] = &[
+    (
+        FileFault::Config(ConfigFault::Alpha),
+        "alpha has to be 1 to 20",
+    ),
+    (
+        FileFault::Syntax,
+        "the file has to be TOML in UTF-8, of at most 65536 bytes",
+    ),
+    (
+        FileFault::Key,
+        "a key is unknown or has a value of another type, or the name is missing",
+    ),
+    (
+        FileFault::Value,
+        "a name, an address, a port or a seed is out of its form, or the dice are negative",
+    ),
+];
+
+const READS: &[(ReadFault, &str)] = &[
+    (ReadFault::NoMemory, "memory was refused"),
+    (
+        ReadFault::File(FileFault::Config(ConfigFault::Beta)),
+        "beta has to be 1 to 20",
+    ),
+];
+
+const PAIRS: &[(PairFault, &str)] = &[
+    (PairFault::NoMemory, "memory was refused"),
+    (PairFault::NoPlace, "no reader was given for a place"),
+];
+
+const VIEWS: &[(NoView, &str)] = &[(NoView, "the published members weren't handed out")];
+
+const LOOKS: &[(MembersFault, &str)] = &[
+    (
+        MembersFault::NoView,
+        "the published members weren't handed out",
+    ),
+    (MembersFault::NoMemory, "memory was refused"),
+];
+
+const REFUSALS: &[(Refusal, &str)] = &[
+    (
+        Refusal::BadPacket(Fault::Count),
+        "the bytes are no packet: a packet has at most 6 claims",
+    ),
+    (Refusal::NoMemory, "memory was refused"),
+    (
+        Refusal::HistoryFull(20_000),
+        "the history is full: 20000 entries are its limit",
+    ),
+    (
+        Refusal::Behind { seen: 7, here: 6 },
+        "the pass has seen 7 events, and 6 are published",
+    ),
+    (
+        Refusal::NoPlace,
+        "there is no such place, or no reader for one",
+    ),
+    (Refusal::NoView, "the published members weren't handed out"),
+];
+
+const CLOSINGS: &[(CloseFault, &str)] = &[
+    (CloseFault::Missing, "a place has no Spent"),
+    (
+        CloseFault::Foreign,
+        "a Spent is another agent's, or has a place that isn't there, or that another Spent has",
+    ),
+    (
+        CloseFault::Differs { seat: 2, index: 5 },
+        "the calls of place 2 aren't those of the history, from call 5 on",
+    ),
+];
+
+const ENDS: &[(Why, &str)] = &[
+    (
+        Why::Stopped,
+        "the loop was told to stop, or its time was over",
+    ),
+    (
+        Why::Ousted,
+        "the member was ousted: a claim about it came that nothing can refute",
+    ),
+    (Why::LinkFailed, "receiving failed"),
+    (Why::Refused(Refusal::NoMemory), "memory was refused"),
+    (Why::ReadBound, "the loop made as many turns as it may"),
+];
+
+const NODES: &[(NodeFault, &str)] = &[
+    (
+        NodeFault::Socket,
+        "the socket can't be bound to the configured address",
+    ),
+    (NodeFault::Clock, "the machine's clock can't be read"),
+    (NodeFault::Refused(Refusal::NoMemory), "memory was refused"),
+];
+
+/// The first of these faults whose message is another one.
+fn first_other<E: Error>(alloc: Global, rows: &[(E, &str)]) -> Option<usize> {
+    rows.iter().position(|(fault, want)| {
+        let told = format!(in alloc; "{fault}");
+        !told.is_ok_and(|told| told.as_str() == *want)
+    })
+}
+
+/// Each fault is an error, and its message is this.
+#[test]
+fn faults_have_messages(rt: HostRuntime) {
+    let alloc = rt.alloc();
+    let others = [
+        ("names", first_other(alloc, NAMES)),
+        ("configurations", first_other(alloc, CONFIGS)),
+        ("packets", first_other(alloc, PACKETS)),
+        ("scripts", first_other(alloc, SCRIPTS)),
+        ("runs", first_other(alloc, RUNS)),
+        ("lines", first_other(alloc, LINES)),
+        ("lists", first_other(alloc, ORDERS)),
+        ("files", first_other(alloc, FILES)),
+        ("readings of files", first_other(alloc, READS)),
+        ("pairs", first_other(alloc, PAIRS)),
+        ("views", first_other(alloc, VIEWS)),
+        ("looks", first_other(alloc, LOOKS)),
+        ("refusals", first_other(alloc, REFUSALS)),
+        ("closings", first_other(alloc, CLOSINGS)),
+        ("ends", first_other(alloc, ENDS)),
+        ("nodes", first_other(alloc, NODES)),
+    ];
+    for (faults, other) in others {
+        assert_eq!(rt; other, None, "{faults}");
+    }
+}
