@@ -1,7 +1,8 @@
 -- How the history of a ledger begins, and how it grows.
 use Rattle.std.proofs.Common.{◌≡◌, ℕ, ◌+◌, ◌<◌, ◌≤◌, Bool, true, false, ◌||◌, cond, leb, ltb, eqb, List, [], ◌∷◌, ◌++◌, length, Some, None, IsTrue, refl, ap, sym, ◌∙◌, subst, arith, inl, inr, ◌⊎◌, length-append, append_assoc, take}
 use Rattle.std.proofs.lemmas.List.{take-append-le, take_all}
-use Rattle.std.specs.Prelude.{is_ok}
+use Rattle.std.specs.Prelude.{is_ok, Result, Ok, Err, MatchResult, IfErr}
+use mathlib.Core.List.{IsPrefix}
 use Rattle.lg_timing.specs.declared.config.Config.{Config}
 use Rattle.lg_timing.specs.Meaning.Config.{check_of, IsChecked}
 use Rattle.lg_timing.proofs.ConfigLemmas.{ranges}
@@ -15,6 +16,8 @@ use Rattle.lg_history.specs.Meaning.History.{Entry, entry, events, Seated, IsLeg
 use Rattle.lg_history.specs.Meaning.Rest.{IsRest}
 use Rattle.lg_history.proofs.Legal.{events-append, length-events, may_follow, opened}
 use Rattle.lg_history.proofs.Rests.{whole_events, whole_length, rest_accepted, rest_grows}
+use Rattle.lg_view.specs.Meaning.Views.{begins_open}
+use Rattle.lg_agent.specs.declared.receipt.Receipt.{Receipt}
 use Rattle.lg_agent.specs.declared.refusal.Refusal.{Refusal}
 use Rattle.lg_agent.specs.declared.refusal.Refusal.TheVariants.{NoPlace, HistoryFull, NoMemory}
 use Rattle.lg_agent.specs.Meaning.Ledger.{Ledger, own_name, own_limit, count_of}
@@ -92,12 +95,26 @@ begins places now config good =
     }
 
 -- what a ledger refuses a call for is a refusal of a call
-refused_by : (lacks ended full : Bool) (most limit : ℕ) (seen : List Event) (e : Refusal) → cond lacks (Some NoPlace) (cond ended (Some (HistoryFull most)) (cond full (Some (HistoryFull limit)) None)) ≡ Some e → IsRefusal seen e
-refused_by true ended full most limit seen e is = let same : NoPlace ≡ e = cc in subst (IsRefusal seen) same tt
-refused_by false true full most limit seen e is = let same : HistoryFull most ≡ e = cc in subst (IsRefusal seen) same tt
-refused_by false false true most limit seen e is = let same : HistoryFull limit ≡ e = cc in subst (IsRefusal seen) same tt
-refused_by false false false most limit seen e is = absurd cc
+refused_by : (lacks ended full : Bool) (limit : ℕ) (seen : List Event) (e : Refusal) → lacks ≡ false → limit ≡ own_limit seen → cond lacks (Some NoPlace) (cond ended (Some (HistoryFull most_events)) (cond full (Some (HistoryFull limit)) None)) ≡ Some e → IsRefusal seen e
+refused_by true ended full limit seen e has own is = absurd cc
+refused_by false true full limit seen e has own is = let same : HistoryFull most_events ≡ e = cc in subst (IsRefusal seen) same (inr refl)
+refused_by false false true limit seen e has own is = let same : HistoryFull limit ≡ e = cc in subst (IsRefusal seen) same (inl own)
+refused_by false false false limit seen e has own is = absurd cc
 
-pub refused_so : (l : Ledger) (seat : ℕ) (seen : List Event) (e : Refusal) → (refusal_of l seat ≡ Some e) ⊎ ((e ≡ NoMemory) × (refusal_of l seat ≡ None)) → IsRefusal seen e
-refused_so l seat seen e (inl is) = refused_by ((eqb seat 0) || (ltb l.places seat)) (leb most_events (count_of l)) (leb l.limit (length l.history)) most_events l.limit seen e is
-refused_so l seat seen e (inr is) = subst (IsRefusal seen) (sym is.0) tt
+-- a place that there is isn't lacking
+has_place : (places seat : ℕ) → 0 < seat → seat ≤ places → (eqb seat 0) || (ltb places seat) ≡ false
+has_place places seat low high = grind arith
+
+pub refused_so : (l : Ledger) (seat : ℕ) (seen : List Event) (e : Refusal) → 0 < seat → seat ≤ l.places → l.limit ≡ own_limit seen → (refusal_of l seat ≡ Some e) ⊎ ((e ≡ NoMemory) × (refusal_of l seat ≡ None)) → IsRefusal seen e
+refused_so l seat seen e low high own (inl is) = refused_by ((eqb seat 0) || (ltb l.places seat)) (leb most_events (count_of l)) (leb l.limit (length l.history)) l.limit seen e (has_place l.places seat low high) own is
+refused_so l seat seen e low high own (inr is) = subst (IsRefusal seen) (sym is.0) tt
+
+-- what begins with an opening gives the limit of all events that it begins
+pub limit-front : (f g : List Event) → begins_open f ≡ true → IsPrefix f g → own_limit g ≡ own_limit f
+limit-front [] g begun front = absurd cc
+limit-front (x ∷ f) g begun (rest, is) = let whole : x ∷ f ++ rest ≡ g = is in ap own_limit (sym whole)
+
+-- what a call of a place is refused for, by a ledger whose events begin with those that its caller has seen
+pub refusal_if : (l : Ledger) (seat : ℕ) (seen : List Event) (r : Result Receipt Refusal) → 0 < seat → seat ≤ l.places → l.limit ≡ own_limit seen → MatchResult r (λ _. refusal_of l seat ≡ None) (λ e. (refusal_of l seat ≡ Some e) ⊎ ((e ≡ NoMemory) × (refusal_of l seat ≡ None))) → IfErr r (IsRefusal seen)
+refusal_if l seat seen (Ok r) low high own is = tt
+refusal_if l seat seen (Err e) low high own is = refused_so l seat seen e low high own is

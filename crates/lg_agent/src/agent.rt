@@ -43,7 +43,7 @@ impl<A: AgentName> Model for Agent<A>
 where
     Published<A>: Absorb<Update<A>, State = [Event; 0]>,
 {
-    ghost use Rattle.std.specs.Prelude.{◌≡◌, true, All, length};
+    ghost use Rattle.std.specs.Prelude.{◌≡◌, ◌≤◌, true, All, length};
     ghost use Rattle.lg_view.specs.Meaning.Views.{begins_open};
     ghost use Rattle.lg_agent.specs.Meaning.Ledger.{Waiting};
 
@@ -51,8 +51,9 @@ where
 
     ghost view = { λ a. record { name = a.name; told = a.waiting.items } };
 
-    // Each look was told the opening.
-    ghost invariant = { λ a. All (λ look. begins_open look ≡ true) a.waiting.items };
+    // Each look was told the opening, and there are no more of them than places.
+    ghost invariant = { λ a. All (λ look. begins_open look ≡ true) a.waiting.items
+        × (length a.waiting.items ≤ A.places) };
 }
 
 impl<A: AgentName> Agent<A> {
@@ -127,6 +128,7 @@ fn hand_out<'a, A: AgentName>(
 ) -> Vec<Pass<'a, A>>
     requires looks { All (λ look. begins_open look ≡ true) looks.items }
     requires room { (passes.items ≡ []) × (vec_len looks ≤ vec_capacity passes) }
+    requires places { vec_len looks ≤ A.places }
     ensures count { vec_len result ≡ vec_len looks }
     ensures fresh { AreFresh name 0 result.items }
     ensures seen { (f : List Happened) → All (λ look. look ≡ f) looks.items

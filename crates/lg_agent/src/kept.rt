@@ -5,6 +5,7 @@ ghost use mathlib.Core.List.{IsPrefix};
 ghost use Rattle.lg_detector.specs.Meaning.Step.{is_open, is_accepted, reply_after};
 ghost use Rattle.lg_detector.specs.Support.State.{State};
 ghost use Rattle.lg_history.specs.Meaning.History.{IsLegal, Answered};
+ghost use Rattle.lg_view.specs.Meaning.Views.{begins_open};
 ghost use Rattle.lg_history.specs.Meaning.Rest.{IsRest, StandsFor, AnsweredFrom, AreCut, made_by, of_seat};
 ghost use Rattle.lg_agent.specs.declared.refusal.Refusal.TheVariants.{Behind, NoMemory};
 ghost use Rattle.lg_agent.specs.Meaning.Ledger.{own_name, own_limit, all_events, count_of};
@@ -257,7 +258,9 @@ impl<A: AgentName> Kept<A> {
         look: &mut Look<A>,
         event: &Event,
     ) -> Result<Receipt, Refusal>
-        requires { is_open event.now ≡ false }
+        requires event { is_open event.now ≡ false }
+        requires look { begins_open look.old ≡ true }
+        requires seat { (0 < seat) × (seat ≤ A.places) }
         ensures answered { IfOk result (λ r. IsAnswered look.old event.now r look.new) }
         ensures history { IfOk result (λ r. self.new ≡ with_entry self.old seat event.now) }
         ensures refused { OnErr result ((self.new ≡ self.old) × (look.new ≡ look.old)) }
@@ -273,6 +276,9 @@ impl<A: AgentName> Kept<A> {
         if here < seen {
             return Err(Refusal::Behind { seen, here });
         }
+        // What the look has seen begins all events, so that its opening gives the limit.
+        self.compare(look);
+        let _history = self.history();
         let answer = self.apply(rt, alloc, seat, event);
         if answer.is_ok() {
             self.tell(look);

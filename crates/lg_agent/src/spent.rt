@@ -1,9 +1,9 @@
 //! What a pass keeps, and leaves when it is finished.
-ghost use Rattle.std.specs.Prelude.{◌≡◌, ◌+◌, ◌≤◌, drop, length, vec_len, false, MatchResult, IfErr};
+ghost use Rattle.std.specs.Prelude.{◌≡◌, ◌+◌, ◌≤◌, drop, length, vec_len, false, MatchResult, IfErr, IfOk, OnErr};
 ghost use Rattle.std.specs.Vec.{vec_capacity};
 ghost use Rattle.lg_detector.specs.Meaning.Step.{is_open};
 ghost use Rattle.lg_agent.specs.declared.refusal.Refusal.TheVariants.{NoMemory};
-ghost use Rattle.lg_agent.specs.Meaning.Calls.{IsCall, IsRefusal, IsRotatedPass};
+ghost use Rattle.lg_agent.specs.Meaning.Calls.{with_entry, IsCall, IsRefusal, IsRotated, IsRotatedPass};
 ghost use Rattle.lg_agent.specs.Meaning.Closing.{below};
 
 use crate::kept::Kept;
@@ -37,10 +37,12 @@ impl<A: AgentName> Model for Spent<A> {
 
     ghost view = { λ s. record { name = s.name; seat = s.seat; seen = s.look; gone = s.gone; mine = s.mine.items } };
 
-    // It has seen the opening, and all its calls.
+    // It has seen the opening, and all its calls. Its place is one of the agent's.
     ghost invariant = { λ s. (begins_open s.look ≡ true)
         × All (λ k. k < length s.look) s.mine.items
-        × (s.gone + length s.mine.items < length s.look) };
+        × (s.gone + length s.mine.items < length s.look)
+        × (0 < s.seat)
+        × (s.seat ≤ A.places) };
 }
 
 impl<A: AgentName> Spent<A> {
@@ -88,7 +90,7 @@ impl<A: AgentName> Spent<A> {
         self.mine.as_slice()
     }
 
-    /// One event, under the lock, which is taken once. Room for its position is had before that.
+    /// One event, under the lock, which is taken once.
     pub(crate) fn call<R: Wait>(
         &mut self,
         kept: &Mutex<Kept<A>>,
@@ -101,13 +103,32 @@ impl<A: AgentName> Spent<A> {
             (λ _. self.new ≡ self.old) }
         ensures refusal { IfErr result (IsRefusal self.old.seen) }
     {
+        let mut guard = kept.lock(rt);
+        let answer = self.call_in(&mut guard, rt, alloc, event);
+        MutexGuard::unlock(guard);
+        answer
+    }
+
+    /// One event, by the value under the lock: room for the position is had first, then the event is applied and the
+    /// look told, and the position is kept. Where it is refused, neither the pass nor the value has changed.
+    fn call_in<R: Wait>(
+        &mut self,
+        kept: &mut Kept<A>,
+        rt: &R,
+        alloc: Global,
+        event: &Event,
+    ) -> Result<Receipt, Refusal>
+        requires { is_open event.now ≡ false }
+        ensures answered { IfOk result (λ r. IsCall self.old event.now r self.new) }
+        ensures history { IfOk result (λ _. kept.new ≡ with_entry kept.old self.old.seat event.now) }
+        ensures refused { OnErr result ((self.new ≡ self.old) × (kept.new ≡ kept.old)) }
+        ensures refusal { IfErr result (IsRefusal self.old.seen) }
+    {
         if self.mine.reserve(1).is_err() {
             return Err(Refusal::NoMemory);
         }
-        let mut guard = kept.lock(rt);
-        let base = guard.base();
-        let answer = guard.call(rt, alloc, self.seat, &mut self.look, event);
-        MutexGuard::unlock(guard);
+        let base = kept.base();
+        let answer = kept.call(rt, alloc, self.seat, &mut self.look, event);
         if let Ok(receipt) = &answer {
             let moved = cut_positions(base, &mut self.mine);
             self.gone += moved as u64;
@@ -139,13 +160,22 @@ impl<A: AgentName> Spent<A> {
             (λ e. (e ≡ NoMemory) × (self.new ≡ self.old)) }
     {
         let mut guard = kept.lock(rt);
-        let answer = guard.rotate(alloc);
-        let base = guard.base();
+        let answer = self.rotate_in(&mut guard, alloc);
         MutexGuard::unlock(guard);
+        answer
+    }
+
+    /// A rotation of the value under the lock. Where it is refused, neither the pass nor the value has changed.
+    fn rotate_in(&mut self, kept: &mut Kept<A>, alloc: Global) -> Result<u64, Refusal>
+        ensures pass { IfOk result (λ _. IsRotatedPass self.old self.new) }
+        ensures history { IfOk result (λ n. (n ≡ length kept.old.history) × IsRotated kept.old kept.new) }
+        ensures refused { IfErr result (λ e. (e ≡ NoMemory) × (self.new ≡ self.old) × (kept.new ≡ kept.old)) }
+    {
+        let answer = kept.rotate(alloc);
         if answer.is_ok() {
             // What was seen is an accepted list.
             let _seen = self.look.seen();
-            let moved = cut_positions(base, &mut self.mine);
+            let moved = cut_positions(kept.base(), &mut self.mine);
             self.gone += moved as u64;
         }
         answer

@@ -1,5 +1,5 @@
 -- What calls and looks do, and which calls are refused.
-use Rattle.std.specs.Prelude.{◌≡◌, ℕ, ◌+◌, ◌<◌, true, ◌||◌, nat_lt, nat_le, ◌==◌, ◌≤◌, drop}
+use Rattle.std.specs.Prelude.{◌≡◌, ◌⊎◌, ℕ, ◌+◌, ◌<◌, true, ◌||◌, nat_lt, nat_le, ◌==◌, ◌≤◌, drop}
 use Rattle.std.specs.Prelude.{if◌then◌else◌}
 use Rattle.std.specs.Prelude.{List, [], ◌∷◌, ◌++◌, length, Option, Some, None, All}
 use mathlib.Core.List.{IsPrefix}
@@ -15,7 +15,7 @@ use Rattle.lg_agent.specs.declared.receipt.Receipt.{Receipt}
 use Rattle.lg_agent.specs.declared.refusal.Refusal.{Refusal}
 use Rattle.lg_agent.specs.declared.refusal.Refusal.TheVariants.{BadPacket, NoMemory, HistoryFull}
 use Rattle.lg_agent.specs.declared.refusal.Refusal.TheVariants.{Behind, NoPlace, NoView}
-use Rattle.lg_agent.specs.Meaning.Ledger.{Ledger, Own, all_events, count_of}
+use Rattle.lg_agent.specs.Meaning.Ledger.{Ledger, Own, all_events, count_of, own_limit}
 
 -- the ledger with one more entry: the seat's event, and the reply that the definitions give to it there
 abbrev pub with_entry : Ledger → ℕ → Event → Ledger
@@ -78,14 +78,15 @@ pub record IsRotatedPass (before after : Own) : Type 0 where
   pub seat : after.seat ≡ before.seat
   pub name : after.name ≡ before.name
 
--- What a call of a pass that has seen these events can be refused for: not for its bytes, and not for what looks are
--- refused for. Behind tells that it has seen more events than there are.
+-- What a call of a pass that has seen these events can be refused for. HistoryFull tells the limit that the opening
+-- gives, or the most events that a detector accepts. Behind tells that the pass has seen more events than there are. It
+-- is refused neither for its place, which is one of the agent's, nor for its bytes, nor for what looks are refused for.
 abbrev pub IsRefusal : List Event → Refusal → Type 0
 IsRefusal seen (BadPacket fault) = ⊥
 IsRefusal seen NoMemory = Unit {0}
-IsRefusal seen (HistoryFull limit) = Unit {0}
+IsRefusal seen (HistoryFull limit) = (limit ≡ own_limit seen) ⊎ (limit ≡ most_events)
 IsRefusal seen (Behind before here) = (before ≡ length seen) × (here < before)
-IsRefusal seen NoPlace = Unit {0}
+IsRefusal seen NoPlace = ⊥
 IsRefusal seen NoView = ⊥
 
 -- a refusal for the bytes of a datagram

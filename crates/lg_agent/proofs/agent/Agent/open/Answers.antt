@@ -1,4 +1,4 @@
-use Rattle.std.proofs.Common.{◌≡◌, ◌∷◌, [], List, All, ap, refl, ◌∙◌, subst}
+use Rattle.std.proofs.Common.{◌≡◌, ◌≤◌, ◌∷◌, [], List, All, length, ap, refl, ◌∙◌, subst, arith}
 use Rattle.std.proofs.lemmas.List.{take_at}
 use Rattle.lg_detector.specs.declared.event.Event.{Event}
 use Rattle.lg_detector.specs.declared.event.Event.TheVariants.{Open}
@@ -20,4 +20,5 @@ invariant_of-result g c =
     let e : Event = Open c.args.now c.args.config in
     let f : all_events c.in_ok-kept.kept ≡ e ∷ [] = ap all_events c.in_ok-kept.ensures.kept in
     let told : All (λ k. k ≡ e ∷ []) c.tell_all.new.looks = subst (λ (h : List Event). All (λ k. k ≡ h) c.tell_all.new.looks) f c.tell_all.ensures.told in
-    rw (take_at c.tell_all.new.looks _ _ long) (all_begin (e ∷ []) c.tell_all.new.looks refl told)
+    let few : length c.tell_all.new.looks ≤ g.A.AgentName.places = omega (arith, long ∙ c.in_ok-kept.ensures.looks.0, c.requires.places.2) in
+    rw (take_at c.tell_all.new.looks _ _ long) (all_begin (e ∷ []) c.tell_all.new.looks refl told, few)

@@ -5,14 +5,15 @@ use Rattle.lg_agent.specs.declared.refusal.Refusal.{Refusal}
 use Rattle.lg_agent.specs.Meaning.Calls.{IsAnswered, IsCall}
 use Rattle.lg_agent.specs.Meaning.Ledger.{Own}
 use Rattle.lg_agent.proofs.PassLaws.{keeps_up, call_of}
-use Rattle.lg_agent.proofs.spent.Spent.call.Goals as goal
+use Rattle.lg_agent.proofs.spent.Spent.call_in.Goals as goal
 
 pub invariant_of-self-in-Ok : goal.invariant_of-self-in-Ok
 invariant_of-self-in-Ok g c =
     let s = c.self.inside in
     let answered : IsAnswered s.look c.args.event.now c.in-Ok.receipt c.call-answer.new.look = subst (λ (o : Result Receipt Refusal). IfOk o (λ r. IsAnswered s.look c.args.event.now r c.call-answer.new.look)) c.in-Ok.is c.call-answer.ensures.answered in
     let grown : c.push_reserved.new.self.items ≡ drop c.cut_positions-moved.result s.mine.items ++ c.in-Ok.receipt.place ∷ [] = search rules in
-    keeps_up s.look c.args.event.now c.in-Ok.receipt c.call-answer.new.look s.gone c.cut_positions-moved.result s.mine.items _ c.self.invariant.0 c.self.invariant.1 c.self.invariant.2 (search rules) answered grown
+    let kept = keeps_up s.look c.args.event.now c.in-Ok.receipt c.call-answer.new.look s.gone c.cut_positions-moved.result s.mine.items _ c.self.invariant.0 c.self.invariant.1 c.self.invariant.2 (search rules) answered grown in
+    (kept.0, kept.1, kept.2, c.self.invariant.3, c.self.invariant.4)
 
 pub returns-in-Ok-clause-answered : goal.returns-in-Ok-clause-answered
 returns-in-Ok-clause-answered g c =
