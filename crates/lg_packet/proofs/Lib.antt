@@ -10,3 +10,7 @@ pub mod FieldPlaces
 pub mod ClaimPlaces
 pub mod PacketPlaces
 pub mod Decoding
+pub mod Standing
+pub mod Completing
+pub mod NeverTrailing
+pub mod Beginning

@@ -63,7 +63,7 @@ body_fault kinds.Pull parts bytes =
     ∙ fault_then (after_at bytes) (λ after. Ok (Pull after.0, after.1)) (λ (x : Option (List ℕ) × List ℕ). fault_from x.1 parts) on (λ after. refl)
 body_fault kinds.Page parts bytes = refl
 
-packet_fault : (bytes : List ℕ) → fault_from bytes packet_parts ≡ fault_or (λ (x : Packet × List ℕ). fault_from x.1 []) (packet_at bytes)
+pub packet_fault : (bytes : List ℕ) → fault_from bytes packet_parts ≡ fault_or (λ (x : Packet × List ℕ). fault_from x.1 []) (packet_at bytes)
 unfolding packet_at
 packet_fault bytes =
     let on = λ (x : Packet × List ℕ). fault_from x.1 [] in

@@ -12,7 +12,7 @@ fault_from [] parts = faults.Short
 fault_from (b ∷ bytes) [] = faults.Trailing
 fault_from (b ∷ bytes) (part ∷ parts) = cond (is_allowed part b) (fault_from bytes (brought part b ++ parts)) (fault_at part)
 
-due_after-push : (front : List ℕ) (parts : List Part) (b : ℕ) → due_after parts (front ++ b ∷ []) ≡ due_behind (due_after parts front) b
+pub due_after-push : (front : List ℕ) (parts : List Part) (b : ℕ) → due_after parts (front ++ b ∷ []) ≡ due_behind (due_after parts front) b
 due_after-push [] parts b = refl
 due_after-push (a ∷ front) parts b = due_after-push front (due_behind parts a) b
 

@@ -4,3 +4,4 @@ pub mod Fault
 pub mod Decoding
 pub mod Reading
 pub mod Examples
+pub mod FrontExamples

@@ -5,8 +5,8 @@ ghost use Rattle.lg_packet.specs.declared.packet.Packet.{Packet};
 ghost use Rattle.lg_packet.specs.declared.fault.Fault.{Fault};
 ghost use Rattle.lg_packet.specs.Meaning.Decoding.{DecodesTo};
 ghost use Rattle.lg_packet.specs.Meaning.Reading.{packet_of};
-ghost use Rattle.lg_packet.specs.Meaning.Fault.{Stands, fault_behind, fault_of};
-ghost use Rattle.lg_packet.specs.Meaning.Spelling.{IsPacket, spelling};
+ghost use Rattle.lg_packet.specs.Meaning.Fault.{IncarnationFits, Stands, fault_behind, fault_of};
+ghost use Rattle.lg_packet.specs.Meaning.Spelling.{BeginsSpelling, IsPacket, spelling};
 
 /// No two packets have one spelling, and no spelling begins another.
 pub fn one_spelling()
@@ -28,4 +28,16 @@ pub fn first_bad_byte()
     ensures bad { (front rest : List ℕ) (b : ℕ) (f : Fault) → Stands front
         → fault_behind front b ≡ Some f → fault_of (front ++ b ∷ rest) ≡ f }
     ensures none { (bytes : List ℕ) → Stands bytes → fault_of bytes ≡ Fault.Short }
+{}
+
+/// A spelling begins with a front exactly if each byte of the front can stand where it stands, and an
+/// incarnation that the front ends in can still be at most 1,000,000,000.
+///
+/// The second is said because an incarnation is judged at its fourth byte: three bytes that already
+/// make it too great can stand, but no spelling begins so.
+pub fn begun_spelling()
+    ensures stands { (front : List ℕ) → BeginsSpelling front → Stands front }
+    ensures incarnation { (front : List ℕ) → BeginsSpelling front → IncarnationFits front }
+    ensures fits { (front : List ℕ) → AllByRecursion (λ b. b < 256) front
+        → Stands front → IncarnationFits front → BeginsSpelling front }
 {}

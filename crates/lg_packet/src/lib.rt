@@ -9,7 +9,7 @@ mod reading;
 mod writing;
 
 pub use fault::Fault;
-pub use laws::{first_bad_byte, one_reading, one_spelling};
+pub use laws::{begun_spelling, first_bad_byte, one_reading, one_spelling};
 pub use lg_rules::MAX_CLAIMS;
 pub use packet::{Body, Packet};
 pub use reading::decode;

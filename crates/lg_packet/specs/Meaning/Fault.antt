@@ -1,7 +1,7 @@
 -- What is wrong with bytes that are no packet, by places: the first place whose byte can't stand there.
-use Rattle.std.specs.Prelude.{◌≡◌, ℕ, Bool, true, ◌&&◌, ◌||◌}
+use Rattle.std.specs.Prelude.{◌≡◌, ◌≤◌, ℕ, Bool, true, ◌&&◌, ◌||◌}
 use Rattle.std.specs.Prelude.{nat_lt, nat_le, ◌==◌, if◌then◌else◌}
-use Rattle.std.specs.Prelude.{List, [], ◌∷◌, ◌++◌, length, replicate, Option, Some, None, unwrap_or}
+use Rattle.std.specs.Prelude.{List, [], ◌∷◌, ◌++◌, length, take, replicate, Option, Some, None, unwrap_or}
 use Rattle.std.specs.Int.{w32, from_be_bytes}
 use Rattle.lg_rules.specs.Meaning.Name.{is_name_byte}
 use Rattle.lg_rules.specs.Meaning.Bounds.{greatest_incarnation, most_claims, most_name_bytes}
@@ -114,3 +114,17 @@ fault_of bytes = first_fault [] bytes
 abbrev pub Stands : List ℕ → Type 0
 Stands front =
     (before after : List ℕ) (b : ℕ) → before ++ b ∷ after ≡ front → fault_behind before b ≡ None
+
+-- the bytes of an incarnation that are there, if the next byte that is due is one of its bytes
+abbrev pub begun_incarnation : List Part → List ℕ
+begun_incarnation (IncarnationByte before ∷ parts) = before
+begun_incarnation _ = []
+
+-- the least number of four bytes that begins with these
+abbrev pub least_number : List ℕ → ℕ
+least_number before = from_be_bytes w32 (take 4 (before ++ replicate 4 0))
+
+-- An incarnation that the front ends in can still be at most the greatest. It is judged at its fourth byte only, so the
+-- first three of one that is too great can stand, and then no fourth can.
+abbrev pub IncarnationFits : List ℕ → Type 0
+IncarnationFits front = least_number (begun_incarnation (due_after packet_parts front)) ≤ greatest_incarnation

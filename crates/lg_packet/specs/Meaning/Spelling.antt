@@ -137,3 +137,7 @@ pub record IsPacket (p : Packet) : Type 0 where
 -- these bytes spell this packet
 abbrev pub Spells : List ℕ → Packet → Type 0
 Spells bytes p = IsPacket p × (bytes ≡ spelling p)
+
+-- a spelling begins with these bytes
+abbrev pub BeginsSpelling : List ℕ → Type 0
+BeginsSpelling front = (p : Packet) × (rest : List ℕ) × Spells (front ++ rest) p

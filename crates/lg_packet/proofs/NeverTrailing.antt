@@ -1,0 +1,155 @@
+-- Reading a packet at the front of bytes never fails by what follows it.
+use Rattle.std.proofs.Common.{ℕ, zero, suc, Bool, true, false, cond, eqb, ltb, List, [], ◌∷◌, length, take, drop, Option, Some, None, Result, Ok, Err}
+use Rattle.std.specs.List.{list_all}
+use Rattle.std.specs.Int.{Width, w16, w32, byte_len, from_be_bytes}
+use Rattle.lg_rules.specs.Meaning.Name.{is_name_byte}
+use Rattle.lg_rules.specs.declared.claim.Status.TheVariants.{Suspect}
+use Rattle.lg_packet.specs.declared.fault.Fault.{Fault}
+use Rattle.lg_packet.specs.declared.fault.Fault.TheVariants as faults
+use Rattle.lg_packet.specs.declared.kind.ClaimKind.{ClaimKind}
+use Rattle.lg_packet.specs.declared.kind.ClaimKind.TheVariants as claims
+use Rattle.lg_packet.specs.declared.kind.Kind.{Kind}
+use Rattle.lg_packet.specs.declared.kind.Kind.TheVariants as kinds
+use Rattle.lg_packet.specs.declared.packet.Body.TheVariants.{Ping, PingReq, Ack, Nack, Pull}
+use Rattle.lg_packet.specs.Meaning.Reading.{◌>>=◌, literal_at, kind_of_byte, kind_before, kind_at, name_at, number_at, octets_at, addr_at, some_name_at, after_at, head_at, body_at, incarnation_at, claim_kind_of_byte, claim_kind_before, claim_kind_at, status_at, claim_at, count_at, claims_at, packet_at}
+
+abbrev pub IsOther : Fault → Type 0
+IsOther faults.Trailing = ⊥
+IsOther _ = Unit {0}
+
+-- it is a value, or another fault
+abbrev pub NotTrailing : {A : Type 0} → Result A Fault → Type 0
+NotTrailing (Ok x) = Unit {0}
+NotTrailing (Err f) = IsOther f
+
+step_goes : {A B : Type 0} (r : Result A Fault) (f : A → Result B Fault) → NotTrailing r → ((x : A) → NotTrailing (f x)) → NotTrailing (r >>= f)
+step_goes (Ok x) f h k = k x
+step_goes (Err d) f h k = h
+
+test_goes : {A : Type 0} (b : Bool) (r s : Result A Fault) → NotTrailing r → NotTrailing s → NotTrailing (cond b r s)
+test_goes true r s h k = h
+test_goes false r s h k = k
+
+literal_goes : (due : ℕ) (fault : Fault) (bytes : List ℕ) → IsOther fault → NotTrailing (literal_at due fault bytes)
+literal_goes due fault [] h = tt
+literal_goes due fault (b ∷ rest) h = test_goes (eqb b due) (Ok rest) (Err fault) tt h
+
+kind_goes : (bytes : List ℕ) → NotTrailing (kind_at bytes)
+kind_goes [] = tt
+kind_goes (b ∷ rest) = step (kind_of_byte b)
+  where
+    step : (kind : Option Kind) → NotTrailing (kind_before rest kind)
+    step None = tt
+    step (Some kind) = tt
+
+name_goes : (bytes : List ℕ) → NotTrailing (name_at bytes)
+unfolding name_at
+name_goes [] = tt
+name_goes (n ∷ bytes) = step (eqb n 0) (ltb 32 n) (list_all is_name_byte (take n bytes)) (ltb (length bytes) n)
+  where
+    step : (none long good short : Bool) → NotTrailing {A = List ℕ × List ℕ} (cond none (Err faults.Name) (cond long (Err faults.Name) (cond good (cond short (Err faults.Short) (Ok (take n bytes, drop n bytes))) (Err faults.Name))))
+    step true long good short = tt
+    step false true good short = tt
+    step false false true true = tt
+    step false false true false = tt
+    step false false false short = tt
+
+number_goes : (w : Width) (bytes : List ℕ) → NotTrailing (number_at w bytes)
+number_goes w bytes = test_goes (ltb (length bytes) (byte_len w)) (Err faults.Short) (Ok (from_be_bytes w (take (byte_len w) bytes), drop (byte_len w) bytes)) tt tt
+
+octets_goes : (bytes : List ℕ) → NotTrailing (octets_at bytes)
+octets_goes bytes = test_goes (ltb (length bytes) 4) (Err faults.Short) (Ok (take 4 bytes, drop 4 bytes)) tt tt
+
+addr_goes : (bytes : List ℕ) → NotTrailing (addr_at bytes)
+unfolding addr_at
+addr_goes bytes =
+    step_goes (octets_at bytes) (λ octets. number_at w16 octets.1 >>= λ port. Ok (record { octets = octets.0; port = port.0 }, port.1)) (octets_goes bytes) (λ octets.
+    step_goes (number_at w16 octets.1) (λ port. Ok (record { octets = octets.0; port = port.0 }, port.1)) (number_goes w16 octets.1) (λ port. tt))
+
+some_name_goes : (bytes : List ℕ) → NotTrailing (some_name_at bytes)
+unfolding some_name_at
+some_name_goes bytes = step_goes (name_at bytes) (λ name. Ok (Some name.0, name.1)) (name_goes bytes) (λ name. tt)
+
+after_goes : (bytes : List ℕ) → NotTrailing (after_at bytes)
+unfolding after_at
+after_goes [] = tt
+after_goes (n ∷ bytes) = test_goes (eqb n 0) (Ok (None, bytes)) (some_name_at (n ∷ bytes)) tt (some_name_goes (n ∷ bytes))
+
+head_goes : (bytes : List ℕ) → NotTrailing (head_at bytes)
+unfolding head_at
+head_goes bytes =
+    let from_version = λ (s : List ℕ). literal_at 1 faults.Version s >>= kind_at in
+    step_goes (literal_at 0x53 faults.Magic bytes) (λ r. literal_at 0x4c faults.Magic r >>= from_version) (literal_goes 0x53 faults.Magic bytes tt) (λ r.
+    step_goes (literal_at 0x4c faults.Magic r) from_version (literal_goes 0x4c faults.Magic r tt) (λ s.
+    step_goes (literal_at 1 faults.Version s) kind_at (literal_goes 1 faults.Version s tt) kind_goes))
+
+body_goes : (kind : Kind) (bytes : List ℕ) → NotTrailing (body_at kind bytes)
+unfolding body_at
+body_goes kinds.Ping bytes =
+    step_goes (number_at w32 bytes) (λ number. name_at number.1 >>= λ target. Ok (Ping number.0 target.0, target.1)) (number_goes w32 bytes) (λ number.
+    step_goes (name_at number.1) (λ target. Ok (Ping number.0 target.0, target.1)) (name_goes number.1) (λ target. tt))
+body_goes kinds.PingReq bytes =
+    step_goes (number_at w32 bytes) (λ number. name_at number.1 >>= λ target. addr_at target.1 >>= λ addr. Ok (PingReq number.0 target.0 addr.0, addr.1)) (number_goes w32 bytes) (λ number.
+    step_goes (name_at number.1) (λ target. addr_at target.1 >>= λ addr. Ok (PingReq number.0 target.0 addr.0, addr.1)) (name_goes number.1) (λ target.
+    step_goes (addr_at target.1) (λ addr. Ok (PingReq number.0 target.0 addr.0, addr.1)) (addr_goes target.1) (λ addr. tt)))
+body_goes kinds.Ack bytes = step_goes (number_at w32 bytes) (λ number. Ok (Ack number.0, number.1)) (number_goes w32 bytes) (λ number. tt)
+body_goes kinds.Nack bytes = step_goes (number_at w32 bytes) (λ number. Ok (Nack number.0, number.1)) (number_goes w32 bytes) (λ number. tt)
+body_goes kinds.Pull bytes = step_goes (after_at bytes) (λ after. Ok (Pull after.0, after.1)) (after_goes bytes) (λ after. tt)
+body_goes kinds.Page bytes = tt
+
+-- ---- claims
+
+claim_kind_goes : (bytes : List ℕ) → NotTrailing (claim_kind_at bytes)
+claim_kind_goes [] = tt
+claim_kind_goes (b ∷ rest) = step (claim_kind_of_byte b)
+  where
+    step : (kind : Option ClaimKind) → NotTrailing (claim_kind_before rest kind)
+    step None = tt
+    step (Some kind) = tt
+
+incarnation_goes : (bytes : List ℕ) → NotTrailing (incarnation_at bytes)
+unfolding incarnation_at
+incarnation_goes bytes =
+    step_goes (number_at w32 bytes) (λ number. cond (ltb 1000000000 number.0) (Err faults.Incarnation) (Ok number)) (number_goes w32 bytes) (λ number.
+    test_goes (ltb 1000000000 number.0) (Err faults.Incarnation) (Ok number) tt tt)
+
+status_goes : (kind : ClaimKind) (bytes : List ℕ) → NotTrailing (status_at kind bytes)
+unfolding status_at
+status_goes claims.Alive bytes = tt
+status_goes claims.Suspect bytes = step_goes (name_at bytes) (λ accuser. Ok (Suspect accuser.0, accuser.1)) (name_goes bytes) (λ accuser. tt)
+status_goes claims.Failed bytes = tt
+
+claim_goes : (bytes : List ℕ) → NotTrailing (claim_at bytes)
+unfolding claim_at
+claim_goes bytes =
+    step_goes (claim_kind_at bytes) (λ kind. name_at kind.1 >>= λ name. addr_at name.1 >>= λ addr. incarnation_at addr.1 >>= λ incarnation. status_at kind.0 incarnation.1 >>= λ status.
+    Ok (record { name = name.0; addr = addr.0; status = status.0; incarnation = incarnation.0 }, status.1)) (claim_kind_goes bytes) (λ kind.
+    step_goes (name_at kind.1) (λ name. addr_at name.1 >>= λ addr. incarnation_at addr.1 >>= λ incarnation. status_at kind.0 incarnation.1 >>= λ status.
+    Ok (record { name = name.0; addr = addr.0; status = status.0; incarnation = incarnation.0 }, status.1)) (name_goes kind.1) (λ name.
+    step_goes (addr_at name.1) (λ addr. incarnation_at addr.1 >>= λ incarnation. status_at kind.0 incarnation.1 >>= λ status.
+    Ok (record { name = name.0; addr = addr.0; status = status.0; incarnation = incarnation.0 }, status.1)) (addr_goes name.1) (λ addr.
+    step_goes (incarnation_at addr.1) (λ incarnation. status_at kind.0 incarnation.1 >>= λ status. Ok (record { name = name.0; addr = addr.0; status = status.0; incarnation = incarnation.0 }, status.1)) (incarnation_goes addr.1) (λ incarnation.
+    step_goes (status_at kind.0 incarnation.1) (λ status. Ok (record { name = name.0; addr = addr.0; status = status.0; incarnation = incarnation.0 }, status.1)) (status_goes kind.0 incarnation.1) (λ status. tt)))))
+
+count_goes : (bytes : List ℕ) → NotTrailing (count_at bytes)
+count_goes [] = tt
+count_goes (n ∷ rest) = test_goes (ltb 6 n) (Err faults.Count) (Ok (n, rest)) tt tt
+
+claims_goes : (n : ℕ) (bytes : List ℕ) → NotTrailing (claims_at n bytes)
+unfolding claims_at
+claims_goes zero bytes = tt
+claims_goes (suc n) bytes =
+    step_goes (claim_at bytes) (λ first. claims_at n first.1 >>= λ others. Ok (first.0 ∷ others.0, others.1)) (claim_goes bytes) (λ first.
+    step_goes (claims_at n first.1) (λ others. Ok (first.0 ∷ others.0, others.1)) (claims_goes n first.1) (λ others. tt))
+
+pub packet_goes : (bytes : List ℕ) → NotTrailing (packet_at bytes)
+unfolding packet_at
+packet_goes bytes =
+    step_goes (head_at bytes) (λ head. name_at head.1 >>= λ sender. body_at head.0 sender.1 >>= λ body. count_at body.1 >>= λ count. claims_at count.0 count.1 >>= λ claims.
+    Ok (record { sender = sender.0; body = body.0; claims = record { items = claims.0 } }, claims.1)) (head_goes bytes) (λ head.
+    step_goes (name_at head.1) (λ sender. body_at head.0 sender.1 >>= λ body. count_at body.1 >>= λ count. claims_at count.0 count.1 >>= λ claims.
+    Ok (record { sender = sender.0; body = body.0; claims = record { items = claims.0 } }, claims.1)) (name_goes head.1) (λ sender.
+    step_goes (body_at head.0 sender.1) (λ body. count_at body.1 >>= λ count. claims_at count.0 count.1 >>= λ claims.
+    Ok (record { sender = sender.0; body = body.0; claims = record { items = claims.0 } }, claims.1)) (body_goes head.0 sender.1) (λ body.
+    step_goes (count_at body.1) (λ count. claims_at count.0 count.1 >>= λ claims. Ok (record { sender = sender.0; body = body.0; claims = record { items = claims.0 } }, claims.1)) (count_goes body.1) (λ count.
+    step_goes (claims_at count.0 count.1) (λ claims. Ok (record { sender = sender.0; body = body.0; claims = record { items = claims.0 } }, claims.1)) (claims_goes count.0 count.1) (λ claims. tt)))))
