@@ -1,8 +1,9 @@
--- The lines of packets that are sent, with one more behind them.
-use Rattle.std.proofs.Common.{◌≡◌, ℕ, ◌+◌, ◌<◌, List, [], ◌∷◌, ◌++◌, length, take, get_or, sym, ap, ◌∙◌, arith, append-nil, append_assoc, length-take-le}
+-- The line of a packet that is sent, by its parts, and the lines of several, with one more behind them.
+use Rattle.std.proofs.Common.{◌≡◌, ℕ, ◌+◌, ◌<◌, List, [], ◌∷◌, ◌++◌, length, take, get_or, codes, decimal, sym, ap, ◌∙◌, arith, append-nil, append_assoc, length-take-le}
 use Rattle.std.proofs.lemmas.List.{take_more}
 use Rattle.lg_detector.specs.declared.reply.Outgoing.{Outgoing}
-use Rattle.lg_report.specs.Meaning.Replies.{send_line, sends_text}
+use Rattle.lg_report.specs.Meaning.Records.{addr_text}
+use Rattle.lg_report.specs.Meaning.Replies.{packet_text, send_line, sends_text}
 
 -- one packet more: its number is behind those of the packets before it
 sends_text-more : (k : ℕ) (before : List Outgoing) (s : Outgoing)
@@ -31,3 +32,14 @@ send_written k i number sends s text now next within is numbered so_far line = (
       ∙ ap (λ (n : ℕ). text ++ (sends_text k (take i sends) ++ send_line n s)) numbered
       ∙ ap (λ (xs : List ℕ). text ++ xs) (sym (sends_text-at k i sends s within is)),
 )
+
+joined : (text word number to bytes : List ℕ) → text ++ (word ++ number) ++ 32 ∷ [] ++ to ++ 32 ∷ [] ++ bytes ++ 10 ∷ []
+    ≡ text ++ (word ++ number ++ 32 ∷ [] ++ to ++ 32 ∷ [] ++ bytes ++ 10 ∷ [])
+joined text word number to bytes = simp append_assoc
+
+-- the parts of a line, put behind a text one after another
+pub line_written : (k : ℕ) (s : Outgoing) (text t1 t2 t3 t4 t5 t6 : List ℕ)
+    → t1 ≡ text ++ (codes "send " ++ decimal k) → t2 ≡ t1 ++ 32 ∷ [] → t3 ≡ t2 ++ addr_text s.to → t4 ≡ t3 ++ 32 ∷ []
+    → t5 ≡ t4 ++ packet_text s.packet → t6 ≡ t5 ++ 10 ∷ [] → t6 ≡ text ++ send_line k s
+line_written k s text t1 t2 t3 t4 t5 t6 e1 e2 e3 e4 e5 e6 =
+    rw (e6, e5, e4, e3, e2, e1) (joined text (codes "send ") (decimal k) (addr_text s.to) (packet_text s.packet))

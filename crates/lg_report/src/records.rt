@@ -1,5 +1,6 @@
 //! Records as text.
-ghost use Rattle.std.specs.Prelude.{◌≡◌, ◌++◌, OnOk, decimal};
+ghost use Rattle.std.specs.Prelude.{◌≡◌, ◌++◌, OnErr, OnOk, decimal};
+ghost use Rattle.std.specs.Io.{StartsWith};
 ghost use Rattle.lg_report.specs.Meaning.Records.{accuser_text, addr_text, record_line, record_text};
 ghost use Rattle.lg_report.specs.Meaning.Records.{status_text, table_text};
 
@@ -7,27 +8,42 @@ use itoa::Buffer;
 use lg_detector::NoMemory;
 use lg_rules::{Addr, Record, Status};
 
+/// Puts bytes behind a text.
+///
+/// This and each private function below and in `replies` leaves what the text had at its front, also when memory is
+/// refused. So [`put_table`] and `put_reply` can cut the text back to it.
+pub(crate) fn put(bytes: &[u8], text: &mut Vec<u8>) -> Result<(), NoMemory>
+    ensures put { OnOk result (text.new.items ≡ text.old.items ++ bytes.now) }
+    ensures front { StartsWith text.new.items text.old.items }
+{
+    text.extend_from_slice(bytes)?;
+    Ok(())
+}
+
 /// Puts a number in decimal behind a text.
 pub(crate) fn put_number(number: u64, text: &mut Vec<u8>) -> Result<(), NoMemory>
-    ensures { OnOk result (text.new.items ≡ text.old.items ++ decimal number) }
+    ensures put { OnOk result (text.new.items ≡ text.old.items ++ decimal number) }
+    ensures front { StartsWith text.new.items text.old.items }
 {
     let mut digits = Buffer::new();
-    text.extend_from_slice(digits.format(number).as_bytes())?;
+    put(digits.format(number).as_bytes(), text)?;
     Ok(())
 }
 
 /// Puts a word and a number in decimal behind a text.
 pub(crate) fn put_numbered(word: &str, number: u64, text: &mut Vec<u8>) -> Result<(), NoMemory>
-    ensures { OnOk result (text.new.items ≡ text.old.items ++ (word.now ++ decimal number)) }
+    ensures put { OnOk result (text.new.items ≡ text.old.items ++ (word.now ++ decimal number)) }
+    ensures front { StartsWith text.new.items text.old.items }
 {
-    text.extend_from_slice(word.as_bytes())?;
+    put(word.as_bytes(), text)?;
     put_number(number, text)?;
     Ok(())
 }
 
 /// Puts an address, as `A.B.C.D:PORT`, behind a text.
 pub(crate) fn put_addr(addr: &Addr, text: &mut Vec<u8>) -> Result<(), NoMemory>
-    ensures { OnOk result (text.new.items ≡ text.old.items ++ addr_text addr.now) }
+    ensures put { OnOk result (text.new.items ≡ text.old.items ++ addr_text addr.now) }
+    ensures front { StartsWith text.new.items text.old.items }
 {
     let [a, b, c, d] = addr.octets;
     put_number(u64::from(a), text)?;
@@ -51,24 +67,26 @@ fn status_word(status: &Status) -> &'static str
 
 /// Puts the accuser of a suspect behind a text.
 fn put_accuser(status: &Status, text: &mut Vec<u8>) -> Result<(), NoMemory>
-    ensures { OnOk result (text.new.items ≡ text.old.items ++ accuser_text status.now) }
+    ensures put { OnOk result (text.new.items ≡ text.old.items ++ accuser_text status.now) }
+    ensures front { StartsWith text.new.items text.old.items }
 {
     if let Status::Suspect(accuser) = status {
-        text.extend_from_slice(b" by ")?;
-        text.extend_from_slice(accuser.as_bytes())?;
+        put(b" by ", text)?;
+        put(accuser.as_bytes(), text)?;
     }
     Ok(())
 }
 
 /// Puts a record behind a text, without the end of a line.
 pub(crate) fn put_record(claim: &Record, text: &mut Vec<u8>) -> Result<(), NoMemory>
-    ensures { OnOk result (text.new.items ≡ text.old.items ++ record_text claim.now) }
+    ensures put { OnOk result (text.new.items ≡ text.old.items ++ record_text claim.now) }
+    ensures front { StartsWith text.new.items text.old.items }
 {
-    text.extend_from_slice(claim.name.as_bytes())?;
-    text.push(b' ')?;
-    text.extend_from_slice(status_word(&claim.status).as_bytes())?;
+    put(claim.name.as_bytes(), text)?;
+    put(b" ", text)?;
+    put(status_word(&claim.status).as_bytes(), text)?;
     put_numbered(" ", u64::from(claim.incarnation.number()), text)?;
-    text.push(b' ')?;
+    put(b" ", text)?;
     put_addr(&claim.addr, text)?;
     put_accuser(&claim.status, text)?;
     Ok(())
@@ -76,11 +94,24 @@ pub(crate) fn put_record(claim: &Record, text: &mut Vec<u8>) -> Result<(), NoMem
 
 /// Puts a record behind a text as a line.
 fn put_record_line(claim: &Record, text: &mut Vec<u8>) -> Result<(), NoMemory>
-    ensures { OnOk result (text.new.items ≡ text.old.items ++ record_line claim.now) }
+    ensures put { OnOk result (text.new.items ≡ text.old.items ++ record_line claim.now) }
+    ensures front { StartsWith text.new.items text.old.items }
 {
-    text.extend_from_slice(b"record ")?;
+    put(b"record ", text)?;
     put_record(claim, text)?;
-    text.push(b'\n')?;
+    put(b"\n", text)?;
+    Ok(())
+}
+
+/// Puts records behind a text, a line each, in the order in which they are given.
+#[tactic(auto, unfolding(crate::specs::Meaning::Records::table_text))]
+pub(crate) fn put_records(records: &[Record], text: &mut Vec<u8>) -> Result<(), NoMemory>
+    ensures put { OnOk result (text.new.items ≡ text.old.items ++ table_text records.now) }
+    ensures front { StartsWith text.new.items text.old.items }
+{
+    for claim in records {
+        put_record_line(claim, text)?;
+    }
     Ok(())
 }
 
@@ -88,14 +119,16 @@ fn put_record_line(claim: &Record, text: &mut Vec<u8>) -> Result<(), NoMemory>
 /// are given.
 ///
 /// STATUS is `alive`, `suspect` or `failed`; a suspect has ` by ACCUSER` at the end of its line. It takes memory only
-/// where the text has to grow. The only error is that memory was refused; the text then has what it had, and some
-/// beginning of the lines behind it, which may end within a line.
-#[tactic(auto, unfolding(crate::specs::Meaning::Records::table_text))]
+/// where the text has to grow. The only error is that memory was refused; the text is then as it was, though it may
+/// have room for more.
 pub fn put_table(records: &[Record], text: &mut Vec<u8>) -> Result<(), NoMemory>
-    ensures { OnOk result (text.new.items ≡ text.old.items ++ table_text records.now) }
+    ensures put { OnOk result (text.new.items ≡ text.old.items ++ table_text records.now) }
+    ensures refused { OnErr result (text.new.items ≡ text.old.items) }
 {
-    for claim in records {
-        put_record_line(claim, text)?;
+    let length = text.len();
+    let done = put_records(records, text);
+    if done.is_err() {
+        text.truncate(length);
     }
-    Ok(())
+    done
 }

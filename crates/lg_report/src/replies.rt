@@ -1,10 +1,11 @@
 //! The replies of a detector as text.
-ghost use Rattle.std.specs.Prelude.{◌≡◌, ◌+◌, ◌<◌, ◌^◌, ◌++◌, OnOk, length};
+ghost use Rattle.std.specs.Prelude.{◌≡◌, ◌+◌, ◌<◌, ◌^◌, ◌++◌, OnErr, OnOk, length};
+ghost use Rattle.std.specs.Io.{StartsWith};
 ghost use Rattle.lg_report.specs.Meaning.Replies.{answer_line, fired_text, health_text, kind_text, next_text};
 ghost use Rattle.lg_report.specs.Meaning.Replies.{ousted_text, reply_text, send_line, sends_text};
 ghost use Rattle.lg_report.specs.Meaning.Replies.{subject_text, tick_text, told_text};
 
-use crate::records::{put_addr, put_numbered, put_record, put_table};
+use crate::records::{put, put_addr, put_numbered, put_record, put_records};
 use arrayvec::ArrayVec;
 use lg_detector::{Answer, Event, MAX_SENDS, NoMemory, Outgoing, Reply, Timer, TimerId};
 use lg_packet::MAX_PACKET;
@@ -30,12 +31,13 @@ fn kind_word(id: &TimerId) -> &'static str
 
 /// Puts the member or the relay's number that a timer is about behind a text, where it has one.
 fn put_subject(id: &TimerId, text: &mut Vec<u8>) -> Result<(), NoMemory>
-    ensures { OnOk result (text.new.items ≡ text.old.items ++ subject_text id.now) }
+    ensures put { OnOk result (text.new.items ≡ text.old.items ++ subject_text id.now) }
+    ensures front { StartsWith text.new.items text.old.items }
 {
     match id {
         TimerId::Suspicion(member) => {
-            text.push(b' ')?;
-            text.extend_from_slice(member.as_bytes())?;
+            put(b" ", text)?;
+            put(member.as_bytes(), text)?;
         }
         TimerId::RelayNack(relay) => put_numbered(" ", u64::from(*relay), text)?,
         TimerId::RelayEnd(relay) => put_numbered(" ", u64::from(*relay), text)?,
@@ -46,22 +48,24 @@ fn put_subject(id: &TimerId, text: &mut Vec<u8>) -> Result<(), NoMemory>
 
 /// Puts the line of a tick behind a text: the timer that it fired, or that it fired none.
 fn put_tick(fired: &Option<Timer>, text: &mut Vec<u8>) -> Result<(), NoMemory>
-    ensures { OnOk result (text.new.items ≡ text.old.items ++ tick_text fired.now) }
+    ensures put { OnOk result (text.new.items ≡ text.old.items ++ tick_text fired.now) }
+    ensures front { StartsWith text.new.items text.old.items }
 {
     let Some(timer) = fired else {
-        text.extend_from_slice(b"idle\n")?;
+        put(b"idle\n", text)?;
         return Ok(());
     };
-    text.extend_from_slice(b"fired ")?;
-    text.extend_from_slice(kind_word(&timer.id).as_bytes())?;
+    put(b"fired ", text)?;
+    put(kind_word(&timer.id).as_bytes(), text)?;
     put_subject(&timer.id, text)?;
-    text.push(b'\n')?;
+    put(b"\n", text)?;
     Ok(())
 }
 
 /// Puts the line of an event that is a tick behind a text. Others have none.
 fn put_fired(event: &Event, fired: &Option<Timer>, text: &mut Vec<u8>) -> Result<(), NoMemory>
-    ensures { OnOk result (text.new.items ≡ text.old.items ++ fired_text event.now fired.now) }
+    ensures put { OnOk result (text.new.items ≡ text.old.items ++ fired_text event.now fired.now) }
+    ensures front { StartsWith text.new.items text.old.items }
 {
     if matches!(event, Event::Tick { .. }) {
         put_tick(fired, text)?;
@@ -76,7 +80,8 @@ fn put_health(
     members: u64,
     text: &mut Vec<u8>,
 ) -> Result<(), NoMemory>
-    ensures { OnOk result (text.new.items ≡ text.old.items ++ health_text score number members) }
+    ensures put { OnOk result (text.new.items ≡ text.old.items ++ health_text score number members) }
+    ensures front { StartsWith text.new.items text.old.items }
 {
     put_numbered("score ", score, text)?;
     put_numbered(" number ", u64::from(number.number()), text)?;
@@ -86,10 +91,11 @@ fn put_health(
 
 /// Puts what is answered behind a text.
 fn put_told(answer: &Answer, text: &mut Vec<u8>) -> Result<(), NoMemory>
-    ensures { OnOk result (text.new.items ≡ text.old.items ++ told_text answer.now) }
+    ensures put { OnOk result (text.new.items ≡ text.old.items ++ told_text answer.now) }
+    ensures front { StartsWith text.new.items text.old.items }
 {
     match answer {
-        Answer::Status(None) => text.extend_from_slice(b"none")?,
+        Answer::Status(None) => put(b"none", text)?,
         Answer::Status(Some(claim)) => put_record(claim, text)?,
         Answer::Health {
             score,
@@ -102,12 +108,13 @@ fn put_told(answer: &Answer, text: &mut Vec<u8>) -> Result<(), NoMemory>
 
 /// Puts the line of an answer behind a text, where there is one.
 fn put_answer(answer: &Option<Answer>, text: &mut Vec<u8>) -> Result<(), NoMemory>
-    ensures { OnOk result (text.new.items ≡ text.old.items ++ answer_line answer.now) }
+    ensures put { OnOk result (text.new.items ≡ text.old.items ++ answer_line answer.now) }
+    ensures front { StartsWith text.new.items text.old.items }
 {
     if let Some(told) = answer {
-        text.extend_from_slice(b"answer ")?;
+        put(b"answer ", text)?;
         put_told(told, text)?;
-        text.push(b'\n')?;
+        put(b"\n", text)?;
     }
     Ok(())
 }
@@ -119,14 +126,15 @@ fn put_send(
     row: &mut Row,
     text: &mut Vec<u8>,
 ) -> Result<(), NoMemory>
-    ensures { OnOk result (text.new.items ≡ text.old.items ++ send_line number outgoing.now) }
+    ensures put { OnOk result (text.new.items ≡ text.old.items ++ send_line number outgoing.now) }
+    ensures front { StartsWith text.new.items text.old.items }
 {
     put_numbered("send ", number, text)?;
-    text.push(b' ')?;
+    put(b" ", text)?;
     put_addr(&outgoing.to, text)?;
-    text.push(b' ')?;
+    put(b" ", text)?;
     put_hex(&outgoing.packet, row, text)?;
-    text.push(b'\n')?;
+    put(b"\n", text)?;
     Ok(())
 }
 
@@ -138,7 +146,8 @@ fn put_sends(
     text: &mut Vec<u8>,
 ) -> Result<(), NoMemory>
     requires { first + length sends.now < 2 ^ 64 }
-    ensures { OnOk result (text.new.items ≡ text.old.items ++ sends_text first sends.now) }
+    ensures put { OnOk result (text.new.items ≡ text.old.items ++ sends_text first sends.now) }
+    ensures front { StartsWith text.new.items text.old.items }
 {
     let mut number = first;
     for outgoing in sends {
@@ -150,20 +159,44 @@ fn put_sends(
 
 /// Puts the line of the flag `ousted` behind a text, where it is set.
 fn put_ousted(ousted: bool, text: &mut Vec<u8>) -> Result<(), NoMemory>
-    ensures { OnOk result (text.new.items ≡ text.old.items ++ ousted_text ousted) }
+    ensures put { OnOk result (text.new.items ≡ text.old.items ++ ousted_text ousted) }
+    ensures front { StartsWith text.new.items text.old.items }
 {
     if ousted {
-        text.extend_from_slice(b"ousted\n")?;
+        put(b"ousted\n", text)?;
     }
     Ok(())
 }
 
 /// Puts the line of the next deadline behind a text.
 fn put_next(next: u64, text: &mut Vec<u8>) -> Result<(), NoMemory>
-    ensures { OnOk result (text.new.items ≡ text.old.items ++ next_text next) }
+    ensures put { OnOk result (text.new.items ≡ text.old.items ++ next_text next) }
+    ensures front { StartsWith text.new.items text.old.items }
 {
     put_numbered("next ", next, text)?;
-    text.push(b'\n')?;
+    put(b"\n", text)?;
+    Ok(())
+}
+
+/// Puts the lines of a reply to an event behind a text.
+#[tactic(auto, unfolding(crate::specs::Meaning::Replies::reply_text))]
+fn put_lines(
+    event: &Event,
+    first: u64,
+    reply: &Reply,
+    row: &mut Row,
+    text: &mut Vec<u8>,
+) -> Result<(), NoMemory>
+    requires { first + MAX_SENDS < 2 ^ 64 }
+    ensures put { OnOk result (text.new.items ≡ text.old.items ++ reply_text event.now first reply.now) }
+    ensures front { StartsWith text.new.items text.old.items }
+{
+    put_fired(event, &reply.fired, text)?;
+    put_answer(&reply.answer, text)?;
+    put_sends(first, reply.sends.as_slice(), row, text)?;
+    put_records(reply.changed.as_slice(), text)?;
+    put_ousted(reply.ousted, text)?;
+    put_next(reply.next, text)?;
     Ok(())
 }
 
@@ -174,14 +207,12 @@ fn put_next(next: u64, text: &mut Vec<u8>) -> Result<(), NoMemory>
 /// - `send K A.B.C.D:PORT HEX` for each packet sent, in order: `first` is the number K of the first, and the others
 ///   are numbered on, up to [`MAX_SENDS`] of them, which 64 bits must have room for; HEX is the packet in lower-case
 ///   hex;
-/// - `record RECORD` for each record that changed, as [`put_table`] writes it;
+/// - `record RECORD` for each record that changed, as [`put_table`](crate::put_table) writes it;
 /// - `ousted` where the flag is set;
 /// - `next MOMENT`, always.
 ///
 /// `row` is room alone: what it holds is of no use before or after. It takes memory only where the text has to grow.
-/// The only error is that memory was refused; the text then has what it had, and some beginning of the lines behind
-/// it, which may end within a line.
-#[tactic(auto, unfolding(crate::specs::Meaning::Replies::reply_text))]
+/// The only error is that memory was refused; the text is then as it was, though it may have room for more.
 pub fn put_reply(
     event: &Event,
     first: u64,
@@ -190,13 +221,13 @@ pub fn put_reply(
     text: &mut Vec<u8>,
 ) -> Result<(), NoMemory>
     requires { first + MAX_SENDS < 2 ^ 64 }
-    ensures { OnOk result (text.new.items ≡ text.old.items ++ reply_text event.now first reply.now) }
+    ensures put { OnOk result (text.new.items ≡ text.old.items ++ reply_text event.now first reply.now) }
+    ensures refused { OnErr result (text.new.items ≡ text.old.items) }
 {
-    put_fired(event, &reply.fired, text)?;
-    put_answer(&reply.answer, text)?;
-    put_sends(first, reply.sends.as_slice(), row, text)?;
-    put_table(reply.changed.as_slice(), text)?;
-    put_ousted(reply.ousted, text)?;
-    put_next(reply.next, text)?;
-    Ok(())
+    let length = text.len();
+    let done = put_lines(event, first, reply, row, text);
+    if done.is_err() {
+        text.truncate(length);
+    }
+    done
 }

@@ -1,5 +1,5 @@
 //! Writes a text whole, or a line as far as it is taken.
-ghost use Rattle.std.specs.Prelude.{◌≡◌, IfErr, OnOk};
+ghost use Rattle.std.specs.Prelude.{◌≡◌, IfErr, OnErr, OnOk};
 ghost use Rattle.std.specs.Io.KnownBytes.{Appends};
 ghost use Rattle.lg_text.specs.Meaning.Running.{AppendsFront};
 
@@ -8,13 +8,16 @@ use std::io::{ErrorKind, Write};
 
 /// Writes a text and flushes the writer.
 ///
-/// The only error is [`RunFault::Write`], where a write or the flush fails: a beginning of the text may then stand
-/// written. No memory is taken beside what the writer takes.
+/// The only error is [`RunFault::Write`], which comes when a write or the flush fails. The writer then holds a
+/// beginning of the text behind what it held: none of it, a part or all. An interrupted write is made again, and a
+/// write that takes no byte of some is an error. No memory is taken beside what the writer takes.
 pub fn write_whole<W: Write>(writer: &mut W, text: &[u8]) -> Result<(), RunFault>
     ensures written { OnOk result (Appends (W.contents writer.old) (W.contents writer.new) text.now) }
+    ensures partly { OnErr result (AppendsFront (W.contents writer.old) (W.contents writer.new) text.now) }
     ensures refused { IfErr result (λ fault. fault ≡ RunFault.Write) }
 {
-    if writer.write_all(text).is_err() || writer.flush().is_err() {
+    write_pieces(writer, text)?;
+    if writer.flush().is_err() {
         return Err(RunFault::Write);
     }
     Ok(())
@@ -24,20 +27,30 @@ pub fn write_whole<W: Write>(writer: &mut W, text: &[u8]) -> Result<(), RunFault
 pub fn report<F: Write>(faults: &mut F, line: &str)
     ensures { AppendsFront (F.contents faults.old) (F.contents faults.new) line.now }
 {
+    let _ = write_pieces(faults, line.as_bytes());
+}
+
+/// Writes a text in as many calls as the writer needs, without a flush. The only error is [`RunFault::Write`].
+fn write_pieces<W: Write>(writer: &mut W, text: &[u8]) -> Result<(), RunFault>
+    ensures written { OnOk result (Appends (W.contents writer.old) (W.contents writer.new) text.now) }
+    ensures partly { AppendsFront (W.contents writer.old) (W.contents writer.new) text.now }
+    ensures refused { IfErr result (λ fault. fault ≡ RunFault.Write) }
+{
     // `write_all` doesn't say what stands written where it fails, so the pieces are written here.
-    let mut rest = line.as_bytes();
+    let mut rest = text;
     for _ in 0..u64::MAX {
         if rest.is_empty() {
-            return;
+            return Ok(());
         }
-        match faults.write(rest) {
-            Ok(0) => return,
+        match writer.write(rest) {
+            Ok(0) => return Err(RunFault::Write),
             Ok(count) => rest = &rest[count..],
             Err(error) => {
                 if error.kind() != ErrorKind::Interrupted {
-                    return;
+                    return Err(RunFault::Write);
                 }
             }
         }
     }
+    Err(RunFault::Write)
 }

@@ -16,6 +16,6 @@ returns-clause-stops c = λ members past is.
 pub returns-clause-text : goal.returns-clause-text
 returns-clause-text c = λ members past is.
     let after = named_after _ _ members past c.args.name.now c.in-Some.at c.index.result.now is (sym c.in-Some.is ∙ c.place_of.ensures) c.index.ensures in
-    c.in_ok-put_table.ensures
+    c.in_ok-put_table.ensures.put
     ∙ ap (λ (records : List Claim). c.args.text.now.items ++ table_text records)
     (c.as_slice.ensures.value ∙ c.in_ok-records.ensures.list (events_of c.args.name.now past) after)

@@ -1,8 +1,8 @@
 use Rattle.std.proofs.Common.{◌≡◌, ◌++◌, List, ℕ, ap, sym, ◌∙◌, append_assoc, take, drop, take-append-drop, length, ◌-◌}
 use Rattle.std.proofs.KnownBytes.{Appends-kept, Appends-trans}
 use Rattle.lg_text.proofs.LineLaws.{rest_of}
-use Rattle.lg_text.proofs.output.report.Goals.{in-Ok, in-Err+else-ne}
-use Rattle.lg_text.proofs.output.report.Goals as goal
+use Rattle.lg_text.proofs.output.write_pieces.Goals.{in-Ok, in-Err+else-ne}
+use Rattle.lg_text.proofs.output.write_pieces.Goals as goal
 
 pub loop-preserved : goal.loop-preserved
 loop-preserved g c =
