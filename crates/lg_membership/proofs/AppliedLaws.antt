@@ -10,7 +10,7 @@ use Rattle.lg_rules.specs.declared.members.Heard.TheVariants.{Overrode, Accused,
 use Rattle.lg_rules.specs.Meaning.Claim.{accuser_of, name_of}
 use Rattle.lg_rules.specs.Meaning.Rows.{name_cmp, is_same, row_at, without_row}
 use Rattle.lg_rules.specs.Meaning.Table.{hearing_of, heard, live_in}
-use Rattle.lg_rules.specs.Meaning.View.{changes_record}
+use Rattle.lg_rules.specs.Support.Standing.{changes_record}
 use Rattle.lg_rules.proofs.KeyOrder.{names_order, cases_key, same_key, other_key}
 use Rattle.lg_rules.proofs.OwnLaws.{own_hearing-other}
 use Rattle.lg_rules.proofs.Ranks.{ranked}

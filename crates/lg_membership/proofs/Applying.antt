@@ -4,7 +4,7 @@ use Rattle.lg_rules.specs.declared.claim.Claim.{Claim}
 use Rattle.lg_rules.specs.Meaning.Own.{own_heard}
 use Rattle.lg_rules.specs.Meaning.Rows.{name_cmp, is_same}
 use Rattle.lg_rules.specs.Meaning.Table.{heard}
-use Rattle.lg_rules.specs.Meaning.View.{hear_claim, hear_claims, changes_record}
+use Rattle.lg_rules.specs.Support.Standing.{hear_claim, hear_claims, changes_record}
 use Rattle.lg_membership.specs.declared.origin.Origin.{Origin}
 use Rattle.lg_membership.specs.Support.State.{State, standing, apply_own, apply_other, apply, apply_all, applied_own, applied_other, applied}
 

@@ -4,7 +4,8 @@ use Rattle.std.specs.Prelude.{filter, is_some}
 use Rattle.std.proofs.lemmas.Bool.{cases_Bool}
 use Rattle.lg_rules.specs.declared.claim.Claim.{Claim}
 use Rattle.lg_rules.specs.Meaning.Rows.{name_cmp, is_among}
-use Rattle.lg_rules.specs.Meaning.View.{view, changed_names, changed}
+use Rattle.lg_rules.specs.Meaning.View.{changed}
+use Rattle.lg_rules.specs.Support.Standing.{view, changed_names}
 use Rattle.lg_rules.proofs.Changes.{changed-heard}
 use Rattle.lg_membership.specs.declared.origin.Origin.{Origin}
 use Rattle.lg_membership.specs.Meaning.Log.{config, me, said, addr_in}

@@ -1,7 +1,7 @@
 //! What a member knows of its group.
 ghost use Rattle.std.specs.Prelude.{◌≡◌, ◌≢◌, [], ◌∷◌, ◌&&◌, ◌||◌, option_copied};
 ghost use Rattle.lg_rules.specs.Meaning.Rows.{name_cmp, is_same};
-ghost use Rattle.lg_rules.specs.Meaning.View.{is_rise};
+ghost use Rattle.lg_rules.specs.Support.Standing.{is_rise};
 ghost use Rattle.lg_timing.specs.Meaning.Config.{IsChecked};
 ghost use Rattle.lg_membership.specs.Meaning.Log.{Fact, Log, Opened, Said, Sent};
 ghost use Rattle.lg_membership.specs.Meaning.Gossip.{put_of_own, put_if, target_record, taken, fill};

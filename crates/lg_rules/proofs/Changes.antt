@@ -11,7 +11,8 @@ use Rattle.lg_rules.specs.declared.claim.Status.TheVariants.{Alive, Suspect, Fai
 use Rattle.lg_rules.specs.Meaning.Beats.{beats_of}
 use Rattle.lg_rules.specs.Meaning.Claim.{name_of}
 use Rattle.lg_rules.specs.Meaning.Rows.{name_cmp, is_same, row_at}
-use Rattle.lg_rules.specs.Meaning.View.{Standing, standing_of, view, hear_claim, hear_claims, changes_record, changed_names, is_same_status, is_same_addr, is_same_claim, is_row, changed}
+use Rattle.lg_rules.specs.Meaning.View.{is_same_status, is_same_addr, is_same_claim, is_row, changed}
+use Rattle.lg_rules.specs.Support.Standing.{Standing, standing_of, view, hear_claim, hear_claims, changes_record, changed_names}
 use Rattle.lg_rules.proofs.Cases.{held_once}
 use Rattle.lg_rules.proofs.KeyOrder.{names_order, same_key, key_is, cases_key}
 use Rattle.lg_rules.proofs.Ranks.{ranked}

@@ -13,7 +13,8 @@ use Rattle.lg_rules.specs.Meaning.Claim.{name_of}
 use Rattle.lg_rules.specs.Meaning.Own.{Oneself, beyond, own_hearing, own_hearing_at, changed_by, own_heard, own_of, own_record}
 use Rattle.lg_rules.specs.Meaning.Rows.{name_cmp, is_same, put_row, row_at, Rises}
 use Rattle.lg_rules.specs.Meaning.Table.{record_of, roster, table_of, takes, heard}
-use Rattle.lg_rules.specs.Meaning.View.{Standing, standing_of, view_of, view, hear_claim, is_rise, changes_record}
+use Rattle.lg_rules.specs.Meaning.View.{view_of}
+use Rattle.lg_rules.specs.Support.Standing.{Standing, standing_of, view, hear_claim, is_rise, changes_record}
 use Rattle.lg_rules.proofs.Cases.{Missing, Holding, held}
 use Rattle.lg_rules.proofs.KeyOrder.{names_order, same_key, other_key, cases_key}
 use Rattle.lg_rules.proofs.OwnLaws.{own-same, own-other, own_of_name, own_hearing-same, own_hearing-other}

@@ -4,3 +4,4 @@ pub mod Padding
 pub mod Places
 pub mod Words
 pub mod Members
+pub mod Standing

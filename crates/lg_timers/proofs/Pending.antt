@@ -14,7 +14,8 @@ use Rattle.lg_rules.proofs.Rises.{above_lower, among-in_order, among-filter, sam
 use Rattle.lg_timers.specs.declared.timer.Timer.{Timer}
 use Rattle.lg_timers.specs.declared.timer.TimerId.{TimerId}
 use Rattle.lg_timers.specs.declared.timer.TimerId.TheVariants.{Suspicion, RoundStart}
-use Rattle.lg_timers.specs.Meaning.Timers.{id_key, timer_key, timer_cmp, has_id, is_set, with_timer, without_timer, in_turn, least_of, earlier}
+use Rattle.lg_timers.specs.Meaning.Timers.{id_key, timer_key, timer_cmp, has_id, is_set, with_timer, without_timer, in_turn, least_of}
+use Rattle.lg_timers.specs.Support.InTurn.{earlier}
 use Rattle.lg_timers.proofs.KeyLaws.{timer_is}
 use Rattle.lg_timers.proofs.TurnLaws.{map-in_turn, rises-in_turn, least-with_timer}
 use Rattle.lg_timers.proofs.CancelLaws.{fewer}

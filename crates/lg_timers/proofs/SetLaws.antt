@@ -12,8 +12,8 @@ use Rattle.std.proofs.lemmas.List.Sorted.{IsPermutation-to_front, IsPermutation-
 use Rattle.lg_rules.proofs.RowsFound.{filter-none}
 use Rattle.lg_timers.specs.declared.timer.Timer.{Timer}
 use Rattle.lg_timers.specs.declared.timer.TimerId.{TimerId}
-use Rattle.lg_timers.specs.Meaning.Timers.{has_id, is_set, have_distinct_ids, with_timer, without_timer, in_turn, least_of, earlier}
-use Rattle.lg_timers.specs.Support.InTurn.{IsTimerSet, AreApart}
+use Rattle.lg_timers.specs.Meaning.Timers.{has_id, is_set, have_distinct_ids, with_timer, without_timer, in_turn, least_of}
+use Rattle.lg_timers.specs.Support.InTurn.{IsTimerSet, AreApart, earlier}
 use Rattle.lg_timers.proofs.KeyLaws.{has_id-is}
 use Rattle.lg_timers.proofs.Pending.{without-in_turn}
 use Rattle.lg_timers.proofs.RowOrder.{in_turn-permutation, distinct-permutation}

@@ -9,7 +9,8 @@ use Rattle.lg_rules.proofs.Cases.{Below, Tied, Above, compared}
 use Rattle.lg_rules.proofs.KeyOrder.{names_order, turned, same_back}
 use Rattle.lg_rules.proofs.Rises.{among-in_order, rises-in_order, among-cons_same}
 use Rattle.lg_timers.specs.declared.timer.Timer.{Timer}
-use Rattle.lg_timers.specs.Meaning.Timers.{id_key, timer_key, timer_cmp, has_id, is_set, have_distinct_ids, with_timer, in_turn, least_of, earlier}
+use Rattle.lg_timers.specs.Meaning.Timers.{id_key, timer_key, timer_cmp, has_id, is_set, have_distinct_ids, with_timer, in_turn, least_of}
+use Rattle.lg_timers.specs.Support.InTurn.{earlier}
 use Rattle.lg_timers.proofs.KeyLaws.{not_set}
 
 -- no timer of these has the list of this one

@@ -4,8 +4,8 @@ ghost use Rattle.std.specs.Prelude.{false, List, [], length, position, slice_set
 ghost use Rattle.std.specs.Option.{option_copied};
 ghost use Rattle.arrayvec.specs.ArrayVec.{array_vec_len};
 ghost use Rattle.lg_timers.specs.Meaning.Timers.{in_turn, has_id, is_set, with_timer, without_timer};
-ghost use Rattle.lg_timers.specs.Meaning.Timers.{least_of, earlier, due_of, left_by};
-ghost use Rattle.lg_timers.specs.Support.InTurn.{IsTimerSet};
+ghost use Rattle.lg_timers.specs.Meaning.Timers.{least_of, due_of, left_by};
+ghost use Rattle.lg_timers.specs.Support.InTurn.{IsTimerSet, earlier};
 
 use crate::timer::{Timer, TimerId};
 use arrayvec::ArrayVec;

@@ -2,7 +2,7 @@
 //! the score and of the timers; what becomes of the group lg_membership says. A timer that fires is in `tick.rt`.
 ghost use Rattle.std.specs.Prelude.{◌≡◌, ◌<◌, ◌≤◌, length};
 ghost use Rattle.lg_rules.specs.Meaning.Rows.{name_cmp, put_key};
-ghost use Rattle.lg_rules.specs.Meaning.View.{changed_names};
+ghost use Rattle.lg_rules.specs.Support.Standing.{changed_names};
 ghost use Rattle.lg_timing.specs.Meaning.Config.{IsChecked};
 ghost use Rattle.lg_timers.specs.Meaning.Timers.{is_set, with_timer, without_timer};
 ghost use Rattle.lg_probe.specs.Meaning.Order.{known_names};

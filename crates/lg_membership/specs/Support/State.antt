@@ -6,7 +6,7 @@ use Rattle.lg_rules.specs.Meaning.Claim.{name_of}
 use Rattle.lg_rules.specs.Meaning.Own.{Oneself, own_of, own_hearing, own_heard}
 use Rattle.lg_rules.specs.Meaning.Rows.{name_cmp, is_same, put_row}
 use Rattle.lg_rules.specs.Meaning.Table.{Known, known_of, takes, heard, live_in}
-use Rattle.lg_rules.specs.Meaning.View.{Standing, is_rise}
+use Rattle.lg_rules.specs.Support.Standing.{Standing, is_rise}
 use Rattle.lg_timing.specs.declared.config.Config.{Config}
 use Rattle.lg_gossip.specs.Meaning.Queue.{GossipQueue, put_of, sent_once, taken_of, fill_of}
 use Rattle.lg_membership.specs.declared.applied.Applied.{Applied}

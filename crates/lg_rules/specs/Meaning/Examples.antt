@@ -1,5 +1,5 @@
 -- Worked rows.
-use Rattle.std.specs.Prelude.{◌≡◌, ℕ, ◌+◌, Bool, true, false, [], ◌∷◌, Some, refl}
+use Rattle.std.specs.Prelude.{◌≡◌, ℕ, ◌+◌, Bool, true, false, List, [], ◌∷◌, Some, refl}
 use Rattle.lg_rules.specs.declared.addr.Addr.{Addr}
 use Rattle.lg_rules.specs.declared.claim.Claim.{Claim}
 use Rattle.lg_rules.specs.declared.claim.Status.{Status}
@@ -7,8 +7,8 @@ use Rattle.lg_rules.specs.declared.claim.Status.TheVariants.{Alive, Suspect, Fai
 use Rattle.lg_rules.specs.declared.members.Heard.TheVariants.{Accused, Ignored}
 use Rattle.lg_rules.specs.declared.own.OwnHeard.TheVariants.{Ignored as Unheeded}
 use Rattle.lg_rules.specs.Meaning.Beats.{beats_of}
-use Rattle.lg_rules.specs.Meaning.Own.{Oneself, own_hearing, own_of}
-use Rattle.lg_rules.specs.Meaning.View.{standing_of, view, hear_claim, hear_claims, changed}
+use Rattle.lg_rules.specs.Meaning.Own.{Oneself, own_hearing, own_of, own_record}
+use Rattle.lg_rules.specs.Meaning.View.{view_of, changed}
 use Rattle.lg_rules.specs.Meaning.Table.{record_of, roster, table_of, takes, hearing_of}
 
 -- the letters that name the members
@@ -115,11 +115,14 @@ given_up = refl
 pub about_another : own_hearing (b_is 0 false) (on c Failed 0) ≡ Unheeded
 about_another = refl
 
+-- the table of members of b after a past
+abbrev pub members_of_b : List Claim → List Claim
+members_of_b past = view_of (own_record (own_of (b ∷ []) b_at past)) (table_of (b ∷ []) past)
+
 -- b, which knows c as alive at 2, hears that c is alive at 3, that c is alive at 2, and that itself is suspected
 pub changed_rows :
-    (let before = standing_of (b ∷ []) b_at (on c Alive 2 ∷ []) in
-    let after = hear_claims before (on c Alive 3 ∷ on c Alive 2 ∷ on b (accused_by a) 0 ∷ []) in
-    changed (view before) (view after))
+    changed (members_of_b (on c Alive 2 ∷ []))
+    (members_of_b (on b (accused_by a) 0 ∷ on c Alive 2 ∷ on c Alive 3 ∷ on c Alive 2 ∷ []))
     ≡ record { name = b ∷ []; addr = b_at; status = Alive; incarnation = 1 } ∷ on c Alive 3 ∷ []
-unfolding own_of table_of record_of roster takes hear_claim
+unfolding own_of table_of record_of roster
 changed_rows = refl

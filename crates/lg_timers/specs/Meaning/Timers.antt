@@ -13,11 +13,9 @@ use Rattle.std.specs.Prelude.{
   Some,
   None,
   nat_le,
-  if◌then◌else◌,
 }
 use Rattle.std.specs.List.{list_any}
 use Rattle.std.specs.declared.cmp.Ordering.{Ordering}
-use Rattle.std.specs.Ordering.{is_lt}
 use Rattle.lg_rules.specs.Meaning.Rows.{name_cmp, is_same, put_row}
 use Rattle.lg_timers.specs.declared.timer.Timer.{Timer}
 use Rattle.lg_timers.specs.declared.timer.TimerId.{TimerId}
@@ -89,11 +87,6 @@ in_turn (t ∷ timers) = with_timer t (in_turn timers)
 abbrev pub least_of : List Timer → Option Timer
 least_of [] = None
 least_of (t ∷ timers) = Some t
-
--- the first of one timer, if there is one, and another
-abbrev pub earlier : Option Timer → Timer → Timer
-earlier None t = t
-earlier (Some s) t = if is_lt (timer_cmp s t) then s else t
 
 -- whether a deadline isn't after a moment
 abbrev pub is_due : ℕ → Timer → Bool

@@ -1,8 +1,9 @@
--- What holds of each set of timers.
-use Rattle.std.specs.Prelude.{List, map, IsTrue}
+-- What holds of each set of timers, and the first of two timers.
+use Rattle.std.specs.Prelude.{List, map, IsTrue, Option, Some, None, if◌then◌else◌}
+use Rattle.std.specs.Ordering.{is_lt}
 use Rattle.lg_rules.specs.Meaning.Rows.{name_cmp, Rises}
 use Rattle.lg_timers.specs.declared.timer.Timer.{Timer}
-use Rattle.lg_timers.specs.Meaning.Timers.{timer_key, have_distinct_ids}
+use Rattle.lg_timers.specs.Meaning.Timers.{timer_key, timer_cmp, have_distinct_ids}
 
 -- timers in the order in which they fire, one of an id at most
 pub record IsTimerSet (timers : List Timer) : Type 0 where
@@ -12,3 +13,8 @@ pub record IsTimerSet (timers : List Timer) : Type 0 where
 -- timers in any order, one of an id at most
 pub record AreApart (timers : List Timer) : Type 0 where
   pub distinct : IsTrue (have_distinct_ids timers)
+
+-- the first of one timer, if there is one, and another
+abbrev pub earlier : Option Timer → Timer → Timer
+earlier None t = t
+earlier (Some s) t = if is_lt (timer_cmp s t) then s else t

@@ -1,6 +1,7 @@
 use Rattle.std.proofs.Common.{Option, Some, refl, sym, ◌∙◌, ap}
 use Rattle.lg_timers.specs.declared.timer.Timer.{Timer}
-use Rattle.lg_timers.specs.Meaning.Timers.{in_turn, earlier}
+use Rattle.lg_timers.specs.Meaning.Timers.{in_turn}
+use Rattle.lg_timers.specs.Support.InTurn.{earlier}
 use Rattle.lg_timers.proofs.SetLaws.{least-more}
 use Rattle.lg_timers.proofs.timers.least_of.Goals as goal
 
