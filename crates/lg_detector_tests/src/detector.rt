@@ -14,5 +14,5 @@ mod relaying;
 mod resuming;
 mod tick;
 
-pub(crate) use happening::Happens;
-pub(crate) use playing::{Step, play_on, table_of};
+pub(crate) use happening::{Happens, Says, packet_of};
+pub(crate) use playing::{Due, Step, play_on, table_of, timer_of};

@@ -138,7 +138,7 @@ fn puts_with_no_sends(rt: HostRuntime) {
 }
 
 /// How many packets take the only claim of a queue before one takes none.
-fn packets_until_none(queue: &mut Queue, live: usize) -> Option<usize> {
+fn packets_until_none(queue: &mut Queue, live: usize) -> Option<u32> {
     for sent in 0..100 {
         let claims = queue.fill(None, live);
         if claims.is_empty() {
@@ -151,28 +151,28 @@ fn packets_until_none(queue: &mut Queue, live: usize) -> Option<usize> {
     None
 }
 
+/// Whether the queue is new, how many members there are, and how often the claim is sent.
+const LIMITS: &[(bool, usize, u32)] = &[
+    (true, 9, 4),
+    (false, 10, 4),
+    (false, 99, 0),
+    (false, 100, 4),
+    (false, 256, 0),
+    (true, 999, 12),
+    (true, 1_000, 16),
+    (true, usize::MAX, 80),
+];
+
 /// How often a claim is sent among so many members, in a new queue or after what was sent before.
 #[test]
 fn sends_up_to_the_limit(rt: HostRuntime) {
     let mut queue = Queue::new(4);
-    for (is_new, live, sends) in [
-        (true, 9, 4),
-        (false, 10, 4),
-        (false, 99, 0),
-        (false, 100, 4),
-        (false, 256, 0),
-        (true, 999, 12),
-        (true, 1_000, 16),
-        (true, usize::MAX, 80),
-    ] {
-        if is_new {
+    for (is_new, live, sends) in LIMITS {
+        if *is_new {
             queue = Queue::new(4);
             put(&mut queue, b"0");
         }
-        assert_eq!(rt;
-            packets_until_none(&mut queue, live),
-            Some(sends),
-            "among {live}"
-        );
+        let sent = packets_until_none(&mut queue, *live);
+        assert!(rt; sent == Some(*sends), "among {live}: {sent:?}");
     }
 }

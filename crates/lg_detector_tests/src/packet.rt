@@ -1,13 +1,16 @@
 //! Packets: worked rows, and every front and every one-byte change of some packets against a slow judge.
 mod judge;
 
+use crate::detector::{Says, packet_of};
+use crate::says::Member;
+use crate::says::Said::{self, AliveAt, Suspect};
 use arrayvec::ArrayVec;
 use judge::judge;
 use lg_packet::{
-    Body, Fault, MAX_PACKET, Packet, decode, encode, first_bad_byte, one_reading, one_spelling,
+    Body, Fault, MAX_PACKET, Packet, begun_spelling, decode, encode, first_bad_byte, one_reading,
+    one_spelling,
 };
-use lg_rules::{Addr, Claim, Status};
-use lg_testing::{ack, alive, claim, letter, local, name, packet, ping, said, suspect};
+use lg_rules::Addr;
 
 /// A Ping from `a` for `b`, numbered 7.
 const PING: &[u8] = b"SL\x01\x01\x01a\x00\x00\x00\x07\x01b\x00";
@@ -56,10 +59,14 @@ const GREATEST: &[u8] = b"SL\x01\x01\x01a\x00\x00\x00\x01\x01b\x01\
 const ABOVE: &[u8] = b"SL\x01\x01\x01a\x00\x00\x00\x01\x01b\x01\
     \x02\x01b\x7f\x00\x00\x01\x1b\x58\x3b\x9a\xca\x01\x01a";
 
+/// The longest name.
+const LONGEST: Member = "ABCDEFGHIJKLMNOPabcdefghijklm._-";
+
 /// The default packet.
 const FIRST_ACK: &[u8] = b"SL\x01\x03\x01a\x00\x00\x00\x00\x00";
 
-const PACKETS: [&[u8]; 11] = [
+/// Bytes that are packets.
+const PACKETS: &[&[u8]] = &[
     PING, ACK, PING_REQ, NACK, PULL, PULL_AFTER, PAGE, ALIVE, ACK_ALIVE, SUSPECTS, GREATEST,
 ];
 
@@ -116,13 +123,15 @@ fn fronts_of_packets(rt: HostRuntime) {
     }
 }
 
+/// The same, and one with too great an incarnation.
+const CHANGED: &[&[u8]] = &[
+    PING, ACK, PING_REQ, NACK, PULL, PULL_AFTER, PAGE, ALIVE, ACK_ALIVE, SUSPECTS, GREATEST, ABOVE,
+];
+
 /// The decoder and the slow judge agree on every change of one byte of a packet, and on every byte behind it.
 #[test]
 fn changes_of_packets(rt: HostRuntime) {
-    for bytes in [
-        PING, ACK, PING_REQ, NACK, PULL, PULL_AFTER, PAGE, ALIVE, ACK_ALIVE, SUSPECTS, GREATEST,
-        ABOVE,
-    ] {
+    for bytes in CHANGED {
         for place in 0..=bytes.len() {
             for byte in 0..=255 {
                 let near = changed(bytes, place, byte);
@@ -132,18 +141,21 @@ fn changes_of_packets(rt: HostRuntime) {
     }
 }
 
+/// Kinds that are none, and a byte behind a packet: at their place, or behind the packet where that is beyond it.
+const REFUSED_CHANGES: &[(usize, u8, Fault)] = &[
+    (3, 0, Fault::Kind),
+    (3, 7, Fault::Kind),
+    (3, 255, Fault::Kind),
+    (MAX_PACKET, 0, Fault::Trailing),
+];
+
 /// Some kinds are none, and no byte follows a packet.
 #[test]
 fn another_kind_and_one_byte_more(rt: HostRuntime) {
     for bytes in PACKETS {
-        for (place, byte, fault) in [
-            (3, 0, Fault::Kind),
-            (3, 7, Fault::Kind),
-            (3, 255, Fault::Kind),
-            (bytes.len(), 0, Fault::Trailing),
-        ] {
-            let near = changed(bytes, place, byte);
-            assert!(rt; both_are(&near, Err(fault)), "{near:?}");
+        for (place, byte, fault) in REFUSED_CHANGES {
+            let near = changed(bytes, *place, *byte);
+            assert!(rt; both_are(&near, Err(*fault)), "{near:?}");
         }
     }
 }
@@ -188,87 +200,19 @@ fn refuses_by_the_first_fault(rt: HostRuntime) {
     }
 }
 
-/// The claim that the member of a letter is there, at this port.
-fn there(member: u8, port: u16) -> Claim {
-    Claim {
-        addr: local(port),
-        ..alive(member, 0)
-    }
-}
-
-/// Asks a helper for a probe of `c` at port 7003.
-fn asks() -> Body {
-    Body::PingReq {
-        number: 1,
-        target: letter(b'c'),
-        addr: local(7003),
-    }
-}
-
-/// Asks for the records behind `f`.
-fn pulls_after() -> Body {
-    Body::Pull {
-        after: Some(letter(b'f')),
-    }
-}
-
-/// The packet of `b` with the records of `a`, `b` and `c`.
-fn page() -> Packet {
-    packet(
-        b'b',
-        Body::Page,
-        &[there(b'a', 7001), there(b'b', 7002), there(b'c', 7003)],
-    )
-}
-
-/// The Ping in which `b` is suspected by `a` and then by `c`.
-fn suspects() -> Packet {
-    packet(
-        b'a',
-        ping(9, b'c'),
-        &[suspect(b'b', 0, b'a'), suspect(b'b', 0, b'c')],
-    )
-}
-
 /// The packet with the longest names and the most claims.
 fn longest() -> Packet {
-    let long = name(b"ABCDEFGHIJKLMNOPabcdefghijklm._-");
+    let accused = Suspect(LONGEST, 0, LONGEST);
+    let Packet { sender, claims, .. } = packet_of(LONGEST, &Says::Page, &[accused; 6]);
     Packet {
-        sender: long,
+        sender,
         body: Body::PingReq {
             number: u32::MAX,
-            target: long,
+            target: sender,
             addr: Addr::new([255; 4], u16::MAX),
         },
-        claims: said(&[claim(long, Status::Suspect(long), 0); 6]),
+        claims,
     }
-}
-
-/// Packets with their bytes.
-fn written() -> [(&'static [u8], Packet); 12] {
-    [
-        (PING, packet(b'a', ping(7, b'b'), &[])),
-        (ACK, packet(b'b', ack(7), &[])),
-        (FIRST_ACK, Packet::default()),
-        (PING_REQ, packet(b'a', asks(), &[])),
-        (NACK, packet(b'b', Body::Nack { number: 1 }, &[])),
-        (
-            PULL,
-            packet(b'a', Body::Pull { after: None }, &[there(b'a', 7001)]),
-        ),
-        (
-            PULL_AFTER,
-            packet(b'a', pulls_after(), &[there(b'a', 7001)]),
-        ),
-        (PAGE, page()),
-        (ALIVE, packet(b'a', ping(7, b'c'), &[there(b'c', 7003)])),
-        (ACK_ALIVE, packet(b'b', ack(8), &[there(b'c', 7003)])),
-        (SUSPECTS, suspects()),
-        (
-            GREATEST,
-            packet(b'a', ping(1, b'b'), &[suspect(b'b', 1_000_000_000, b'a')]),
-        ),
-    ]
 }
 
 /// Whether bytes are read as a packet's sender, its body and its claims.
@@ -281,41 +225,74 @@ fn is_read_as(bytes: &[u8], wanted: &Packet) -> bool {
     }
 }
 
+/// Whether a packet is written as bytes, and these are read as the packet.
+fn is_one(bytes: &[u8], wanted: &Packet) -> bool {
+    bytes_of(&wanted.copy()).as_slice() == bytes && is_read_as(bytes, wanted)
+}
+
+/// Bytes of packets, with their senders, bodies and claims.
+const WRITTEN: &[(&[u8], Member, Says, &[Said])] = &[
+    (PING, "a", Says::Ping(7, "b"), &[]),
+    (ACK, "b", Says::Ack(7), &[]),
+    (PING_REQ, "a", Says::Request(1, "c", 7003), &[]),
+    (NACK, "b", Says::Nack(1), &[]),
+    (PULL, "a", Says::PullFirst, &[AliveAt("a", 7001)]),
+    (PULL_AFTER, "a", Says::PullAfter("f"), &[AliveAt("a", 7001)]),
+    (
+        PAGE,
+        "b",
+        Says::Page,
+        &[AliveAt("a", 7001), AliveAt("b", 7002), AliveAt("c", 7003)],
+    ),
+    (ALIVE, "a", Says::Ping(7, "c"), &[AliveAt("c", 7003)]),
+    (ACK_ALIVE, "b", Says::Ack(8), &[AliveAt("c", 7003)]),
+    (
+        SUSPECTS,
+        "a",
+        Says::Ping(9, "c"),
+        &[Suspect("b", 0, "a"), Suspect("b", 0, "c")],
+    ),
+    (
+        GREATEST,
+        "a",
+        Says::Ping(1, "b"),
+        &[Suspect("b", 1_000_000_000, "a")],
+    ),
+];
+
 /// Each packet is written as its bytes, and these are read as the packet.
 #[test]
 fn writes_and_reads_packets(rt: HostRuntime) {
     one_reading();
     one_spelling();
     first_bad_byte();
-    for (bytes, wanted) in written() {
-        let same = bytes_of(&wanted.copy()).as_slice() == bytes;
-        assert!(rt; same & is_read_as(bytes, &wanted), "{bytes:?}");
+    begun_spelling();
+    for (bytes, sender, says, said) in WRITTEN {
+        assert!(rt; is_one(bytes, &packet_of(sender, says, said)), "{bytes:?}");
     }
+    assert!(rt; is_one(FIRST_ACK, &Packet::default()));
 }
 
-/// What holds of the longest packet, and of its bytes with one more.
-fn facts_of_the_longest() -> [(&'static str, bool); 4] {
-    let wanted = longest();
-    let bytes = bytes_of(&wanted);
-    let mut longer: ArrayVec<u8, 544> = ArrayVec::new();
-    let _ = longer.try_extend_from_slice(&bytes);
+/// Bytes with one more, for which a packet has no room.
+fn longer(bytes: &[u8]) -> ArrayVec<u8, 544> {
+    let mut longer = ArrayVec::new();
+    let _ = longer.try_extend_from_slice(bytes);
     let _ = longer.try_push(0);
-    let lengths = [bytes.len(), MAX_PACKET, longer.len()];
-    [
-        (
-            "its length",
-            lengths == [4 + 33 + 43 + 1 + 6 * 77, 543, 544],
-        ),
-        ("its bytes are one", both_are(&bytes, Ok(true))),
-        ("they are read", is_read_as(&bytes, &wanted)),
-        ("no byte follows", both_are(&longer, Err(Fault::Trailing))),
-    ]
+    longer
 }
 
 /// The longest packet has as many bytes as there is room for, and is read as it was written; with one more it is none.
 #[test]
 fn the_longest_packet(rt: HostRuntime) {
-    for (what, holds) in facts_of_the_longest() {
-        assert!(rt; holds, "{what}");
-    }
+    let wanted = longest();
+    let bytes = bytes_of(&wanted);
+    let longer = longer(&bytes);
+    let lengths = [bytes.len(), MAX_PACKET, longer.len()];
+    assert_eq!(rt; lengths, [4 + 33 + 43 + 1 + 6 * 77, 543, 544]);
+    let facts = [
+        both_are(&bytes, Ok(true)),
+        is_read_as(&bytes, &wanted),
+        both_are(&longer, Err(Fault::Trailing)),
+    ];
+    assert_eq!(rt; facts, [true; 3], "it is one, it is read, no byte follows");
 }

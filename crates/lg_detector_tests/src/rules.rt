@@ -1,4 +1,6 @@
 //! Names, claims, which claim overrides which, the table of members, and the own number.
+use crate::says::Said::{self, Alive, Failed, Suspect};
+use crate::says::{claim_of, moved};
 use lg_rules::{
     Claim, Heard, Incarnation, Keyed, MAX_OTHERS, Members, Name, NameFault, Own, OwnHeard, Status,
     beats, is_name_byte, seat_of,
@@ -34,52 +36,38 @@ fn judges_names(rt: HostRuntime) {
     }
 }
 
-/// What holds of names, in their order, and of the ends of the incarnations.
-fn facts_of_names() -> [(&'static str, bool); 6] {
+/// A name before those that it begins; names in the order of their bytes; an underscore in a name, and no slash; no
+/// incarnation above the greatest; and the next one.
+fn facts_of_names() -> [bool; 6] {
     [
-        (
-            "a name before those that it begins",
-            letter(b'a') < name(b"ab"),
-        ),
-        (
-            "names in the order of their bytes",
-            letter(b'B') < letter(b'a'),
-        ),
-        ("an underscore in a name", is_name_byte(b'_')),
-        ("no slash", !is_name_byte(b'/')),
-        (
-            "the greatest incarnation",
-            Incarnation::new(1_000_000_001).is_none(),
-        ),
-        (
-            "the next one",
-            Incarnation::default().successor() == Incarnation::new(1),
-        ),
+        letter(b'a') < name(b"ab"),
+        letter(b'B') < letter(b'a'),
+        is_name_byte(b'_'),
+        !is_name_byte(b'/'),
+        Incarnation::new(1_000_000_001).is_none(),
+        Incarnation::default().successor() == Incarnation::new(1),
     ]
 }
 
-/// What holds of the claim that `a` suspects `c` at 4.
-fn facts_of_a_claim() -> [(&'static str, bool); 7] {
+/// The parts of the claim that `a` suspects `c` at 4: the member, its bytes, its port, its status, its incarnation, its
+/// accuser, and the name of the row.
+fn facts_of_a_claim() -> [bool; 7] {
     let heard = suspect(b'c', 4, b'a');
     [
-        ("the member", heard.name() == letter(b'c')),
-        ("its bytes", heard.addr().octets() == [127, 0, 0, 1]),
-        ("its port", heard.addr().port() == 7000),
-        ("its status", heard.status() == accused()),
-        ("its incarnation", heard.incarnation().number() == 4),
-        ("its accuser", heard.accuser() == Some(letter(b'a'))),
-        ("the name of the row", heard.key() == letter(b'c')),
+        heard.name() == letter(b'c'),
+        heard.addr().octets() == [127, 0, 0, 1],
+        heard.addr().port() == 7000,
+        heard.status() == Status::Suspect(letter(b'a')),
+        heard.incarnation().number() == 4,
+        heard.accuser() == Some(letter(b'a')),
+        heard.key() == letter(b'c'),
     ]
 }
 
 #[test]
 fn reads_names_and_claims(rt: HostRuntime) {
-    for (what, holds) in facts_of_names() {
-        assert!(rt; holds, "{what}");
-    }
-    for (what, holds) in facts_of_a_claim() {
-        assert!(rt; holds, "{what}");
-    }
+    assert_eq!(rt; facts_of_names(), [true; 6]);
+    assert_eq!(rt; facts_of_a_claim(), [true; 7]);
 }
 
 /// Hears a claim about another.
@@ -110,25 +98,20 @@ fn is_heard_so(heard: &Claim, overrode: bool, hearing: Heard) -> bool {
 }
 
 /// Claims about `c`, which `d` accuses at 4, whether they override that, and what hearing them does.
+const CLAIMS: &[(Said, bool, Heard)] = &[
+    (Alive("c", 4), false, Heard::Ignored),
+    (Suspect("c", 4, "e"), false, Heard::Accused),
+    (Suspect("c", 3, "d"), false, Heard::Ignored),
+    (Alive("c", 5), true, Heard::Overrode),
+    (Suspect("c", 5, "e"), true, Heard::Overrode),
+    (Failed("c", 0), true, Heard::Overrode),
+];
+
 #[test]
 fn overrides(rt: HostRuntime) {
-    for (heard, overrode, hearing) in [
-        (alive(b'c', 4), false, Heard::Ignored),
-        (suspect(b'c', 4, b'e'), false, Heard::Accused),
-        (suspect(b'c', 3, b'd'), false, Heard::Ignored),
-        (alive(b'c', 5), true, Heard::Overrode),
-        (suspect(b'c', 5, b'e'), true, Heard::Overrode),
-        (failed(b'c', 0), true, Heard::Overrode),
-    ] {
-        assert!(rt; is_heard_so(&heard, overrode, hearing), "{heard:?}");
-    }
-}
-
-/// The claim that `c` is alive at 2, at a port.
-fn at_port(port: u16) -> Claim {
-    Claim {
-        addr: local(port),
-        ..alive(b'c', 2)
+    for (said, overrode, hearing) in CLAIMS {
+        let heard = claim_of(said);
+        assert!(rt; is_heard_so(&heard, *overrode, *hearing), "{heard:?}");
     }
 }
 
@@ -145,53 +128,49 @@ fn leaves(
     found == Some(hearing) && records == [Some(*stands), None] && members.live() == live
 }
 
-/// What hearing claims about `c` does, which record is there then, and how many haven't failed: the first address
-/// stands.
+/// Claims about `c` from a port, what hearing them does, and how many haven't failed then.
+const ADDRESSES: &[(Said, u16, Heard, usize)] = &[
+    (Alive("c", 2), 7000, Heard::Overrode, 2),
+    (Alive("c", 2), 7001, Heard::Same, 2),
+    (Failed("c", 1), 7000, Heard::Overrode, 1),
+];
+
+/// The record that is there then says the same at port 7000: the first address stands.
 #[test]
 fn keeps_the_first_address(rt: HostRuntime) {
     let mut members = Members::new(&letter(b'b'));
-    for (heard, hearing, stands, live) in [
-        (at_port(7000), Heard::Overrode, at_port(7000), 2),
-        (at_port(7001), Heard::Same, at_port(7000), 2),
-        (failed(b'c', 1), Heard::Overrode, failed(b'c', 1), 1),
-    ] {
+    for (said, port, hearing, live) in ADDRESSES {
+        let stands = claim_of(said);
+        let heard = moved(stands, *port);
         assert!(rt;
-            leaves(&mut members, &heard, hearing, &stands, live),
+            leaves(&mut members, &heard, *hearing, &stands, *live),
             "{heard:?}"
         );
     }
 }
 
-/// What holds of a full table with the names from 45 to 299, and of what it hears then.
-fn facts_of_a_full_table(members: &mut Members) -> [(&'static str, bool); 10] {
+/// Of a full table with the names from 45 to 299: 255 others, 256 live; the first and the last; and there is no 44th.
+fn facts_of_a_full_table(members: &Members) -> [bool; 5] {
+    [
+        members.records().len() == MAX_OTHERS,
+        members.live() == 256,
+        members.at(0).map(Claim::name) == Some(numbered(45)),
+        members.at(254).map(Claim::name) == Some(numbered(299)),
+        members.get(&numbered(44)).is_none(),
+    ]
+}
+
+/// The places of an unknown name and of the second one; no room for the unknown one; and a newer claim about the first
+/// one, and its record.
+fn facts_of_seats_and_room(members: &mut Members) -> [bool; 5] {
     let unknown = numbered(44);
     let newer = claim(numbered(45), Status::Alive, 3);
-    let seats = [
-        seat_of(members.records(), &unknown),
-        seat_of(members.records(), &numbered(46)),
-    ];
-    let ends = [
-        members.at(0).map(Claim::name),
-        members.at(254).map(Claim::name),
-    ];
-    let full = (members.records().len() == MAX_OTHERS, members.live() == 256);
-    let lacks = members.get(&unknown).is_none();
-    let refused = hear(members, &claim(unknown, Status::Alive, 9));
-    let taken = hear(members, &newer);
     [
-        ("255 others", full.0),
-        ("256 live", full.1),
-        ("the first", ends[0] == Some(numbered(45))),
-        ("the last", ends[1] == Some(numbered(299))),
-        ("an unknown one", lacks),
-        ("its place", seats[0] == Err(0)),
-        ("the place of the second", seats[1] == Ok(1)),
-        ("no room", refused == Some(Heard::NoRoom)),
-        ("a newer claim", taken == Some(Heard::Overrode)),
-        (
-            "its record",
-            members.get(&numbered(45)).copied() == Some(newer),
-        ),
+        seat_of(members.records(), &unknown) == Err(0),
+        seat_of(members.records(), &numbered(46)) == Ok(1),
+        hear(members, &claim(unknown, Status::Alive, 9)) == Some(Heard::NoRoom),
+        hear(members, &newer) == Some(Heard::Overrode),
+        members.get(&numbered(45)).copied() == Some(newer),
     ]
 }
 
@@ -206,16 +185,10 @@ fn knows_256_names(rt: HostRuntime) {
             Heard::Overrode
         };
         let hearing = hear(&mut members, &claim(numbered(number), Status::Alive, 2));
-        assert_eq!(rt; hearing, Some(want), "{number}");
+        assert!(rt; hearing == Some(want), "{number}: {hearing:?}");
     }
-    for (what, holds) in facts_of_a_full_table(&mut members) {
-        assert!(rt; holds, "{what}");
-    }
-}
-
-/// That `a` suspects a member.
-fn accused() -> Status {
-    Status::Suspect(letter(b'a'))
+    assert_eq!(rt; facts_of_a_full_table(&members), [true; 5]);
+    assert_eq!(rt; facts_of_seats_and_room(&mut members), [true; 5]);
 }
 
 /// The greatest incarnation.
@@ -236,38 +209,38 @@ fn becomes(own: &mut Own, heard: &Claim, hearing: OwnHeard, number: u32, ousted:
         && [own.record(), known] == [alive(b'b', number); 2]
 }
 
-/// What `b` hears of itself, what that does, its number then, and whether it is ousted. What is said of others does
-/// nothing.
+/// What `b` hears of itself, what that does, its number then, and whether it is ousted.
+const OF_ITSELF: &[(Said, OwnHeard, u32, bool)] = &[
+    (Suspect("b", 0, "a"), OwnHeard::Refuted, 1, false),
+    (Suspect("b", 0, "c"), OwnHeard::Ignored, 1, false),
+    (Alive("b", 1), OwnHeard::Ignored, 1, false),
+    (Alive("b", 3), OwnHeard::Raised, 4, false),
+    (Suspect("b", 3, "a"), OwnHeard::Ignored, 4, false),
+    (Failed("b", 0), OwnHeard::Ousted, 4, true),
+    (Suspect("b", GREATEST, "a"), OwnHeard::Ousted, 4, true),
+    (
+        Suspect("b", 999_999_999, "a"),
+        OwnHeard::Refuted,
+        GREATEST,
+        true,
+    ),
+    (Alive("b", GREATEST), OwnHeard::Ignored, GREATEST, true),
+    (
+        Suspect("b", GREATEST, "a"),
+        OwnHeard::Ousted,
+        GREATEST,
+        true,
+    ),
+];
+
+/// What is said of others does nothing.
 #[test]
 fn refutes(rt: HostRuntime) {
     let mut own = Own::new(letter(b'b'), local(7000));
-    for (status, incarnation, hearing, number, ousted) in [
-        (accused(), 0, OwnHeard::Refuted, 1, false),
-        (
-            Status::Suspect(letter(b'c')),
-            0,
-            OwnHeard::Ignored,
-            1,
-            false,
-        ),
-        (Status::Alive, 1, OwnHeard::Ignored, 1, false),
-        (Status::Alive, 3, OwnHeard::Raised, 4, false),
-        (accused(), 3, OwnHeard::Ignored, 4, false),
-        (Status::Failed, 0, OwnHeard::Ousted, 4, true),
-        (accused(), GREATEST, OwnHeard::Ousted, 4, true),
-        (accused(), 999_999_999, OwnHeard::Refuted, GREATEST, true),
-        (Status::Alive, GREATEST, OwnHeard::Ignored, GREATEST, true),
-        (accused(), GREATEST, OwnHeard::Ousted, GREATEST, true),
-    ] {
-        let heard = claim(letter(b'b'), status, incarnation);
-        let own_is = becomes(&mut own, &heard, hearing, number, ousted);
-        let stays = becomes(
-            &mut own,
-            &failed(b'c', number),
-            OwnHeard::Ignored,
-            number,
-            ousted,
-        );
-        assert!(rt; own_is & stays, "{status:?} at {incarnation}");
+    for (said, hearing, number, ousted) in OF_ITSELF {
+        let (heard, of_another) = (claim_of(said), failed(b'c', *number));
+        let own_is = becomes(&mut own, &heard, *hearing, *number, *ousted);
+        let stays = becomes(&mut own, &of_another, OwnHeard::Ignored, *number, *ousted);
+        assert!(rt; own_is & stays, "{heard:?}");
     }
 }

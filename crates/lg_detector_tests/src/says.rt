@@ -50,7 +50,7 @@ fn at_home(member: Member, status: Status, number: u32) -> Claim {
 }
 
 /// The claim at another port.
-fn moved(claim: Claim, port: u16) -> Claim {
+pub(crate) fn moved(claim: Claim, port: u16) -> Claim {
     Claim {
         addr: local(port),
         ..claim

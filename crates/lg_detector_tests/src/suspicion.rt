@@ -14,24 +14,32 @@ fn raised_by_d(live: u64) -> Suspicion {
     }
 }
 
-/// The deadline among some members, whether one or two more accusers count, and the deadline then: who accuses already
-/// doesn't count, and among four members nobody confirms.
+/// How many members there are, the deadline, two more accusers and whether each counts, and the deadline then.
+const ACCUSED: &[(u64, u64, &[(u8, bool)], u64)] = &[
+    (5, 32000, &[(b'd', false), (b'd', false)], 32000),
+    (5, 32000, &[(b'd', false), (b'e', true)], 19500),
+    (4, 7000, &[(b'e', false), (b'd', false)], 7000),
+];
+
+/// Whether accusers count as is said.
+fn count_so(suspicion: &mut Suspicion, accusers: &[(u8, bool)]) -> bool {
+    let mut met = true;
+    for (accuser, counted) in accusers {
+        met = suspicion.accuse(&letter(*accuser)) == *counted && met;
+    }
+    met
+}
+
+/// Who accuses already doesn't count, and among four members nobody confirms.
 #[test]
 fn another_accuser_confirms(rt: HostRuntime) {
     deadlines_are_by_the_set();
-    for (live, accusers, before, counted, after) in [
-        (5, [b'd', b'd'], 32000, [false, false], 32000),
-        (5, [b'd', b'e'], 32000, [false, true], 19500),
-        (4, [b'e', b'd'], 7000, [false, false], 7000),
-    ] {
-        let mut suspicion = raised_by_d(live);
-        let raised = suspicion.deadline();
-        let first = suspicion.accuse(&letter(accusers[0]));
-        let second = suspicion.accuse(&letter(accusers[1]));
-        assert_eq!(rt;
-            ([raised, suspicion.deadline()], [first, second]),
-            ([before, after], counted),
-            "{accusers:?} among {live}"
+    for (live, before, accusers, after) in ACCUSED {
+        let mut suspicion = raised_by_d(*live);
+        let raised = suspicion.deadline() == *before && count_so(&mut suspicion, accusers);
+        assert!(rt;
+            raised && suspicion.deadline() == *after,
+            "{accusers:?} among {live}: {suspicion:?}"
         );
     }
 }

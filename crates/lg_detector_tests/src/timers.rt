@@ -1,196 +1,226 @@
 //! Which timers fire, and when.
 ghost use Rattle.std.specs.Prelude.{◌≤◌, length};
 
-use arrayvec::ArrayVec;
-use lg_testing::{at, letter, name};
-use lg_timers::{MAX_TIMERS, Timer, TimerId, Timers};
-use std::process::Abort;
+use crate::detector::Due::{
+    self, Direct, Nothing, RelayEnd, RelayNack, RoundEnd, RoundStart, Suspicion,
+};
+use crate::detector::timer_of;
+use lg_testing::at;
+use lg_timers::{MAX_TIMERS, TimerId, Timers};
 
 /// A step of a play, with what is wanted of it.
-#[derive(Drop)]
+#[derive(Clone, Copy)]
 enum Step {
-    /// The timer of this id is cancelled, if it is set.
-    Cancel(TimerId, bool),
+    /// The timer of the id of this one is cancelled, if it is set.
+    Cancel(Due, bool),
     /// The first that is due at this moment is taken.
-    Take(u64, Option<Timer>),
+    Take(u64, Due),
     /// The first of all.
-    Least(Option<Timer>),
+    Least(Due),
+    /// The first of all is taken, once all are due.
+    Fires(Due),
     /// All are cancelled.
     Clear,
     /// All are cancelled, and then this one is set.
-    SetAlone(Timer),
-}
-
-fn timer(deadline: u64, id: TimerId) -> Timer {
-    Timer { deadline, id }
+    SetAlone(Due),
 }
 
 /// These timers, each in the place of an earlier one of its id.
 #[tactic(auto, using(crate::proofs::TimerCounts::one_more))]
-fn all_set(rows: &[Timer]) -> Timers
+fn all_set(rows: &[Due]) -> Timers
     requires { length rows.now ≤ MAX_TIMERS }
 {
     let mut timers = Timers::new();
     for row in rows {
-        timers.reset(*row);
+        if let Some(timer) = timer_of(row) {
+            timers.reset(timer);
+        }
     }
     timers
+}
+
+/// Cancels the timer of the id of this one. Returns whether it was set.
+fn cancels(timers: &mut Timers, due: &Due) -> bool {
+    match timer_of(due) {
+        Some(timer) => timers.cancel(&timer.id),
+        None => false,
+    }
+}
+
+/// Cancels all timers, and then sets this one. Returns whether it is one.
+fn sets_alone(timers: &mut Timers, due: &Due) -> bool {
+    timers.clear();
+    match timer_of(due) {
+        Some(timer) => {
+            timers.set(timer);
+            true
+        }
+        None => false,
+    }
 }
 
 /// Makes a step, and answers whether it gave what is wanted.
 fn gives_what_is_wanted(timers: &mut Timers, step: &Step) -> bool {
     match step {
-        Step::Cancel(id, want) => timers.cancel(id) == *want,
-        Step::Take(now, want) => timers.take_due(at(*now)) == *want,
-        Step::Least(want) => timers.least() == *want,
+        Step::Cancel(due, want) => cancels(timers, due) == *want,
+        Step::Take(now, due) => timers.take_due(at(*now)) == timer_of(due),
+        Step::Least(due) => timers.least() == timer_of(due),
+        Step::Fires(due) => {
+            timers.least() == timer_of(due) && timers.take_due(at(9500)) == timer_of(due)
+        }
         Step::Clear => {
             timers.clear();
             true
         }
-        Step::SetAlone(timer) => {
-            timers.clear();
-            timers.set(*timer);
-            true
+        Step::SetAlone(due) => sets_alone(timers, due),
+    }
+}
+
+/// A play: its name, the timers that are set before it, and its steps.
+type Play = (&'static str, &'static [Due], &'static [Step]);
+
+/// Ten timers that were set in another order fire by their deadlines, then by their kinds, then by name or number, and
+/// none before its deadline.
+const TEN: Play = (
+    "the order in which they fire",
+    &[
+        Suspicion(9000, "ca"),
+        RelayNack(9000, 10),
+        RoundStart(8000),
+        RelayEnd(9500, 2),
+        Direct(9000),
+        RoundEnd(9000),
+        RelayEnd(9000, 1),
+        Suspicion(9000, "c"),
+        RelayNack(9000, 2),
+        Suspicion(9000, "d"),
+    ],
+    &[
+        Step::Take(7999, Nothing),
+        Step::Fires(RoundStart(8000)),
+        Step::Fires(RoundEnd(9000)),
+        Step::Fires(Suspicion(9000, "c")),
+        Step::Fires(Suspicion(9000, "ca")),
+        Step::Fires(Suspicion(9000, "d")),
+        Step::Fires(Direct(9000)),
+        Step::Fires(RelayNack(9000, 2)),
+        Step::Fires(RelayNack(9000, 10)),
+        Step::Fires(RelayEnd(9000, 1)),
+        Step::Fires(RelayEnd(9500, 2)),
+        Step::Least(Nothing),
+    ],
+);
+
+/// One timer of an id is set at most, and it can be cancelled once. A later deadline takes the place of that of its id.
+/// None is left after all are cancelled, and then one can be set.
+const FEW: &[Play] = &[
+    (
+        "one of an id",
+        &[RelayNack(500, 7), RelayEnd(600, 7)],
+        &[
+            Step::Cancel(RelayNack(500, 6), false),
+            Step::Cancel(RelayNack(500, 7), true),
+            Step::Cancel(RelayNack(500, 7), false),
+            Step::Least(RelayEnd(600, 7)),
+        ],
+    ),
+    (
+        "another deadline",
+        &[RelayEnd(500, 1), RelayEnd(600, 2), RelayEnd(700, 1)],
+        &[
+            Step::Take(700, RelayEnd(600, 2)),
+            Step::Take(700, RelayEnd(700, 1)),
+            Step::Least(Nothing),
+        ],
+    ),
+    (
+        "none after all are cancelled",
+        &[RelayNack(500, 7), RoundStart(600)],
+        &[
+            Step::Clear,
+            Step::Least(Nothing),
+            Step::Take(600, Nothing),
+            Step::SetAlone(RoundStart(700)),
+            Step::Least(RoundStart(700)),
+        ],
+    ),
+];
+
+/// Each play.
+const PLAYS: &[&[Play]] = &[&[TEN], FEW];
+
+#[test]
+fn timers_fire_and_are_cancelled(rt: HostRuntime) {
+    for plays in PLAYS {
+        for (case, rows, steps) in *plays {
+            assert!(rt; rows.len() <= MAX_TIMERS, "{case}");
+            let mut timers = all_set(rows);
+            for (place, step) in steps.iter().enumerate() {
+                let met = gives_what_is_wanted(&mut timers, step);
+                assert!(rt; met, "{case}, step {place}");
+            }
         }
     }
 }
 
-/// Ten timers in the order in which they fire: by their deadlines, then by their kinds, then by name or number.
-fn in_turn() -> [Timer; 10] {
-    [
-        timer(8000, TimerId::RoundStart),
-        timer(9000, TimerId::RoundEnd),
-        timer(9000, TimerId::Suspicion(letter(b'c'))),
-        timer(9000, TimerId::Suspicion(name(b"ca"))),
-        timer(9000, TimerId::Suspicion(letter(b'd'))),
-        timer(9000, TimerId::Direct),
-        timer(9000, TimerId::RelayNack(2)),
-        timer(9000, TimerId::RelayNack(10)),
-        timer(9000, TimerId::RelayEnd(1)),
-        timer(9500, TimerId::RelayEnd(2)),
-    ]
-}
+/// Timers, and the numbers of their kinds.
+const KINDS: &[(Due, u8)] = &[
+    (RoundEnd(0), 1),
+    (Suspicion(0, "c"), 2),
+    (Direct(0), 3),
+    (RelayNack(0, 9), 4),
+    (RelayEnd(0, 9), 5),
+    (RoundStart(0), 6),
+];
 
-/// The same timers in another order.
-fn out_of_turn() -> [Timer; 10] {
-    let [a, b, c, d, e, f, g, h, i, j] = in_turn();
-    [d, h, a, j, f, b, i, c, g, e]
-}
-
-/// Whether this timer is the first, and is taken out once all are due.
-fn fires_next(timers: &mut Timers, next: &Timer) -> bool {
-    timers.least() == Some(*next) && timers.take_due(at(9500)) == Some(*next)
-}
-
-/// Timers that were set in another order fire in this one, none before its deadline.
-#[test]
-fn the_order_in_which_they_fire(rt: HostRuntime) {
-    let mut timers = all_set(&out_of_turn());
-    assert!(rt; timers.take_due(at(7999)).is_none());
-    for next in in_turn() {
-        assert!(rt; fires_next(&mut timers, &next), "{next:?}");
+/// Whether the kind of a timer has this number.
+fn has_kind(due: &Due, number: u8) -> bool {
+    match timer_of(due) {
+        Some(timer) => timer.kind() == number,
+        None => false,
     }
-    assert!(rt; timers.least().is_none());
 }
 
-/// The numbers of the kinds.
 #[test]
 fn the_numbers_of_the_kinds(rt: HostRuntime) {
-    for (id, number) in [
-        (TimerId::RoundEnd, 1),
-        (TimerId::Suspicion(letter(b'c')), 2),
-        (TimerId::Direct, 3),
-        (TimerId::RelayNack(9), 4),
-        (TimerId::RelayEnd(9), 5),
-        (TimerId::RoundStart, 6),
-    ] {
-        assert_eq!(rt; timer(0, id).kind(), number);
+    for (due, number) in KINDS {
+        assert!(rt; has_kind(due, *number), "{number}");
     }
 }
 
-/// The nack of the relay 7.
-const NACK: TimerId = TimerId::RelayNack(7);
-
-/// The end of a relay.
-fn end(deadline: u64, number: u32) -> Timer {
-    timer(deadline, TimerId::RelayEnd(number))
+/// The end of a relay, at one of 31 moments.
+fn end_of(number: u32) -> Due {
+    RelayEnd(u64::from(number.wrapping_mul(7) % 31), number)
 }
 
-/// Makes the steps of a play from these timers on.
-fn play(rt: &impl Abort, rows: &[Timer], steps: &[Step])
-    requires { length rows.now ≤ MAX_TIMERS }
-{
-    let mut timers = all_set(rows);
-    for (place, step) in steps.iter().enumerate() {
-        assert!(rt; gives_what_is_wanted(&mut timers, step), "step {place}");
+/// Whether of 400 timers those fire next that end at this moment and were not cancelled, in the order of their numbers.
+fn fire_next(timers: &mut Timers, deadline: u32) -> bool {
+    let mut met = true;
+    for number in 0..400u32 {
+        if number % 3 != 0 && number * 7 % 31 == deadline {
+            met = timers.take_due(at(30)) == timer_of(&end_of(number)) && met;
+        }
     }
-}
-
-/// One timer of an id is set at most, and it can be cancelled once.
-#[test]
-fn one_of_an_id(rt: HostRuntime) {
-    play(
-        &rt,
-        &[timer(500, NACK), end(600, 7)],
-        &[
-            Step::Cancel(TimerId::RelayNack(6), false),
-            Step::Cancel(NACK, true),
-            Step::Cancel(NACK, false),
-            Step::Least(Some(end(600, 7))),
-        ],
-    );
-}
-
-/// A later deadline takes the place of that of its id.
-#[test]
-fn another_deadline(rt: HostRuntime) {
-    play(
-        &rt,
-        &[end(500, 1), end(600, 2), end(700, 1)],
-        &[
-            Step::Take(700, Some(end(600, 2))),
-            Step::Take(700, Some(end(700, 1))),
-            Step::Least(None),
-        ],
-    );
-}
-
-/// None is left after all are cancelled, and then one can be set.
-#[test]
-fn none_after_all_are_cancelled(rt: HostRuntime) {
-    play(
-        &rt,
-        &[timer(500, NACK), timer(600, TimerId::RoundStart)],
-        &[
-            Step::Clear,
-            Step::Least(None),
-            Step::Take(600, None),
-            Step::SetAlone(timer(700, TimerId::RoundStart)),
-            Step::Least(Some(timer(700, TimerId::RoundStart))),
-        ],
-    );
+    met
 }
 
 /// As many timers as there is room for, of which each third is cancelled; the others fire in turn.
 #[test]
 fn four_hundred_timers(rt: HostRuntime) {
-    let mut rows: ArrayVec<Timer, MAX_TIMERS> = ArrayVec::new();
+    let mut rows = [Nothing; 400];
     for number in 0..400u32 {
-        let _ = rows.try_push(timer(u64::from(number * 7 % 31), TimerId::RelayEnd(number)));
+        rows[number as usize] = end_of(number);
     }
-    let mut timers = all_set(rows.as_slice());
-    for number in 0..400u32 {
-        if number % 3 == 0 {
-            assert!(rt; timers.cancel(&TimerId::RelayEnd(number)), "{number}");
-        }
+    let mut timers = all_set(&rows);
+    for third in 0..134u32 {
+        let id = TimerId::RelayEnd(third * 3);
+        assert!(rt; timers.cancel(&id), "{id:?}");
     }
-    for deadline in 0..31u32 {
-        for number in 0..400u32 {
-            if number % 3 != 0 && number * 7 % 31 == deadline {
-                let want = timer(u64::from(deadline), TimerId::RelayEnd(number));
-                assert_eq!(rt; timers.take_due(at(30)), Some(want), "{number}");
-            }
-        }
+    for deadline in 0..31 {
+        assert!(rt;
+            fire_next(&mut timers, deadline),
+            "at {deadline}: {timers:?}"
+        );
     }
     assert_eq!(rt; timers.least(), None);
 }

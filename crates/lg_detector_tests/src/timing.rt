@@ -45,35 +45,33 @@ fn milliseconds() -> [u64; 4] {
     ]
 }
 
-/// Scores are held between 0 and 8 at every mark; and what each function of the timeouts and moments gives once.
+/// Which of 1, 2, 5 and 6 lie from 2 to 5, whether there is a moment behind the last, and whether the first is earlier
+/// than another.
+fn ranges_and_moments() -> [bool; 6] {
+    [
+        is_within(2, 5, 1),
+        is_within(2, 5, 2),
+        is_within(2, 5, 5),
+        is_within(2, 5, 6),
+        Moment::new(1_000_000_000_000_001).is_some(),
+        Moment::default() < at(5000),
+    ]
+}
+
+/// Scores are held between 0 and 8 at every mark; what each function of the timeouts and moments gives once; and what
+/// lies between two numbers, which count, and which moments are there, the earlier ones first.
 #[test]
-fn milliseconds_and_scores(rt: HostRuntime) {
+fn scores_ranges_and_moments(rt: HostRuntime) {
     tables_are_logarithms();
     assert_eq!(rt; scores(), [8, 8, 9000, 4500, 0, 1]);
     assert_eq!(rt; milliseconds(), [5000, 1_000_000_000_000_000, 5000, 11]);
-}
-
-/// What lies between two numbers, which count, and which moments are there, the earlier ones first.
-#[test]
-fn ranges_and_moments(rt: HostRuntime) {
-    for (what, holds) in [
-        ("1", !is_within(2, 5, 1)),
-        ("2", is_within(2, 5, 2)),
-        ("5", is_within(2, 5, 5)),
-        ("6", !is_within(2, 5, 6)),
-        (
-            "no moment behind the last",
-            Moment::new(1_000_000_000_000_001).is_none(),
-        ),
-        ("the first moment", Moment::default() < at(5000)),
-    ] {
-        assert!(rt; holds, "{what}");
-    }
+    let within = [false, true, true, false, false, true];
+    assert_eq!(rt; ranges_and_moments(), within);
 }
 
 /// The fields with a range, in the order of their faults, with their least and their greatest number at an interval of
 /// 1000.
-const RANGES: [(ConfigFault, u64, u64); 10] = [
+const RANGES: &[(ConfigFault, u64, u64)] = &[
     (ConfigFault::Interval, 10, 60000),
     (ConfigFault::Timeout, 1, 999),
     (ConfigFault::Indirect, 0, 8),
@@ -127,25 +125,30 @@ fn numbers_with(fields: &[ConfigFault], number: u64) -> [u64; 10] {
     numbers
 }
 
-/// Whether a number of a field is judged so.
-fn is_judged(field: ConfigFault, number: u64, want: Result<(), ConfigFault>) -> bool {
+/// Whether a number of a field is good, or else has the field's fault.
+fn is_judged(field: ConfigFault, number: u64, is_good: bool) -> bool {
+    let want = if is_good { Ok(()) } else { Err(field) };
     config_of(&numbers_with(&[field], number), b"").check() == want
+}
+
+/// Whether the edges of a range are good, and what is beyond them isn't.
+fn has_edges(field: ConfigFault, least: u64, most: u64) -> bool {
+    is_judged(field, least.wrapping_sub(1), false)
+        && is_judged(field, least, true)
+        && is_judged(field, most, true)
+        && is_judged(field, most.wrapping_add(1), false)
 }
 
 /// The edges of each range are good, and what is beyond them isn't. Below 0 stands the greatest number of all. The
 /// faults are numbered from 1 on.
 #[test]
 fn the_edges_of_each_range(rt: HostRuntime) {
-    for (place, (field, least, most)) in RANGES.into_iter().enumerate() {
-        for (number, want) in [
-            (least.wrapping_sub(1), Err(field)),
-            (least, Ok(())),
-            (most, Ok(())),
-            (most.wrapping_add(1), Err(field)),
-        ] {
-            assert!(rt; is_judged(field, number, want), "{field:?} = {number}");
-        }
-        assert_eq!(rt; field as usize, place + 1);
+    for (place, (field, least, most)) in RANGES.iter().enumerate() {
+        let is_numbered = *field as usize == place + 1;
+        assert!(rt;
+            is_numbered && has_edges(*field, *least, *most),
+            "{field:?}"
+        );
     }
 }
 
@@ -173,39 +176,40 @@ fn seeds_have_other_names(rt: HostRuntime) {
     }
 }
 
+/// Two fields, and the fault where the numbers of both are out of their ranges.
+const TWO_FAULTS: &[(&[ConfigFault], ConfigFault)] = &[
+    (
+        &[ConfigFault::Interval, ConfigFault::Timeout],
+        ConfigFault::Interval,
+    ),
+    (
+        &[ConfigFault::Timeout, ConfigFault::Interval],
+        ConfigFault::Interval,
+    ),
+    (
+        &[ConfigFault::Timeout, ConfigFault::Indirect],
+        ConfigFault::Timeout,
+    ),
+    (&[ConfigFault::Beta, ConfigFault::Alpha], ConfigFault::Alpha),
+    (
+        &[ConfigFault::History, ConfigFault::Nack],
+        ConfigFault::Nack,
+    ),
+    (
+        &[ConfigFault::History, ConfigFault::MaxScore],
+        ConfigFault::MaxScore,
+    ),
+    (
+        &[ConfigFault::Lambda, ConfigFault::Confirmations],
+        ConfigFault::Confirmations,
+    ),
+];
+
 /// Of two numbers that are out of their ranges and a seed of the own name, the first in the order of the faults.
 #[test]
 fn the_first_of_two_faults(rt: HostRuntime) {
-    for (first, second, want) in [
-        (
-            ConfigFault::Interval,
-            ConfigFault::Timeout,
-            ConfigFault::Interval,
-        ),
-        (
-            ConfigFault::Timeout,
-            ConfigFault::Interval,
-            ConfigFault::Interval,
-        ),
-        (
-            ConfigFault::Timeout,
-            ConfigFault::Indirect,
-            ConfigFault::Timeout,
-        ),
-        (ConfigFault::Beta, ConfigFault::Alpha, ConfigFault::Alpha),
-        (ConfigFault::History, ConfigFault::Nack, ConfigFault::Nack),
-        (
-            ConfigFault::History,
-            ConfigFault::MaxScore,
-            ConfigFault::MaxScore,
-        ),
-        (
-            ConfigFault::Lambda,
-            ConfigFault::Confirmations,
-            ConfigFault::Confirmations,
-        ),
-    ] {
-        let config = config_of(&numbers_with(&[first, second], 2_000_000), b"b");
-        assert_eq!(rt; config.check(), Err(want), "{first:?} {second:?}");
+    for (fields, want) in TWO_FAULTS {
+        let config = config_of(&numbers_with(fields, 2_000_000), b"b");
+        assert!(rt; config.check() == Err(*want), "{fields:?}");
     }
 }

@@ -7,20 +7,68 @@ use super::probing::{ASKED, FOUR};
 use crate::says::Said::{Alive, Suspect};
 
 /// What Acks and Nacks do once d, e and f were asked: the score after the round.
-const COUNTED: &[(&str, &[Step<'static>], u64)] = &[
-    ("nothing", &[Takes(Health(600))], 2),
-    ("an ack of the target", &[Takes(Ack(600, "c", 1))], 0),
-    ("an ack of a helper", &[Takes(Ack(600, "e", 1))], 0),
-    ("an ack of a stranger", &[Takes(Ack(600, "z", 1))], 2),
-    ("an ack of another number", &[Takes(Ack(600, "c", 2))], 2),
+const COUNTED: &[Case] = &[
+    (
+        "nothing",
+        &[
+            Takes(Health(600)),
+            ENDS,
+            Fired(RoundEnd(1000)),
+            SCORE,
+            AnswersHealth(2, 0, 5),
+        ],
+    ),
+    (
+        "an ack of the target",
+        &[
+            Takes(Ack(600, "c", 1)),
+            ENDS,
+            Fired(RoundEnd(1000)),
+            SCORE,
+            AnswersHealth(0, 0, 5),
+        ],
+    ),
+    (
+        "an ack of a helper",
+        &[
+            Takes(Ack(600, "e", 1)),
+            ENDS,
+            Fired(RoundEnd(1000)),
+            SCORE,
+            AnswersHealth(0, 0, 5),
+        ],
+    ),
+    (
+        "an ack of a stranger",
+        &[
+            Takes(Ack(600, "z", 1)),
+            ENDS,
+            Fired(RoundEnd(1000)),
+            SCORE,
+            AnswersHealth(2, 0, 5),
+        ],
+    ),
+    (
+        "an ack of another number",
+        &[
+            Takes(Ack(600, "c", 2)),
+            ENDS,
+            Fired(RoundEnd(1000)),
+            SCORE,
+            AnswersHealth(2, 0, 5),
+        ],
+    ),
     (
         "each helper's nack",
         &[
             Takes(Nack(600, "d", 1)),
             Takes(Nack(610, "e", 1)),
             Takes(Nack(620, "f", 1)),
+            ENDS,
+            Fired(RoundEnd(1000)),
+            SCORE,
+            AnswersHealth(1, 0, 5),
         ],
-        1,
     ),
     (
         "two nacks of one",
@@ -28,8 +76,11 @@ const COUNTED: &[(&str, &[Step<'static>], u64)] = &[
             Takes(Nack(600, "d", 1)),
             Takes(Nack(610, "d", 1)),
             Takes(Nack(620, "f", 1)),
+            ENDS,
+            Fired(RoundEnd(1000)),
+            SCORE,
+            AnswersHealth(2, 0, 5),
         ],
-        2,
     ),
     (
         "a nack of the target",
@@ -37,8 +88,11 @@ const COUNTED: &[(&str, &[Step<'static>], u64)] = &[
             Takes(Nack(600, "c", 1)),
             Takes(Nack(610, "e", 1)),
             Takes(Nack(620, "f", 1)),
+            ENDS,
+            Fired(RoundEnd(1000)),
+            SCORE,
+            AnswersHealth(2, 0, 5),
         ],
-        2,
     ),
     (
         "a nack of another number",
@@ -46,29 +100,31 @@ const COUNTED: &[(&str, &[Step<'static>], u64)] = &[
             Takes(Nack(600, "d", 2)),
             Takes(Nack(610, "e", 1)),
             Takes(Nack(620, "f", 1)),
+            ENDS,
+            Fired(RoundEnd(1000)),
+            SCORE,
+            AnswersHealth(2, 0, 5),
         ],
-        2,
     ),
 ];
 
+/// The round ends.
+const ENDS: Step<'static> = Takes(First(1000));
+
+/// The score is asked for.
+const SCORE: Step<'static> = Takes(Health(1000));
+
 #[test]
 fn counts_acks_and_nacks(rt: HostRuntime) {
-    for (case, steps, score) in COUNTED {
+    for (case, steps) in COUNTED {
         let mut detector = opened(&rt, rt.alloc());
-        let after = [
-            Takes(First(1000)),
-            Fired(RoundEnd(1000)),
-            Takes(Health(1000)),
-            AnswersHealth(*score, 0, 5),
-        ];
         play_on(&rt, &mut detector, case, ASKED);
         play_on(&rt, &mut detector, case, steps);
-        play_on(&rt, &mut detector, case, &after);
     }
 }
 
 /// An Ack or a Nack that came before its sender was asked doesn't count.
-pub(super) const EARLY: &[Case] = &[
+const EARLY: &[Case] = &[
     (
         "an early Ack",
         &[
@@ -135,7 +191,7 @@ const IN_TIME_AND_LATE: &[Case] = &[
 ];
 
 /// Two probes failed, and of the third two Acks come: the first alone marks the score.
-pub(super) const TWO_ACKS: Case = (
+const TWO_ACKS: Case = (
     "two Acks",
     &[
         Takes(Ping(0, 1, "z", &[Alive("c", 0)])),

@@ -6,41 +6,52 @@ use super::playing::Step::{
     self, Acks, Answers, AnswersHealth, AnswersNothing, Changed, Events, Fired, Known, Next,
     Ousted, Refuses, Sends, Table, Takes,
 };
-use super::playing::{Case, blank, opened, play, play_blank, play_on};
+use super::playing::{Case, blank, play, play_blank, play_on};
 use crate::says::Said::{self, Alive, Failed, Suspect};
-use crate::says::{Member, are_said};
+use crate::says::are_said;
 use arrayvec::ArrayVec;
 use lg_detector::{Detector, MAX_MEMBERS};
 use lg_rules::Record;
 use std::alloc::Global;
 
-/// Whose record is asked for, and what it is.
-const RECORDS: &[(&str, Member, Option<Said>)] = &[
-    ("b itself", "b", Some(Alive("b", 0))),
-    ("c", "c", Some(Alive("c", 0))),
-    ("d", "d", Some(Suspect("d", 2, "a"))),
-    ("a, an accuser", "a", None),
-    ("z", "z", None),
-];
-
-#[test]
-fn answers_questions(rt: HostRuntime) {
-    let mut detector = opened(&rt, rt.alloc());
-    let before = [Takes(Ping(10, 7, "b", &[Alive("c", 0), Suspect("d", 2, "a")]))];
-    play_on(&rt, &mut detector, "before", &before);
-    for (case, member, record) in RECORDS {
-        let steps = [
-            Takes(Ask(20, member)),
-            Answers(*record),
-            Sends(0),
-            Changed(&[]),
-            Next(0),
-            Known(member, *record),
-        ];
-        play_on(&rt, &mut detector, case, &steps);
-    }
-    play_on(&rt, &mut detector, "after", &[Events(7)]);
-}
+/// Whose record is asked for, and what it is: of b itself, c, d, the accuser a, and z.
+const RECORDS: Case = (
+    "five questions",
+    &[
+        Takes(Ping(10, 7, "b", &[Alive("c", 0), Suspect("d", 2, "a")])),
+        Takes(Ask(20, "b")),
+        Answers(Some(Alive("b", 0))),
+        Sends(0),
+        Changed(&[]),
+        Next(0),
+        Known("b", Some(Alive("b", 0))),
+        Takes(Ask(20, "c")),
+        Answers(Some(Alive("c", 0))),
+        Sends(0),
+        Changed(&[]),
+        Next(0),
+        Known("c", Some(Alive("c", 0))),
+        Takes(Ask(20, "d")),
+        Answers(Some(Suspect("d", 2, "a"))),
+        Sends(0),
+        Changed(&[]),
+        Next(0),
+        Known("d", Some(Suspect("d", 2, "a"))),
+        Takes(Ask(20, "a")),
+        Answers(None),
+        Sends(0),
+        Changed(&[]),
+        Next(0),
+        Known("a", None),
+        Takes(Ask(20, "z")),
+        Answers(None),
+        Sends(0),
+        Changed(&[]),
+        Next(0),
+        Known("z", None),
+        Events(7),
+    ],
+);
 
 /// Puts the table into a row and makes one of its own. Returns whether both are these records.
 fn shows(
@@ -98,69 +109,103 @@ fn marks_a_refutation_once(rt: HostRuntime) {
     play_blank(&rt, rt.alloc(), &[REFUTED_ONCE]);
 }
 
-/// Claims in one packet; the score, the own number and the members after it.
-type Asked = (&'static str, &'static [Said], u64, u32, u64);
-
-/// What marks the score, and what doesn't.
-const MARKED: &[Asked] = &[
+/// Claims in one packet, and the score, the own number and the members after it: what marks the score, and what doesn't.
+const MARKED: &[Case] = &[
     (
         "two refutations",
-        &[Suspect("b", 0, "a"), Suspect("b", 1, "a")],
-        2,
-        2,
-        1,
+        &[
+            Takes(Ping(0, 1, "c", &[Suspect("b", 0, "a"), Suspect("b", 1, "a")])),
+            Takes(Health(0)),
+            AnswersHealth(2, 2, 1),
+        ],
     ),
-    ("at a greater number", &[Suspect("b", 7, "a")], 1, 8, 1),
-    ("a number that is raised", &[Alive("b", 3)], 0, 4, 1),
+    (
+        "at a greater number",
+        &[
+            Takes(Ping(0, 1, "c", &[Suspect("b", 7, "a")])),
+            Takes(Health(0)),
+            AnswersHealth(1, 8, 1),
+        ],
+    ),
+    (
+        "a number that is raised",
+        &[
+            Takes(Ping(0, 1, "c", &[Alive("b", 3)])),
+            Takes(Health(0)),
+            AnswersHealth(0, 4, 1),
+        ],
+    ),
     (
         "an accusation of before",
-        &[Alive("b", 3), Suspect("b", 3, "a")],
-        0,
-        4,
-        1,
+        &[
+            Takes(Ping(0, 1, "c", &[Alive("b", 3), Suspect("b", 3, "a")])),
+            Takes(Health(0)),
+            AnswersHealth(0, 4, 1),
+        ],
     ),
-    ("oneself as failed", &[Failed("b", 0)], 0, 0, 1),
+    (
+        "oneself as failed",
+        &[
+            Takes(Ping(0, 1, "c", &[Failed("b", 0)])),
+            Takes(Health(0)),
+            AnswersHealth(0, 0, 1),
+        ],
+    ),
     (
         "beyond refuting",
-        &[Suspect("b", 1_000_000_000, "a")],
-        0,
-        0,
-        1,
+        &[
+            Takes(Ping(0, 1, "c", &[Suspect("b", 1_000_000_000, "a")])),
+            Takes(Health(0)),
+            AnswersHealth(0, 0, 1),
+        ],
     ),
 ];
 
 /// Who counts as a member.
-const COUNTED: &[Asked] = &[
-    ("itself", &[], 0, 0, 1),
-    ("a suspect", &[Suspect("c", 0, "b")], 0, 0, 2),
-    ("one that failed", &[Failed("d", 0)], 0, 0, 1),
+const COUNTED: &[Case] = &[
+    (
+        "itself",
+        &[
+            Takes(Ping(0, 1, "c", &[])),
+            Takes(Health(0)),
+            AnswersHealth(0, 0, 1),
+        ],
+    ),
+    (
+        "a suspect",
+        &[
+            Takes(Ping(0, 1, "c", &[Suspect("c", 0, "b")])),
+            Takes(Health(0)),
+            AnswersHealth(0, 0, 2),
+        ],
+    ),
+    (
+        "one that failed",
+        &[
+            Takes(Ping(0, 1, "c", &[Failed("d", 0)])),
+            Takes(Health(0)),
+            AnswersHealth(0, 0, 1),
+        ],
+    ),
     (
         "all kinds",
         &[
-            Alive("a", 0),
-            Failed("d", 0),
-            Suspect("c", 0, "b"),
-            Alive("d", 1),
+            Takes(Ping(
+                0,
+                1,
+                "c",
+                &[
+                    Alive("a", 0),
+                    Failed("d", 0),
+                    Suspect("c", 0, "b"),
+                    Alive("d", 1),
+                ],
+            )),
+            Takes(Health(0)),
+            AnswersHealth(0, 0, 3),
         ],
-        0,
-        0,
-        3,
     ),
 ];
-
-#[test]
-fn answers_the_health(rt: HostRuntime) {
-    for rows in [MARKED, COUNTED] {
-        for (case, said, score, number, members) in rows {
-            let steps = [
-                Takes(Ping(0, 1, "c", said)),
-                Takes(Health(0)),
-                AnswersHealth(*score, *number, *members),
-            ];
-            play_on(&rt, &mut opened(&rt, rt.alloc()), case, &steps);
-        }
-    }
-}
 
 /// The greatest score, the refutations, one a packet, the score then, and when the next round starts.
 const HELD: &[(&str, u64, u32, u64, u64)] = &[
@@ -212,7 +257,12 @@ const TWO_DUE: Case = (
     ],
 );
 
+/// Each case of questions to a b that is open.
+const PLAYED: &[&[Case]] = &[&[RECORDS], MARKED, COUNTED, &[TWO_DUE]];
+
 #[test]
-fn asking_changes_nothing(rt: HostRuntime) {
-    play(&rt, rt.alloc(), &[TWO_DUE]);
+fn answers(rt: HostRuntime) {
+    for cases in PLAYED {
+        play(&rt, rt.alloc(), cases);
+    }
 }

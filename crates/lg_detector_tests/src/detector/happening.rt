@@ -124,16 +124,21 @@ fn config_of(settings: &[Setting]) -> Config {
     config
 }
 
+/// A packet of a member, with the first six of some claims.
+pub(crate) fn packet_of(sender: Member, says: &Says, said: &[Said]) -> Packet {
+    Packet {
+        sender: named(sender),
+        body: body_of(says),
+        claims: claims_of(said),
+    }
+}
+
 /// A packet of a member that comes from a port.
 fn heard(now: u64, sender: Member, port: u16, says: &Says, said: &[Said]) -> Event {
     Event::Heard {
         now: at(now),
         source: local(port),
-        packet: Packet {
-            sender: named(sender),
-            body: body_of(says),
-            claims: claims_of(said),
-        },
+        packet: packet_of(sender, says, said),
     }
 }
 

@@ -7,7 +7,7 @@ use super::playing::Step::{
     Tells,
 };
 use super::playing::{Case, opened, play, play_blank, play_on};
-use crate::says::Said::{self, Accused, Alive, Failed, Suspect, SuspectAt};
+use crate::says::Said::{Accused, Alive, Failed, Suspect, SuspectAt};
 
 /// A Ping for another isn't acked, and an Ack isn't either. What both said is gossiped.
 const GOSSIP: &[Case] = &[
@@ -90,7 +90,7 @@ const SIX_CLAIMS: Case = (
 );
 
 /// Of two accusations of one number the first alone is refuted. Who is ousted stays so.
-pub(super) const REFUTED: &[Case] = &[
+const REFUTED: &[Case] = &[
     (
         "two accusations of one number",
         &[
@@ -114,76 +114,89 @@ pub(super) const REFUTED: &[Case] = &[
 ];
 
 /// A claim about b, whose number is 0, in a Ping; its record then, what changes and is sent of it, and whether it is
-/// ousted.
-type Heard = (&'static str, Said, &'static [Said], &'static [Said], bool);
-
-/// Claims by which b raises its number, and claims by which the number stays.
-const OF_ITSELF: &[Heard] = &[
+/// ousted. By the first four claims b raises its number, and by the others the number stays.
+const OF_ITSELF: &[Case] = &[
     (
         "alive",
-        Alive("b", 3),
-        &[Alive("b", 4)],
-        &[Alive("b", 4)],
-        false,
+        &[
+            Takes(Ping(0, 1, "b", &[Alive("b", 3)])),
+            Known("b", Some(Alive("b", 4))),
+            Changed(&[Alive("b", 4)]),
+            Ousted(false),
+            Acks(1, &[Alive("b", 4)]),
+        ],
     ),
     (
         "suspected by itself",
-        Suspect("b", 0, "b"),
-        &[Alive("b", 1)],
-        &[Alive("b", 1)],
-        false,
+        &[
+            Takes(Ping(0, 1, "b", &[Suspect("b", 0, "b")])),
+            Known("b", Some(Alive("b", 1))),
+            Changed(&[Alive("b", 1)]),
+            Ousted(false),
+            Acks(1, &[Alive("b", 1)]),
+        ],
     ),
     (
         "at a greater number",
-        Suspect("b", 7, "a"),
-        &[Alive("b", 8)],
-        &[Alive("b", 8)],
-        false,
+        &[
+            Takes(Ping(0, 1, "b", &[Suspect("b", 7, "a")])),
+            Known("b", Some(Alive("b", 8))),
+            Changed(&[Alive("b", 8)]),
+            Ousted(false),
+            Acks(1, &[Alive("b", 8)]),
+        ],
     ),
     (
         "at the last but one",
-        Suspect("b", 999_999_999, "a"),
-        &[Alive("b", 1_000_000_000)],
-        &[Alive("b", 1_000_000_000)],
-        false,
+        &[
+            Takes(Ping(0, 1, "b", &[Suspect("b", 999_999_999, "a")])),
+            Known("b", Some(Alive("b", 1_000_000_000))),
+            Changed(&[Alive("b", 1_000_000_000)]),
+            Ousted(false),
+            Acks(1, &[Alive("b", 1_000_000_000)]),
+        ],
     ),
     (
         "alive at its number",
-        Alive("b", 0),
-        &[Alive("b", 0)],
-        &[],
-        false,
+        &[
+            Takes(Ping(0, 1, "b", &[Alive("b", 0)])),
+            Known("b", Some(Alive("b", 0))),
+            Changed(&[]),
+            Ousted(false),
+            Acks(1, &[]),
+        ],
     ),
     (
         "alive at the last number",
-        Alive("b", 1_000_000_000),
-        &[Alive("b", 0)],
-        &[],
-        true,
+        &[
+            Takes(Ping(0, 1, "b", &[Alive("b", 1_000_000_000)])),
+            Known("b", Some(Alive("b", 0))),
+            Changed(&[]),
+            Ousted(true),
+            Acks(1, &[]),
+        ],
     ),
     (
         "suspected at it",
-        Suspect("b", 1_000_000_000, "a"),
-        &[Alive("b", 0)],
-        &[],
-        true,
+        &[
+            Takes(Ping(0, 1, "b", &[Suspect("b", 1_000_000_000, "a")])),
+            Known("b", Some(Alive("b", 0))),
+            Changed(&[]),
+            Ousted(true),
+            Acks(1, &[]),
+        ],
     ),
-    ("failed", Failed("b", 0), &[Alive("b", 0)], &[], true),
+    (
+        "failed",
+        &[
+            Takes(Ping(0, 1, "b", &[Failed("b", 0)])),
+            Known("b", Some(Alive("b", 0))),
+            Changed(&[]),
+            Ousted(true),
+            Acks(1, &[]),
+        ],
+    ),
 ];
-
-#[test]
-fn raises_or_keeps_its_number(rt: HostRuntime) {
-    for (case, said, record, changed, ousted) in OF_ITSELF {
-        let steps = [
-            Takes(Ping(0, 1, "b", &[*said])),
-            Known("b", record.first().copied()),
-            Changed(changed),
-            Ousted(*ousted),
-            Acks(1, changed),
-        ];
-        play_on(&rt, &mut opened(&rt, rt.alloc()), case, &steps);
-    }
-}
 
 /// a, d and e are known.
 const OTHERS: Step<'static> = Hears(0, &[Alive("a", 0), Alive("d", 0), Alive("e", 0)]);
@@ -218,7 +231,7 @@ fn a_flood_of_accusers(rt: HostRuntime) {
 }
 
 /// An accusation is sent as it was heard; the record stays as the first one made it, and fails at its address.
-pub(super) const TWO_ADDRESSES: Case = (
+const TWO_ADDRESSES: Case = (
     "accused at two addresses",
     &[
         OTHERS,
@@ -235,7 +248,7 @@ pub(super) const TWO_ADDRESSES: Case = (
 );
 
 /// Each case of packets on a b that is open.
-const PLAYED: &[&[Case]] = &[GOSSIP, &[SIX_CLAIMS], REFUTED, &[TWO_ADDRESSES]];
+const PLAYED: &[&[Case]] = &[GOSSIP, &[SIX_CLAIMS], REFUTED, OF_ITSELF, &[TWO_ADDRESSES]];
 
 #[test]
 fn hears_packets(rt: HostRuntime) {

@@ -2,8 +2,8 @@
 use super::happening::Happens::{From, Ping, Pull};
 use super::happening::Says::{Page, PullAfter, PullFirst};
 use super::playing::Due::Nothing;
-use super::playing::Step::{Acks, Changed, Fired, Hears, Known, Next, Sends, Sent, Takes};
-use super::playing::{Case, opened, play, play_on};
+use super::playing::Step::{self, Acks, Changed, Fired, Hears, Known, Next, Sends, Sent, Takes};
+use super::playing::{Case, play};
 use crate::says::Said::{Alive, Failed, Suspect};
 
 /// b asks the member at port 7002 for its first records, and tells of itself.
@@ -24,7 +24,7 @@ const ASKS: Case = (
 );
 
 /// b answers by a Page with the next records, six at most, after the claims of the Pull were said.
-pub(super) const ANSWERS: &[Case] = &[
+const ANSWERS: &[Case] = &[
     (
         "four members",
         &[
@@ -154,31 +154,51 @@ const PAGES: Case = (
     ],
 );
 
-/// c is queued once, and may be sent four times among two members: what is asked, answered and heard of a table takes
-/// nothing of that.
-#[test]
-fn takes_nothing_of_the_queue(rt: HostRuntime) {
-    let mut b = opened(&rt, rt.alloc());
-    let known = [Takes(Ping(0, 1, "z", &[Alive("c", 0)]))];
-    play_on(&rt, &mut b, "c is known", &known);
-    let joining = [
-        Takes(Pull(0)),
-        Takes(From(0, "a", 1, PullFirst, &[])),
-        Takes(From(0, "a", 1, Page, &[])),
-    ];
-    for _ in 0..5 {
-        play_on(&rt, &mut b, "joining", &joining);
-    }
-    let acked = [Takes(Ping(0, 2, "b", &[])), Acks(2, &[Alive("c", 0)])];
-    for _ in 0..4 {
-        play_on(&rt, &mut b, "an Ack", &acked);
-    }
-    let last = [Takes(Ping(0, 2, "b", &[])), Acks(2, &[])];
-    play_on(&rt, &mut b, "the fifth Ack", &last);
-}
+/// b asks for a table, is asked for one, is handed a Page, and is pinged.
+const PULLS: Step<'static> = Takes(Pull(0));
+
+const IS_PULLED: Step<'static> = Takes(From(0, "a", 1, PullFirst, &[]));
+
+const IS_PAGED: Step<'static> = Takes(From(0, "a", 1, Page, &[]));
+
+const IS_PINGED: Step<'static> = Takes(Ping(0, 2, "b", &[]));
+
+/// c is queued once, and may be sent four times among two members: what is asked, answered and heard of a table, five
+/// times, takes nothing of that.
+const QUEUED: Case = (
+    "c is sent four times",
+    &[
+        Takes(Ping(0, 1, "z", &[Alive("c", 0)])),
+        PULLS,
+        IS_PULLED,
+        IS_PAGED,
+        PULLS,
+        IS_PULLED,
+        IS_PAGED,
+        PULLS,
+        IS_PULLED,
+        IS_PAGED,
+        PULLS,
+        IS_PULLED,
+        IS_PAGED,
+        PULLS,
+        IS_PULLED,
+        IS_PAGED,
+        IS_PINGED,
+        Acks(2, &[Alive("c", 0)]),
+        IS_PINGED,
+        Acks(2, &[Alive("c", 0)]),
+        IS_PINGED,
+        Acks(2, &[Alive("c", 0)]),
+        IS_PINGED,
+        Acks(2, &[Alive("c", 0)]),
+        IS_PINGED,
+        Acks(2, &[]),
+    ],
+);
 
 /// Each case of Pulls and Pages.
-const PLAYED: &[&[Case]] = &[&[ASKS], ANSWERS, &[PAGES]];
+const PLAYED: &[&[Case]] = &[&[ASKS], ANSWERS, &[PAGES, QUEUED]];
 
 #[test]
 fn joins(rt: HostRuntime) {

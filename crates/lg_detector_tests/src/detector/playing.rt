@@ -1,6 +1,7 @@
 //! Steps played on a detector. A case is a list of steps, all of them plain data, and the one assert stands here alone:
 //! each assert is a branch that the check proves. Its message names the case and the step, counted from 0.
 use super::happening::{Happens, Says, body_of, event_of};
+use super::resuming::resume_each;
 use crate::says::{Member, Said, are_said, claim_of, is_said, named};
 use arrayvec::ArrayVec;
 use lg_detector::{Answer, Detector, Event, MAX_MEMBERS, Outgoing, Reply, Timer, TimerId};
@@ -80,7 +81,7 @@ pub(crate) enum Step<'a> {
 }
 
 /// The timer that is due.
-fn timer_of(due: &Due) -> Option<Timer> {
+pub(crate) fn timer_of(due: &Due) -> Option<Timer> {
     let (deadline, id) = match due {
         Due::Nothing => return None,
         Due::RoundStart(deadline) => (*deadline, TimerId::RoundStart),
@@ -248,9 +249,10 @@ pub(super) fn play_blank(rt: &impl Abort, alloc: Global, cases: &[Case]) {
     }
 }
 
-/// Plays each case on a b of its own, opened at 0.
+/// Plays each case on a b of its own, opened at 0, and then resumes such a b at each of its places.
 pub(super) fn play(rt: &impl Abort, alloc: Global, cases: &[Case]) {
     for (case, steps) in cases {
         play_on(rt, &mut opened(rt, alloc), case, steps);
     }
+    resume_each(rt, alloc, &Some(Happens::Opens(0, &[])), cases);
 }

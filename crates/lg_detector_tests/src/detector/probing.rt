@@ -27,7 +27,7 @@ pub(super) const ASKED: &[Step<'static>] = &[
 ];
 
 /// c, which is suspected by d, is probed. Nobody can help, and once c has failed, nobody is left to be chosen.
-pub(super) const A_SUSPECT: &[Case] = &[
+const A_SUSPECT: &[Case] = &[
     (
         "c is suspected at 2000",
         &[
@@ -63,7 +63,7 @@ pub(super) const A_SUSPECT: &[Case] = &[
 ];
 
 /// b suspects a member that doesn't ack, and pings it with that record next.
-pub(super) const NO_ACK: Case = (
+const NO_ACK: Case = (
     "c",
     &[
         Takes(Ping(0, 1, "z", &[Alive("c", 0)])),
@@ -85,7 +85,7 @@ pub(super) const NO_ACK: Case = (
 
 /// Each word picks one of the helpers that are left, in the order of names: f, d and then e. Of two others d, which is
 /// suspected, helps; e, which has failed, doesn't.
-pub(super) const HELPERS: &[Case] = &[
+const HELPERS: &[Case] = &[
     (
         "three helpers",
         &[
@@ -184,7 +184,7 @@ const J: Said = Alive("j", 0);
 
 /// Each packet of a reply takes those claims that were sent least, by the packets before it too. A Ping goes to the
 /// address of the record.
-pub(super) const FILLED: &[Case] = &[
+const FILLED: &[Case] = &[
     (
         "eight claims",
         &[
@@ -212,7 +212,7 @@ pub(super) const FILLED: &[Case] = &[
 /// The timers of a round stand as they were set at its start, whatever becomes of the score meanwhile: the two
 /// refutations and the probe that failed make 3. The greatest score stays what it is, where a probe fails and a helper
 /// sends no Nack.
-pub(super) const SCORES: &[Case] = &[
+const SCORES: &[Case] = &[
     (
         "two refutations",
         &[
@@ -268,7 +268,7 @@ pub(super) const SCORES: &[Case] = &[
 
 /// A target that has failed meanwhile: its Ack counts, and where none comes, the round marks and nobody is suspected.
 /// A helper that has failed meanwhile: its Ack counts.
-pub(super) const TARGET_FAILED: &[Case] = &[
+const TARGET_FAILED: &[Case] = &[
     (
         "an Ack",
         &[
@@ -321,7 +321,7 @@ pub(super) const TARGET_FAILED: &[Case] = &[
 
 /// A member that joins in the middle of a round is a candidate at once, and one that failed is none. Then nobody is
 /// left, so the next round begins.
-pub(super) const IN_TURN: Case = (
+const IN_TURN: Case = (
     "c, e and then d",
     &[
         Takes(Ping(0, 1, "z", &[Alive("c", 0), Alive("e", 0)])),

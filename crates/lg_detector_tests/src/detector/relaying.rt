@@ -9,7 +9,7 @@ use super::playing::{Case, opened, play, play_on};
 use crate::says::Said::{Alive, Suspect};
 
 /// The Ping is sent for a: nobody is chosen by it. An Ack after the Nack is passed on all the same.
-pub(super) const NACKED: Case = (
+const NACKED: Case = (
     "a relay and its Nack",
     &[
         Takes(From(510, "a", 7001, Request(1, "c", 7003), &[])),
@@ -32,7 +32,7 @@ pub(super) const NACKED: Case = (
 );
 
 /// Another than the target, and another number, do nothing; nor does the target once the relay has ended.
-pub(super) const ENDED: Case = (
+const ENDED: Case = (
     "no Ack",
     &[
         Takes(Tick(0)),
@@ -53,7 +53,7 @@ pub(super) const ENDED: Case = (
 );
 
 /// An Ack in time cancels both timers of the relay, from whatever port it comes. A second one isn't passed on.
-pub(super) const ACKED: Case = (
+const ACKED: Case = (
     "an Ack in time",
     &[
         Takes(Tick(0)),
@@ -86,7 +86,7 @@ const UNSCALED: Case = (
 );
 
 /// Probes and relays are numbered together.
-pub(super) const NUMBERED: Case = (
+const NUMBERED: Case = (
     "two probes and a relay",
     &[
         Takes(Ping(0, 1, "z", &[Alive("c", 0)])),
@@ -153,7 +153,7 @@ fn refuses_beyond_64(rt: HostRuntime) {
 
 /// A relay is opened at the latest moment that was handed in, where that of its request is earlier. Its target's Ack is
 /// passed on at any moment.
-pub(super) const OUT_OF_ORDER: Case = (
+const OUT_OF_ORDER: Case = (
     "moments out of order",
     &[
         Takes(Tick(0)),

@@ -1,5 +1,6 @@
 //! Detectors that go on from a summary. Wherever among the events of a play the summary is taken, the detector that is
-//! resumed from it replies from there on as the one that all the events happened to.
+//! resumed from it replies from there on as the one that all the events happened to. So does each play of a b that is
+//! opened at 0.
 mod scripts;
 
 use super::comparing::{is_same_reply, is_same_state};
@@ -8,7 +9,6 @@ use super::happening::{Says, event_of};
 use super::playing::Due::{Direct, RoundEnd, Suspicion};
 use super::playing::Step::{self, Acks, Changed, Fired, Hears, Next, Refuses, Sent, Takes, Ticks};
 use super::playing::{Case, blank, play, play_blank, play_on, takes};
-use super::{acks, hear, joining, probing, relaying, tick};
 use crate::says::Said::{Alive, Failed, Suspect};
 use lg_detector::{Detector, Event, NoMemory, Reply};
 use scripts::SCRIPTS;
@@ -51,34 +51,6 @@ const ONE_AFTER_ANOTHER: &[Case] = &[
     ),
 ];
 
-/// Plays of b, opened at 0, in which it probes.
-const PROBES: &[&[Case]] = &[
-    probing::A_SUSPECT,
-    &[probing::NO_ACK, probing::IN_TURN],
-    probing::HELPERS,
-    probing::FILLED,
-    probing::SCORES,
-    probing::TARGET_FAILED,
-];
-
-/// Plays in which packets come that answer, or that are handed on.
-const ANSWERS: &[&[Case]] = &[
-    acks::EARLY,
-    &[acks::TWO_ACKS],
-    &[relaying::NACKED, relaying::ENDED, relaying::ACKED],
-    &[relaying::NUMBERED, relaying::OUT_OF_ORDER],
-    joining::ANSWERS,
-];
-
-/// Plays of claims and of suspicions.
-const CLAIMS: &[&[Case]] = &[
-    ONE_AFTER_ANOTHER,
-    &[tick::FIVE_AT_ONCE],
-    tick::ENDED,
-    hear::REFUTED,
-    &[hear::TWO_ADDRESSES],
-];
-
 /// What happens in a step. What is heard in several Pings comes in one here.
 fn happens_in<'a>(step: &Step<'a>) -> Option<Happens<'a>> {
     match step {
@@ -91,7 +63,7 @@ fn happens_in<'a>(step: &Step<'a>) -> Option<Happens<'a>> {
 }
 
 /// What happens before any step of a play.
-type Opening = Option<Happens<'static>>;
+pub(super) type Opening = Option<Happens<'static>>;
 
 /// A detector after the opening and the first steps.
 fn before(
@@ -157,7 +129,7 @@ fn goes_on(
 }
 
 /// Resumes detectors at each place of each case.
-fn resume_each(rt: &impl Abort, alloc: Global, opening: &Opening, cases: &[Case]) {
+pub(super) fn resume_each(rt: &impl Abort, alloc: Global, opening: &Opening, cases: &[Case]) {
     for (case, steps) in cases {
         for place in 0..=steps.len() {
             let alike = goes_on(rt, alloc, opening, steps, place);
@@ -166,27 +138,9 @@ fn resume_each(rt: &impl Abort, alloc: Global, opening: &Opening, cases: &[Case]
     }
 }
 
-/// Resumes detectors at each place of each play of b.
-fn resume_all(rt: &impl Abort, alloc: Global, plays: &[&[Case]]) {
-    for cases in plays {
-        resume_each(rt, alloc, &Some(Opens(0, &[])), cases);
-    }
-}
-
 #[test]
-fn goes_on_wherever_it_probes(rt: HostRuntime) {
-    resume_all(&rt, rt.alloc(), PROBES);
-}
-
-#[test]
-fn goes_on_wherever_it_is_answered(rt: HostRuntime) {
-    resume_all(&rt, rt.alloc(), ANSWERS);
-}
-
-#[test]
-fn goes_on_wherever_it_hears_claims(rt: HostRuntime) {
+fn goes_on_as_accusers_and_acks_come(rt: HostRuntime) {
     play(&rt, rt.alloc(), ONE_AFTER_ANOTHER);
-    resume_all(&rt, rt.alloc(), CLAIMS);
 }
 
 #[test]

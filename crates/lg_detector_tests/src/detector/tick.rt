@@ -2,7 +2,7 @@
 use super::happening::Happens::{Ask, Health, Opens, Ping, Tick};
 use super::playing::Due::{Direct, Nothing, RoundEnd, RoundStart, Suspicion};
 use super::playing::Step::{self, Events, Fired, Hears, Known, Next, Sends, Table, Takes, Ticks};
-use super::playing::{Case, opened, play, play_blank, play_on};
+use super::playing::{Case, play, play_blank};
 use crate::says::Said::{self, Alive, Failed, Suspect};
 
 /// Nothing fires before the deadline.
@@ -36,7 +36,7 @@ const THREE_DUE: Case = (
 
 /// The end of a round fires before suspicions, these before the start of a round, and among them a name before those
 /// that it begins. Two helpers sent no Nack, so the score is 2 at the start.
-pub(super) const FIVE_AT_ONCE: Case = (
+const FIVE_AT_ONCE: Case = (
     "five timers at 5000",
     &[
         Takes(Ping(
@@ -119,88 +119,207 @@ const BY_E: Said = Suspect("c", 0, "e");
 
 const BY_Z: Said = Suspect("c", 0, "z");
 
-/// What is said at 2000, each claim in a Ping of its own, and the deadline of c's suspicion, which no score scales.
-const ACCUSED: &[(&str, &[Said], u64)] = &[
-    ("d", &[BY_D], 32_000),
-    ("d, at a score of 1", &[Suspect("b", 0, "a"), BY_D], 32_000),
-    ("d again", &[BY_D, BY_D], 32_000),
-    ("then e", &[BY_D, BY_D, BY_E], 19_500),
-    ("then a", &[BY_D, BY_D, BY_E, BY_A], 12_200),
-    ("then z, a stranger", &[BY_D, BY_D, BY_E, BY_A, BY_Z], 7000),
-    ("one more", &[BY_D, BY_E, BY_A, BY_Z, BY_B], 7000),
-    ("in another order", &[BY_Z, BY_E, BY_D, BY_A], 7000),
-    ("c itself", &[BY_D, BY_C], 19_500),
+/// A tick after the deadline of each suspicion.
+const LATE: Step<'static> = Takes(Tick(40_000));
+
+/// What is said at 2000, each claim in a Ping of its own, and the deadline of c's suspicion, which no score scales. Once
+/// the first round-start has fired, it is the next deadline.
+const ACCUSED: &[Case] = &[
+    ("d", &[OTHERS, Hears(2000, &[BY_D]), LATE, Next(32_000)]),
+    (
+        "d, at a score of 1",
+        &[
+            OTHERS,
+            Hears(2000, &[Suspect("b", 0, "a"), BY_D]),
+            LATE,
+            Next(32_000),
+        ],
+    ),
+    (
+        "d again",
+        &[OTHERS, Hears(2000, &[BY_D, BY_D]), LATE, Next(32_000)],
+    ),
+    (
+        "then e",
+        &[OTHERS, Hears(2000, &[BY_D, BY_D, BY_E]), LATE, Next(19_500)],
+    ),
+    (
+        "then a",
+        &[
+            OTHERS,
+            Hears(2000, &[BY_D, BY_D, BY_E, BY_A]),
+            LATE,
+            Next(12_200),
+        ],
+    ),
+    (
+        "then z, a stranger",
+        &[
+            OTHERS,
+            Hears(2000, &[BY_D, BY_D, BY_E, BY_A, BY_Z]),
+            LATE,
+            Next(7000),
+        ],
+    ),
+    (
+        "one more",
+        &[
+            OTHERS,
+            Hears(2000, &[BY_D, BY_E, BY_A, BY_Z, BY_B]),
+            LATE,
+            Next(7000),
+        ],
+    ),
+    (
+        "in another order",
+        &[
+            OTHERS,
+            Hears(2000, &[BY_Z, BY_E, BY_D, BY_A]),
+            LATE,
+            Next(7000),
+        ],
+    ),
+    (
+        "c itself",
+        &[OTHERS, Hears(2000, &[BY_D, BY_C]), LATE, Next(19_500)],
+    ),
 ];
 
-/// Once the first round-start has fired, the next deadline is that of the suspicion.
-#[test]
-fn accusers_bring_the_deadline_nearer(rt: HostRuntime) {
-    for (case, said, deadline) in ACCUSED {
-        let steps = [
-            OTHERS,
-            Hears(2000, said),
-            Takes(Tick(40_000)),
-            Next(*deadline),
-        ];
-        play_on(&rt, &mut opened(&rt, rt.alloc()), case, &steps);
-    }
-}
+/// c is suspected by d and e at 2000, among five.
+const BY_TWO: Step<'static> = Takes(Ping(
+    2000,
+    1,
+    "z",
+    &[Suspect("c", 1, "d"), Suspect("c", 1, "e")],
+));
 
-/// What is said at 3000 of c, which d and e suspected at 2000 among five, and the suspicion's deadline then. It is
-/// 40,500, when helpers are asked, where there is no suspicion.
-const THEN_SAID: &[(&str, &[Said], u64)] = &[
-    ("nothing", &[], 19_500),
-    ("a lesser accusation", &[Suspect("c", 0, "a")], 19_500),
-    ("alive at the same number", &[Alive("c", 1)], 19_500),
-    ("a greater accusation", &[Suspect("c", 2, "f")], 33_000),
+/// What is said at 3000 of c, which d and e suspected at 2000 among five, and the suspicion's deadline then. Once the
+/// first round-start has fired, it is the next deadline; 40,500, when helpers are asked, where there is no suspicion.
+const THEN_SAID: &[Case] = &[
+    (
+        "nothing",
+        &[
+            OTHERS,
+            BY_TWO,
+            Takes(Ping(3000, 1, "z", &[])),
+            LATE,
+            Next(19_500),
+            LATE,
+            Fired(Suspicion(19_500, "c")),
+        ],
+    ),
+    (
+        "a lesser accusation",
+        &[
+            OTHERS,
+            BY_TWO,
+            Takes(Ping(3000, 1, "z", &[Suspect("c", 0, "a")])),
+            LATE,
+            Next(19_500),
+            LATE,
+            Fired(Suspicion(19_500, "c")),
+        ],
+    ),
+    (
+        "alive at the same number",
+        &[
+            OTHERS,
+            BY_TWO,
+            Takes(Ping(3000, 1, "z", &[Alive("c", 1)])),
+            LATE,
+            Next(19_500),
+            LATE,
+            Fired(Suspicion(19_500, "c")),
+        ],
+    ),
+    (
+        "a greater accusation",
+        &[
+            OTHERS,
+            BY_TWO,
+            Takes(Ping(3000, 1, "z", &[Suspect("c", 2, "f")])),
+            LATE,
+            Next(33_000),
+            LATE,
+            Fired(Suspicion(33_000, "c")),
+        ],
+    ),
     (
         "and its confirmation",
-        &[Suspect("c", 2, "f"), Suspect("c", 2, "d")],
-        20_500,
+        &[
+            OTHERS,
+            BY_TWO,
+            Takes(Ping(3000, 1, "z", &[Suspect("c", 2, "f"), Suspect("c", 2, "d")])),
+            LATE,
+            Next(20_500),
+            LATE,
+            Fired(Suspicion(20_500, "c")),
+        ],
     ),
     (
         "and an old accusation",
-        &[Suspect("c", 2, "f"), Suspect("c", 1, "a")],
-        33_000,
+        &[
+            OTHERS,
+            BY_TWO,
+            Takes(Ping(3000, 1, "z", &[Suspect("c", 2, "f"), Suspect("c", 1, "a")])),
+            LATE,
+            Next(33_000),
+            LATE,
+            Fired(Suspicion(33_000, "c")),
+        ],
     ),
-    ("alive", &[Alive("c", 2)], 40_500),
+    (
+        "alive",
+        &[
+            OTHERS,
+            BY_TWO,
+            Takes(Ping(3000, 1, "z", &[Alive("c", 2)])),
+            LATE,
+            Next(40_500),
+            LATE,
+            Fired(Nothing),
+        ],
+    ),
     (
         "alive, and suspected again",
-        &[Alive("c", 2), Suspect("c", 2, "d")],
-        33_000,
+        &[
+            OTHERS,
+            BY_TWO,
+            Takes(Ping(3000, 1, "z", &[Alive("c", 2), Suspect("c", 2, "d")])),
+            LATE,
+            Next(33_000),
+            LATE,
+            Fired(Suspicion(33_000, "c")),
+        ],
     ),
-    ("failed", &[Failed("c", 0)], 40_500),
+    (
+        "failed",
+        &[
+            OTHERS,
+            BY_TWO,
+            Takes(Ping(3000, 1, "z", &[Failed("c", 0)])),
+            LATE,
+            Next(40_500),
+            LATE,
+            Fired(Nothing),
+        ],
+    ),
     (
         "failed, and suspected",
-        &[Failed("c", 0), Suspect("c", 2, "d")],
-        40_500,
+        &[
+            OTHERS,
+            BY_TWO,
+            Takes(Ping(3000, 1, "z", &[Failed("c", 0), Suspect("c", 2, "d")])),
+            LATE,
+            Next(40_500),
+            LATE,
+            Fired(Nothing),
+        ],
     ),
 ];
 
-/// Once the first round-start has fired, the next deadline is that of the suspicion, or that of asking helpers.
-#[test]
-fn claims_renew_or_end_a_suspicion(rt: HostRuntime) {
-    for (case, said, deadline) in THEN_SAID {
-        let fired = match *deadline {
-            40_500 => Nothing,
-            due => Suspicion(due, "c"),
-        };
-        let accused = [Suspect("c", 1, "d"), Suspect("c", 1, "e")];
-        let steps = [
-            OTHERS,
-            Takes(Ping(2000, 1, "z", &accused)),
-            Takes(Ping(3000, 1, "z", said)),
-            Takes(Tick(40_000)),
-            Next(*deadline),
-            Takes(Tick(40_000)),
-            Fired(fired),
-        ];
-        play_on(&rt, &mut opened(&rt, rt.alloc()), case, &steps);
-    }
-}
-
 /// No tick fires a suspicion that was ended by a claim: the next deadline is that of the round.
-pub(super) const ENDED: &[Case] = &[
+const ENDED: &[Case] = &[
     (
         "alive",
         &[
@@ -226,7 +345,14 @@ pub(super) const ENDED: &[Case] = &[
 ];
 
 /// Each case of ticks on a b that is open.
-const PLAYED: &[&[Case]] = &[&[IDLE], &[THREE_DUE, FIVE_AT_ONCE], &[SCALED], ENDED];
+const PLAYED: &[&[Case]] = &[
+    &[IDLE],
+    &[THREE_DUE, FIVE_AT_ONCE],
+    &[SCALED],
+    ACCUSED,
+    THEN_SAID,
+    ENDED,
+];
 
 #[test]
 fn fires_timers(rt: HostRuntime) {
