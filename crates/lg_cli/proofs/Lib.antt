@@ -1,1 +1,3 @@
 pub mod CommandLaws
+pub mod LineLaws
+pub mod Promises

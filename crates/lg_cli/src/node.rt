@@ -3,9 +3,10 @@ ghost use Rattle.std.specs.Prelude.{◌≡◌, ◌≤◌, ◌⊎◌, [], map};
 ghost use Rattle.lg_cli.specs.Meaning.Commands.{asked, line_faults, IfNode};
 ghost use Rattle.lg_commands.specs.Meaning.Running.{FailsBy};
 ghost use Rattle.lg_launch.specs.Meaning.Running.{RunsFile};
+ghost use Rattle.lg_cli.specs.Meaning.Running.{streams, RunsLine};
 
 use crate::command::{Asked, MAX_RUN_MS, read_words};
-use crate::program::{report_refusal, run_words};
+use crate::program::{report_refusal, run_asked};
 use lg_commands::FAILED;
 use lg_launch::run_file;
 use lg_timing::Moment;
@@ -18,8 +19,9 @@ use std::rt::Files;
 use std::sync::Wait;
 use std::thread::Threads;
 
-/// Runs the program as [`run_words`] does, and `node` as well: that one reads its file, takes sockets, a clock and
-/// threads of the machine `rt`, writes its members, and tells its end, as [`run_file`](lg_launch::run_file) says.
+/// Runs the program as [`run_words`](crate::program::run_words) does, and `node` as well: that one reads its file, takes
+/// sockets, a clock and threads of the machine `rt`, writes its members, and tells its end, as
+/// [`run_file`](lg_launch::run_file) says.
 pub fn run_words_with<M, S, R, W, F>(
     rt: &M,
     alloc: Global,
@@ -34,7 +36,12 @@ where
     R: Read,
     W: Write,
     F: Write,
-    // A command line that is taken and asks for `node` runs it, unless memory was refused for reading the line.
+    // A command line that is taken runs its command, any other is refused or asks for help.
+    ensures runs { RunsLine
+        (streams reader.old (R.remaining reader.old) writer.old (W.contents writer.old) (F.contents faults.old))
+        (streams reader.new (R.remaining reader.new) writer.new (W.contents writer.new) (F.contents faults.new))
+        (map S.text words.now) result }
+    // `node` is run as well, unless memory was refused for reading the line.
     ensures ran { let line = map S.text words.now in line_faults line ≡ [] → IfNode (asked line) (λ _ for_ms.
         RunsFile writer.old writer.new (W.contents writer.old) (W.contents writer.new)
         (F.contents faults.old) (F.contents faults.new) for_ms result
@@ -43,9 +50,7 @@ where
 {
     match read_words(alloc, words) {
         Ok(Asked::Node { file, for_ms }) => launch(rt, alloc, file, for_ms, writer, faults),
-        Ok(Asked::Answer { .. } | Asked::Order { .. } | Asked::Sim | Asked::Timeouts { .. }) => {
-            run_words(alloc, words, reader, writer, faults)
-        }
+        Ok(asked) => run_asked(alloc, asked, reader, writer, faults),
         Err(error) => report_refusal(&error, writer, faults),
     }
 }

@@ -1,16 +1,15 @@
 //! The program over any reader and writers: its commands, its statuses, and what it says of faults.
-ghost use Rattle.std.specs.Prelude.{◌≡◌, ◌≢◌, ◌⊎◌, IfOk, [], map, true};
-ghost use Rattle.std.specs.Result.{is_err};
+ghost use Rattle.std.specs.Prelude.{◌≡◌, ◌≢◌, ◌⊎◌, [], map, true};
 ghost use Rattle.std.specs.IoError.{error_kind};
 ghost use Rattle.clap.specs.Values.{kind_of};
-ghost use Rattle.lg_rules.specs.Meaning.Name.{name_of_text};
 ghost use Rattle.lg_text.specs.Meaning.Faults.{run_fault_text};
-ghost use Rattle.lg_text.specs.Meaning.Running.{ReadsWhole};
-ghost use Rattle.lg_commands.specs.Meaning.Choosing.{order_text};
-ghost use Rattle.lg_commands.specs.Meaning.Running.{FailsBy, RunsAnswer, RunsOrder, RunsSim, RunsTimeouts};
-ghost use Rattle.lg_cli.specs.Meaning.Running.{LeavesNode};
-ghost use Rattle.lg_cli.specs.Meaning.Commands.{asked, line_faults, status_of_kind, IfAnswer, IfNode, IfOrder};
-ghost use Rattle.lg_cli.specs.Meaning.Commands.{IfSim, IfTimeouts, RefusesLine};
+ghost use Rattle.lg_text.specs.Meaning.Running.{AppendsFront};
+ghost use Rattle.lg_commands.specs.Meaning.Running.{FailsBy};
+ghost use Rattle.lg_commands.specs.Meaning.Timeouts.{are_good};
+ghost use Rattle.lg_cli.specs.Meaning.Commands.{asked, line_faults, status_of_kind, IfNode, IfTimeouts};
+ghost use Rattle.lg_cli.specs.Meaning.Faults.{foreign_text};
+ghost use Rattle.lg_cli.specs.Meaning.Running.{streams, LeavesNode, RunsLine, RunsRequest};
+ghost use Rattle.lg_cli.specs.Support.Requests.{request_of};
 
 use crate::command::{Asked, read_words};
 use clap::Error;
@@ -34,6 +33,8 @@ use std::io::{ErrorKind as IoErrorKind, Read, Write};
 /// names, `lg: bad words` where that of `--words` is no list of words, or a faulty line of the input
 /// of `answer` or `sim`, of which nothing is reported. `order` and `timeouts` read nothing. A line
 /// that `faults` doesn't take is dropped.
+///
+/// What the texts of help and of a refusal are, no clause says: they are the parser's.
 pub fn run_words<S: AsStr, R: Read, W: Write, F: Write>(
     alloc: Global,
     words: &[S],
@@ -41,58 +42,54 @@ pub fn run_words<S: AsStr, R: Read, W: Write, F: Write>(
     writer: &mut W,
     faults: &mut F,
 ) -> u8
-    // A command line that is taken runs its command: `answer` for a text of `--name` that is a name.
-    ensures answered { let line = map S.text words.now in line_faults line ≡ [] → result ≢ FAILED
-        → IfAnswer (asked line) (λ text. IfOk (name_of_text text) (λ name. RunsAnswer (R.remaining reader.old)
-        (R.remaining reader.new) (W.contents writer.old) (W.contents writer.new) (F.contents faults.old)
-        (F.contents faults.new) name result)) }
-    ensures bad_name { let line = map S.text words.now in line_faults line ≡ [] → result ≢ FAILED
-        → IfAnswer (asked line) (λ text. is_err (name_of_text text) ≡ true → result ≡ BAD_INPUT) }
-    ensures unread { IfAnswer (asked (map S.text words.now))
-        (λ text. is_err (name_of_text text) ≡ true → reader.new ≡ reader.old) }
-    ensures unnamed { let line = map S.text words.now in line_faults line ≡ []
-        → IfAnswer (asked line) (λ text. is_err (name_of_text text) ≡ true → writer.new ≡ writer.old) }
-    ensures ordered { let line = map S.text words.now in line_faults line ≡ [] → result ≢ FAILED
-        → IfOrder (asked line) (λ names listed. RunsOrder (W.contents writer.old) (W.contents writer.new)
-        (F.contents faults.old) (F.contents faults.new) (order_text names listed) result) }
-    ensures unlisted { let line = map S.text words.now in line_faults line ≡ [] → IfOrder (asked line)
-        (λ names listed. is_err (order_text names listed) ≡ true → writer.new ≡ writer.old) }
-    ensures ordered_unread { IfOrder (asked (map S.text words.now)) (λ _ _. reader.new ≡ reader.old) }
-    ensures timed { let line = map S.text words.now in line_faults line ≡ [] → result ≢ FAILED
-        → IfTimeouts (asked line) (λ numbers. RunsTimeouts (W.contents writer.old) (W.contents writer.new)
-        (F.contents faults.old) (F.contents faults.new) numbers result) }
-    ensures simulated { let line = map S.text words.now in line_faults line ≡ [] → result ≢ FAILED
-        → IfSim (asked line) (RunsSim (R.remaining reader.old) (R.remaining reader.new) (W.contents writer.old)
-        (W.contents writer.new) (F.contents faults.old) (F.contents faults.new) result) }
-    ensures timed_unread { IfTimeouts (asked (map S.text words.now)) (λ _. reader.new ≡ reader.old) }
+    // A command line that is taken runs its command, any other is refused or asks for help.
+    ensures runs { RunsLine
+        (streams reader.old (R.remaining reader.old) writer.old (W.contents writer.old) (F.contents faults.old))
+        (streams reader.new (R.remaining reader.new) writer.new (W.contents writer.new) (F.contents faults.new))
+        (map S.text words.now) result }
+    // But `node` isn't run.
     ensures left { let line = map S.text words.now in line_faults line ≡ [] → result ≢ FAILED
         → IfNode (asked line) (λ _ _. LeavesNode (F.contents faults.old) (F.contents faults.new) result) }
     ensures left_unread { IfNode (asked (map S.text words.now)) (λ _ _. reader.new ≡ reader.old) }
 
-    // Any other is refused, or asks for help.
-    ensures refused { let line = map S.text words.now in line_faults line ≢ [] → result ≢ FAILED
-        → RefusesLine (line_faults line) result }
-    ensures unrun { line_faults (map S.text words.now) ≢ [] → reader.new ≡ reader.old }
+    // At any command line nothing is written for a refusal, and a run that fails reports why, and writes
+    // nothing but where it is the writing that fails.
     ensures unwritten { result ≡ USAGE → writer.new ≡ writer.old }
-
-    // A run that fails reports why, and writes nothing but where it is the writing that fails; the
-    // whole input of `answer` or `sim` was read then.
     ensures failed { result ≡ FAILED
         → FailsBy (F.contents faults.old) (F.contents faults.new) writer.old writer.new }
-    ensures read { let line = map S.text words.now in line_faults line ≡ [] → result ≡ FAILED
-        → IfAnswer (asked line) (λ _. (writer.new ≡ writer.old)
-        ⊎ ReadsWhole (R.remaining reader.old) (R.remaining reader.new)) }
-    ensures read_script { let line = map S.text words.now in line_faults line ≡ [] → result ≡ FAILED
-        → IfSim (asked line) ((writer.new ≡ writer.old)
-        ⊎ ReadsWhole (R.remaining reader.old) (R.remaining reader.new)) }
 {
     match read_words(alloc, words) {
-        Ok(Asked::Answer { name }) => answer_named(alloc, name, reader, writer, faults),
-        Ok(Asked::Order { names, words }) => order_lists(alloc, names, words, writer, faults),
-        Ok(Asked::Sim) => simulate(alloc, reader, writer, faults),
-        Ok(Asked::Node { .. }) => leave_node(faults),
-        Ok(Asked::Timeouts { numbers }) => timeouts_of(alloc, &numbers, writer, faults),
+        Ok(asked) => run_asked(alloc, asked, reader, writer, faults),
         Err(error) => report_refusal(&error, writer, faults),
+    }
+}
+
+/// Runs what was asked for, but `node`, as [`run_words`] does.
+pub(crate) fn run_asked<R: Read, W: Write, F: Write>(
+    alloc: Global,
+    request: Asked,
+    reader: &mut R,
+    writer: &mut W,
+    faults: &mut F,
+) -> u8
+    requires { IfTimeouts (request_of request) (λ numbers. are_good numbers ≡ true) }
+    ensures runs { RunsRequest
+        (streams reader.old (R.remaining reader.old) writer.old (W.contents writer.old) (F.contents faults.old))
+        (streams reader.new (R.remaining reader.new) writer.new (W.contents writer.new) (F.contents faults.new))
+        (request_of request.entry) result }
+    ensures left { IfNode (request_of request.entry)
+        (λ _ _. LeavesNode (F.contents faults.old) (F.contents faults.new) result) }
+    ensures left_unread { IfNode (request_of request.entry) (λ _ _. reader.new ≡ reader.old) }
+    ensures unwritten { result ≡ USAGE → writer.new ≡ writer.old }
+    ensures failed { result ≡ FAILED
+        → FailsBy (F.contents faults.old) (F.contents faults.new) writer.old writer.new }
+{
+    match request {
+        Asked::Answer { name } => answer_named(alloc, name, reader, writer, faults),
+        Asked::Order { names, words } => order_lists(alloc, names, words, writer, faults),
+        Asked::Sim => simulate(alloc, reader, writer, faults),
+        Asked::Node { .. } => leave_node(faults),
+        Asked::Timeouts { numbers } => timeouts_of(alloc, &numbers, writer, faults),
     }
 }
 
@@ -105,6 +102,9 @@ fn leave_node<F: Write>(faults: &mut F) -> u8
 }
 
 /// Reports why a command line isn't run, or writes the help that it asks for, and gives the status.
+///
+/// The texts of a refusal and of help are the parser's, whose contracts don't say them: no clause says what is reported
+/// with [`USAGE`], or written with 0. `cases/command_line.case` shows that there is something, and where.
 pub(crate) fn report_refusal<W: Write, F: Write>(
     error: &Error,
     writer: &mut W,
@@ -112,9 +112,15 @@ pub(crate) fn report_refusal<W: Write, F: Write>(
 ) -> u8
     ensures status { result ≢ FAILED → result ≡ status_of_kind (kind_of error.now) }
     ensures memory { kind_of error.now ≡ ErrorKind.OutOfMemory → result ≡ FAILED }
+    ensures memory_told { kind_of error.now ≡ ErrorKind.OutOfMemory
+        → AppendsFront (F.contents faults.old) (F.contents faults.new) (run_fault_text RunFault.Memory) }
     // Else only help that isn't taken fails.
     ensures failed { result ≡ FAILED
         → (kind_of error.now ≡ ErrorKind.OutOfMemory) ⊎ (status_of_kind (kind_of error.now) ≡ 0) }
+    ensures write_told { result ≡ FAILED → status_of_kind (kind_of error.now) ≡ 0
+        → AppendsFront (F.contents faults.old) (F.contents faults.new) (run_fault_text RunFault.Write) }
+    // Help that is written reports nothing, and a refusal writes nothing.
+    ensures unreported { result ≡ 0 → faults.new ≡ faults.old }
     ensures unwritten { result ≡ USAGE → writer.new ≡ writer.old }
     ensures unfit { kind_of error.now ≡ ErrorKind.OutOfMemory → writer.new ≡ writer.old }
     ensures fails { result ≡ FAILED
@@ -136,10 +142,15 @@ pub(crate) fn report_refusal<W: Write, F: Write>(
 }
 
 /// Reports why the words of the command line couldn't be had, and gives the status: memory was
-/// refused, or the words aren't UTF-8, which refuses the command line (this project's choice).
+/// refused, or the words aren't UTF-8, which refuses the command line (this project's choice). A line that `faults`
+/// doesn't take is dropped.
 pub fn refuse_words<F: Write>(error: &io::Error, faults: &mut F) -> u8
     ensures memory { error_kind error.now ≡ IoErrorKind.OutOfMemory → result ≡ FAILED }
+    ensures memory_told { error_kind error.now ≡ IoErrorKind.OutOfMemory
+        → AppendsFront (F.contents faults.old) (F.contents faults.new) (run_fault_text RunFault.Memory) }
     ensures usage { error_kind error.now ≢ IoErrorKind.OutOfMemory → result ≡ USAGE }
+    ensures usage_told { error_kind error.now ≢ IoErrorKind.OutOfMemory
+        → AppendsFront (F.contents faults.old) (F.contents faults.new) foreign_text }
 {
     if error.kind() == IoErrorKind::OutOfMemory {
         report(faults, RunFault::Memory.text());

@@ -1,8 +1,10 @@
 //! What is told of how a node ended.
-ghost use Rattle.std.specs.Prelude.{◌≡◌};
+ghost use Rattle.std.specs.Prelude.{◌≡◌, unwrap_or, Ok};
 ghost use Rattle.std.specs.Option.{option_map};
-ghost use Rattle.lg_launch.specs.Meaning.Running.{end_told, first_end, late_fault, node_told, run_told};
-ghost use Rattle.lg_launch.specs.Meaning.Running.{table_of, wants_table};
+ghost use Rattle.lg_node.specs.declared.ending.Why.TheVariants.{Stopped};
+ghost use Rattle.lg_launch.specs.declared.told.Told.{Told as OneTold};
+ghost use Rattle.lg_launch.specs.Meaning.Running.{table_of};
+ghost use Rattle.lg_launch.specs.Meaning.Telling.{ending, finished, run_told};
 
 use crate::told::Told;
 use lg_node::{NodeEnd, NodeFault, Why};
@@ -11,7 +13,7 @@ use lg_text::RunFault;
 
 /// The first end that isn't [`Why::Stopped`], the receiving loop's before the ticking loop's.
 fn first_end(end: &NodeEnd) -> Why
-    ensures { result ≡ first_end end.now.received.why end.now.ticked.why }
+    ensures { ending Stopped result ≡ ending end.now.received.why end.now.ticked.why }
 {
     match end.received.why {
         Why::Stopped => end.ticked.why,
@@ -21,7 +23,7 @@ fn first_end(end: &NodeEnd) -> Why
 
 /// Whether the table is written after such an end.
 fn wants_table(why: Why) -> bool
-    ensures { result ≡ wants_table why }
+    ensures { result ≡ (ending Stopped why).writes }
 {
     matches!(why, Why::Stopped | Why::Ousted)
 }
@@ -45,7 +47,7 @@ pub(crate) fn table_of(ran: &Result<NodeEnd, NodeFault>) -> Option<&[Record]>
 /// What went wrong after the loops, if anything did: the members were refused, their table wasn't written, or the agent
 /// wasn't closed.
 fn late_fault(end: &NodeEnd, written: Result<(), RunFault>) -> Option<Told>
-    ensures { result ≡ late_fault end.now.members written end.now.closed }
+    ensures { (told : OneTold) → unwrap_or result told ≡ finished end.now.members written end.now.closed told }
 {
     match (&end.members, written, &end.closed) {
         (Err(refusal), _, _) => Some(Told::from(*refusal)),
@@ -57,7 +59,7 @@ fn late_fault(end: &NodeEnd, written: Result<(), RunFault>) -> Option<Told>
 
 /// What is told of an end, where nothing went wrong after it.
 fn end_told(why: Why) -> Told
-    ensures { result ≡ end_told why }
+    ensures { result ≡ (ending Stopped why).told }
 {
     match why {
         Why::Stopped => Told::Done,
@@ -90,7 +92,7 @@ impl Told {
 
 /// What is told of a node that began its loops.
 fn node_told(end: &NodeEnd, written: Result<(), RunFault>) -> Told
-    ensures { result ≡ node_told end.now written }
+    ensures { result ≡ run_told (Ok end.now) written }
 {
     let why = first_end(end);
     if !wants_table(why) {

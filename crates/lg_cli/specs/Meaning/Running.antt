@@ -1,7 +1,102 @@
--- How a command that isn't run ends.
-use Rattle.std.specs.Prelude.{◌≡◌, ℕ, List, Option}
-use Rattle.lg_text.specs.Meaning.Running.{AppendsFront}
+-- How a command line is run, and what becomes of one that isn't.
+use Rattle.std.specs.Prelude.{◌≡◌, ◌≢◌, ◌⊎◌, IfOk, ℕ, true, List, [], Option}
+use Rattle.std.specs.Result.{is_err}
+use Rattle.clap.specs.Kinds.{Kinds}
+use Rattle.clap.specs.Walk.{Text}
+use Rattle.lg_rules.specs.Meaning.Name.{name_of_text}
+use Rattle.lg_text.specs.Meaning.Faults.{run_fault_text}
+use Rattle.lg_text.specs.Meaning.Running.{AppendsFront, ReadsWhole}
+use Rattle.lg_text.specs.declared.fault.RunFault.TheVariants.{Memory, Write}
+use Rattle.lg_commands.specs.Meaning.Choosing.{order_text}
+use Rattle.lg_commands.specs.Meaning.Running.{FailsBy, RunsAnswer, RunsOrder, RunsSim, RunsTimeouts}
+use Rattle.lg_commands.specs.declared.timeouts.Numbers.{Numbers}
+use Rattle.lg_cli.specs.Meaning.Commands.{Request, answer, order, timeouts, sim, node}
+use Rattle.lg_cli.specs.Meaning.Commands.{asked, line_faults, RefusesLine}
 use Rattle.lg_cli.specs.Meaning.Faults.{node_text}
+
+-- The reader and the bytes that it has left, the writer and the bytes that it has taken, and the bytes that were
+-- reported. No bytes are known of a stream that doesn't tell them.
+pub record Streams (R W : Type 0) : Type 0 where
+  pub reader : R
+  pub left : Option (List ℕ)
+  pub writer : W
+  pub held : Option (List ℕ)
+  pub reported : Option (List ℕ)
+
+abbrev pub streams :
+    {R W : Type 0} → R → Option (List ℕ) → W → Option (List ℕ) → Option (List ℕ) → Streams R W
+streams reader left writer held reported =
+    record { reader = reader; left = left; writer = writer; held = held; reported = reported }
+
+-- `answer` is run for a text that should be a name. For one that is none nothing is read or written, and the status is
+-- 3. Where the run fails, the whole input was read before anything was written.
+pub record RunsNamed {R W : Type 0} (before after : Streams R W) (text : Text) (status : ℕ) : Type 0 where
+  pub answered : status ≢ 1 → IfOk (name_of_text text)
+      (λ name. RunsAnswer before.left after.left before.held after.held before.reported after.reported name status)
+  pub bad_name : is_err (name_of_text text) ≡ true → status ≡ 3
+  pub unread : is_err (name_of_text text) ≡ true → after.reader ≡ before.reader
+  pub unnamed : is_err (name_of_text text) ≡ true → after.writer ≡ before.writer
+  pub failed : status ≡ 1 → FailsBy before.reported after.reported before.writer after.writer
+  pub read : status ≡ 1 → (after.writer ≡ before.writer) ⊎ ReadsWhole before.left after.left
+  pub run : status ≢ 2
+
+-- `order` is run for two texts, of its names and of its words. Nothing is read, and for a bad list nothing is written.
+pub record RunsLists {R W : Type 0} (before after : Streams R W) (names words : Text) (status : ℕ) : Type 0 where
+  pub ordered : status ≢ 1
+      → RunsOrder before.held after.held before.reported after.reported (order_text names words) status
+  pub unlisted : is_err (order_text names words) ≡ true → after.writer ≡ before.writer
+  pub unread : after.reader ≡ before.reader
+  pub failed : status ≡ 1 → FailsBy before.reported after.reported before.writer after.writer
+  pub run : status ≢ 2
+
+-- `timeouts` is run for its numbers. Nothing is read.
+pub record RunsNumbers {R W : Type 0} (before after : Streams R W) (numbers : Numbers) (status : ℕ) : Type 0 where
+  pub timed : status ≢ 1
+      → RunsTimeouts before.held after.held before.reported after.reported numbers status
+  pub unread : after.reader ≡ before.reader
+  pub failed : status ≡ 1 → FailsBy before.reported after.reported before.writer after.writer
+  pub run : status ≢ 2
+
+-- `sim` is run. Where the run fails, the whole input was read before anything was written.
+pub record RunsScript {R W : Type 0} (before after : Streams R W) (status : ℕ) : Type 0 where
+  pub simulated : status ≢ 1
+      → RunsSim before.left after.left before.held after.held before.reported after.reported status
+  pub failed : status ≡ 1 → FailsBy before.reported after.reported before.writer after.writer
+  pub read : status ≡ 1 → (after.writer ≡ before.writer) ⊎ ReadsWhole before.left after.left
+  pub run : status ≢ 2
+
+-- The command that is asked for is run. Of `node` this says nothing.
+abbrev pub RunsRequest : {R W : Type 0} → (before after : Streams R W) → Request → ℕ → Type 0
+RunsRequest before after (answer text) status = RunsNamed before after text status
+RunsRequest before after (order names words) status = RunsLists before after names words status
+RunsRequest before after (timeouts numbers) status = RunsNumbers before after numbers status
+RunsRequest before after sim status = RunsScript before after status
+RunsRequest before after (node file for_ms) status = Unit {0}
+
+-- Memory was refused for reading the command line. That is reported, as far as the report is taken; nothing is read or
+-- written, and the status is 1.
+pub record LacksMemory {R W : Type 0} (before after : Streams R W) (status : ℕ) : Type 0 where
+  pub is : status ≡ 1
+  pub told : AppendsFront before.reported after.reported (run_fault_text Memory)
+  pub unread : after.reader ≡ before.reader
+  pub unwritten : after.writer ≡ before.writer
+
+-- A command line that isn't taken is refused by one of its faults, or asks for help, and nothing is read. A refusal
+-- writes nothing, and help reports nothing. Only help that isn't taken whole fails, and that is reported, as far as the
+-- report is taken.
+pub record LeavesLine {R W : Type 0} (before after : Streams R W) (faults : Kinds) (status : ℕ) : Type 0 where
+  pub refused : status ≢ 1 → RefusesLine faults status
+  pub unread : after.reader ≡ before.reader
+  pub unwritten : status ≡ 2 → after.writer ≡ before.writer
+  pub unreported : status ≡ 0 → after.reported ≡ before.reported
+  pub helped : status ≡ 1 → RefusesLine faults 0
+  pub told : status ≡ 1 → AppendsFront before.reported after.reported (run_fault_text Write)
+
+-- A command line that is taken runs its command, and any other is left; unless memory was refused for reading it.
+pub record RunsLine {R W : Type 0} (before after : Streams R W) (line : List Text) (status : ℕ) : Type 0 where
+  pub taken : line_faults line ≡ [] → RunsRequest before after (asked line) status ⊎ LacksMemory before after status
+  pub left : line_faults line ≢ []
+      → LeavesLine before after (line_faults line) status ⊎ LacksMemory before after status
 
 -- That `node` isn't run is reported, as far as the report is taken, and the status is 2.
 pub record LeavesNode (reported reports : Option (List ℕ)) (status : ℕ) : Type 0 where

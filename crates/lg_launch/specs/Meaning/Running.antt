@@ -1,5 +1,5 @@
 -- How a node of a configuration is run: what is told of its end, and what is written.
-use Rattle.std.specs.Prelude.{◌≡◌, ⊤, ◌⊎◌, ℕ, Bool, true, false, List, if◌then◌else◌, unwrap_or}
+use Rattle.std.specs.Prelude.{◌≡◌, ⊤, ◌⊎◌, ℕ, false, List, if◌then◌else◌}
 use Rattle.std.specs.Prelude.{Option, Some, None, Result, Ok, Err, MatchResult}
 use Rattle.std.specs.Option.{option_map}
 use Rattle.std.specs.Result.{result_ok}
@@ -9,73 +9,24 @@ use Rattle.lg_text.specs.Meaning.Running.{AppendsFront}
 use Rattle.lg_text.specs.declared.fault.RunFault.{RunFault}
 use Rattle.lg_text.specs.declared.fault.RunFault.TheVariants as fault
 use Rattle.lg_report.specs.Meaning.Records.{table_text}
-use Rattle.lg_agent.specs.declared.refusal.Refusal.{Refusal}
 use Rattle.lg_config.specs.declared.fault.ReadFault.{ReadFault}
 use Rattle.lg_config.specs.declared.fault.ReadFault.TheVariants.{NoMemory, File}
 use Rattle.lg_config.specs.declared.node.NodeConfig.{NodeConfig}
 use Rattle.lg_config.specs.Meaning.Answer.{IsAnswer}
-use Rattle.lg_node.specs.declared.ending.Why.{Why}
-use Rattle.lg_node.specs.declared.ending.Why.TheVariants as why
 use Rattle.lg_node.specs.declared.node.NodeEnd.{NodeEnd}
 use Rattle.lg_node.specs.declared.node.NodeFault.{NodeFault}
-use Rattle.lg_node.specs.declared.node.NodeFault.TheVariants as node
 use Rattle.lg_node.specs.Meaning.Nodes.{IsRun, IsEarly}
 use Rattle.lg_node.specs.Meaning.Turns.{Line}
 use Rattle.lg_node.specs.Meaning.Words.{seeded, DrawsEight}
 use Rattle.lg_launch.specs.declared.told.Told.{Told}
-use Rattle.lg_launch.specs.declared.told.Told.TheVariants.{Done, Memory, Read, Turns, Refused, Close}
-use Rattle.lg_launch.specs.declared.told.Told.TheVariants.{Config, Ousted, Link}
-use Rattle.lg_launch.specs.Meaning.Telling.{fault_told, line_of, refusal_told, status_of}
-
--- the first end that isn't Stopped, the receiving loop's before the ticking loop's
-abbrev pub first_end : Why → Why → Why
-first_end why.Stopped ticked = ticked
-first_end received ticked = received
-
--- whether the table is written after such an end
-abbrev pub wants_table : Why → Bool
-wants_table why.Stopped = true
-wants_table why.Ousted = true
-wants_table why.LinkFailed = false
-wants_table (why.Refused refusal) = false
-wants_table why.ReadBound = false
-
--- what is told of such an end
-abbrev pub end_told : Why → Told
-end_told why.Stopped = Done
-end_told why.Ousted = Ousted
-end_told why.LinkFailed = Link
-end_told (why.Refused refusal) = refusal_told refusal
-end_told why.ReadBound = Turns
-
--- what went wrong after the loops, the first of these: the members were refused, their table wasn't written, the agent
--- wasn't closed
-abbrev pub late_fault :
-    {M C F : Type 0} → Result M Refusal → Result (Unit {0}) RunFault → Result C F → Option Told
-late_fault (Err refusal) written closed = Some (refusal_told refusal)
-late_fault (Ok members) (Err fault) closed = Some (fault_told fault)
-late_fault (Ok members) (Ok done) (Err fault) = Some Close
-late_fault (Ok members) (Ok done) (Ok closed) = None
-
--- what is told of a node that began its loops, by how its table was written
-abbrev pub node_told : NodeEnd → Result (Unit {0}) RunFault → Told
-node_told e written =
-    let first = first_end e.received.why e.ticked.why in
-    if wants_table first then unwrap_or (late_fault e.members written e.closed) (end_told first) else end_told first
-
--- what is told of a node that was run
-abbrev pub run_told : Result NodeEnd NodeFault → Result (Unit {0}) RunFault → Told
-run_told (Ok e) written = node_told e written
-run_told (Err node.Socket) written = Link
-run_told (Err node.Clock) written = Refused
-run_told (Err (node.Refused refusal)) written = refusal_told refusal
+use Rattle.lg_launch.specs.declared.told.Told.TheVariants.{Config, Memory, Read}
+use Rattle.lg_launch.specs.Meaning.Telling.{ending, line_of, run_told, status_of}
 
 -- the records of the table that is to be written, if one is
 abbrev pub table_of : Result NodeEnd NodeFault → Option (List Claim)
-table_of (Ok e) =
-    let first = first_end e.received.why e.ticked.why in
-    if wants_table first then option_map (λ v. v.items) (result_ok e.members) else None
 table_of (Err fault) = None
+table_of (Ok e) =
+    if (ending e.received.why e.ticked.why).writes then option_map (λ v. v.items) (result_ok e.members) else None
 
 -- A table is written, if there is one: the whole text, unless writing failed, which doesn't say how much of it. Nothing
 -- is, where memory for the text was refused.
