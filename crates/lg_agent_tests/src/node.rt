@@ -5,6 +5,7 @@ pub mod both;
 mod clocks;
 mod dice;
 mod links;
+mod machine;
 mod receiving;
 mod refused_memory;
 pub mod rotating;

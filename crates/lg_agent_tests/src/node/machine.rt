@@ -1,0 +1,27 @@
+//! The machine's clock, beside the instants of the machine that it counts by.
+use lg_node::{Clock, MachineClock};
+use std::time::Instant;
+use std::{io, rt};
+
+/// A moment of a clock that paused for so many milliseconds after it was made, and how many milliseconds passed
+/// meanwhile by an instant that was taken before it was made.
+fn after_pause<R: rt::Clock>(rt: &R, ms: u64) -> io::Result<(u64, u128)> {
+    let begun = Instant::now(rt)?;
+    let clock = MachineClock::new(rt)?;
+    clock.pause(ms);
+    let now = clock.now().milliseconds();
+    Ok((now, begun.elapsed(rt)?.as_millis()))
+}
+
+/// The clock counts from its making, a millisecond each millisecond: a pause lasts as long as it is to, and the clock has
+/// counted it, but no more than has passed.
+#[test]
+fn counts_milliseconds(rt: HostRuntime) {
+    for ms in [0, 1, 60] {
+        let seen = after_pause(&rt, ms);
+        let met = seen
+            .as_ref()
+            .is_ok_and(|&(now, passed)| ms <= now && u128::from(now) <= passed);
+        assert!(rt; met, "{ms}: {seen:?}");
+    }
+}
