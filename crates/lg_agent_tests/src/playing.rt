@@ -44,8 +44,10 @@ pub struct Case<'a> {
     pub places: usize,
     /// The limit on its history.
     pub limit: u64,
-    /// How many of c, d and e it knows, at the ports from 7003 on.
+    /// How many of c, d and e it knows.
     pub others: u8,
+    /// The port of c. Those of d and e follow.
+    pub first_port: u16,
     /// Whether everything is handed in at the first closing. Else what the first pass left comes with the second.
     pub at_once: bool,
     pub play: Play<'a>,
@@ -58,6 +60,7 @@ impl<'a> Case<'a> {
             places,
             limit: 20_000,
             others: 0,
+            first_port: 7003,
             at_once: true,
             play,
         }
@@ -123,15 +126,21 @@ pub struct Left<A: AgentName> {
     pub shown: Shown,
 }
 
-/// The configuration of b with a limit on its history and default numbers, which knows so many of c, d and e.
+/// The configuration of b with a limit on its history and default numbers, which knows so many of c, d and e, at the
+/// ports from 7003 on.
 pub fn config(limit: u64, others: u8) -> Config {
+    config_from(limit, others, 7003)
+}
+
+/// The same, where c, d and e are at the ports from this one on.
+fn config_from(limit: u64, others: u8, first_port: u16) -> Config {
     let mut config = Config::new(letter(b'b'), local(7000));
     config.history_limit = limit;
     for index in 0..others.min(3) {
         if !config.seeds.is_full() {
             config.seeds.push(Seed {
                 name: letter(b'c' + index),
-                addr: local(7003 + u16::from(index)),
+                addr: local(first_port.wrapping_add(u16::from(index))),
             });
         }
     }
@@ -293,7 +302,7 @@ where
     requires book { book.seen.book ≡ A.book }
     requires places { (places ≡ A.places) × (0 < places) × (places ≤ 32) }
 {
-    let config = config(case.limit, case.others);
+    let config = config_from(case.limit, case.others, case.first_port);
     let Ok(()) = config.check() else {
         return Err(Refusal::NoPlace);
     };

@@ -11,13 +11,23 @@ use std::thread::{Threads, scope, scope_env};
 /// may have filled it meanwhile.
 const TRIES: u32 = 10_000;
 
+/// What a thread does when a call finds the history full.
+#[derive(Clone, Copy, Debug, PartialEq, Eq)]
+pub enum WhenFull {
+    /// It rotates, and makes the call again.
+    Rotates,
+    /// It leaves it at that, if these are how many entries the refusal names as the limit.
+    GoesOn(u64),
+}
+
 /// What one thread does.
 #[derive(Clone, Copy, Debug)]
 pub struct Task {
     /// How many calls it makes.
     pub calls: u32,
-    /// Behind how many of its calls it rotates, each time. It also does so when a call finds the history full.
+    /// Behind how many of its calls it rotates, each time.
     pub rotates_after: u32,
+    pub when_full: WhenFull,
     /// Whether it looks before and behind each call.
     pub looks: bool,
 }
@@ -28,6 +38,7 @@ impl Task {
         Task {
             calls,
             rotates_after: u32::MAX,
+            when_full: WhenFull::Rotates,
             looks: true,
         }
     }
@@ -45,15 +56,37 @@ fn call_of(turn: u32) -> Call {
     }
 }
 
-/// The place of an answered call, where the look before it has seen no more than what came before it, and the look
-/// after it the call at least.
-fn place_between(before: Seen, call: Seen, after: Seen) -> Option<u64> {
-    match (before, call, after) {
-        (Seen::Number(before), Seen::Answered(answered), Seen::Number(after)) => {
-            let place = answered.place;
-            (before <= place && place < after).then_some(place)
+/// What a call came to.
+#[derive(Clone, Copy)]
+enum Came {
+    /// It was answered, at this place.
+    At(u64),
+    /// The history was full, and the thread leaves it at that.
+    Full,
+    /// Neither, or it stands beside a look that went back.
+    Wrong,
+}
+
+/// What a call came to, by itself.
+fn came_of(call: Seen, when_full: WhenFull) -> Came {
+    match call {
+        Seen::Answered(answered) => Came::At(answered.place),
+        Seen::Refused(Refusal::HistoryFull(limit)) if when_full == WhenFull::GoesOn(limit) => {
+            Came::Full
         }
-        _ => None,
+        _ => Came::Wrong,
+    }
+}
+
+/// Whether the look before a call has seen no more than what came before it, and the look after it the call at least;
+/// beside a call that was refused, whether no look went back.
+fn is_between(before: Seen, came: Came, after: Seen) -> bool {
+    match (before, came, after) {
+        (Seen::Number(before), Came::At(place), Seen::Number(after)) => {
+            before <= place && place < after
+        }
+        (Seen::Number(before), Came::Full, Seen::Number(after)) => before <= after,
+        _ => false,
     }
 }
 
@@ -67,6 +100,8 @@ fn is_known(seen: Seen) -> bool {
 pub struct Tally {
     /// How many calls have no place above that of the call before, or stand beside a look that went back.
     wrong: u64,
+    /// How many calls found the history full, and weren't made again.
+    full: u64,
     /// How many entries were cut off.
     cut: u64,
 }
@@ -80,6 +115,7 @@ impl Tally {
     /// Adds what another thread's calls came to.
     fn add(&mut self, other: Tally) {
         self.wrong = self.wrong.wrapping_add(other.wrong);
+        self.full = self.full.wrapping_add(other.full);
         self.cut = self.cut.wrapping_add(other.cut);
     }
 }
@@ -92,45 +128,44 @@ fn rotate<A: AgentName, R: Wait>(rt: &R, alloc: Global, pass: &mut Pass<'_, A>, 
     }
 }
 
-/// One call of a thread. As long as the history is full it is rotated, and the call made again.
+/// One call of a thread. A thread that makes room does so as long as the history is full, and makes the call again.
 fn make<A: AgentName, R: Wait>(
     rt: &R,
     alloc: Global,
     pass: &mut Pass<'_, A>,
     call: Call,
+    when_full: WhenFull,
     tally: &mut Tally,
-) -> Seen {
+) -> Came {
     for _ in 1..TRIES {
         let seen = step(rt, alloc, pass, call);
-        if !matches!(seen, Seen::Refused(Refusal::HistoryFull(_))) {
-            return seen;
+        let is_full = matches!(seen, Seen::Refused(Refusal::HistoryFull(_)));
+        if !is_full || when_full != WhenFull::Rotates {
+            return came_of(seen, when_full);
         }
         rotate(rt, alloc, pass, tally);
     }
-    step(rt, alloc, pass, call)
+    came_of(step(rt, alloc, pass, call), when_full)
 }
 
-/// The place of a call, where it was answered.
-fn place_of(call: Seen) -> Option<u64> {
-    match call {
-        Seen::Answered(answered) => Some(answered.place),
-        _ => None,
-    }
-}
-
-/// One call between two looks. Returns its place, where no look went back and the own record is known.
+/// One call between two looks, of which none may go back. The own record has to be known.
 fn make_between_looks<A: AgentName, R: Wait>(
     rt: &R,
     alloc: Global,
     pass: &mut Pass<'_, A>,
     call: Call,
+    when_full: WhenFull,
     tally: &mut Tally,
-) -> Option<u64> {
+) -> Came {
     let before = step(rt, alloc, pass, Call::Version);
-    let call = make(rt, alloc, pass, call, tally);
+    let came = make(rt, alloc, pass, call, when_full, tally);
     let own = step(rt, alloc, pass, Call::StatusOf(b'b'));
     let after = step(rt, alloc, pass, Call::Version);
-    place_between(before, call, after).filter(|_| is_known(own))
+    if is_between(before, came, after) && is_known(own) {
+        came
+    } else {
+        Came::Wrong
+    }
 }
 
 /// All calls of one thread, and what they came to.
@@ -145,13 +180,14 @@ fn make_all<A: AgentName, R: Wait>(
     let mut last: u64 = 0;
     for turn in 1..=task.calls {
         let call = call_of(turn);
-        let place = if task.looks {
-            make_between_looks(rt, alloc, pass, call, &mut tally)
+        let came = if task.looks {
+            make_between_looks(rt, alloc, pass, call, task.when_full, &mut tally)
         } else {
-            place_of(make(rt, alloc, pass, call, &mut tally))
+            make(rt, alloc, pass, call, task.when_full, &mut tally)
         };
-        match place {
-            Some(place) if last < place => last = place,
+        match came {
+            Came::At(place) if last < place => last = place,
+            Came::Full => tally.full = tally.full.wrapping_add(1),
             _ => tally.miss(),
         }
         if turn.checked_rem(task.rotates_after) == Some(0) {
@@ -168,7 +204,7 @@ struct Done<A: AgentName> {
     tally: Tally,
 }
 
-/// All calls of one thread, and what it leaves, which has to count each.
+/// All calls of one thread, and what it leaves, which has to count each that was answered.
 fn work<A: AgentName, R: Wait>(
     rt: &R,
     alloc: Global,
@@ -179,7 +215,7 @@ fn work<A: AgentName, R: Wait>(
     let mut pass = pass;
     let mut tally = make_all(rt, alloc, &mut pass, task);
     let spent = pass.finish();
-    if spent.made() != u64::from(task.calls) {
+    if spent.made().wrapping_add(tally.full) != u64::from(task.calls) {
         tally.miss();
     }
     let mut done = done.lock(rt);
@@ -228,13 +264,25 @@ where
     }
 }
 
-/// Eight threads with the same number of calls, and three of which the third ends with no call made.
+/// Eight threads with the same number of calls, three of which the third ends with no call made, and eight for whose
+/// last 4,001 calls there is no room.
 #[test]
 fn threads_make_one_history(rt: HostRuntime) {
     let eight = [Task::new(2000); 8];
     let three = [Task::new(100), Task::new(50), Task::new(0)];
-    for (tasks, entries) in [(eight.as_slice(), 16_001), (three.as_slice(), 151)] {
-        let want = Some((Tally::default(), Ending::closed(None, entries)));
+    let mut filling = [Task::new(3000); 8];
+    for task in &mut filling {
+        task.when_full = WhenFull::GoesOn(20_000);
+    }
+    let rows = [
+        (eight.as_slice(), 16_001, 0),
+        (three.as_slice(), 151, 0),
+        (filling.as_slice(), 20_000, 4001),
+    ];
+    for (tasks, entries, full) in rows {
+        let mut tally = Tally::default();
+        tally.full = full;
+        let want = Some((tally, Ending::closed(None, entries)));
         assert_eq!(rt; played(&rt, rt.alloc(), 20_000, tasks), want, "{entries}");
     }
 }
@@ -254,7 +302,7 @@ fn threads_that_rotate(rt: HostRuntime) {
             let mut want = Ending::closed(None, 24_001);
             want.base = Some(tally.cut);
             // The last rotation left room for 200 entries.
-            tally.wrong == 0 && ending == want && 23_801 <= tally.cut
+            tally.wrong == 0 && tally.full == 0 && ending == want && 23_801 <= tally.cut
         });
         assert!(rt; met, "{looks}: {seen:?}");
     }

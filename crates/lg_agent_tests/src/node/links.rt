@@ -122,6 +122,8 @@ pub struct Script {
     pub stops_at: u64,
     /// Which call fails, from 1, or 0 where none does.
     pub fails_at: u64,
+    /// The port of 127.0.0.1 to which nothing can be sent, if there is one.
+    pub refuses: Option<u16>,
 }
 
 /// A link over which nothing comes, and of which no call fails.
@@ -131,6 +133,7 @@ pub(super) const QUIET: Script = Script {
     third: Coming::Nothing,
     stops_at: 0,
     fails_at: 0,
+    refuses: None,
 };
 
 impl Script {
@@ -171,13 +174,14 @@ impl<'a> MemoryLink<'a> {
         }
     }
 
-    /// Counts a call. Whether it fails, which is counted too.
-    fn fails(&mut self) -> bool
+    /// Counts a call, which may be one that is refused. Whether it fails, which is counted too.
+    fn fails(&mut self, is_refused: bool) -> bool
         ensures { MatchBool result (self.new.failures ≡ self.old.failures + 1)
             (self.new.failures ≡ self.old.failures) }
     {
         self.made = self.made.saturating_add(1);
-        if self.made != self.script.fails_at || self.failures == u64::MAX {
+        let fails = is_refused || self.made == self.script.fails_at;
+        if !fails || self.failures == u64::MAX {
             return false;
         }
         self.failures += 1;
@@ -224,10 +228,12 @@ impl<'a> Link for MemoryLink<'a> {
     ghost failed = { λ l. l.failures };
 
     fn send(&mut self, to: Addr, bytes: &[u8]) -> Result<(), LinkFault> {
-        let fails = self.fails();
+        let port = port_of(to);
+        let refuses = self.script.refuses;
+        let fails = self.fails(refuses == Some(port));
         self.keep(Call::Send {
             what: Spelled::of(bytes),
-            port: port_of(to),
+            port,
             sent: !fails,
         });
         if fails { Err(LinkFault) } else { Ok(()) }
@@ -240,7 +246,7 @@ impl<'a> Link for MemoryLink<'a> {
         limit_ms: u64,
     ) -> Result<Option<(Addr, usize)>, LinkFault> {
         let coming = self.next();
-        let fails = self.fails();
+        let fails = self.fails(false);
         self.keep(Call::Receive { limit_ms });
         if fails {
             return Err(LinkFault);

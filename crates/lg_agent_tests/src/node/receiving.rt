@@ -25,6 +25,7 @@ const fn comes(first: Coming, second: Coming, third: Coming, stops_at: u64) -> S
         third,
         stops_at,
         fails_at: 0,
+        refuses: None,
     }
 }
 

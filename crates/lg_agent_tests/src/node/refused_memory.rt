@@ -81,6 +81,7 @@ fn one_loop(rt: HostRuntime) {
         third: Coming::Nothing,
         stops_at: 2,
         fails_at: 0,
+        refuses: None,
     };
     let receiving = Turns {
         first: 1,

@@ -12,6 +12,13 @@ const PING_OF_C: Call = Call::Send {
     sent: true,
 };
 
+/// The same where c is at port 0, which the link refuses.
+const REFUSED_PING_OF_C: Call = Call::Send {
+    what: Spelled::PingOfC,
+    port: 0,
+    sent: false,
+};
+
 /// A loop that ends after so many turns, of which so many pause, for so many milliseconds in all.
 fn ended(why: Why, turns: u64, count: u64, sum: u64, entries: u64) -> Want<'static> {
     Want {
@@ -48,12 +55,30 @@ fn lost<'a>(want: Want<'a>, sent: &'a [bool]) -> Want<'a> {
     want
 }
 
+/// The same, where the Ping of c was refused.
+fn refused<'a>(want: Want<'a>, calls: &'a [Call]) -> Want<'a> {
+    let mut want = pinged(want, calls);
+    want.unsent = 1;
+    want.failures = 1;
+    want
+}
+
 /// A loop that knows so many others, whose link fails at one call, from 1, or none.
 fn knows<'a>(until: u64, others: u8, fails_at: u64) -> Case<'a> {
     let mut run = Run::ticking(until);
     run.script.fails_at = fails_at;
     let mut case = run.case();
     case.others = others;
+    case
+}
+
+/// A loop that knows c at port 0, to which its link can't send.
+fn knows_at_port_0<'a>(until: u64) -> Case<'a> {
+    let mut run = Run::ticking(until);
+    run.script.refuses = Some(0);
+    let mut case = run.case();
+    case.others = 1;
+    case.first_port = 0;
     case
 }
 
@@ -78,6 +103,7 @@ fn short<'a>() -> Case<'a> {
 fn ticking_loops(rt: HostRuntime) {
     let stopped = Why::Stopped;
     let ping = [PING_OF_C];
+    let refused_ping = [REFUSED_PING_OF_C];
     // A round, and helpers that are due 500 ms later.
     let round = ended(stopped, 28, 26, 520, 3);
     let rows = [
@@ -96,6 +122,11 @@ fn ticking_loops(rt: HostRuntime) {
             pinged(ended(stopped, 78, 76, 1512, 4), &ping),
         ),
         ("pings c", knows(501, 1, 0), pinged(round, &ping)),
+        (
+            "port 0",
+            knows_at_port_0(501),
+            refused(round, &refused_ping),
+        ),
         // A Ping, and half a second later two requests to helpers, of which one isn't sent: the others are handed over.
         (
             "1st lost",
