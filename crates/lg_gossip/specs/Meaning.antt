@@ -1,3 +1,3 @@
--- What is right: whoever wants to believe the contracts reads these.
+-- What is right: to believe the contracts, read these.
 pub mod Examples
 pub mod Queue

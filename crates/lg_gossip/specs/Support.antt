@@ -1,4 +1,4 @@
--- What only carries the proofs.
+-- Definitions that only support the proofs.
 pub mod Bounds
 pub mod Places
 pub mod Sound

@@ -1,4 +1,7 @@
-//! Which claims a packet takes.
+//! Which claims of the queue a packet takes.
+//!
+//! Defined in: `specs/Meaning/Queue.antt`.
+//! Tested in: `lg_detector_tests/src/gossip.rt`.
 ghost use Rattle.std.specs.Prelude.{◌≡◌, ◌≤◌, ◌<◌, ◌+◌};
 ghost use Rattle.std.specs.Prelude.{◌++◌, ℕ, not, length, map, take, insert};
 ghost use Rattle.std.specs.Prelude.{if◌then◌else◌, nat_eq, nat_le, nat_lt, option_copied, slice_index_or};
@@ -19,13 +22,13 @@ use lg_rules::{Claim, MAX_CLAIMS, Record, Status, seat_of};
 /// A row that a packet takes.
 #[derive(Clone, Copy, Default)]
 pub(crate) struct TakenRow {
-    /// Where it stands among the rows of the queue, from 0.
+    /// Its index among the rows of the queue, from 0.
     place: usize,
     /// How often it was sent before.
     sends: u32,
 }
 
-/// The record of the member that a packet goes to, where that is Suspect.
+/// The buddy of a packet: the record of the member that the packet goes to, if that record is Suspect.
 pub(crate) fn buddy_of(to: Option<&Record>) -> Option<Claim>
     ensures { result ≡ buddy_of (option_copied to.entry) }
 {
@@ -35,7 +38,7 @@ pub(crate) fn buddy_of(to: Option<&Record>) -> Option<Claim>
     }
 }
 
-/// How many claims of the queue a packet holds beside its buddy.
+/// How many claims of the queue a packet can hold beside its buddy.
 fn room_beside(buddy: &Option<Claim>) -> usize
     ensures room { result ≡ room_beside buddy.now }
     ensures some { 0 < result }
@@ -47,7 +50,7 @@ fn room_beside(buddy: &Option<Claim>) -> usize
     }
 }
 
-/// The place of the row about a buddy's member, or one behind all rows where there is none.
+/// The index of the row about the buddy's member, or the number of rows if there is no such row.
 fn place_of_buddy(rows: &[Queued], buddy: &Option<Claim>) -> usize
     requires { AreInOrder rows.now }
     ensures { (k : ℕ) (d : Row) → k < length rows.now
@@ -62,7 +65,7 @@ fn place_of_buddy(rows: &[Queued], buddy: &Option<Claim>) -> usize
     }
 }
 
-/// How many rows were sent as often or fewer times, up to the first that wasn't.
+/// How many rows there are before the first that was sent more than `sends` times.
 fn place_after(rows: &[TakenRow], sends: u32) -> usize
     ensures place { result ≡ prefix_len (λ r. nat_le r.sends sends) rows.now }
     ensures within { result ≤ length rows.now }
@@ -70,9 +73,10 @@ fn place_after(rows: &[TakenRow], sends: u32) -> usize
     rows.iter().take_while(|row| row.sends <= sends).count()
 }
 
-/// Takes a row behind those that were sent as often, where it is then among the first so many. A later row that was
-/// sent as often as the result, or more often, isn't among them; `bound` says so of the rows before this one.
-// Most rows aren't taken, and the loop over them is shorter where this isn't inlined.
+/// Inserts a row after those that were sent as often or less often, if it is then among the first `room` rows.
+/// Returns the new bound: no later row that was sent that often, or more often, can be among the first. `bound` is
+/// the bound by the rows before this one.
+// Most rows aren't taken, and the loop over them is shorter if this isn't inlined.
 #[inline(never)]
 fn take_row(
     first: &mut ArrayVec<TakenRow, MAX_CLAIMS>,
@@ -98,8 +102,8 @@ fn take_row(
     }
 }
 
-/// The rows that a packet takes beside its buddy: of those below the limit the first by their sends and
-/// then by their names. The rows come in the order of their names.
+/// The rows that a packet takes beside its buddy: of those below the retransmit limit, the first by their sends and
+/// then by their names. The rows have to be in the order of their names.
 pub(crate) fn rows_taken(
     rows: &[Queued],
     buddy: &Option<Claim>,
@@ -113,7 +117,7 @@ pub(crate) fn rows_taken(
     let room = room_beside(buddy);
     let passed_over = place_of_buddy(rows, buddy);
     let mut first = ArrayVec::new();
-    // A row that was sent so often, or more often, isn't among the first.
+    // No row that was sent this often, or more often, is among the first.
     let mut bound = limit;
     for (place, row) in rows.iter().enumerate() {
         let sends = row.sends;
@@ -124,7 +128,7 @@ pub(crate) fn rows_taken(
     first
 }
 
-/// Writes the claims of some rows behind those that are there.
+/// Adds the claims of some rows to those that are there.
 fn push_claims(claims: &mut ArrayVec<Claim, MAX_CLAIMS>, rows: &[Queued], taken: &[TakenRow])
     requires places { AllByRecursion (IsRowOf rows.now) taken.now }
     requires room { array_vec_len claims.old + length taken.now ≤ MAX_CLAIMS }
@@ -135,7 +139,7 @@ fn push_claims(claims: &mut ArrayVec<Claim, MAX_CLAIMS>, rows: &[Queued], taken:
     }
 }
 
-/// Writes the claims of a packet: its buddy, if it has one, and those that it takes of the queue.
+/// Writes the claims of a packet: its buddy, if it has one, and those that it takes from the queue.
 pub(crate) fn write_claims(
     claims: &mut ArrayVec<Claim, MAX_CLAIMS>,
     buddy: &Option<Claim>,
@@ -153,7 +157,7 @@ pub(crate) fn write_claims(
     push_claims(claims, rows, taken);
 }
 
-/// Counts a packet at the rows that it takes.
+/// Counts one more send for each row that a packet takes.
 pub(crate) fn count_sends(rows: &mut [Queued], taken: &[TakenRow])
     requires order { AreInOrder rows.old }
     requires most { length rows.old ≤ MAX_QUEUED }

@@ -1,4 +1,4 @@
-//! What is told along with the packets that a member sends (SWIM, section 4.1; Lifeguard's buddy system).
+//! The claims that ride on the packets that a member sends (piggyback; SWIM, section 4.1; Lifeguard's buddy system).
 #![tactic(auto)]
 
 mod choice;

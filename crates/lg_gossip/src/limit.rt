@@ -1,4 +1,7 @@
-//! How often a claim may be sent.
+//! The retransmit limit: how often a claim may be sent.
+//!
+//! Defined in: `specs/Meaning/Queue.antt`.
+//! Tested in: `lg_detector_tests/src/gossip.rt`.
 ghost use Rattle.std.specs.Prelude.{◌≡◌, ◌≤◌, ◌*◌};
 ghost use Rattle.lg_gossip.specs.Meaning.Queue.{decimal_digits, limit_of};
 
@@ -23,7 +26,7 @@ fn decimal_digits(live: usize) -> u64
     }
 }
 
-/// How often a claim may be sent among so many members: `lambda` times for each decimal digit.
+/// The retransmit limit among `live` members: `lambda` times the number of decimal digits of `live`.
 pub(crate) fn send_limit(lambda: u64, live: usize) -> u64
     requires { lambda ≤ MAX_LAMBDA }
     ensures limit { result ≡ limit_of lambda live }

@@ -1,4 +1,7 @@
-//! The queue of claims.
+//! The queue of claims that ride on packets.
+//!
+//! Defined in: `specs/Meaning/Queue.antt`.
+//! Tested in: `lg_detector_tests/src/gossip.rt`.
 ghost use Rattle.std.specs.Prelude.{◌≡◌, ◌≤◌, ◌<◌, [], length, map, None, option_copied};
 ghost use Rattle.std.specs.List.{IsDistinct};
 ghost use Rattle.lg_rules.specs.Meaning.Rows.{name_cmp, is_same, row_at};
@@ -12,16 +15,16 @@ use arrayvec::ArrayVec;
 use lg_rules::{Claim, MAX_CLAIMS, MAX_LAMBDA, MAX_MEMBERS, Record, put_row};
 use std::marker::Model;
 
-/// The most claims of a queue, one a member: 256 (this project's choice).
+/// The most claims of a queue: 256, one for each member (this project's choice).
 pub const MAX_QUEUED: usize = MAX_MEMBERS;
 
-/// The claims that packets take with them (SWIM, section 4.1), one a member, in the order of the members'
+/// The claims that ride on packets (piggyback; SWIM, section 4.1): at most one about each member, in the order of
 /// names.
 ///
-/// A claim may be sent `lambda` times for each decimal digit of the number of members (SWIM takes a
-/// logarithm; the digits are this project's choice). It stays in the queue when it was sent so often, since
-/// more members may let it be sent again. No call takes memory. A contract sees `lambda` and the list of the
-/// claims with their sends.
+/// A claim may be sent up to the retransmit limit, `lambda` times for each decimal digit of the number of members.
+/// (SWIM takes a logarithm. The digits are this project's choice.) It stays in the queue after that, since with more
+/// members it may be sent again. No call allocates memory. A contract sees `lambda` and the list of the claims with
+/// their sends.
 #[derive(Debug, Drop)]
 pub struct Queue {
     lambda: u64,
@@ -41,8 +44,8 @@ impl Model for Queue {
 }
 
 impl Queue {
-    /// An empty queue whose claims may be sent `lambda` times for each decimal digit of the number of
-    /// members. `lambda` is at most 10.
+    /// An empty queue. Its claims may be sent `lambda` times for each decimal digit of the number of members.
+    /// `lambda` is at most 10.
     pub fn new(lambda: u64) -> Queue
         requires { lambda ≤ MAX_LAMBDA }
         ensures { result ≡ record { lambda = lambda; rows = [] } }
@@ -53,7 +56,7 @@ impl Queue {
         }
     }
 
-    /// An equal queue. It takes no memory.
+    /// Copies the queue. Allocates no memory.
     pub fn copy(&self) -> Queue
         ensures { result ≡ self.now }
     {
@@ -65,14 +68,14 @@ impl Queue {
         }
     }
 
-    /// The claims with their sends, in the order of the members' names.
+    /// The claims with their sends, in the order of names.
     pub fn queued(&self) -> &[Queued]
         ensures { result.now ≡ self.now.rows }
     {
         self.rows.as_slice()
     }
 
-    /// Forgets all claims, and begins anew with another `lambda`, at most 10.
+    /// Forgets all claims, and starts over with another `lambda`, at most 10.
     pub fn restart(&mut self, lambda: u64)
         requires { lambda ≤ MAX_LAMBDA }
         ensures { self.new ≡ record { lambda = lambda; rows = [] } }
@@ -85,15 +88,15 @@ impl Queue {
         rows.clear();
     }
 
-    /// Queues a claim with no sends, in the place of an older one about its member.
+    /// Queues a claim with no sends: replaces the one about its member, or adds it.
     ///
-    /// Either a claim about its member is queued already, or fewer than 256 claims are.
+    /// If none about its member is queued, fewer than 256 claims have to be queued.
     pub fn put(&mut self, claim: Claim)
         requires { (row_at name_cmp queued_name claim.name self.old.rows ≡ None)
             → length self.old.rows < MAX_QUEUED }
         ensures { self.new ≡ put_of claim self.old }
     {
-        // Built anew of its parts, since the checker doesn't follow a whole claim into a generic call.
+        // Built anew from its parts, since the checker doesn't follow a whole claim into a generic call.
         let Claim {
             name,
             addr,
@@ -109,13 +112,13 @@ impl Queue {
         put_row(&mut self.rows, Queued::fresh(claim));
     }
 
-    /// Writes the claims of the next packet into `claims`, in the place of what was there. `live` is the number of
-    /// members that haven't failed, oneself included. It may be any number.
+    /// Replaces what `claims` holds by the claims of the next packet. `live` is the number of members that haven't
+    /// failed, this member included. It may be any number.
     ///
-    /// They are the claims that were sent fewer times than the limit, by their sends and then by their
-    /// names, the first six. Each of them counts as sent once more. Where `to` is the record of the member
-    /// that a Ping goes to, and is Suspect, that record stands first (Lifeguard's buddy system). It doesn't
-    /// count as sent, and the queue's claim about that member is passed over, so at most five others follow.
+    /// The packet takes the claims that were sent fewer times than the retransmit limit: the first six, by their
+    /// sends and then by their names. Each of them counts as sent once more. If `to` is the record of the member that
+    /// a Ping goes to, and is Suspect, it stands first (Lifeguard's buddy system). It doesn't count as sent. The
+    /// queue's claim about that member is passed over, so at most five others follow.
     pub fn fill_into(
         &mut self,
         to: Option<&Record>,

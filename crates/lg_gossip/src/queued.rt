@@ -1,22 +1,25 @@
-//! A claim to be sent, and how often it was.
+//! A claim that waits to be sent, and how often it was sent.
+//!
+//! Defined in: `specs/Meaning/Queue.antt`.
+//! Tested in: `lg_detector_tests/src/gossip.rt`.
 ghost use Rattle.std.specs.Prelude.{◌≡◌};
 
 use lg_rules::{Claim, Keyed, Name};
 
-/// A claim that waits to be sent, with the number of packets that took it from the queue.
+/// A claim that waits to be sent, and the number of packets that took it from the queue.
 #[derive(Clone, Copy, Debug, Default, PartialEq, Eq)]
 pub struct Queued {
     /// The claim.
     pub claim: Claim,
-    /// How many packets took it since it was queued. A packet that held it as a buddy isn't counted. At most
-    /// 200 in a queue.
+    /// How many packets took it since it was queued: at most 200 in a queue. A packet that had it as its buddy isn't
+    /// counted.
     pub sends: u32,
 }
 
 impl Queued {
     ghost use Rattle.lg_gossip.specs.Meaning.Queue.{fresh};
 
-    /// A claim that no packet took yet.
+    /// A claim that no packet has taken yet.
     pub(crate) fn fresh(claim: Claim) -> Queued
         ensures { result ≡ fresh claim }
     {
@@ -24,7 +27,7 @@ impl Queued {
     }
 }
 
-/// Claims wait in the order of the members that they are about.
+/// Rows of the queue are in the order of the names of the members that they are about.
 impl Keyed for Queued {
     ghost use Rattle.lg_gossip.specs.Meaning.Queue.{queued_name};
 

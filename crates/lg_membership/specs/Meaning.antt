@@ -1,4 +1,4 @@
--- What is right: whoever wants to believe the contracts reads these.
+-- What is right: to believe the contracts, read these.
 pub mod Log
 pub mod Suspicions
 pub mod Gossip

@@ -1,4 +1,4 @@
--- What only carries the proofs.
+-- Definitions that only support the proofs.
 pub mod Changes
 pub mod State
 pub mod Reached

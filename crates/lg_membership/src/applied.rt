@@ -3,35 +3,36 @@
 /// What becomes of the deadline of a member's suspicion when a claim about the member is applied.
 #[derive(Clone, Copy, Debug, PartialEq, Eq)]
 pub enum Deadline {
-    /// As before: there still is none, or it still is the same.
+    /// It is as before: there still is none, or it is still the same.
     Stays,
     /// The suspicion ended, and its deadline with it.
     Ends,
-    /// It is now at this moment, in milliseconds: a suspicion was raised, or has one accuser more.
+    /// It is now at this moment, in milliseconds: a suspicion was raised, or has one more accuser.
     Stands(u64),
 }
 
-/// What becomes of a member's place among those that haven't failed when a claim about the member is applied.
+/// Whether a member joins those that haven't failed, or leaves them, when a claim about the member is applied.
 #[derive(Clone, Copy, Debug, PartialEq, Eq)]
 pub enum Presence {
-    /// As before: it still is among them, or it still isn't.
+    /// As before: it is still among them, or it still isn't.
     Stays,
     /// It is among them from now on, and wasn't before.
     Joins,
-    /// It was among them, and isn't any longer: it failed.
+    /// It was among them, and no longer is: it failed.
     Leaves,
 }
 
 /// What applying a claim did.
 #[derive(Clone, Copy, Debug, PartialEq, Eq)]
 pub struct Applied {
-    /// Whether the record of the claim's member was made or replaced; of oneself, whether the own number was raised.
+    /// Whether the record of the claim's member was made or replaced. If the claim is about this member itself:
+    /// whether its incarnation was raised.
     pub changed: bool,
-    /// Whether it was a suspicion of oneself, and was refuted.
+    /// Whether the claim was a suspicion of this member, and this member refuted it.
     pub refuted: bool,
-    /// What becomes of the deadline of the claim's member.
+    /// What becomes of the deadline of the suspicion of the claim's member.
     pub deadline: Deadline,
-    /// Whether the claim's member, where it is another, joins the members that haven't failed, or leaves them. Of
-    /// oneself it is always [`Presence::Stays`].
+    /// Whether the claim's member, if it is another, joins the members that haven't failed, or leaves them. If it is
+    /// this member itself, this is always [`Presence::Stays`].
     pub presence: Presence,
 }

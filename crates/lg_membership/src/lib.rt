@@ -1,5 +1,5 @@
-//! What a member knows of its group: its own number, the records of the others, their suspicions, and the queue of
-//! claims to be sent.
+//! What a member knows of its group: its own incarnation, the records of the others, their suspicions, and the queue
+//! of claims to be sent.
 #![tactic(auto)]
 
 mod applied;

@@ -1,4 +1,7 @@
-//! What a member knows of its group.
+//! What a member knows of its group, and what a claim and a packet change of it.
+//!
+//! Defined in: `specs/Meaning/Applied.antt`, `specs/Meaning/Gossip.antt`, `specs/Meaning/Log.antt`.
+//! Tested in: `lg_detector_tests/src/membership/claims.rt`, `lg_detector_tests/src/membership/queue.rt`.
 ghost use Rattle.std.specs.Prelude.{◌≡◌, ◌≢◌, [], ◌∷◌, ◌&&◌, ◌||◌, option_copied};
 ghost use Rattle.lg_rules.specs.Meaning.Rows.{name_cmp, is_same};
 ghost use Rattle.lg_rules.specs.Support.Standing.{is_rise};
@@ -28,12 +31,12 @@ mod readers;
 
 pub use lg_rules::MAX_MEMBERS;
 
-/// What a member knows of its group (SWIM, section 4; Lifeguard): its own number, the records of the others, their
-/// suspicions, and the queue of claims to be sent.
+/// What a member knows of its group (SWIM, section 4; Lifeguard): its own incarnation, the records of the others,
+/// their suspicions, and the queue of claims to be sent.
 ///
-/// It is made blank, opened, and then applies one claim after another. No call takes memory. A contract sees it as
-/// plain data, which is a function of its log: what it was opened with, which claims were said and when, and which
-/// packets were sent.
+/// It is made blank, then opened, and then applies one claim after another. No call allocates memory. A contract sees
+/// it as plain data, which is a function of its log: what it was opened with, which claims were said and when, and
+/// which packets were sent.
 #[derive(Debug, Drop)]
 pub struct Membership {
     config: Option<Config>,
@@ -66,14 +69,14 @@ impl Model for Membership {
     } };
 }
 
-/// Whether two names are one.
+/// Whether two names are the same.
 fn is_same_name(name: &Name, other: &Name) -> bool
     ensures { result ≡ is_same name_cmp name.now other.now }
 {
     name.cmp(other).is_eq()
 }
 
-/// Puts a claim into the queue, if there is one.
+/// Puts a claim into the queue, if one is given.
 fn put(queue: &mut Queue, claim: Option<Claim>)
     requires { HasPlace claim queue.old }
     ensures { queue.new ≡ queue_with claim queue.old }
@@ -83,21 +86,21 @@ fn put(queue: &mut Queue, claim: Option<Claim>)
     }
 }
 
-/// Whether hearing a claim about oneself raised the own number.
+/// Whether hearing a claim about this member raised its incarnation.
 fn is_rise(heard: OwnHeard) -> bool
     ensures { result ≡ is_rise heard }
 {
     matches!(heard, OwnHeard::Refuted | OwnHeard::Raised)
 }
 
-/// Whether hearing a claim about oneself refuted a suspicion.
+/// Whether hearing a claim about this member refuted a suspicion.
 fn is_refuted(heard: OwnHeard) -> bool
     ensures { result ≡ is_refuted heard }
 {
     matches!(heard, OwnHeard::Refuted)
 }
 
-/// What a claim about oneself puts into the queue: the own record, where the own number was raised.
+/// What a claim about this member puts into the queue: its own record, if its incarnation was raised.
 fn put_of_own(heard: OwnHeard, own: &Own) -> Option<Claim>
     ensures { result ≡ put_of_own heard own.now }
 {
@@ -108,15 +111,15 @@ fn put_of_own(heard: OwnHeard, own: &Own) -> Option<Claim>
     }
 }
 
-/// Whether hearing a claim about another made or replaced a record.
+/// Whether hearing a claim about another member made or replaced a record.
 fn is_override(heard: Heard) -> bool
     ensures { result ≡ is_override heard }
 {
     matches!(heard, Heard::Overrode)
 }
 
-/// Whether a claim about another is to be passed on: it made or replaced a record, or it confirms a suspicion, since it
-/// accuses and the deadline was set anew for its accuser.
+/// Whether a claim about another member is to be passed on. It is if it made or replaced a record, or if it confirms
+/// a suspicion: it accuses, and the deadline was set anew for its accuser.
 fn is_to_be_passed_on(heard: Heard, deadline: Deadline) -> bool
     ensures { result ≡ (is_override heard || (is_accusation heard && stands deadline)) }
 {
@@ -127,8 +130,8 @@ fn is_to_be_passed_on(heard: Heard, deadline: Deadline) -> bool
     }
 }
 
-/// What a claim about another puts into the queue: the claim itself, where the group says it and it counts, which is
-/// that it makes or replaces a record, or confirms a suspicion.
+/// What a claim about another member puts into the queue: the claim itself, if the group says it and it counts. It
+/// counts if it makes or replaces a record, or confirms a suspicion.
 fn put_of_other(origin: Origin, counts: bool, claim: &Claim) -> Option<Claim>
     ensures { result ≡ put_if origin counts claim.now }
 {
@@ -138,15 +141,15 @@ fn put_of_other(origin: Origin, counts: bool, claim: &Claim) -> Option<Claim>
     }
 }
 
-/// The record of the member that a Ping goes to, where it is another that is known.
+/// The record of the member that a Ping goes to, if that is another member that is known.
 fn target_record<'a>(members: &'a Members, target: Option<&Name>) -> Option<&'a Record>
     ensures { option_copied result ≡ target_record (option_copied target.entry) members.now.table }
 {
     target.and_then(|name| members.get(name))
 }
 
-/// Whether a claim's member joined those that haven't failed, or left them, by how many there were before the claim and
-/// are after it.
+/// Whether a claim's member joined those that haven't failed, or left them, by how many there were before the claim
+/// and how many there are after it.
 fn presence_by(before: usize, after: usize) -> Presence
     ensures { result ≡ presence_by before after }
 {
@@ -158,7 +161,7 @@ fn presence_by(before: usize, after: usize) -> Presence
 }
 
 impl Membership {
-    /// A member that wasn't opened: nobody is known, and it has a name that stands for none.
+    /// A member that wasn't opened. It knows nobody, and has a placeholder for its name.
     pub fn blank() -> Membership
         ensures { result ≡ state_of [] }
     {
@@ -172,7 +175,7 @@ impl Membership {
         }
     }
 
-    /// An equal member. It takes no memory.
+    /// Copies the member. Allocates no memory.
     pub fn copy(&self) -> Membership
         ensures { result ≡ self.now }
     {
@@ -189,12 +192,12 @@ impl Membership {
         }
     }
 
-    /// The member is opened with a configuration that passed its check. All that was known is forgotten; its seeds are
-    /// to be applied next.
+    /// Opens the member with a configuration that passed its check. Forgets all that was known. The seeds of the
+    /// configuration are to be applied next.
     pub fn open_with(&mut self, config: &Config)
         requires { IsChecked config.now }
         ensures state { self.new ≡ open_with config.now self.old }
-        // Whatever happened before, the log goes on by the opening.
+        // Whatever happened before, the opening is added to the log.
         ensures log { (log : Log) → self.old ≡ state_of log → self.new ≡ state_of (Opened config.now ∷ log) }
     {
         self.own = Own::new(config.name, config.addr);
@@ -204,16 +207,18 @@ impl Membership {
         self.config = Some(config.copy());
     }
 
-    /// Applies a claim that is said at a moment, and returns what that did (SWIM, section 4.2; Lifeguard, local health
-    /// aware suspicion). At most 256 names are known, oneself included; a claim about a further one does nothing.
+    /// Applies a claim that is said at a moment, and returns what that did (SWIM, section 4.2; Lifeguard, local
+    /// health aware suspicion). At most 256 names are known, this member's included. A claim about one more does
+    /// nothing.
     #[tactic(auto, unfolding(crate::specs::Support::State::apply, crate::specs::Support::State::applied))]
     pub fn apply(&mut self, now: Moment, origin: Origin, claim: &Claim) -> Applied
         ensures state { self.new ≡ apply now origin claim.now self.old }
         ensures applied { result ≡ applied now claim.now self.old }
-        // Whatever was said before, the log goes on by this claim.
+        // Whatever happened before, the claim is added to the log.
         ensures log { (log : Log) → self.old ≡ state_of log
             → self.new ≡ state_of (Said now origin claim.now ∷ log) }
-        // It is what the claim changes of its member's record and suspicion, and of those that haven't failed.
+        // The result says what the claim changes of its member's record and suspicion, and of the members that
+        // haven't failed.
         ensures meaning { (log : Log) → self.old ≡ state_of log → IsApplied now origin claim.now log result }
     {
         if is_same_name(&claim.name, &self.own.name()) {
@@ -223,7 +228,7 @@ impl Membership {
         }
     }
 
-    /// Applies a claim about oneself.
+    /// Applies a claim about this member.
     fn apply_own(&mut self, claim: &Claim) -> Applied
         requires { claim.now.name ≡ self.old.own.name }
         ensures state { self.new ≡ apply_own claim.now self.old }
@@ -239,7 +244,7 @@ impl Membership {
         }
     }
 
-    /// Applies a claim about another.
+    /// Applies a claim about another member.
     fn apply_other(&mut self, now: Moment, origin: Origin, claim: &Claim) -> Applied
         requires { claim.now.name ≢ self.old.own.name }
         ensures state { self.new ≡ apply_other now origin claim.now self.old }
@@ -266,16 +271,16 @@ impl Membership {
         }
     }
 
-    /// Writes the claims of the next packet, at most six, in the place of what was there: those of the queue that have
-    /// their turn, which count as sent once more (SWIM, section 4.1).
+    /// Replaces what `claims` holds by the claims of the next packet, at most six: those of the queue whose turn it
+    /// is, which count as sent once more (piggyback; SWIM, section 4.1).
     ///
-    /// `target` is the member that a Ping goes to; a packet that is no Ping has none. Where its record is Suspect, that
-    /// record stands first, doesn't count as sent, and the queue's claim about the member is passed over (Lifeguard,
-    /// buddy system). A target that isn't known adds nothing, and nor does oneself.
+    /// `target` is the member that a Ping goes to. Any other packet has none. If the target's record is Suspect, that
+    /// record stands first and doesn't count as sent, and the queue's claim about the target is passed over
+    /// (Lifeguard, buddy system). A target that isn't known, or is this member itself, adds nothing.
     pub fn fill_into(&mut self, target: Option<&Name>, claims: &mut ArrayVec<Claim, MAX_CLAIMS>)
         ensures claims { claims.new.items ≡ fill_in (option_copied target.entry) self.old }
         ensures state { self.new ≡ send (taken_in (option_copied target.entry) self.old) self.old }
-        // After any log, the claims are those that it gives, and it goes on by the packet that took them.
+        // After any log, these are the claims that the log gives, and the packet that took them is added to the log.
         ensures filled { (log : Log) → self.old ≡ state_of log
             → claims.new.items ≡ fill (option_copied target.entry) log }
         ensures log { (log : Log) → self.old ≡ state_of log

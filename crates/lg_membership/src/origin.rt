@@ -3,8 +3,8 @@
 /// Where a claim comes from.
 #[derive(Clone, Copy, Debug, PartialEq, Eq)]
 pub enum Origin {
-    /// The opening, which says each seed as alive. Such a claim isn't passed on (this project's choice).
+    /// The opening, which says that each seed is alive. Such a claim isn't passed on (this project's choice).
     Seed,
-    /// The group: a packet of another member, or a timer of one's own.
+    /// The group: a packet of another member, or a timer of this member.
     Group,
 }

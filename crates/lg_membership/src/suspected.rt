@@ -1,4 +1,7 @@
 //! A member that is suspected.
+//!
+//! Defined in: `specs/Meaning/Suspicions.antt`.
+//! Tested in: `lg_detector_tests/src/membership/claims.rt`.
 ghost use Rattle.std.specs.Prelude.{◌≡◌};
 
 use lg_rules::{Keyed, Name};
@@ -14,7 +17,7 @@ pub struct Suspected {
 }
 
 impl Suspected {
-    /// An equal one. It takes no memory.
+    /// Copies the suspected member. Allocates no memory.
     pub(crate) fn copy(&self) -> Suspected
         ensures { result ≡ self.now }
     {
@@ -25,7 +28,7 @@ impl Suspected {
     }
 }
 
-/// Suspicions stand in the order of the members' names.
+/// Rows of suspicions are in the order of the names of the suspected members.
 impl Keyed for Suspected {
     ghost use Rattle.lg_membership.specs.Meaning.Suspicions.{suspected_name};
 

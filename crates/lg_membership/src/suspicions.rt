@@ -1,4 +1,7 @@
-//! What claims about others change of the suspicions.
+//! What a claim about another member changes of the suspicions.
+//!
+//! Defined in: `specs/Meaning/Suspicions.antt`.
+//! Tested in: `lg_detector_tests/src/membership/claims.rt`.
 ghost use Rattle.std.specs.Prelude.{◌≡◌, ◌≤◌, length, map, None, Some};
 ghost use Rattle.arrayvec.specs.ArrayVec.{array_vec_len};
 ghost use Rattle.lg_rules.specs.Meaning.Claim.{accuser_of};
@@ -17,10 +20,10 @@ use lg_rules::{Claim, Heard, MAX_OTHERS, Members, Name, Status, put_row, seat_of
 use lg_suspicion::Suspicion;
 use lg_timing::{Config, Moment};
 
-/// The suspicions of the others, in the order of their names.
+/// The suspicions of the other members, in the order of names.
 pub type Suspicions = ArrayVec<Suspected, MAX_OTHERS>;
 
-/// Copies of suspicions.
+/// Copies suspicions.
 pub(crate) fn copy_suspicions(suspicions: &[Suspected]) -> Suspicions
     requires { length suspicions.now ≤ MAX_OTHERS }
     ensures { result.items ≡ suspicions.now }
@@ -32,7 +35,7 @@ pub(crate) fn copy_suspicions(suspicions: &[Suspected]) -> Suspicions
     copies
 }
 
-/// A member is suspected, in the place of an older suspicion of it; before the opening nobody is.
+/// Raises a suspicion of a member: replaces an older one, or adds it. Before the opening it does nothing.
 fn raise(
     suspicions: &mut Suspicions,
     config: &Option<Config>,
@@ -63,7 +66,7 @@ fn raise(
     Deadline::Stands(deadline)
 }
 
-/// The suspicion of a member ends, if there is one.
+/// Ends the suspicion of a member, if there is one.
 fn end(suspicions: &mut Suspicions, name: &Name) -> Deadline
     requires { Rises name_cmp (map suspected_name suspicions.old.items) }
     ensures rows { let row = row_at name_cmp suspected_name name.now suspicions.old.items in
@@ -80,7 +83,7 @@ fn end(suspicions: &mut Suspicions, name: &Name) -> Deadline
     }
 }
 
-/// A claim overrode the record of its member: a suspicion of the member is raised or ends.
+/// Raises or ends the suspicion of a member whose record was overridden by a claim.
 fn override_row(
     suspicions: &mut Suspicions,
     config: &Option<Config>,
@@ -104,7 +107,7 @@ fn override_row(
     }
 }
 
-/// One more accuses a member that is suspected already.
+/// Takes one more accuser of a member that is suspected already.
 fn join(suspicions: &mut Suspicions, name: &Name, accuser: &Name) -> Deadline
     requires { Rises name_cmp (map suspected_name suspicions.old.items) }
     ensures rows { let row = row_at name_cmp suspected_name name.now suspicions.old.items in
@@ -123,7 +126,7 @@ fn join(suspicions: &mut Suspicions, name: &Name, accuser: &Name) -> Deadline
     }
 }
 
-/// A claim accuses a member that is suspected already.
+/// Takes a claim that accuses a member that is suspected already.
 fn accuse(suspicions: &mut Suspicions, claim: &Claim) -> Deadline
     requires { Rises name_cmp (map suspected_name suspicions.old.items) }
     ensures rows { let row = row_about claim.now suspicions.old.items in
@@ -137,8 +140,8 @@ fn accuse(suspicions: &mut Suspicions, claim: &Claim) -> Deadline
     }
 }
 
-/// A claim about another was heard, after which these members are known: what it changes of the suspicions. They are
-/// counted only where a suspicion is raised.
+/// Takes a claim about another member that was heard, and changes the suspicions by it. `members` are those known
+/// after the claim. They are counted only if a suspicion is raised.
 pub fn suspect(
     suspicions: &mut Suspicions,
     config: &Option<Config>,

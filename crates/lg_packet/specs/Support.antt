@@ -1,3 +1,3 @@
--- What only carries proofs.
+-- Definitions that only support the proofs.
 pub mod Bounds
 pub mod Gives

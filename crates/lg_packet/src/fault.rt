@@ -3,11 +3,11 @@
 use lg_rules::{MAX_CLAIMS, MAX_INCARNATION};
 use thiserror::Error;
 
-/// Why some bytes are no packet: the fault of the first byte that can't stand where it stands, or
-/// [`Fault::Short`] where each can, and more are due.
+/// Why some bytes are no packet: the fault of the first byte that can't stand in its place, or [`Fault::Short`] if
+/// each can and more bytes are due.
 #[derive(Clone, Copy, Debug, PartialEq, Eq, Error)]
 pub enum Fault {
-    /// The bytes end where another byte is due.
+    /// The bytes end although another byte is due.
     #[error("the bytes end before the packet does")]
     Short = 1,
     /// The first byte isn't `53`, or the second isn't `4c`.
@@ -28,7 +28,7 @@ pub enum Fault {
     /// The kind of a claim isn't 1 to 3.
     #[error("the kind of a claim has to be 1 to 3")]
     ClaimKind = 7,
-    /// An incarnation is above 1,000,000,000, at the last of its four bytes.
+    /// An incarnation is above 1,000,000,000. It is judged at the last of its four bytes.
     #[error("an incarnation is at most {most}", most = MAX_INCARNATION)]
     Incarnation = 8,
     /// A byte follows the packet.

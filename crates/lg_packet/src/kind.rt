@@ -1,4 +1,7 @@
-//! Kinds of packets and of claims.
+//! The kinds of packets and of claims, and the bytes that stand for them.
+//!
+//! Defined in: `specs/Meaning/Spelling.antt`, `specs/Meaning/Reading.antt`.
+//! Tested in: `lg_detector_tests/src/packet.rt`.
 ghost use Rattle.std.specs.Prelude.{◌≡◌};
 ghost use Rattle.lg_packet.specs.Meaning.Reading.{kind_of_byte, claim_kind_of_byte};
 ghost use Rattle.lg_packet.specs.Meaning.Spelling.{kind_of, claim_kind_of};
@@ -23,7 +26,7 @@ pub(crate) enum Kind {
     Page = 6,
 }
 
-/// The kind that a byte stands for.
+/// The kind of packet that a byte stands for, if it stands for one.
 pub(crate) fn kind_of_byte(byte: u8) -> Option<Kind>
     ensures { result ≡ kind_of_byte byte }
 {
@@ -55,15 +58,15 @@ pub(crate) fn kind_of(body: &Body) -> Kind
 /// The kind of a claim, by the byte that stands for it.
 #[derive(Clone, Copy, Debug, PartialEq, Eq)]
 pub(crate) enum ClaimKind {
-    /// That a member is there.
+    /// The member is alive.
     Alive = 1,
-    /// That it is suspected, by an accuser.
+    /// The member is suspected, by an accuser.
     Suspect = 2,
-    /// That it has failed.
+    /// The member has failed.
     Failed = 3,
 }
 
-/// The kind of claim that a byte stands for.
+/// The kind of claim that a byte stands for, if it stands for one.
 pub(crate) fn claim_kind_of_byte(byte: u8) -> Option<ClaimKind>
     ensures { result ≡ claim_kind_of_byte byte }
 {

@@ -1,11 +1,11 @@
-//! Packets.
+//! Packets: their bodies, and the claims that ride on them.
 ghost use Rattle.std.specs.Prelude.{◌≡◌};
 
 use arrayvec::ArrayVec;
 use lg_rules::{Addr, Claim, MAX_CLAIMS, Name};
 
-/// What a packet asks for, or answers (SWIM, section 3.1; a Nack is Lifeguard's, a Pull and a Page are this
-/// project's choice).
+/// What a packet asks for or answers (SWIM, section 3.1). The Nack is Lifeguard's. Pull and Page are this project's
+/// choice.
 #[derive(Clone, Copy, Debug, PartialEq, Eq)]
 pub enum Body {
     /// Asks a member for an Ack with this number.
@@ -15,13 +15,13 @@ pub enum Body {
         /// The member that is asked.
         target: Name,
     },
-    /// Asks a helper to probe a member for the sender.
+    /// Asks a helper to probe a member for the sender: SWIM's ping-req, an indirect probe.
     PingReq {
-        /// The sender's number of its probe.
+        /// The number of the sender's own probe.
         number: u32,
-        /// The member that is to be probed.
+        /// The member to be probed.
         target: Name,
-        /// Where the target is reached; the helper needn't know the target (this project's choice).
+        /// Where the target is reached. So the helper needn't know the target (this project's choice).
         addr: Addr,
     },
     /// Acknowledges a Ping or, on behalf of its target, a PingReq.
@@ -29,20 +29,19 @@ pub enum Body {
         /// The number of the Ping or the PingReq.
         number: u32,
     },
-    /// Tells the sender of a PingReq that the helper has no Ack for it so far (Lifeguard, local health aware
+    /// Tells the sender of a PingReq that the helper has no Ack of the target so far (Lifeguard, local health aware
     /// probe).
     Nack {
         /// The number of the PingReq.
         number: u32,
     },
-    /// Asks for the next records behind a name, or for the first where there is none (this project's choice: a
-    /// member joins by pages of records over datagrams).
+    /// Asks for the next records after a name, or for the first records if it has no name. In this way a member that
+    /// joins learns the table (push-pull, anti-entropy): by pages of records over datagrams (this project's choice).
     Pull {
-        /// The records that are asked for are those of the names behind this one, in name order.
+        /// The name after which records are asked for: those of the names that come after it in the order of names.
         after: Option<Name>,
     },
-    /// Answers a Pull: its claims are records (this project's choice: a member joins by pages of records over
-    /// datagrams).
+    /// Answers a Pull: the claims of the packet are a page of records (this project's choice).
     Page,
 }
 
@@ -51,14 +50,15 @@ pub enum Body {
 pub struct Packet {
     /// The member that sent it.
     pub sender: Name,
-    /// What it asks for, or answers.
+    /// What it asks for or answers.
     pub body: Body,
-    /// What it says of members, in the order in which it is heard (SWIM, section 4.1).
+    /// The claims about members that ride on it (piggyback), in the order in which they are heard (SWIM, section
+    /// 4.1).
     pub claims: ArrayVec<Claim, MAX_CLAIMS>,
 }
 
 impl Packet {
-    /// An equal packet. It takes no memory.
+    /// Copies the packet. Allocates no memory.
     pub fn copy(&self) -> Packet
         ensures { result ≡ self.now }
     {
@@ -73,8 +73,8 @@ impl Packet {
     }
 }
 
-/// An Ack numbered 0 of the member `a` without claims, which fills those places of a row of fixed
-/// capacity that hold no packet.
+/// An Ack of the member `a` with the number 0 and no claims. It fills those places of a row of fixed capacity that
+/// hold no packet.
 impl Default for Packet {
     ghost use Rattle.std.specs.Prelude.{◌≡◌, [], ◌∷◌};
     ghost use Rattle.lg_packet.specs.declared.packet.Body.TheVariants.{Ack};

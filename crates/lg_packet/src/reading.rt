@@ -1,4 +1,7 @@
 //! Reading packets, from the first byte on.
+//!
+//! Defined in: `specs/Meaning/Decoding.antt`, `specs/Meaning/Fault.antt`, `specs/Meaning/Reading.antt`.
+//! Tested in: `lg_detector_tests/src/packet.rt`.
 ghost use Rattle.std.specs.Prelude.{◌≡◌, ◌≤◌, [], length, IfOk, IfErr};
 ghost use Rattle.std.specs.Prelude.{OnOk, OnErr, Ok, Err, if◌then◌else◌};
 ghost use Rattle.std.specs.Int.{w16, w32};
@@ -26,7 +29,8 @@ fn are_name_bytes(text: &[u8]) -> bool
     text.iter().all(|byte| is_name_byte(*byte))
 }
 
-/// The fault of a name of which the end is missing: its bytes are judged before that.
+/// The fault of a name whose end is missing: [`Fault::Name`] if one of the bytes that are there may not stand in a
+/// name, or else [`Fault::Short`].
 fn cut_name_fault(text: &[u8]) -> Fault
     ensures { result ≡ (if list_all is_name_byte text.now then Fault.Short else Fault.Name) }
 {
@@ -44,7 +48,7 @@ struct Reader<'a> {
 }
 
 impl Reader<'_> {
-    /// A byte that is due, and whose lack is a fault.
+    /// Reads a byte that has to be `due`. Any other byte is refused with `fault`.
     fn literal(&mut self, due: u8, fault: Fault) -> Result<(), Fault>
         ensures { Gives (λ _. self.new.rest.now) result (literal_at due fault self.old.rest.now) }
     {
@@ -83,7 +87,7 @@ impl Reader<'_> {
         self.name_bytes(len)
     }
 
-    /// As many bytes of a name.
+    /// Reads `len` bytes of a name.
     fn name_bytes(&mut self, len: usize) -> Result<Name, Fault>
         requires some { 1 ≤ len }
         requires few { len ≤ MAX_NAME }
@@ -136,7 +140,7 @@ impl Reader<'_> {
         Ok(Addr { octets, port })
     }
 
-    /// The name of a Pull that has one.
+    /// Reads the name of a Pull that has one.
     #[tactic(auto, unfolding(crate::specs::Meaning::Reading::some_name_at))]
     fn some_name(&mut self) -> Result<Option<Name>, Fault>
         ensures { Gives (λ x. (x, self.new.rest.now)) result (some_name_at self.old.rest.now) }
@@ -145,7 +149,7 @@ impl Reader<'_> {
         Ok(Some(name))
     }
 
-    /// The name of a Pull, or none where its length is 0.
+    /// Reads the name of a Pull, or `None` if its length is 0.
     #[tactic(auto, unfolding(crate::specs::Meaning::Reading::after_at))]
     fn after(&mut self) -> Result<Option<Name>, Fault>
         ensures { Gives (λ x. (x, self.new.rest.now)) result (after_at self.old.rest.now) }
@@ -197,7 +201,7 @@ impl Reader<'_> {
         }
     }
 
-    /// An incarnation, judged once its four bytes are there.
+    /// Reads an incarnation. It is judged once its four bytes are there.
     #[tactic(auto, unfolding(crate::specs::Meaning::Reading::incarnation_at))]
     fn incarnation(&mut self) -> Result<Incarnation, Fault>
         ensures { Gives (λ x. (x, self.new.rest.now)) result (incarnation_at self.old.rest.now) }
@@ -216,7 +220,7 @@ impl Reader<'_> {
         claim_kind_of_byte(*byte).ok_or(Fault::ClaimKind)
     }
 
-    /// The status of a claim of a kind, with the accuser where it has one.
+    /// The status of a claim of this kind. Reads the accuser if the kind has one.
     #[tactic(auto, unfolding(crate::specs::Meaning::Reading::status_at))]
     fn status(&mut self, kind: ClaimKind) -> Result<Status, Fault>
         ensures { Gives (λ x. (x, self.new.rest.now)) result (status_at kind self.old.rest.now) }
@@ -245,7 +249,7 @@ impl Reader<'_> {
         })
     }
 
-    /// The count of claims.
+    /// Reads the count of claims.
     fn count(&mut self) -> Result<usize, Fault>
         ensures value { Gives (λ x. (x, self.new.rest.now)) result (count_at self.old.rest.now) }
         ensures few { IfOk result (λ x. x ≤ MAX_CLAIMS) }
@@ -261,7 +265,7 @@ impl Reader<'_> {
         Ok(count)
     }
 
-    /// Puts as many claims into a packet that has none.
+    /// Reads `count` claims into a packet that has none.
     fn claims(&mut self, count: usize, packet: &mut Packet) -> Result<(), Fault>
         requires few { count ≤ MAX_CLAIMS }
         requires none { packet.old.claims.items ≡ [] }
@@ -270,7 +274,7 @@ impl Reader<'_> {
         ensures front { packet.new ≡ record packet.old { claims = packet.new.claims } }
     {
         for _ in 0..count {
-            // The checker follows the claim into the row by its parts.
+            // Built anew from its parts, since the checker doesn't follow a whole claim into the row.
             let Claim {
                 name,
                 addr,
@@ -287,8 +291,8 @@ impl Reader<'_> {
         Ok(())
     }
 
-    /// Puts the packet that is all of the bytes into one that has no claims. An error leaves its sender and
-    /// its body.
+    /// Reads a packet that takes up all of the bytes, into one that has no claims. On an error, that one keeps its
+    /// sender and its body.
     #[tactic(auto, unfolding(crate::specs::Meaning::Reading::packet_of, crate::specs::Meaning::Reading::packet_at))]
     fn packet(&mut self, packet: &mut Packet) -> Result<(), Fault>
         requires { packet.old.claims.items ≡ [] }
@@ -300,7 +304,7 @@ impl Reader<'_> {
         let body = self.body(kind)?;
         let count = self.count()?;
         self.claims(count, packet)?;
-        // Not `is_empty`: the checker knows the `Option` in a body only where the function names one.
+        // Not `is_empty`: the checker knows the `Option` in a body only if the function names one.
         if self.rest.first().is_some() {
             return Err(Fault::Trailing);
         }
@@ -310,21 +314,21 @@ impl Reader<'_> {
     }
 }
 
-/// Replaces a packet by the one that the bytes spell, all of the bytes.
+/// Replaces a packet by the one that the bytes spell. All of the bytes have to belong to it.
 ///
-/// It refuses what [`decode`] refuses, with the same fault. The packet then has the sender and the body
-/// that it had, and no claims. Nothing is allocated, and of the packet no more is written than its
-/// sender, its body, and the claims that it had and that it gets.
-// Inlined, it lets the compiler take a caller's packet apart and copy it piece by piece, several times.
+/// It refuses what [`decode`] refuses, with the same fault. After that, the packet has the sender and the body that
+/// it had, and no claims. Nothing is allocated. Of the packet, it writes only the sender, the body, the claims that
+/// it had, and the claims that it gets.
+// If this were inlined, the compiler could take a caller's packet apart and copy it piece by piece, several times.
 #[inline(never)]
 pub(crate) fn decode_into(bytes: &[u8], packet: &mut Packet) -> Result<(), Fault>
-    // What is read is spelled so, and where nothing is spelled so it is the fault of the bytes.
+    // On success the bytes spell the packet. On an error they spell none, and it is their fault.
     ensures found { OnOk result (Spells bytes.now packet.new) }
     ensures refused { IfErr result (λ f. DecodesTo bytes.now (Err f)) }
-    // What a packet is as a function of its bytes.
+    // The same result as a function of the bytes.
     ensures exact { OnOk result (packet_of bytes.now ≡ Ok packet.new) }
     ensures fault { IfErr result (λ f. packet_of bytes.now ≡ Err f) }
-    // What a refusal leaves.
+    // What an error leaves.
     ensures left { OnErr result (packet.new ≡ record packet.old { claims = record { items = [] } }) }
 {
     packet.claims.clear();
@@ -336,21 +340,20 @@ pub(crate) fn decode_into(bytes: &[u8], packet: &mut Packet) -> Result<(), Fault
     read
 }
 
-/// The packet that the bytes spell, all of the bytes.
+/// Decodes the packet that the bytes spell. All of the bytes have to belong to it.
 ///
-/// The bytes are judged from the first on, and the fault is that of the first byte that can't
-/// stand where it stands, or [`Fault::Short`] where each can and more are due. Nothing is
-/// allocated.
+/// The bytes are judged from the first on. The error is the fault of the first byte that can't stand in its place, or
+/// [`Fault::Short`] if each can and more are due. Nothing is allocated.
 pub fn decode(bytes: &[u8]) -> Result<Packet, Fault>
-    // What is read is spelled so.
+    // The bytes spell the packet that is returned.
     ensures found { IfOk result (λ p. Spells bytes.now p) }
-    // What is spelled so is read.
+    // A packet that the bytes spell is returned.
     ensures only { (p : Packet) → Spells bytes.now p → result ≡ Ok p }
-    // Which fault it is.
+    // The error is the fault of the bytes.
     ensures fault { IfErr result (λ f. f ≡ fault_of bytes.now) }
-    // It is a packet exactly where the bytes spell it, and their fault exactly where they spell none.
+    // The result is a packet exactly if the bytes spell it, and their fault exactly if they spell none.
     ensures decodes { DecodesTo bytes.now result }
-    // What a packet is as a function of its bytes.
+    // The same result as a function of the bytes.
     ensures exact { result ≡ packet_of bytes.now }
 {
     let mut packet = Packet::default();

@@ -1,4 +1,7 @@
 //! Writing packets.
+//!
+//! Defined in: `specs/Meaning/Spelling.antt`, `specs/Meaning/Reading.antt`.
+//! Tested in: `lg_detector_tests/src/packet.rt`.
 ghost use Rattle.std.specs.Prelude.{◌≡◌, ◌+◌, ◌*◌, ◌≤◌, ◌++◌, IsTrue, Ok, length};
 ghost use Rattle.std.specs.Int.{w32, to_be_bytes};
 ghost use Rattle.arrayvec.specs.ArrayVec.{array_vec_len};
@@ -13,20 +16,20 @@ use crate::packet::{Body, Packet};
 use arrayvec::ArrayVec;
 use lg_rules::{Addr, Claim, MAX_CLAIMS, MAX_NAME, Name, Status};
 
-/// The room for the length and the bytes of a name: 33.
+/// The most bytes of a name with its length: 33.
 const NAME_ROOM: usize = 1 + MAX_NAME;
 
-/// The room for the bytes of an address: 6.
+/// The bytes of an address: 6.
 const ADDR_ROOM: usize = 4 + 2;
 
-/// The room for the longest body, that of a PingReq, with a number, a name and an address: 43.
+/// The most bytes of a body: 43, those of a PingReq, which has a number, a name and an address.
 const BODY_ROOM: usize = 4 + NAME_ROOM + ADDR_ROOM;
 
-/// The room for the kind, the name, the address, the incarnation and the accuser of a claim: 77.
+/// The most bytes of a claim: 77, for its kind, name, address, incarnation and accuser.
 const CLAIM_ROOM: usize = 1 + NAME_ROOM + ADDR_ROOM + 4 + NAME_ROOM;
 
-/// The room for the bytes of a packet, 543 (this project's choice): 4 of head, 33 of the sender's name,
-/// 43 of the body, 1 of the count, and 6 claims of at most 77.
+/// The most bytes of a packet: 543 (this project's choice). These are 4 of the head, 33 of the sender's name, 43 of
+/// the body, 1 of the count, and 6 claims of at most 77.
 pub const MAX_PACKET: usize = 4 + NAME_ROOM + BODY_ROOM + 1 + MAX_CLAIMS * CLAIM_ROOM;
 
 /// Bytes that are being written.
@@ -40,7 +43,7 @@ fn put(out: &mut Row, bytes: &[u8])
     prove!(written.is_ok());
 }
 
-/// The magic, the version and the kind.
+/// Writes the magic, the version and the kind.
 fn put_head(out: &mut Row, kind: Kind)
     requires { array_vec_len out.old + 4 ≤ MAX_PACKET }
     ensures items { out.new.items ≡ out.old.items ++ spelled_head kind }
@@ -71,7 +74,7 @@ fn put_addr(out: &mut Row, addr: &Addr)
     put(out, &[a, b, c, d, high, low]);
 }
 
-/// The name of a Pull, or a length of 0 where it has none.
+/// Writes the name of a Pull, or a length of 0 if it has none.
 fn put_after(out: &mut Row, after: &Option<Name>)
     requires { array_vec_len out.old + NAME_ROOM ≤ MAX_PACKET }
     ensures items { out.new.items ≡ out.old.items ++ spelled_after after.now }
@@ -147,9 +150,9 @@ fn put_claims(out: &mut Row, claims: &[Claim])
     }
 }
 
-/// Replaces the content of a row by the one spelling of a packet, of at most [`MAX_PACKET`] bytes.
+/// Encodes a packet: replaces what the row holds by the one spelling of the packet, at most [`MAX_PACKET`] bytes.
 ///
-/// It is never refused, and allocates nothing.
+/// It never fails, and allocates nothing.
 #[tactic(auto, unfolding(crate::specs::Meaning::Spelling::spelling))]
 pub fn encode(packet: &Packet, out: &mut ArrayVec<u8, MAX_PACKET>)
     // The row holds the spelling of the packet.

@@ -1,4 +1,7 @@
-//! The helpers of a probe.
+//! The helpers of a probe, which are asked for an indirect probe (ping-req).
+//!
+//! Defined in: `specs/Meaning/Helpers.antt`, `specs/Meaning/Order.antt`.
+//! Tested in: `lg_detector_tests/src/probe.rt`.
 ghost use Rattle.std.specs.Prelude.{◌≡◌, ◌≤◌, ◌<◌, ◌+◌, ℕ, List, [], ◌++◌, length, slice_get};
 ghost use Rattle.std.specs.Option.{option_to_list};
 ghost use Rattle.arrayvec.specs.ArrayVec.{array_vec_len};
@@ -16,11 +19,11 @@ use std::marker::Model;
 /// The most helpers of a probe: 8 (this project's choice).
 pub const MAX_HELPERS: usize = 8;
 
-/// The most places that a pick takes out: those of the helpers and of the target.
+/// The most names that a pick takes out: those of the helpers and of the target.
 const MAX_PLACES: usize = MAX_HELPERS + 1;
 
-/// The members that are asked to probe a target too, at most 8, in the order in which they were picked (SWIM, section
-/// 3.1). No call takes memory. A contract sees their names.
+/// The helpers of a probe, at most 8, in the order in which they were picked: members that are asked to probe its
+/// target too (the indirect probe; SWIM, section 3.1). No call allocates memory. A contract sees their names.
 #[derive(Debug, Drop)]
 pub struct Helpers {
     names: ArrayVec<Name, MAX_HELPERS>,
@@ -34,10 +37,11 @@ impl Model for Helpers {
     ghost view = { λ h. h.names.items };
 }
 
-/// The places of names that are taken out, the latest first: each is a place among the names left before it.
+/// The indices of the names that were taken out, the latest first. Each is an index among the names that were left
+/// before it was taken out.
 type Places = ArrayVec<usize, MAX_PLACES>;
 
-/// The place of the target, where it is among the names.
+/// The index of the target, if it is among the names.
 fn places_of(names: &[Name], target: &Name) -> Places
     requires { Rises name_cmp names.now }
     ensures others { left_at result.items names.now ≡ without target.now names.now }
@@ -51,7 +55,7 @@ fn places_of(names: &[Name], target: &Name) -> Places
     taken
 }
 
-/// Where the name at a place among those left stands among all of them.
+/// The index among all names of the name that is at this index among those left.
 fn place_among_all(taken: &[usize], mut place: usize) -> usize
     requires few { length taken.now ≤ MAX_PLACES }
     requires within { place < MAX_OTHERS }
@@ -65,7 +69,7 @@ fn place_among_all(taken: &[usize], mut place: usize) -> usize
     place
 }
 
-/// Picks by a word one of the names that are left.
+/// Picks one of the remaining names by a random word, if any remains.
 fn pick_one(names: &[Name], taken: &mut Places, word: u32) -> Option<Name>
     requires few { length names.now ≤ MAX_OTHERS }
     requires room { array_vec_len taken.old < MAX_PLACES }
@@ -85,7 +89,7 @@ fn pick_one(names: &[Name], taken: &mut Places, word: u32) -> Option<Name>
     Some(name)
 }
 
-/// Puts who was picked, if anybody was, behind those picked before.
+/// Adds the helper that was picked, if one was.
 fn push_helper(helpers: &mut ArrayVec<Name, MAX_HELPERS>, name: Option<Name>)
     requires { array_vec_len helpers.old < MAX_HELPERS }
     ensures { helpers.new.items ≡ helpers.old.items ++ option_to_list name }
@@ -95,7 +99,7 @@ fn push_helper(helpers: &mut ArrayVec<Name, MAX_HELPERS>, name: Option<Name>)
     }
 }
 
-/// Picks by each word one of the names that are left, the target excepted.
+/// Picks one of the remaining names by each word, if any remains. The target is never picked.
 fn pick_all(names: &[Name], target: &Name, words: &[u32]) -> ArrayVec<Name, MAX_HELPERS>
     requires few { length names.now ≤ MAX_OTHERS }
     requires rises { Rises name_cmp names.now }
@@ -111,7 +115,7 @@ fn pick_all(names: &[Name], target: &Name, words: &[u32]) -> ArrayVec<Name, MAX_
 }
 
 impl Helpers {
-    /// Nobody is picked.
+    /// No helpers.
     pub fn new() -> Helpers
         ensures { result ≡ [] }
     {
@@ -120,13 +124,16 @@ impl Helpers {
         }
     }
 
-    /// Picks at most `k` helpers, 8 at most, in the place of those picked before, of the names that have joined
-    /// `others` and not left, the target excepted. They are picked one after another: a word picks the name at the
-    /// word modulo the number of those left, from 0, in the order of names, until `k` are picked or none is left.
+    /// Replaces the helpers by at most `k` new ones. They are picked from the names that have joined `others` and not
+    /// left. The target isn't picked. `k` is at most 8.
+    ///
+    /// They are picked one after another, until `k` are picked or no name remains. Each word picks the name whose
+    /// index in the order of names, from 0, is the word modulo the number of remaining names.
     pub fn pick(&mut self, others: &Order, target: &Name, k: usize, words: &[u32; 8])
         requires { k ≤ MAX_HELPERS }
         ensures picked { self.new ≡ picked k words.now (without target.now others.now.names) }
-        // Whatever happened to the order so far, the latest first, they are of the names that joined and didn't leave.
+        // If the order is the one after some facts (the latest first), they are picked from the names that joined and
+        // didn't leave.
         ensures past { (past : List OrderFact) → others.now ≡ order_after past
             → self.new ≡ picked k words.now (without target.now (names_after past)) }
     {

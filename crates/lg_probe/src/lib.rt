@@ -1,4 +1,4 @@
-//! Whom to probe, through whom, and what came of it.
+//! Whom to probe, which helpers to ask (ping-req), and what came of a probe.
 #![tactic(auto)]
 
 mod helpers;

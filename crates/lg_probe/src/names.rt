@@ -1,4 +1,7 @@
 //! Rows of names: finding a name, putting one in, and taking one out.
+//!
+//! Defined in: `lg_rules/specs/Meaning/Rows.antt`, `specs/Meaning/Order.antt`.
+//! Tested in: `lg_detector_tests/src/probe.rt`.
 ghost use Rattle.std.specs.Prelude.{◌≡◌, ◌+◌, ◌≤◌, ◌<◌, false, ◌++◌, length, MatchResult};
 ghost use Rattle.std.specs.List.{prefix_len};
 ghost use Rattle.std.specs.Ordering.{is_lt};
@@ -10,7 +13,7 @@ ghost use Rattle.lg_probe.specs.Meaning.Order.{without};
 use arrayvec::ArrayVec;
 use lg_rules::{MAX_OTHERS, Name};
 
-/// How many names are lesser, found by halving the names.
+/// How many names are lesser. Found by binary search.
 fn place_of(names: &[Name], name: &Name) -> usize
     requires { Rises name_cmp names.now }
     ensures { result ≡ prefix_len (λ m. is_lt (name_cmp m name.now)) names.now }
@@ -18,7 +21,8 @@ fn place_of(names: &[Name], name: &Name) -> usize
     names.partition_point(|other| other.cmp(name).is_lt())
 }
 
-/// Where a name stands among names in rising order, or else where it would be inserted.
+/// `Ok` with the index of a name among names in rising order, or else `Err` with the index at which it would be
+/// inserted.
 pub(crate) fn seat_of(names: &[Name], name: &Name) -> Result<usize, usize>
     requires { Rises name_cmp names.now }
     ensures { let has = HasRow name_cmp (λ m. m) name.now names.now in
@@ -44,7 +48,7 @@ pub(crate) fn is_among(names: &[Name], name: &Name) -> bool
     }
 }
 
-/// Puts a name among names in rising order, where it isn't among them yet.
+/// Puts a name among names in rising order, unless it is among them already.
 pub(crate) fn put(names: &mut ArrayVec<Name, MAX_OTHERS>, name: &Name)
     requires rises { Rises name_cmp names.old.items }
     requires room { is_among name_cmp name.now names.old.items ≡ false → array_vec_len names.old < MAX_OTHERS }
@@ -56,7 +60,7 @@ pub(crate) fn put(names: &mut ArrayVec<Name, MAX_OTHERS>, name: &Name)
     }
 }
 
-/// Takes a name out of names in rising order, where it is among them.
+/// Takes a name out of names in rising order, if it is among them.
 pub(crate) fn take_out(names: &mut ArrayVec<Name, MAX_OTHERS>, name: &Name)
     requires { Rises name_cmp names.old.items }
     ensures { names.new.items ≡ without name.now names.old.items }
@@ -66,7 +70,7 @@ pub(crate) fn take_out(names: &mut ArrayVec<Name, MAX_OTHERS>, name: &Name)
     }
 }
 
-/// Takes a name out of names in any order, where it is among them.
+/// Takes a name out of names in any order, if it is among them.
 pub(crate) fn remove<const N: usize>(names: &mut ArrayVec<Name, N>, name: &Name)
     ensures { names.new.items ≡ without name.now names.old.items }
 {
@@ -80,7 +84,7 @@ pub(crate) fn is_listed(names: &[Name], name: &Name) -> bool
     names.contains(name)
 }
 
-/// Puts these names behind those of a row.
+/// Adds these names at the end of a row.
 pub(crate) fn push_all<const N: usize>(row: &mut ArrayVec<Name, N>, names: &[Name])
     requires { array_vec_len row.old + length names.now ≤ N }
     ensures { row.new.items ≡ row.old.items ++ names.now }

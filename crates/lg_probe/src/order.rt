@@ -1,4 +1,7 @@
-//! The order of probing.
+//! The order of probing: rounds in which each member is chosen once.
+//!
+//! Defined in: `specs/Meaning/Order.antt`, `specs/Meaning/Helpers.antt`.
+//! Tested in: `lg_detector_tests/src/probe.rt`.
 ghost use Rattle.std.specs.Prelude.{◌≡◌, ◌≤◌, true, ℕ, List, [], ◌∷◌, ◌++◌, length};
 ghost use Rattle.std.specs.Prelude.{IfOk, OnOk};
 ghost use Rattle.std.specs.Option.{option_to_list};
@@ -16,7 +19,7 @@ use lg_rules::{MAX_OTHERS, Name};
 use std::alloc::{AllocError, Global};
 use std::marker::Model;
 
-/// Takes out of some names the one that a word chooses, where there is one.
+/// Takes out the name that a random word chooses among some names, if there are any.
 fn take_one(names: &mut ArrayVec<Name, MAX_OTHERS>, word: u32) -> Option<Name>
     ensures name { result ≡ candidate word names.old.items }
     ensures left { names.new.items ≡ left_by word names.old.items }
@@ -28,7 +31,7 @@ fn take_one(names: &mut ArrayVec<Name, MAX_OTHERS>, word: u32) -> Option<Name>
     names.pop_at(word as usize % count)
 }
 
-/// Begins a new round where no candidate remains: each name is one then.
+/// If no candidate remains, begins a new round, in which each name is a candidate.
 fn begin_round(
     names: &[Name],
     chosen: &mut ArrayVec<Name, MAX_OTHERS>,
@@ -45,7 +48,7 @@ fn begin_round(
     }
 }
 
-/// Chooses one of these names by a word, which then counts as chosen and is no candidate.
+/// Chooses one of these names by a random word. From then on it counts as chosen, and is no candidate.
 fn choose_among(
     names: &[Name],
     chosen: &mut ArrayVec<Name, MAX_OTHERS>,
@@ -68,12 +71,12 @@ fn choose_among(
 /// The members that are probed, and those of them that were chosen in the current round (SWIM, section 4.3).
 ///
 /// At most 255 names are known: those that have joined and not left, and those chosen in the current round. No call
-/// takes memory. A contract sees the two sets, each in the order of names.
+/// allocates memory. A contract sees the two sets, each in the order of names.
 #[derive(Debug, Drop)]
 pub struct Order {
     names: ArrayVec<Name, MAX_OTHERS>,
     chosen: ArrayVec<Name, MAX_OTHERS>,
-    // The candidates: the names that aren't chosen, kept so that a choice doesn't have to look for them.
+    // The candidates: the names that aren't chosen. They are kept so that a choice needn't look for them.
     remaining: ArrayVec<Name, MAX_OTHERS>,
 }
 
@@ -90,7 +93,7 @@ impl Model for Order {
 }
 
 impl Order {
-    /// Nobody has joined.
+    /// An order that nobody has joined.
     pub fn new() -> Order
         ensures { result ≡ order_after [] }
     {
@@ -101,7 +104,7 @@ impl Order {
         }
     }
 
-    /// An equal order. It takes no memory.
+    /// Copies the order. Allocates no memory.
     pub fn copy(&self) -> Order
         ensures { result ≡ self.now }
     {
@@ -127,7 +130,7 @@ impl Order {
         self.names.as_slice()
     }
 
-    /// The names chosen in the current round, at most 255, in the order of names (SWIM, section 4.3).
+    /// The names that were chosen in the current round, at most 255, in the order of names (SWIM, section 4.3).
     pub fn chosen(&self) -> &[Name]
         ensures chosen { result.now ≡ self.now.chosen }
         ensures few { length result.now ≤ MAX_OTHERS }
@@ -135,13 +138,16 @@ impl Order {
         self.chosen.as_slice()
     }
 
-    /// Chooses by a word whom to probe, or nobody where there is no name. The candidates are the names that aren't
-    /// chosen in the current round, in the order of names. Where there are none, a new round begins, in which all are
-    /// candidates. The one at the word modulo their number, from 0, is chosen, and counts as chosen in the round.
+    /// Chooses whom to probe by a random word, or nobody if there are no names.
+    ///
+    /// The candidates are the names that aren't chosen in the current round, in the order of names. If there are
+    /// none, a new round begins, in which all names are candidates. The word modulo their number is the index of the
+    /// one that is chosen, from 0. It counts as chosen in the round.
     pub fn choose(&mut self, word: u32) -> Option<Name>
         ensures chosen { result ≡ choice self.old.names self.old.chosen word }
         ensures order { self.new ≡ order_with self.old (Chose word) }
-        // Whatever happened so far, the latest first, it is the choice after all of it.
+        // If the order was the one after some facts (the latest first), this is the choice after those, and the order
+        // is now the one after those and this choice.
         ensures past { (past : List OrderFact) → self.old ≡ order_after past
             → (result ≡ choice_after past word) × (self.new ≡ order_after (Chose word ∷ past)) }
     {
@@ -153,9 +159,10 @@ impl Order {
         )
     }
 
-    /// A member joins: it is a candidate at once, where it isn't chosen in the current round. With it at most 255
-    /// names are known: those that have joined and not left, and those chosen in the current round. So it is while
-    /// with it at most 255 names have ever joined.
+    /// Lets a member join. It is a candidate at once, unless it was chosen in the current round.
+    ///
+    /// With it, at most 255 names may be known: those that have joined and not left, and those chosen in the current
+    /// round. That holds as long as, with it, at most 255 names have ever joined.
     pub fn join(&mut self, name: &Name)
         requires { length (put_key name_cmp name.now (known_names self.old)) ≤ MAX_OTHERS }
         ensures order { self.new ≡ order_with self.old (Joined name.now) }
@@ -168,8 +175,8 @@ impl Order {
         }
     }
 
-    /// A member leaves, and isn't a candidate until it joins again. Where it was chosen in the current round, it stays
-    /// so.
+    /// Lets a member leave. It isn't a candidate until it joins again. If it was chosen in the current round, it
+    /// stays chosen.
     pub fn leave(&mut self, name: &Name)
         ensures order { self.new ≡ order_with self.old (Left name.now) }
         ensures past { (past : List OrderFact) → self.old ≡ order_after past
@@ -180,7 +187,7 @@ impl Order {
     }
 }
 
-/// The order of these names, of which none is chosen.
+/// An order that these names have joined, and of which none is chosen.
 fn order_of(names: &[Name]) -> Order
     requires { length names.now ≤ MAX_OTHERS }
     ensures { result ≡ order_after (then_joined names.now []) }
@@ -192,7 +199,7 @@ fn order_of(names: &[Name]) -> Order
     order
 }
 
-/// Puts who was chosen, if anybody was, behind those chosen before.
+/// Adds the one that was chosen, if anybody was.
 fn push_chosen(chosen: &mut Vec<Name>, name: Option<Name>) -> Result<(), AllocError>
     ensures { OnOk result (chosen.new.items ≡ chosen.old.items ++ option_to_list name) }
 {
@@ -202,13 +209,14 @@ fn push_chosen(chosen: &mut Vec<Name>, name: Option<Name>) -> Result<(), AllocEr
     Ok(())
 }
 
-/// Whom words choose one after another of some names, at most 255, in rounds that choose each name once (SWIM, section
-/// 4.3). A name that stands there twice counts once, and with no names nobody is chosen. Memory is taken for the
-/// choices, one a word, and an error says that it was refused.
+/// Whom some words choose, one after another, of at most 255 names, in rounds that choose each name once (SWIM,
+/// section 4.3). A name that is given twice counts once. With no names, nobody is chosen.
+///
+/// Memory is allocated for the choices, one for each word. The error says that it was refused.
 pub fn choose_all(alloc: Global, names: &[Name], words: &[u32]) -> Result<Vec<Name>, AllocError>
     requires { length names.now ≤ MAX_OTHERS }
     ensures chosen { IfOk result (λ chosen. chosen.items ≡ picks names.now words.now) }
-    // Any 2p - 1 choices in a row have each of p names.
+    // Any 2p - 1 choices in a row have each of the p names.
     ensures windows { IfOk result (λ chosen. EachInWindows names.now words.now chosen.items) }
     ensures none { IfOk result (λ chosen. names.now ≡ [] → chosen.items ≡ []) }
 {
@@ -220,15 +228,15 @@ pub fn choose_all(alloc: Global, names: &[Name], words: &[u32]) -> Result<Vec<Na
     Ok(chosen)
 }
 
-/// An order has room for a name with which at most 255 names have ever joined (this project's choice). This is a law,
-/// and the call does nothing.
+/// An order has room for a name as long as at most 255 names have ever joined, that one included (this project's
+/// choice). This is a law, and the call does nothing.
 pub fn orders_have_room()
     ensures { (past : List OrderFact) (name : List ℕ) → length (ever_joined (Joined name ∷ past)) ≤ MAX_OTHERS
         → length (put_key name_cmp name (known_names (order_after past))) ≤ MAX_OTHERS }
 {}
 
-/// While the names stay the same, any 2p - 1 choices in a row choose each of p names, from any state of a round on
-/// (SWIM, section 4.3). With no names nobody is chosen. This is a law, and the call does nothing.
+/// While the names stay the same, any 2p - 1 choices in a row choose each of the p names, from whatever state of a
+/// round they begin (SWIM, section 4.3). With no names, nobody is chosen. This is a law, and the call does nothing.
 pub fn windows_have_each()
     ensures each { (past : List OrderFact) (words : List ℕ) (name : List ℕ)
         → is_among name_cmp name (names_after past) ≡ true → window (names_after past) ≤ length words

@@ -1,4 +1,7 @@
-//! Relays.
+//! The relays of a helper: probes of a target for another member.
+//!
+//! Defined in: `specs/Meaning/Relays.antt`.
+//! Tested in: `lg_detector_tests/src/probe.rt`.
 ghost use Rattle.std.specs.Prelude.{◌≡◌, ◌<◌, ◌≤◌, List, [], ◌∷◌, length, None, position};
 ghost use Rattle.lg_probe.specs.Meaning.Relays.{RelayFact, Opened, TargetAcked, Closed, relays_after};
 ghost use Rattle.lg_probe.specs.Meaning.Relays.{AreApart, asker_at, ended_asker, has_number, is_ended, is_open};
@@ -11,22 +14,22 @@ use std::marker::Model;
 /// The most relays that are open at once: 64 (this project's choice).
 pub const MAX_RELAYS: usize = 64;
 
-/// A probe of a target for another member, its asker, which is told of the target's ack (SWIM, section 3.1), or that
-/// none came yet (Lifeguard, local health aware probe).
+/// A probe of a target for another member, its asker, which sent a ping-req. The asker is told of the target's ack
+/// (SWIM, section 3.1), or that none came yet (Lifeguard, local health aware probe).
 #[derive(Clone, Copy, Debug, Default, PartialEq, Eq)]
 pub struct Relay {
-    /// The number of the probe.
+    /// The number of this probe.
     pub number: u32,
     /// The member that is probed.
     pub target: Name,
     /// Where the asker is reached.
     pub asker: Addr,
-    /// The number by which the asker probes.
+    /// The number of the asker's own probe.
     pub asked: u32,
 }
 
-/// The relays that are open, at most 64, in the order in which they were opened (SWIM, section 3.1). No call takes
-/// memory. A contract sees the row of relays.
+/// The relays that are open, at most 64, in the order in which they were opened (SWIM, section 3.1). No call
+/// allocates memory. A contract sees the row of relays.
 #[derive(Debug, Drop)]
 pub struct Relays {
     open: ArrayVec<Relay, MAX_RELAYS>,
@@ -46,14 +49,14 @@ impl Model for Relays {
 }
 
 impl Relay {
-    /// Whether it has a number.
+    /// Whether it has this number.
     fn has_number(&self, number: u32) -> bool
         ensures { result ≡ has_number number self.now }
     {
         self.number == number
     }
 
-    /// Whether an ack ends it.
+    /// Whether an ack with this number from this sender ends it.
     #[tactic(auto, using(lg_rules::proofs::KeyOrder::names_eq))]
     fn is_ended(&self, number: u32, sender: &Name) -> bool
         ensures { result ≡ is_ended number sender.now self.now }
@@ -62,7 +65,7 @@ impl Relay {
     }
 }
 
-/// Where the first of these relays stands that an ack ends.
+/// The index of the first relay that an ack with this number from this sender ends, if there is one.
 fn place_ended(relays: &[Relay], number: u32, sender: &Name) -> Option<usize>
     ensures { result ≡ position (is_ended number sender.now) relays.now }
 {
@@ -71,7 +74,7 @@ fn place_ended(relays: &[Relay], number: u32, sender: &Name) -> Option<usize>
         .position(|relay| relay.is_ended(number, sender))
 }
 
-/// Where the first of these relays stands that has a number.
+/// The index of the first relay with this number, if there is one.
 fn place_of(relays: &[Relay], number: u32) -> Option<usize>
     ensures { result ≡ position (has_number number) relays.now }
 {
@@ -79,7 +82,7 @@ fn place_of(relays: &[Relay], number: u32) -> Option<usize>
 }
 
 impl Relays {
-    /// No relay is open.
+    /// No open relays.
     pub fn new() -> Relays
         ensures { result ≡ relays_after [] }
     {
@@ -88,7 +91,7 @@ impl Relays {
         }
     }
 
-    /// Equal relays. It takes no memory.
+    /// Copies the relays. Allocates no memory.
     pub fn copy(&self) -> Relays
         ensures { result ≡ self.now }
     {
@@ -101,14 +104,14 @@ impl Relays {
     pub fn len(&self) -> usize
         ensures count { result ≡ length self.now }
         ensures few { result ≤ MAX_RELAYS }
-        // No two of them have one number.
+        // No two of them have the same number.
         ensures apart { AreApart self.now }
     {
         self.open.len()
     }
 
-    /// Opens a relay of a number to a target, for an asker that probes it by the number `asked`. Fewer than 64 are
-    /// open, and none of that number.
+    /// Opens a relay with this number to a target, for an asker whose own probe has the number `asked`. Fewer than 64
+    /// have to be open, and none with this number.
     pub fn add(&mut self, number: u32, target: &Name, asker: Addr, asked: u32)
         requires room { length self.old < MAX_RELAYS }
         requires apart { asker_at number self.old ≡ None }
@@ -118,7 +121,8 @@ impl Relays {
           asker = asker;
           asked = asked;
         }) }
-        // Whatever happened so far, the latest first, the relays are those open after all of it.
+        // If these were the relays open after some facts (the latest first), they are now those open after these and
+        // this one.
         ensures past { (past : List RelayFact) → self.old ≡ relays_after past
             → self.new ≡ relays_after (Opened record {
               number = number;
@@ -135,7 +139,8 @@ impl Relays {
         });
     }
 
-    /// The asker of the open relay of a number, and the number by which it asked.
+    /// The asker of the open relay with this number, and the number of the asker's own probe, if there is such a
+    /// relay.
     pub fn get(&self, number: u32) -> Option<(Addr, u32)>
         ensures { result ≡ asker_at number self.now }
     {
@@ -145,8 +150,8 @@ impl Relays {
             .map(|relay| (relay.asker, relay.asked))
     }
 
-    /// Takes an ack. Where there is an open relay of its number to its sender, it closes, and its asker and the number
-    /// by which that asked are returned.
+    /// Takes an ack. If a relay with its number to its sender is open, closes it, and returns its asker and the
+    /// number of the asker's own probe.
     pub fn ack(&mut self, number: u32, sender: &Name) -> Option<(Addr, u32)>
         ensures asker { result ≡ ended_asker number sender.now self.old }
         ensures relays { self.new ≡ relays_with self.old (TargetAcked number sender.now) }
@@ -158,7 +163,7 @@ impl Relays {
         Some((relay.asker, relay.asked))
     }
 
-    /// Closes the relay of a number, and returns whether one was open.
+    /// Closes the relay with this number, and returns whether it was open.
     pub fn close(&mut self, number: u32) -> bool
         ensures was_open { result ≡ is_open number self.old }
         ensures relays { self.new ≡ relays_with self.old (Closed number) }

@@ -1,4 +1,7 @@
-//! A round of probing.
+//! A round of probing: one probe of a target, and the mark that it earns.
+//!
+//! Defined in: `specs/Meaning/Round.antt`.
+//! Tested in: `lg_detector_tests/src/probe.rt`.
 ghost use Rattle.std.specs.Prelude.{◌≡◌, ◌≤◌, List, [], ◌∷◌, length};
 ghost use Rattle.lg_probe.specs.Meaning.Round.{RoundFact, Asked, Acked, Nacked, ack_counts, is_first_ack, nack_counts};
 ghost use Rattle.lg_probe.specs.Meaning.Round.{is_acked, mark_of, round_of, round_with, silent_in};
@@ -9,14 +12,14 @@ use arrayvec::ArrayVec;
 use lg_rules::Name;
 use std::marker::Model;
 
-/// A probe of a target, and what came of it so far: which helpers were asked, which of them sent a nack, and whether an
-/// ack counted (SWIM, section 3.1; Lifeguard, local health aware probe). No call takes memory.
+/// A probe of a target, and what came of it so far: which helpers were asked (ping-req), which of them sent a nack,
+/// and whether an ack counted (SWIM, section 3.1; Lifeguard, local health aware probe). No call allocates memory.
 #[derive(Debug, Drop)]
 pub struct Round {
     number: u32,
     target: Name,
     asked: ArrayVec<Name, MAX_HELPERS>,
-    // The asked helpers that sent no nack yet.
+    // The asked helpers that have sent no nack yet.
     silent: ArrayVec<Name, MAX_HELPERS>,
     acked: bool,
 }
@@ -36,7 +39,7 @@ impl Model for Round {
 }
 
 impl Round {
-    /// The probe of a number goes to its target; no helper is asked.
+    /// A round whose probe has this number and this target. No helper is asked yet.
     pub fn new(number: u32, target: &Name) -> Round
         ensures { result ≡ round_of number target.now [] }
     {
@@ -49,7 +52,7 @@ impl Round {
         }
     }
 
-    /// An equal round. It takes no memory.
+    /// Copies the round. Allocates no memory.
     pub fn copy(&self) -> Round
         ensures { result ≡ self.now }
     {
@@ -95,10 +98,10 @@ impl Round {
         self.asked.as_slice()
     }
 
-    /// The helpers are asked, in the place of those asked before: from now on their acks and nacks count.
+    /// These helpers are asked, and replace those asked before. From now on their acks and nacks count.
     pub fn ask(&mut self, helpers: &Helpers)
         ensures round { self.new ≡ round_with self.old (Asked helpers.now) }
-        // Whatever happened so far, the latest first, the round is that of all of it.
+        // If this was the round after some facts (the latest first), it is now the one after those and this one.
         ensures past { (past : List RoundFact) → let after = round_of self.old.number self.old.target in
             self.old ≡ after past → self.new ≡ after (Asked helpers.now ∷ past) }
     {
@@ -116,8 +119,8 @@ impl Round {
         number == self.number && (*sender == self.target || is_listed(&self.asked, sender))
     }
 
-    /// Takes an ack, and returns whether it is the first that counts: it has the number of the round, and comes from
-    /// the target or from a helper that was asked before.
+    /// Takes an ack, and returns whether it is the first that counts. An ack counts if it has the number of the
+    /// round, and comes from the target or from a helper that was asked before.
     pub fn ack(&mut self, number: u32, sender: &Name) -> bool
         ensures first { result ≡ is_first_ack self.old number sender.now }
         ensures round { self.new ≡ round_with self.old (Acked number sender.now) }
@@ -129,8 +132,8 @@ impl Round {
         is_first
     }
 
-    /// Takes a nack, and returns whether it counts: it has the number of the round, and is the first of a helper that
-    /// was asked before.
+    /// Takes a nack, and returns whether it counts. It counts if it has the number of the round, and is the first
+    /// from a helper that was asked before.
     pub fn nack(&mut self, number: u32, sender: &Name) -> bool
         ensures counts { result ≡ nack_counts self.old number sender.now }
         ensures round { self.new ≡ round_with self.old (Nacked number sender.now) }
@@ -144,8 +147,8 @@ impl Round {
         counts
     }
 
-    /// Ends the round, and returns the mark that it earns: 0 where an ack counted, else 1, or 2 where an asked helper
-    /// sent no nack. A round that failed and asked nobody earns 1.
+    /// Ends the round, and returns the mark that it earns: 0 if an ack counted, else 1, or 2 if an asked helper sent
+    /// no nack. A round that failed and asked nobody earns 1.
     pub fn end(self) -> i8
         ensures mark { result ≡ mark_of self.acked self.silent }
         ensures past { (past : List RoundFact) → self ≡ round_of self.number self.target past

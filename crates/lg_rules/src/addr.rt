@@ -1,4 +1,4 @@
-//! Addresses.
+//! The address of a member.
 ghost use Rattle.std.specs.Prelude.{◌≡◌};
 
 /// Where a member is reached: an IPv4 address and a port.
@@ -11,7 +11,7 @@ pub struct Addr {
 }
 
 impl Addr {
-    /// An address of its parts.
+    /// Makes an address of its parts.
     pub fn new(octets: [u8; 4], port: u16) -> Addr
         ensures { result ≡ record { octets = octets; port = port } }
     {

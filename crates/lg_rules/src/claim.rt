@@ -1,4 +1,7 @@
-//! Claims about members.
+//! Claims about members, and their records.
+//!
+//! Defined in: `specs/Meaning/Claim.antt`.
+//! Tested in: `lg_detector_tests/src/rules.rt`.
 ghost use Rattle.std.specs.Prelude.{◌≡◌};
 ghost use Rattle.lg_rules.specs.Meaning.Claim.{accuser_of, name_of};
 
@@ -10,36 +13,36 @@ use crate::rows::Keyed;
 /// The most claims of a packet: 6 (this project's choice).
 pub const MAX_CLAIMS: usize = 6;
 
-/// How often a claim may be sent for each decimal digit of the number of live members, at the most: 10 (this project's
-/// choice).
+/// The greatest `lambda`, which is how often a claim may be sent for each decimal digit of the number of live
+/// members: 10 (this project's choice).
 pub const MAX_LAMBDA: u64 = 10;
 
-/// What is claimed of a member (SWIM, section 4.2, whose Confirm is called Failed here).
+/// What is claimed of a member (SWIM, section 4.2). SWIM's Confirm is called Failed here.
 #[derive(Clone, Copy, Debug, Default, PartialEq, Eq)]
 pub enum Status {
-    /// It is there.
+    /// It is alive.
     #[default]
     Alive,
-    /// It didn't ack a probe of this member, its accuser.
+    /// It is suspected. The name is that of its accuser, whose probe it didn't ack.
     Suspect(Name),
     /// It was suspected until the suspicion ran out.
     Failed,
 }
 
-/// What is said of a member: that it has a status at an incarnation, and where it is reached.
+/// What is said of a member: its status at an incarnation, and where it is reached. Claims are what members gossip.
 #[derive(Clone, Copy, Debug, Default, PartialEq, Eq)]
 pub struct Claim {
     /// The member.
     pub name: Name,
     /// Where it is reached.
     pub addr: Addr,
-    /// Its status, with the accuser where it is Suspect.
+    /// Its status, with the accuser if it is Suspect.
     pub status: Status,
     /// Its incarnation.
     pub incarnation: Incarnation,
 }
 
-/// The claim about a member that stands.
+/// The record of a member: the claim about it that stands.
 pub type Record = Claim;
 
 impl Claim {
@@ -71,7 +74,7 @@ impl Claim {
         self.incarnation
     }
 
-    /// Who accuses it, exactly where it is Suspect.
+    /// Who accuses it: some member exactly if its status is Suspect.
     pub fn accuser(&self) -> Option<Name>
         ensures { result ≡ accuser_of self.now.status }
     {
@@ -82,7 +85,7 @@ impl Claim {
     }
 }
 
-/// Claims stand in the order of the members that they are about.
+/// Rows of claims are in the order of the names of the members that they are about.
 impl Keyed for Claim {
     ghost key_of = { name_of };
 

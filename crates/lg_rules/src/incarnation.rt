@@ -1,4 +1,4 @@
-//! Incarnation numbers.
+//! Incarnations.
 ghost use Rattle.std.specs.Prelude.{◌≡◌, ◌≤◌, ◌<◌, ◌+◌};
 ghost use Rattle.std.specs.Option.{SomeIff};
 
@@ -8,7 +8,8 @@ use std::marker::Model;
 /// The greatest incarnation: 1,000,000,000 (this project's choice).
 pub const MAX_INCARNATION: u32 = 1_000_000_000;
 
-/// The incarnation of a member, 0 to 1,000,000,000, which the member alone raises (SWIM, section 4.2).
+/// The incarnation of a member, 0 to 1,000,000,000. Only the member itself raises it, so that it can refute
+/// suspicions (SWIM, section 4.2).
 ///
 /// A contract sees it as its number.
 #[derive(Debug)]
@@ -75,7 +76,7 @@ impl Eq for Incarnation {
 }
 
 impl Incarnation {
-    /// The incarnation with a number, where the number is at most 1,000,000,000.
+    /// The incarnation with this number, or `None` if the number is above 1,000,000,000.
     pub fn new(number: u32) -> Option<Incarnation>
         ensures { SomeIff result (number ≤ MAX_INCARNATION) number }
     {
@@ -86,7 +87,7 @@ impl Incarnation {
         }
     }
 
-    /// The incarnation with one more, where the number is below 1,000,000,000.
+    /// The next incarnation, whose number is one more, or `None` if this one is 1,000,000,000.
     pub fn successor(&self) -> Option<Incarnation>
         ensures { SomeIff result (self.now < MAX_INCARNATION) (self.now + 1) }
     {

@@ -1,4 +1,5 @@
-//! What members are called, where they are, what is claimed of them, which claims stand, and the own number.
+//! Names, addresses, incarnations and claims; which claim overrides which; the records of the other members; and what
+//! a member knows of itself.
 #![tactic(auto)]
 
 mod addr;

@@ -1,4 +1,7 @@
-//! The table of members.
+//! The table of members: the records of the others, and what a claim about another member does to them.
+//!
+//! Defined in: `specs/Meaning/Table.antt`, `specs/Meaning/Rows.antt`.
+//! Tested in: `lg_detector_tests/src/rules.rt`.
 ghost use Rattle.std.specs.Prelude.{◌≡◌, ◌≢◌, ◌≤◌, ◌<◌, ◌+◌};
 ghost use Rattle.std.specs.Prelude.{List, [], ◌∷◌, length, map, slice_get};
 ghost use Rattle.std.specs.Prelude.{option_copied, None, Some};
@@ -17,37 +20,39 @@ use crate::rows::seat_of;
 use arrayvec::ArrayVec;
 use std::marker::Model;
 
-/// The most members that are known beside oneself: 255 (this project's choice).
+/// The most members that are known beside this member: 255 (this project's choice).
 pub const MAX_OTHERS: usize = 255;
 
-/// The most members that are known, oneself included: 256.
+/// The most members that are known, this member included: 256.
 pub const MAX_MEMBERS: usize = MAX_OTHERS + 1;
 
 /// What hearing a claim about another member did.
 #[derive(Clone, Copy, Debug, PartialEq, Eq)]
 pub enum Heard {
-    /// It made or replaced the record of its member.
+    /// It made or replaced the record of the member that it is about.
     Overrode,
-    /// It accuses a member that is suspected already, at the incarnation of its record. The table is as before.
+    /// It accuses a member that is suspected already, at the incarnation of that member's record. The table is as
+    /// before.
     Accused,
-    /// It has the status and the incarnation of the record, and isn't an accusation. The table is as before.
+    /// It has the status and the incarnation of the record, and is no accusation. The table is as before.
     Same,
     /// It says nothing new. The table is as before.
     Ignored,
-    /// Its name is unknown, and 255 others are known. The table is as before.
+    /// The member that it is about is unknown, and 255 others are known already. The table is as before.
     NoRoom,
 }
 
 /// The records of the other members, at most 255, in the order of their names.
 ///
-/// The first 255 names that are heard of are known, beside the own name; none is ever removed. The
-/// record of a member is the first claim about it that no claim about it overrides (SWIM, section 4.2). No
-/// call takes memory. A contract sees the own name and the list of the records.
+/// The others that are known are the first 255 that were heard of. None is ever removed. The record of a member is
+/// the first claim about it that no claim about it overrides (SWIM, section 4.2). No call allocates memory. A
+/// contract sees this member's name and the list of the records.
 #[derive(Debug, Drop)]
 pub struct Members {
     own: Name,
     records: ArrayVec<Record, MAX_OTHERS>,
-    // How many members haven't failed, oneself included. It is kept, since each suspicion that is raised asks for it.
+    // How many members haven't failed, this member included. The count is kept, since each suspicion that is raised
+    // needs it.
     live: usize,
 }
 
@@ -70,7 +75,7 @@ fn is_failed(status: Status) -> bool
     matches!(status, Status::Failed)
 }
 
-/// The record with a name.
+/// The record of the member with this name, if there is one.
 fn find_record<'a>(records: &'a [Record], name: &Name) -> Option<&'a Record>
     requires { Rises name_cmp (map name_of records.now) }
     ensures { option_copied result ≡ row_at name_cmp name_of name.now records.now }
@@ -102,7 +107,8 @@ fn weight(status: Status) -> usize
     if is_failed(status) { 0 } else { 1 }
 }
 
-/// Puts a claim in the place of the record that it overrides, and counts who hasn't failed then.
+/// Replaces the record at an index by a claim that overrides it, and updates the number of members that haven't
+/// failed.
 fn replace(records: &mut ArrayVec<Record, MAX_OTHERS>, live: &mut usize, at: usize, claim: &Claim)
     requires has { HasRow name_cmp name_of claim.now.name records.old.items at }
     requires counted { live.old ≡ live_in records.old.items }
@@ -114,7 +120,7 @@ fn replace(records: &mut ArrayVec<Record, MAX_OTHERS>, live: &mut usize, at: usi
     records[at] = *claim;
 }
 
-/// Puts a claim about an unknown member at its place, and counts who hasn't failed then.
+/// Inserts a claim about an unknown member at its index, and updates the number of members that haven't failed.
 fn add(records: &mut ArrayVec<Record, MAX_OTHERS>, live: &mut usize, at: usize, claim: &Claim)
     requires lacks { LacksRow name_cmp name_of claim.now.name records.old.items at }
     requires room { array_vec_len records.old < MAX_OTHERS }
@@ -126,7 +132,7 @@ fn add(records: &mut ArrayVec<Record, MAX_OTHERS>, live: &mut usize, at: usize, 
     records.insert(at, *claim);
 }
 
-/// Hears a claim about another member, and counts who hasn't failed then.
+/// Hears a claim about another member, and updates the number of members that haven't failed.
 #[tactic(auto, unfolding(crate::specs::Meaning::Table::takes))]
 fn hear_in(records: &mut ArrayVec<Record, MAX_OTHERS>, live: &mut usize, claim: &Claim) -> Heard
     requires rises { Rises name_cmp (map name_of records.old.items) }
@@ -150,7 +156,7 @@ fn hear_in(records: &mut ArrayVec<Record, MAX_OTHERS>, live: &mut usize, claim: 
 }
 
 impl Members {
-    /// An equal table. It takes no memory.
+    /// Copies the table. Allocates no memory.
     pub fn copy(&self) -> Members
         ensures { result ≡ self.now }
     {
@@ -163,7 +169,7 @@ impl Members {
         }
     }
 
-    /// No other member is known.
+    /// The table of a member with this name, which knows no other member.
     pub fn new(own: &Name) -> Members
         ensures { result ≡ known_of own.now [] }
     {
@@ -174,7 +180,7 @@ impl Members {
         }
     }
 
-    /// Forgets all that was heard, and begins anew under an own name.
+    /// Forgets all that was heard, and starts over for a member with this name.
     #[tactic(auto, unfolding(crate::specs::Meaning::Table::table_of, crate::specs::Meaning::Table::roster))]
     pub fn restart(&mut self, own: &Name)
         ensures { self.new ≡ known_of own.now [] }
@@ -189,7 +195,7 @@ impl Members {
         *live = 1;
     }
 
-    /// The own name.
+    /// This member's name.
     pub fn own(&self) -> Name
         ensures { result ≡ self.now.own }
     {
@@ -205,43 +211,43 @@ impl Members {
         self.records.as_slice()
     }
 
-    /// The record of another member, where it is known.
+    /// The record of another member, or `None` if it isn't known.
     pub fn get(&self, name: &Name) -> Option<&Record>
         ensures { option_copied result ≡ row_at name_cmp name_of name.now self.now.table }
     {
         find_record(self.records.as_slice(), name)
     }
 
-    /// The record at an index of the order of names, from 0, where there are so many.
+    /// The record at an index, from 0, in the order of names. `None` if there are no more than `index` records.
     pub fn at(&self, index: usize) -> Option<&Record>
         ensures { option_copied result ≡ slice_get self.now.table index }
     {
         self.records.as_slice().get(index)
     }
 
-    /// How many members haven't failed, oneself included: 1 to 256.
+    /// How many members haven't failed, this member included: 1 to 256.
     pub fn live(&self) -> usize
         ensures count { result ≡ live_in self.now.table }
         ensures few { result ≤ MAX_MEMBERS }
     {
-        // Of the row it is known that it holds 255 records at most.
+        // The checker learns here that the row holds at most 255 records.
         let _ = self.records.as_slice();
         self.live
     }
 
     /// Hears a claim about another member.
     ///
-    /// The claim makes the record of a member that isn't known, where there is room, and replaces the record that
-    /// it overrides, with its address and accuser.
+    /// A claim about an unknown member becomes its record if fewer than 255 others are known. A claim that overrides
+    /// the record replaces it, with its address and its accuser.
     pub fn hear(&mut self, claim: &Claim) -> Heard
         requires { claim.now.name ≢ self.old.own }
         ensures hearing { result ≡ hearing_of self.old.table claim.now }
         ensures own { self.new.own ≡ self.old.own }
         ensures table { self.new.table ≡ heard self.old.table claim.now }
-        // Whatever was said so far, the latest first, the table is that of all that was said.
+        // If the table was the one after some claims (the latest first), it is now the one after those and this one.
         ensures past { (past : List Said) → let after = known_of self.old.own in
             self.old ≡ after past → self.new ≡ after (claim.now ∷ past) }
-        // What was said of oneself is passed over.
+        // Claims about this member itself change nothing here.
         ensures oneself { (past : List Said) (c : Said) → let after = known_of self.old.own in
             c.name ≡ self.old.own → after (c ∷ past) ≡ after past }
     {

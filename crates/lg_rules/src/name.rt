@@ -1,4 +1,7 @@
 //! Names of members.
+//!
+//! Defined in: `specs/Meaning/Name.antt`.
+//! Tested in: `lg_detector_tests/src/rules.rt`.
 ghost use Rattle.std.specs.Prelude.{◌≡◌, nat_eq};
 ghost use Rattle.std.specs.Cmp.Lexicographic.{slice_cmp, pointwise};
 ghost use Rattle.std.specs.Ordering.{nat_cmp};
@@ -12,7 +15,7 @@ use thiserror::Error;
 /// The most bytes of a name: 32 (this project's choice).
 pub const MAX_NAME: usize = 32;
 
-/// Why some bytes are no name. A text that is too long is not judged byte by byte.
+/// Why some bytes are no name. The bytes of a text that is too long are not judged one by one.
 #[derive(Clone, Copy, Debug, PartialEq, Eq, Error)]
 pub enum NameFault {
     /// There are no bytes.
@@ -21,18 +24,18 @@ pub enum NameFault {
     /// There are more than 32 bytes.
     #[error("a name is too long; it has 1 to {most} bytes", most = MAX_NAME)]
     TooLong,
-    /// A byte is none of `A-Z a-z 0-9 . _ -`: the first such byte.
+    /// Some byte is none of `A-Z a-z 0-9 . _ -`. This is the first such byte.
     #[error("the byte {0} stands in a name; allowed are A-Z a-z 0-9 . _ -")]
     BadByte(u8),
 }
 
 /// The name of a member: 1 to 32 bytes of `A-Z a-z 0-9 . _ -` (this project's choice).
 ///
-/// Names are ordered by their bytes, a name before those that it begins. A contract sees a name
-/// as the list of its bytes.
+/// Names are ordered by their bytes, and a name comes before the longer names that begin with it. A contract sees a
+/// name as the list of its bytes.
 #[derive(Debug)]
 pub struct Name {
-    // The bytes of the name, and zeros behind them.
+    // The bytes of the name, and then zeros.
     bytes: [u8; MAX_NAME],
     len: u8,
 }
@@ -66,7 +69,7 @@ impl Clone for Name {
 
 impl Copy for Name {}
 
-/// The name `a`, which fills what has no name yet in arrays of fixed length.
+/// The name `a`. It fills those places of arrays of fixed length that hold no name yet.
 impl Default for Name {
     ghost use Rattle.std.specs.Prelude.{◌≡◌, ◌∷◌, []};
 
@@ -138,7 +141,7 @@ pub fn is_name_byte(byte: u8) -> bool
     matches!(byte, b'A'..=b'Z' | b'a'..=b'z' | b'0'..=b'9' | b'.' | b'_' | b'-')
 }
 
-/// The first byte that may not stand in a name.
+/// The first byte that may not stand in a name, if there is one.
 fn first_bad_byte(text: &[u8]) -> Option<u8>
     ensures { result ≡ bad_byte text.now }
 {
@@ -151,7 +154,7 @@ impl Name {
     ghost use Rattle.lg_rules.specs.Support.Padding.{padded};
     ghost use Rattle.lg_rules.specs.Support.Words.{words_of};
 
-    /// The name that some bytes spell, or the first fault in the order of [`NameFault`].
+    /// The name with these bytes, or the first fault in the order of [`NameFault`].
     pub fn new(text: &[u8]) -> Result<Name, NameFault>
         ensures { result ≡ name_of_text text.now }
     {
@@ -167,7 +170,7 @@ impl Name {
         Ok(Name::from_good(text))
     }
 
-    /// The name of a text that is one.
+    /// Makes a name of bytes that are one.
     fn from_good(text: &[u8]) -> Name
         requires { IsTrue (is_name text.now) }
         ensures { result ≡ text.now }
@@ -188,8 +191,8 @@ impl Name {
         &self.bytes[..usize::from(self.len)]
     }
 
-    /// The 32 bytes as four big-endian numbers. A name's bytes are above the zeros behind it, so these numbers
-    /// compare as the names do, in four steps in place of 32.
+    /// The 32 bytes as four big-endian numbers. Each byte of a name is above the zeros after it. So these numbers
+    /// compare as the names do, in four steps instead of 32.
     fn words(&self) -> [u64; 4]
         ensures words { result ≡ words_of 4 (padded self.now) }
         ensures name { IsTrue (is_name self.now) }

@@ -1,16 +1,19 @@
 //! Which claim overrides which.
+//!
+//! Defined in: `specs/Meaning/Beats.antt`.
+//! Tested in: `lg_detector_tests/src/rules.rt`.
 ghost use Rattle.std.specs.Prelude.{◌≡◌};
 ghost use Rattle.lg_rules.specs.Meaning.Beats.{beats_of};
 
 use crate::claim::{Claim, Record, Status};
 
-/// Whether a claim overrides the current record of its member; both are about one member (SWIM, section 4.2,
-/// whose Confirm is called Failed here).
+/// Whether a claim overrides the current record of its member (SWIM, section 4.2, whose Confirm is called Failed
+/// here). Both have to be about one member.
 ///
 /// | Claim | overrides |
 /// |---|---|
-/// | Alive(i) | Alive(j) and Suspect(j) where i > j |
-/// | Suspect(i) | Suspect(j) where i > j, and Alive(j) where i >= j |
+/// | Alive(i) | Alive(j) and Suspect(j) if i > j |
+/// | Suspect(i) | Suspect(j) if i > j, and Alive(j) if i >= j |
 /// | Failed(i) | Alive(j) and Suspect(j), for every j |
 ///
 /// Nothing else overrides: Failed is final.

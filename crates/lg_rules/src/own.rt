@@ -1,4 +1,7 @@
-//! The own number.
+//! What a member knows of itself, its incarnation above all.
+//!
+//! Defined in: `specs/Meaning/Own.antt`.
+//! Tested in: `lg_detector_tests/src/rules.rt`.
 ghost use Rattle.std.specs.Prelude.{◌≡◌, ◌≢◌, List, [], ◌∷◌, true};
 ghost use Rattle.lg_rules.specs.declared.claim.Claim.{Claim as Said};
 ghost use Rattle.lg_rules.specs.Meaning.Own.{changed_by, own_hearing, own_hearing_at, own_heard, own_of, own_record};
@@ -10,24 +13,27 @@ use crate::name::Name;
 use std::alloc::AllocError;
 use std::marker::Model;
 
-/// What hearing a claim did to oneself.
+/// What a claim did to this member when it heard it.
 #[derive(Clone, Copy, Debug, PartialEq, Eq)]
 pub enum OwnHeard {
-    /// It suspected oneself at the own number or a greater one: the own number is now one more than the claim's.
+    /// The claim suspected this member at its incarnation or a greater one. It is refuted: this member's incarnation
+    /// is now one more than the claim's.
     Refuted,
-    /// It said that oneself is alive at a greater number than the own: the own number is now one more than the claim's.
+    /// The claim said that this member is alive at a greater incarnation than its own. This member's incarnation is
+    /// now one more than the claim's.
     Raised,
-    /// It said that oneself failed, or its number is the greatest and nothing can outdo it: the flag is set.
+    /// The claim said that this member failed, or its incarnation is the greatest one, so that this member can't
+    /// refute it with a greater one. The flag `ousted` is set.
     Ousted,
-    /// It says nothing that isn't outdone already. Nothing changed.
+    /// The claim doesn't override this member's own record, or is about another member. Nothing changed.
     Ignored,
 }
 
-/// What a member knows of itself: name, address, own number, and whether it was ousted.
+/// What a member knows of itself: its name, its address, its incarnation, and whether it was ousted.
 ///
-/// The own number, which only oneself raises, refutes suspicions (SWIM, section 4.2). It starts at 0. That a
-/// claim which nothing can refute ousts oneself for good is this project's choice. A contract sees a record of
-/// the four.
+/// Only the member itself raises its incarnation, by which it refutes suspicions (SWIM, section 4.2). The incarnation
+/// starts at 0. A claim that nothing can refute ousts the member for good (this project's choice). A contract sees a
+/// record of the four.
 #[derive(Debug)]
 pub struct Own {
     name: Name,
@@ -61,7 +67,7 @@ impl Clone for Own {
 impl Copy for Own {}
 
 impl Own {
-    /// A member of this name at this address, which has heard nothing: its number is 0.
+    /// A member with this name and address that has heard nothing: its incarnation is 0.
     pub fn new(name: Name, addr: Addr) -> Own
         ensures { result ≡ own_of name addr [] }
     {
@@ -73,35 +79,35 @@ impl Own {
         }
     }
 
-    /// The own name.
+    /// This member's name.
     pub fn name(&self) -> Name
         ensures { result ≡ self.now.name }
     {
         self.name
     }
 
-    /// Where oneself is reached.
+    /// This member's address.
     pub fn addr(&self) -> Addr
         ensures { result ≡ self.now.addr }
     {
         self.addr
     }
 
-    /// The own number.
+    /// This member's incarnation.
     pub fn number(&self) -> Incarnation
         ensures { result ≡ self.now.number }
     {
         self.number
     }
 
-    /// Whether a claim came that nothing can refute. Once set it stays.
+    /// Whether a claim came that nothing can refute. Once set, it stays set.
     pub fn ousted(&self) -> bool
         ensures { result ≡ self.now.ousted }
     {
         self.ousted
     }
 
-    /// The own record: Alive at the own number and address.
+    /// This member's own record: Alive at its incarnation and its address.
     pub fn record(&self) -> Record
         ensures { result ≡ own_record self.now }
     {
@@ -113,22 +119,22 @@ impl Own {
         }
     }
 
-    /// Hears a claim.
+    /// Hears a claim. In the table, n is this member's incarnation.
     ///
     /// | Claim | Effect |
     /// |---|---|
-    /// | Suspect(i), i at least the own number, i < 1,000,000,000 | Refuted: the own number becomes i + 1 |
-    /// | Alive(i), i above the own number, i < 1,000,000,000 | Raised: the own number becomes i + 1 |
-    /// | the same two at 1,000,000,000 | Ousted: the own number stays |
-    /// | Failed(i), every i | Ousted: the own number stays |
+    /// | Suspect(i), n <= i < 1,000,000,000 | Refuted: n becomes i + 1 |
+    /// | Alive(i), n < i < 1,000,000,000 | Raised: n becomes i + 1 |
+    /// | the same two, but i = 1,000,000,000 | Ousted: n stays |
+    /// | Failed(i), every i | Ousted: n stays |
     /// | any other, and any about another member | Ignored |
     pub fn hear(&mut self, claim: &Claim) -> OwnHeard
         ensures hearing { result ≡ own_hearing self.old claim.now }
         ensures own { self.new ≡ own_heard self.old claim.now }
-        // Whatever was said so far, the latest first, this is oneself after all that was said.
+        // If this was the state after some claims (the latest first), it is now the state after those and this one.
         ensures past { (past : List Said) → let after = own_of self.old.name self.old.addr in
             self.old ≡ after past → self.new ≡ after (claim.now ∷ past) }
-        // What was said of others is passed over.
+        // Claims about other members change nothing here.
         ensures others { (past : List Said) (c : Said) → let after = own_of self.old.name self.old.addr in
             c.name ≢ self.old.name → after (c ∷ past) ≡ after past }
     {
@@ -139,7 +145,7 @@ impl Own {
         }
     }
 
-    /// Hears that oneself has a status at an incarnation.
+    /// Hears that this member has a status at an incarnation.
     fn hear_status(&mut self, status: Status, incarnation: Incarnation) -> OwnHeard
         ensures hearing { result ≡ own_hearing_at status incarnation self.old.number }
         ensures own { let hearing = own_hearing_at status incarnation self.old.number in
@@ -160,7 +166,7 @@ impl Own {
         }
     }
 
-    /// Sets the flag.
+    /// Sets the flag `ousted`.
     fn oust(&mut self) -> OwnHeard
         ensures hearing { result ≡ OwnHeard.Ousted }
         ensures own { self.new ≡ record self.old { ousted = true } }

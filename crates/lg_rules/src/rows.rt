@@ -1,4 +1,7 @@
-//! Rows in rising order of their names.
+//! Rows in rising order of their names: finding a row, and putting one in.
+//!
+//! Defined in: `specs/Meaning/Rows.antt`.
+//! Tested in: `lg_detector_tests/src/rules.rt`.
 ghost use Rattle.std.specs.Prelude.{◌≡◌, ◌<◌, ℕ, List, None, MatchResult, map};
 ghost use Rattle.std.specs.List.{prefix_len};
 ghost use Rattle.std.specs.Ordering.{is_lt};
@@ -9,7 +12,7 @@ ghost use Rattle.lg_rules.specs.Support.Places.{HasRow, LacksRow};
 use crate::name::Name;
 use arrayvec::ArrayVec;
 
-/// A row that stands among others in the order of their names.
+/// A row with a name. Such rows are kept in the order of their names.
 pub trait Keyed {
     ghost key_of: { Self → List ℕ };
 
@@ -18,7 +21,7 @@ pub trait Keyed {
         ensures { result ≡ key_of self.now };
 }
 
-/// How many rows have a lesser name, found by halving the rows.
+/// How many rows have a lesser name. Found by binary search.
 fn place_of<T: Keyed>(rows: &[T], name: &Name) -> usize
     requires { Rises name_cmp (map T.key_of rows.now) }
     ensures { result ≡ prefix_len (λ r. is_lt (name_cmp (T.key_of r) name.now)) rows.now }
@@ -26,7 +29,8 @@ fn place_of<T: Keyed>(rows: &[T], name: &Name) -> usize
     rows.partition_point(|row| row.key().cmp(name).is_lt())
 }
 
-/// Where the row with a name stands among rows in rising order of their names, or else where it would be inserted.
+/// `Ok` with the index of the row that has a name, or else `Err` with the index at which such a row would be
+/// inserted. The rows have to be in rising order of their names.
 pub fn seat_of<T: Keyed>(rows: &[T], name: &Name) -> Result<usize, usize>
     requires { Rises name_cmp (map T.key_of rows.now) }
     ensures { let has = HasRow name_cmp T.key_of name.now rows.now in
@@ -42,8 +46,8 @@ pub fn seat_of<T: Keyed>(rows: &[T], name: &Name) -> Result<usize, usize>
     }
 }
 
-/// Puts a row among rows in rising order of their names: it takes the place of the row with its name, where there
-/// is one.
+/// Puts a row among rows in rising order of their names: replaces the row with its name, or inserts it if there is
+/// none.
 pub fn put_row<T: Keyed + Drop, const N: usize>(rows: &mut ArrayVec<T, N>, row: T)
     requires room { (row_at name_cmp T.key_of (T.key_of row) rows.old.items ≡ None) → array_vec_len rows.old < N }
     requires rises { Rises name_cmp (map T.key_of rows.old.items) }

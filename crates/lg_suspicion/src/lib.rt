@@ -1,4 +1,4 @@
-//! Who accuses a suspected member, and when it is taken as failed.
+//! The suspicion of one member: who accuses it, and when it is taken as failed.
 #![tactic(auto)]
 
 mod suspicion;

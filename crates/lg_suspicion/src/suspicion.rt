@@ -1,8 +1,13 @@
-//! Suspicions, and where their deadlines shrink: `Suspicion::accuse` takes one more accuser that counts, and
-//! `Suspicion::deadline` then gives an earlier deadline. It is the moment of the raise and the timeout after so many
-//! confirmations, which is `SuspicionTimeout::after` of `lg_timing/src/timeout.rt`: the greatest timeout with none,
-//! the least one with all that may count, and between them the shorter the more there are. Where none may count, since
-//! there are few members, it is the least one from the raise on.
+//! The suspicion of one member, and how its deadline shrinks.
+//!
+//! `Suspicion::accuse` takes one more accuser. If that one counts, `Suspicion::deadline` then gives an earlier
+//! deadline, or the same one. The deadline is the moment at which the suspicion was raised plus the timeout after the
+//! confirmations so far, `SuspicionTimeout::after` of `lg_timing/src/timeout.rt`. With no confirmation that is the
+//! greatest timeout, and with all that may count the least one. In between, one more confirmation never makes it
+//! longer. If no confirmation may count, since there are few members, the timeout is the least one from the start.
+//!
+//! Defined in: `specs/Meaning/Accusers.antt`, `lg_timing/specs/Meaning/Timeouts.antt`.
+//! Tested in: `lg_detector_tests/src/suspicion.rt`.
 ghost use Rattle.std.specs.Prelude.{◌≡◌, ℕ, ◌≤◌, List, [], ◌∷◌};
 ghost use Rattle.lg_rules.specs.Meaning.Rows.{name_cmp, is_among};
 ghost use Rattle.lg_timing.specs.Meaning.Config.{IsChecked};
@@ -18,19 +23,19 @@ use lg_timing::{
 };
 use std::marker::Model;
 
-/// The most accusers that count: 6, the first one and the most confirmations (this project's choice).
+/// The most accusers that count: 6, the first one and [`MAX_CONFIRMATIONS`] others (this project's choice).
 pub const MAX_ACCUSERS: usize = MAX_CONFIRMATIONS as usize + 1;
 
 /// The last moment at which a suspected member is taken as failed: 1,000,000,057,792,000 milliseconds.
 pub const MAX_DEADLINE: u64 = MAX_MOMENT + MAX_SUSPICION_MS;
 
-/// The suspicion of a member: when it was raised, and who accuses it (Lifeguard, local health aware
+/// The suspicion of a member: when it was raised, and who accuses the member (Lifeguard, local health aware
 /// suspicion).
 ///
-/// The first accuser and the first others count, as many as confirmations do; how many these are is
-/// fixed when the suspicion is raised. A contract sees the moment, the timeouts and the accusers that
-/// count, in the order of arrival. The default, which fills rows of fixed capacity, was raised at 0 by
-/// the default name and has timeouts of 0.
+/// The first accuser counts. So do the first others, which confirm the suspicion: as many as confirmations may count.
+/// How many these are is fixed when the suspicion is raised. A contract sees the moment, the timeouts and the
+/// accusers that count, in the order in which they came. The default fills rows of fixed capacity: it was raised at 0
+/// by the default name, and has timeouts of 0.
 #[derive(Debug, Drop)]
 pub struct Suspicion {
     raised: Moment,
@@ -71,7 +76,7 @@ impl Default for Suspicion {
 }
 
 impl Suspicion {
-    /// An equal suspicion. It takes no memory.
+    /// Copies the suspicion. Allocates no memory.
     pub fn copy(&self) -> Suspicion
         ensures { result ≡ self.now }
     {
@@ -84,8 +89,8 @@ impl Suspicion {
         }
     }
 
-    /// The suspicion that `accuser` raises at the moment `now` among `live` members that haven't failed, 1
-    /// to [`MAX_LIVE`], of which oneself is one and the suspected member another.
+    /// The suspicion that `accuser` raises at the moment `now`. `live` is the number of members that haven't failed,
+    /// 1 to [`MAX_LIVE`]. This member is one of them, and the suspected member another.
     pub fn raise(now: Moment, accuser: &Name, live: u64, config: &Config) -> Suspicion
         requires checked { IsChecked config.now }
         requires some { 1 ≤ live }
@@ -107,7 +112,7 @@ impl Suspicion {
         }
     }
 
-    /// Whether one more accuser counts: fewer count than may, and it isn't one of them.
+    /// Whether one more accuser counts: fewer accusers count than may, and it isn't one of them.
     fn accuser_counts(&self, accuser: &Name) -> bool
         ensures counts { result ≡ accuser_counts self.now accuser.now }
         ensures within { self.now.timeout.confirmations ≤ MAX_CONFIRMATIONS }
@@ -116,8 +121,8 @@ impl Suspicion {
             && !self.accusers.contains(accuser)
     }
 
-    /// Takes one more accusation. It counts, and `true` is answered, where fewer accusers count than may
-    /// and its accuser isn't one of them; else nothing changes.
+    /// Takes one more accusation, and returns whether its accuser counts. It counts if fewer accusers count than may,
+    /// and it isn't one of them. Otherwise nothing changes.
     pub fn accuse(&mut self, accuser: &Name) -> bool
         ensures counts { result ≡ accuser_counts self.old accuser.now }
         ensures accused { self.new ≡ accused self.old accuser.now }
@@ -125,7 +130,8 @@ impl Suspicion {
         // An accuser never moves the deadline to a later moment.
         ensures never_later { deadline_of self.new ≤ deadline_of self.old }
 
-        // After any list of accusers, the latest first, the first different ones count.
+        // If this was the suspicion after some accusers (the latest first), it is now the one after those and this
+        // one.
         ensures counted { (past : List (List ℕ))
             → self.old ≡ suspicion_after self.old.raised self.old.timeout past
             → self.new ≡ suspicion_after self.old.raised self.old.timeout (accuser.now ∷ past) }
@@ -138,13 +144,12 @@ impl Suspicion {
         }
     }
 
-    /// When the member is taken as failed: the moment of the raise and the timeout after as many
-    /// confirmations as there are accusers that count, less the first. It is at most [`MAX_DEADLINE`]
-    /// milliseconds.
+    /// When the member is taken as failed: the moment of the raise plus the timeout after the confirmations, which
+    /// are the accusers that count without the first. It is at most [`MAX_DEADLINE`] milliseconds.
     pub fn deadline(&self) -> u64
         ensures deadline { result ≡ deadline_of self.now }
 
-        // After any list of accusers it is by their set.
+        // After any list of accusers, the deadline is the one of their set.
         ensures by_set { (past : List (List ℕ)) → self.now ≡ suspicion_after self.now.raised self.now.timeout past
             → result ≡ deadline_by_set self.now.raised self.now.timeout (set_of past) }
 
@@ -154,8 +159,9 @@ impl Suspicion {
     }
 }
 
-/// The deadline is a function of the moment of the raise, the timeouts and the set of accusers: two lists
-/// of accusers that have the same ones, in any order and as often as they come, give one deadline.
+/// The deadline is a function of the moment of the raise, the timeouts and the set of accusers. Two lists of accusers
+/// with the same names, in any order and each any number of times, give the same deadline. This is a law, and the
+/// call does nothing.
 pub fn deadlines_are_by_the_set()
     ensures { (raised : ℕ) (timeout : TimeoutRange) (past other : List (List ℕ))
         → ((name : List ℕ) → is_among name_cmp name past ≡ is_among name_cmp name other)

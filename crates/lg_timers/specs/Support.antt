@@ -1,2 +1,2 @@
--- What only carries the proofs.
+-- Definitions that only support the proofs.
 pub mod InTurn

@@ -1,4 +1,4 @@
-//! Timers, and which of them fires next.
+//! The timers that are set, and which of them fires next.
 #![tactic(auto)]
 
 mod timer;

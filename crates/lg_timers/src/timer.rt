@@ -1,32 +1,35 @@
-//! One timer.
+//! One timer: its id and its deadline.
+//!
+//! Defined in: `specs/Meaning/Timers.antt`.
+//! Tested in: `lg_detector_tests/src/timers.rt`.
 use lg_rules::Name;
 
-/// What a timer is for: its kind, and the member or the relay that it is about. One timer of an id is
-/// set at most. Ids are ordered by their kinds as they stand here, then by the bytes of the name or by
-/// the number (this project's choice).
+/// What a timer is for: its kind, and the member or the relay that it is about. At most one timer with an id is set.
+/// Ids are ordered by their kinds in the order in which these stand here, and then by the bytes of the name or by the
+/// number (this project's choice).
 #[derive(Clone, Copy, Debug, Default, PartialEq, Eq, PartialOrd, Ord)]
 pub enum TimerId {
     /// A round of probing ends (SWIM, section 3.1).
     #[default]
     RoundEnd,
-    /// A suspected member is taken as failed (SWIM, section 4.2).
+    /// A suspicion runs out, and its member is taken as failed (SWIM, section 4.2).
     Suspicion(Name),
-    /// The target of a probe didn't ack in time, and helpers are asked (SWIM, section 3.1).
+    /// The target of a probe didn't ack in time, and helpers are asked for an indirect probe (SWIM, section 3.1).
     Direct,
-    /// A relay, by its number, sends its asker a nack, since the target hasn't acked (Lifeguard, local health
+    /// The relay with this number sends its asker a nack, since its target hasn't acked (Lifeguard, local health
     /// aware probe).
     RelayNack(u32),
-    /// A relay, by its number, is closed (this project's choice).
+    /// The relay with this number is closed (this project's choice).
     RelayEnd(u32),
     /// A round of probing starts (SWIM, section 3.1).
     RoundStart,
 }
 
-/// What is to happen, and when. Timers are ordered by their deadlines, then by their ids: in that
-/// order they fire.
+/// What is to happen, and when. Timers fire in the order of their deadlines, and at one deadline in the order of
+/// their ids.
 #[derive(Clone, Copy, Debug, Default, PartialEq, Eq, PartialOrd, Ord)]
 pub struct Timer {
-    /// From when on it may fire, in milliseconds.
+    /// The moment from which on it may fire, in milliseconds.
     pub deadline: u64,
     /// What it is for.
     pub id: TimerId,
@@ -36,7 +39,7 @@ impl TimerId {
     ghost use Rattle.std.specs.Prelude.{◌≡◌};
     ghost use Rattle.lg_timers.specs.Meaning.Timers.{kind_of};
 
-    /// Its kind as a number, 1 to 6 in the order in which the kinds stand.
+    /// Its kind as a number, 1 to 6 in the order in which the kinds stand above.
     fn kind(&self) -> u8
         ensures { result ≡ kind_of self.now }
     {
@@ -56,22 +59,22 @@ impl Timer {
     ghost use Rattle.std.specs.Ordering.{is_lt};
     ghost use Rattle.lg_timers.specs.Meaning.Timers.{kind_of, timer_cmp, has_id};
 
-    /// Its kind as a number: 1 for the end of a round, 2 for a suspicion, 3 where helpers are asked, 4 for
-    /// the nack of a relay, 5 for the end of a relay and 6 for the start of a round.
+    /// Its kind as a number: the end of a round 1, a suspicion 2, asking helpers 3, the nack of a relay 4, the end of
+    /// a relay 5, the start of a round 6.
     pub fn kind(&self) -> u8
         ensures { result ≡ kind_of self.now.id }
     {
         self.id.kind()
     }
 
-    /// Whether it fires before another one, where both are due.
+    /// Whether it fires before another one if both are due.
     pub(crate) fn is_before(&self, other: &Timer) -> bool
         ensures { result ≡ is_lt (timer_cmp self.now other.now) }
     {
         self.cmp(other).is_lt()
     }
 
-    /// Whether it has an id. A name is read only where the kinds are the same.
+    /// Whether it has this id. A name is read only if the kinds are the same.
     #[tactic(auto, using(lg_rules::proofs::KeyOrder::names_eq))]
     pub(crate) fn has_id(&self, id: &TimerId) -> bool
         ensures { result ≡ has_id id.now self.now }

@@ -1,4 +1,7 @@
 //! The set of timers.
+//!
+//! Defined in: `specs/Meaning/Timers.antt`.
+//! Tested in: `lg_detector_tests/src/timers.rt`.
 ghost use Rattle.std.specs.Prelude.{◌≡◌, ◌<◌, ◌≤◌};
 ghost use Rattle.std.specs.Prelude.{false, List, [], length, position, slice_set};
 ghost use Rattle.std.specs.Option.{option_copied};
@@ -15,9 +18,10 @@ use std::marker::Model;
 /// The most timers that are set at once: 400 (this project's choice).
 pub const MAX_TIMERS: usize = 400;
 
-/// The timers that are set, one of an id at most and at most [`MAX_TIMERS`].
+/// The timers that are set: at most one with each id, and at most [`MAX_TIMERS`].
 ///
-/// A contract sees them in the order in which they fire, whatever their order in the row. No call takes memory.
+/// A contract sees them in the order in which they fire, whatever their order in the row is. No call allocates
+/// memory.
 #[derive(Debug, Drop)]
 pub struct Timers {
     timers: ArrayVec<Timer, MAX_TIMERS>,
@@ -46,7 +50,7 @@ impl Default for Timers {
     }
 }
 
-/// The first of one timer, if there is one, and another.
+/// The one that fires first of `least`, if there is one, and `timer`.
 fn earlier<'a>(least: Option<&'a Timer>, timer: &'a Timer) -> &'a Timer
     ensures { result.now ≡ earlier (option_copied least.entry) timer.now }
 {
@@ -56,7 +60,7 @@ fn earlier<'a>(least: Option<&'a Timer>, timer: &'a Timer) -> &'a Timer
     }
 }
 
-/// The timer that fires first.
+/// The timer that fires first, if there is any.
 fn least_of(timers: &[Timer]) -> Option<Timer>
     ensures { result ≡ least_of (in_turn timers.now) }
 {
@@ -67,14 +71,14 @@ fn least_of(timers: &[Timer]) -> Option<Timer>
     least.copied()
 }
 
-/// The place of the timer of an id.
+/// The index of the timer with this id, if there is one.
 fn place_of(timers: &[Timer], id: &TimerId) -> Option<usize>
     ensures { result ≡ position (has_id id.now) timers.now }
 {
     timers.iter().position(|timer| timer.has_id(id))
 }
 
-/// Writes a timer in the place of another.
+/// Replaces the timer at an index.
 fn put_at(timers: &mut ArrayVec<Timer, MAX_TIMERS>, place: usize, timer: Timer)
     requires { place < array_vec_len timers.old }
     ensures { timers.new.items ≡ slice_set timers.old.items place timer }
@@ -83,7 +87,7 @@ fn put_at(timers: &mut ArrayVec<Timer, MAX_TIMERS>, place: usize, timer: Timer)
 }
 
 impl Timers {
-    /// No timer is set.
+    /// An empty set of timers.
     #[tactic(auto, unfolding(crate::specs::Meaning::Timers::in_turn))]
     pub fn new() -> Timers
         ensures { result ≡ [] }
@@ -93,7 +97,7 @@ impl Timers {
         }
     }
 
-    /// Equal timers. It takes no memory.
+    /// Copies the timers. Allocates no memory.
     pub fn copy(&self) -> Timers
         ensures { result ≡ self.now }
     {
@@ -102,19 +106,19 @@ impl Timers {
         Timers { timers }
     }
 
-    /// Sets one more timer. Fewer than [`MAX_TIMERS`] are set, and none of its id.
+    /// Adds a timer. Fewer than [`MAX_TIMERS`] have to be set, and none with its id.
     pub fn set(&mut self, timer: Timer)
         requires room { length self.old < MAX_TIMERS }
         requires apart { is_set timer.id self.old ≡ false }
         ensures { self.new ≡ with_timer timer self.old }
     {
-        // The checker has no plan for a push of the whole parameter here.
+        // The checker finds no proof here if the parameter is pushed as a whole.
         let Timer { deadline, id } = timer;
         self.timers.push(Timer { deadline, id });
     }
 
-    /// Sets a timer in the place of that of its id, or one more where none of its id is set. Then fewer
-    /// than [`MAX_TIMERS`] are.
+    /// Sets a timer: replaces the one with its id, or adds it. If none with its id is set, fewer than [`MAX_TIMERS`]
+    /// have to be set.
     pub fn reset(&mut self, timer: Timer)
         requires { is_set timer.id self.old ≡ false → length self.old < MAX_TIMERS }
         ensures { self.new ≡ with_timer timer (without_timer timer.id self.old) }
@@ -125,7 +129,7 @@ impl Timers {
         }
     }
 
-    /// Cancels the timer of an id, and answers whether one was set. The others stay.
+    /// Cancels the timer with this id, and returns whether there was one. The others stay set.
     pub fn cancel(&mut self, id: &TimerId) -> bool
         ensures was_set { result ≡ is_set id.now self.old }
         ensures others { self.new ≡ without_timer id.now self.old }
@@ -139,7 +143,7 @@ impl Timers {
         }
     }
 
-    /// Cancels all timers: none is set then.
+    /// Cancels all timers.
     #[tactic(auto, unfolding(crate::specs::Meaning::Timers::in_turn))]
     pub fn clear(&mut self)
         ensures { self.new ≡ [] }
@@ -155,8 +159,8 @@ impl Timers {
         least_of(&self.timers)
     }
 
-    /// The first of the timers that are due, those whose deadline isn't after `now`; none where none is
-    /// due. It stays set.
+    /// The first of the timers that are due, or `None` if none is due. A timer is due if its deadline isn't after
+    /// `now`. The timer stays set.
     pub fn due(&self, now: Moment) -> Option<Timer>
         ensures { result ≡ due_of now self.now }
     {
@@ -167,8 +171,8 @@ impl Timers {
         Some(timer)
     }
 
-    /// Takes out the first of the timers that are due, those whose deadline isn't after `now`, and no
-    /// other; where none is due, `None` is answered and nothing changes.
+    /// Takes out the first of the timers that are due, and no other. A timer is due if its deadline isn't after
+    /// `now`. If none is due, returns `None` and changes nothing.
     pub fn take_due(&mut self, now: Moment) -> Option<Timer>
         ensures due { result ≡ due_of now self.old }
         ensures left { self.new ≡ left_by result self.old }

@@ -1,4 +1,4 @@
--- What is right: whoever wants to believe the contracts reads these.
+-- What is right: to believe the contracts, read these.
 pub mod Bounds
 pub mod Config
 pub mod Examples

@@ -1,4 +1,7 @@
-//! The configuration of a member.
+//! The configuration of a member, and its check.
+//!
+//! Defined in: `specs/Meaning/Config.antt`.
+//! Tested in: `lg_detector_tests/src/timing.rt`.
 ghost use Rattle.std.specs.Prelude.{◌≡◌};
 ghost use Rattle.lg_timing.specs.Meaning.Config.{is_within, is_seed, have_distinct_names, are_good_seeds};
 ghost use Rattle.lg_timing.specs.Meaning.Config.{first_broken};
@@ -7,13 +10,13 @@ use arrayvec::ArrayVec;
 use lg_rules::{Addr, MAX_LAMBDA, Name};
 use thiserror::Error;
 
-/// The shortest interval between probes, in milliseconds: 10 (this project's choice).
+/// The shortest interval (protocol period), in milliseconds: 10 (this project's choice).
 pub const MIN_INTERVAL_MS: u64 = 10;
 
-/// The longest interval between probes, in milliseconds: 60,000 (this project's choice).
+/// The longest interval (protocol period), in milliseconds: 60,000 (this project's choice).
 pub const MAX_INTERVAL_MS: u64 = 60_000;
 
-/// The most helpers that are asked to ping a member: 8 (this project's choice).
+/// The most helpers that are asked to ping a member (by a ping-req): 8 (this project's choice).
 pub const MAX_INDIRECT: u64 = 8;
 
 /// The greatest health score that a configuration can allow: 20 (this project's choice).
@@ -22,7 +25,7 @@ pub const MAX_SCORE: u64 = 20;
 /// The greatest factor of a suspicion timeout, `alpha` or `beta`: 20 (this project's choice).
 pub const MAX_FACTOR: u64 = 20;
 
-/// The most confirmations that a suspicion may wait for: 5 (this project's choice).
+/// The most confirmations that may count for a suspicion: 5 (this project's choice).
 pub const MAX_CONFIRMATIONS: u64 = 5;
 
 /// The earliest nack of a helper, in thousandths of `timeout_ms`: 1 (this project's choice).
@@ -31,10 +34,10 @@ pub const MIN_NACK_THOUSANDTHS: u64 = 1;
 /// The latest nack of a helper, in thousandths of `timeout_ms`: 999 (this project's choice).
 pub const MAX_NACK_THOUSANDTHS: u64 = 999;
 
-/// The least limit on a stored history, in entries: 2 (this project's choice).
+/// The least limit of a stored history, in entries: 2 (this project's choice).
 pub const MIN_HISTORY_LIMIT: u64 = 2;
 
-/// The greatest limit on a stored history, in entries: 1,000,000 (this project's choice).
+/// The greatest limit of a stored history, in entries: 1,000,000 (this project's choice).
 pub const MAX_HISTORY_LIMIT: u64 = 1_000_000;
 
 /// The most seeds of a configuration: 16 (this project's choice).
@@ -82,49 +85,50 @@ pub enum ConfigFault {
     /// `history_limit` isn't 2 to 1,000,000.
     #[error("history_limit has to be {least} to {most}", least = MIN_HISTORY_LIMIT, most = MAX_HISTORY_LIMIT)]
     History = 10,
-    /// Two seeds have one name, or a seed has the member's own name.
+    /// Two seeds have the same name, or a seed has the member's own name.
     #[error("seeds may be at most {most}, with different names, none of them the member's own", most = MAX_SEEDS)]
     Seeds = 11,
 }
 
-/// The configuration of a member: its own name and address, whom it knows from the start, and its
-/// numbers. The ranges and the defaults are this project's choice.
+/// The configuration of a member: its name and address, the members that it knows from the start, and its numbers.
+/// The ranges and the defaults are this project's choice.
 #[derive(Debug, Drop)]
 pub struct Config {
-    /// From one probe to the next at a health score of 0, in milliseconds: 10 to 60,000. It is the
-    /// protocol period of SWIM, section 3.1.
+    /// The time from one probe to the next at a health score of 0, in milliseconds: 10 to 60,000. SWIM calls it the
+    /// protocol period (section 3.1).
     pub interval_ms: u64,
-    /// How long a probe waits for its ack before helpers are asked, at a health score of 0, in
-    /// milliseconds: 1 to `interval_ms - 1` (SWIM, section 3.1).
+    /// How long a probe waits for its ack before helpers are asked, at a health score of 0, in milliseconds: 1 to
+    /// `interval_ms - 1` (SWIM, section 3.1).
     pub timeout_ms: u64,
-    /// How many helpers are asked to ping a member that didn't ack: 0 to 8 (SWIM, section 3.1,
-    /// whose k it is).
+    /// How many helpers are asked to ping a member that didn't ack (the indirect probe): 0 to 8 (SWIM, section 3.1,
+    /// which calls it k).
     pub indirect: u64,
-    /// The greatest health score: 0 to 20 (Lifeguard, local health aware probe, whose S it is).
+    /// The greatest health score: 0 to 20 (Lifeguard, local health aware probe, which calls it S).
     pub max_score: u64,
     /// The factor of the least suspicion timeout: 1 to 20 (Lifeguard, local health aware suspicion).
     pub alpha: u64,
-    /// The greatest suspicion timeout over the least: 1 to 20 (Lifeguard, local health aware suspicion).
+    /// How many times as long as the least suspicion timeout the greatest is: 1 to 20 (Lifeguard, local health aware
+    /// suspicion).
     pub beta: u64,
-    /// After how many confirmations a suspicion has its least timeout: 0 to 5 (Lifeguard, local
-    /// health aware suspicion, whose K it is).
+    /// After how many confirmations a suspicion has its least timeout: 0 to 5 (Lifeguard, local health aware
+    /// suspicion, which calls it K).
     pub confirmations: u64,
-    /// The factor of the number of times that a claim is sent: 1 to 10 (SWIM, section 4.1).
+    /// The factor of the retransmit limit: how often a claim may be sent for each decimal digit of the number of live
+    /// members, 1 to 10 (SWIM, section 4.1).
     pub lambda: u64,
-    /// When a helper sends its nack, in thousandths of `timeout_ms`: 1 to 999 (Lifeguard, local
-    /// health aware probe).
+    /// When a helper sends its nack, in thousandths of `timeout_ms`: 1 to 999 (Lifeguard, local health aware probe).
     pub nack_thousandths: u64,
     /// The most entries of a stored history: 2 to 1,000,000 (this project's choice).
     pub history_limit: u64,
-    /// The members that are known from the start: at most 16, with distinct names, none the own name.
+    /// The members that are known from the start: at most 16, with different names, none of them the member's own.
     pub seeds: ArrayVec<Seed, MAX_SEEDS>,
-    /// The member's own name.
+    /// The member's name.
     pub name: Name,
-    /// Where the member is reached.
+    /// The member's address.
     pub addr: Addr,
 }
 
-/// Whether a number lies between two others, which count.
+/// Whether a number is at least `least` and at most `most`.
 pub fn is_within(least: u64, most: u64, number: u64) -> bool
     ensures { result ≡ is_within least most number }
 {
@@ -138,7 +142,7 @@ fn is_seed(name: &Name, seeds: &[Seed]) -> bool
     seeds.iter().any(|seed| seed.name == *name)
 }
 
-/// Whether no two seeds have one name.
+/// Whether no two seeds have the same name.
 fn have_distinct_names(seeds: &[Seed]) -> bool
     ensures { result ≡ have_distinct_names seeds.now }
 {
@@ -148,14 +152,14 @@ fn have_distinct_names(seeds: &[Seed]) -> bool
     }
 }
 
-/// Whether there are at most 16 seeds, with distinct names, none the own name.
+/// Whether there are at most 16 seeds, with different names, none of them the member's own.
 fn are_good_seeds(own: &Name, seeds: &[Seed]) -> bool
     ensures { result ≡ are_good_seeds own.now seeds.now }
 {
     seeds.len() <= MAX_SEEDS && have_distinct_names(seeds) && !is_seed(own, seeds)
 }
 
-/// The first rule that is broken.
+/// The first rule that is broken, if there is one.
 fn first_broken(rules: &[(bool, ConfigFault)]) -> Option<(bool, ConfigFault)>
     ensures { result ≡ first_broken rules.now }
 {
@@ -165,7 +169,7 @@ fn first_broken(rules: &[(bool, ConfigFault)]) -> Option<(bool, ConfigFault)>
 impl Config {
     ghost use Rattle.lg_timing.specs.Meaning.Config.{defaults, check_of, IsChecked};
 
-    /// The configuration of a member with the default numbers and no seed. It passes its check.
+    /// Makes the configuration of a member with the default numbers and no seeds. It passes its check.
     #[tactic(auto, unfolding(crate::specs::Meaning::Config::check_of))]
     pub fn new(name: Name, addr: Addr) -> Config
         ensures defaults { result ≡ defaults name addr }
@@ -188,7 +192,7 @@ impl Config {
         }
     }
 
-    /// An equal configuration. It takes no memory.
+    /// Copies the configuration. Allocates no memory.
     pub fn copy(&self) -> Config
         ensures { result ≡ self.now }
     {
@@ -197,7 +201,7 @@ impl Config {
         Config { seeds, ..*self }
     }
 
-    /// Whether each field is in its range, or else the fault of the first that isn't, in the order of
+    /// Checks that each field is in its range. The error is the fault of the first field that isn't, in the order of
     /// [`ConfigFault`].
     #[tactic(auto, unfolding(crate::specs::Meaning::Config::check_of))]
     pub fn check(&self) -> Result<(), ConfigFault>

@@ -1,4 +1,4 @@
-//! Moments, the configuration, and the times that follow from it.
+//! Moments, the configuration, the health score, and how long suspicions last.
 #![tactic(auto)]
 
 mod config;

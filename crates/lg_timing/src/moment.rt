@@ -1,4 +1,4 @@
-//! Moments.
+//! Moments: times in whole milliseconds.
 ghost use Rattle.std.specs.Prelude.{◌≡◌, ◌≤◌, max};
 ghost use Rattle.std.specs.Option.{SomeIff};
 
@@ -9,8 +9,8 @@ use std::marker::Model;
 /// The last moment: 1,000,000,000,000,000 milliseconds (this project's choice).
 pub const MAX_MOMENT: u64 = 1_000_000_000_000_000;
 
-/// A moment, in whole milliseconds from 0 to [`MAX_MOMENT`]. Who hands it in says from when it
-/// is counted.
+/// A moment: a time in whole milliseconds, 0 to [`MAX_MOMENT`]. The caller that hands it in decides from when it is
+/// counted.
 ///
 /// A contract sees it as its number of milliseconds. The default is 0.
 #[derive(Debug)]
@@ -110,7 +110,7 @@ impl Ord for Moment {
 }
 
 impl Moment {
-    /// The moment with a number of milliseconds, where that is at most [`MAX_MOMENT`].
+    /// The moment with this number of milliseconds, or `None` if that is above [`MAX_MOMENT`].
     pub fn new(milliseconds: u64) -> Option<Moment>
         ensures { SomeIff result (milliseconds ≤ MAX_MOMENT) milliseconds }
     {
@@ -129,7 +129,7 @@ impl Moment {
         self.milliseconds
     }
 
-    /// The greater of two moments.
+    /// The later of two moments.
     pub fn later(self, other: Moment) -> Moment
         ensures { result ≡ max self other }
     {

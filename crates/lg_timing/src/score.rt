@@ -1,4 +1,7 @@
-//! The health score.
+//! The health score, and how it lengthens the interval and the timeout of a probe.
+//!
+//! Defined in: `specs/Meaning/Score.antt`, `specs/Meaning/Config.antt`.
+//! Tested in: `lg_detector_tests/src/timing.rt`.
 ghost use Rattle.std.specs.Prelude.{◌≡◌, ◌≢◌, ◌≤◌, ℤ, pos, negsuc};
 ghost use Rattle.std.specs.Prelude.{◌≤ℤ◌, ◌+◌, ◌*◌, List, ◌∷◌};
 ghost use Rattle.lg_timing.specs.Meaning.Config.{IsChecked};
@@ -8,12 +11,12 @@ use crate::config::{Config, MAX_INTERVAL_MS, MAX_SCORE};
 use std::alloc::AllocError;
 use std::marker::Model;
 
-/// The longest interval or timeout of a probe at any health score, in milliseconds: 1,260,000, the
-/// longest interval at the greatest score.
+/// The longest scaled interval or scaled timeout, in milliseconds: 1,260,000, which is the longest interval at the
+/// greatest score.
 pub const MAX_SCALED_MS: u64 = MAX_INTERVAL_MS * (MAX_SCORE + 1);
 
-/// The health score of a member: the sum of the marks that it earned, held between 0 and a greatest
-/// score at every mark (Lifeguard, local health aware probe).
+/// The health score of a member, which Lifeguard calls its local health multiplier (LHM; local health aware probe).
+/// It is the sum of the marks that the member earned, held between 0 and a greatest score at every mark.
 ///
 /// A contract sees the value and the greatest score.
 #[derive(Debug)]
@@ -51,7 +54,7 @@ impl Clone for Score {
 impl Copy for Score {}
 
 impl Score {
-    /// The score 0, which is at most `max` from then on; `max` is 0 to [`MAX_SCORE`].
+    /// A score of 0, which is at most `max` from now on. `max` is 0 to [`MAX_SCORE`].
     pub fn new(max: u64) -> Score
         requires { max ≤ MAX_SCORE }
         ensures { result ≡ record { value = 0; max = max } }
@@ -67,7 +70,7 @@ impl Score {
 
         ensures marked { self.new ≡ marked self.old mark }
 
-        // After any list of marks, the latest first, it is their sum, held at every mark.
+        // If the score was that of some marks (the latest first), it is now that of those and this one.
         ensures after { (past : List ℤ) → self.old.value ≡ score_of self.old.max past
             → self.new.value ≡ score_of self.old.max (mark ∷ past) }
     {
@@ -87,8 +90,7 @@ impl Score {
         self.value
     }
 
-    /// The scaled interval, in milliseconds: `interval_ms` times one more than the score, at most
-    /// [`MAX_SCALED_MS`].
+    /// The scaled interval in milliseconds: `interval_ms * (score + 1)`. It is at most [`MAX_SCALED_MS`].
     pub fn interval(&self, config: &Config) -> u64
         requires { IsChecked config.now }
         ensures scaled { result ≡ config.now.interval_ms * (self.now.value + 1) }
@@ -97,8 +99,8 @@ impl Score {
         config.interval_ms * (self.value + 1)
     }
 
-    /// The scaled timeout, which is how long a probe waits for its ack at this score, in milliseconds:
-    /// `timeout_ms` times one more than the score, at most [`MAX_SCALED_MS`].
+    /// The scaled timeout in milliseconds, `timeout_ms * (score + 1)`: how long a probe waits for its ack at this
+    /// score. It is at most [`MAX_SCALED_MS`].
     pub fn timeout(&self, config: &Config) -> u64
         requires { IsChecked config.now }
         ensures scaled { result ≡ config.now.timeout_ms * (self.now.value + 1) }

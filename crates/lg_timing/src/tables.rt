@@ -1,14 +1,17 @@
-//! The tables of logarithms.
+//! The tables of logarithms by which suspicion timeouts are computed.
+//!
+//! Defined in: `specs/Meaning/Tables.antt`.
+//! Tested in: `lg_detector_tests/src/timing.rt`, `cases/timeouts.case`.
 ghost use Rattle.std.specs.Prelude.{◌≡◌, ℕ, ◌+◌, ◌≤◌};
 ghost use Rattle.lg_timing.specs.Meaning.Tables.{IsLog, range_end, log10_of, ratio_of};
 
 use crate::config::MAX_CONFIRMATIONS;
 
-/// The most members that haven't failed, oneself among them: 256, as many as a table has at most
-/// (this project's choice).
+/// The most members that haven't failed, this member included: 256, the greatest size of a table (this project's
+/// choice).
 pub const MAX_LIVE: u64 = 256;
 
-// A row for each number of confirmations in all, a column for each number of those that came.
+// A row for each number of confirmations that count, with a column for each number of those that came.
 const RATIOS: [[u64; 6]; 6] = [
     [1000, 0, 0, 0, 0, 0],
     [0, 1000, 0, 0, 0, 0],
@@ -18,9 +21,9 @@ const RATIOS: [[u64; 6]; 6] = [
     [0, 386, 613, 773, 898, 1000],
 ];
 
-/// The base-ten logarithm that counts for `live` members that haven't failed, 1 to [`MAX_LIVE`], in
-/// thousandths rounded down: that of the greatest number in the same one of the ranges up to 10, 16, 32,
-/// 64, 128 and 256 (the ranges are this project's choice).
+/// The base-ten logarithm that counts for `live` members that haven't failed, 1 to [`MAX_LIVE`], in thousandths
+/// rounded down. It is the logarithm of the greatest number in the range that `live` is in. The ranges end at 10, 16,
+/// 32, 64, 128 and 256 (this project's choice).
 #[tactic(auto, unfolding(crate::specs::Meaning::Tables::log10_of))]
 pub fn log10_thousandths(live: u64) -> u64
     requires some { 1 ≤ live }
@@ -37,9 +40,9 @@ pub fn log10_thousandths(live: u64) -> u64
     }
 }
 
-/// The quotient log(c + 1) / log(k + 1) in thousandths rounded down, for `c` of `k` confirmations, c at
-/// most k and k at most [`MAX_CONFIRMATIONS`] (Lifeguard, local health aware suspicion). For k = 0 it is 1000 (this
-/// project's choice).
+/// The quotient log(c + 1) / log(k + 1) in thousandths rounded down, for `c` of `k` confirmations (Lifeguard, local
+/// health aware suspicion). `c` is at most `k`, and `k` at most [`MAX_CONFIRMATIONS`]. For a `k` of 0 it is 1000
+/// (this project's choice).
 #[tactic(auto, unfolding(crate::specs::Meaning::Tables::ratio_of))]
 pub fn ratio(k: u64, c: u64) -> u64
     requires came { c ≤ k }
@@ -50,8 +53,9 @@ pub fn ratio(k: u64, c: u64) -> u64
     RATIOS[k as usize][c as usize]
 }
 
-/// The tables are what they say: each entry, taken to its base, is the greatest that doesn't pass the
-/// power that it stands for.
+/// The tables hold logarithms. An entry `t` is the logarithm of a number to a base, in thousandths: the greatest `t`
+/// for which `base ^ t` is at most `number ^ 1000`. For a `k` of 0 the quotient is 1000. This is a law, and the call
+/// does nothing.
 pub fn tables_are_logarithms()
     ensures logarithms { (live : ℕ) → IsLog 10 (range_end live) (log10_of live) }
     ensures quotients { (k c : ℕ) → 1 ≤ k → k ≤ MAX_CONFIRMATIONS → c ≤ k

@@ -1,4 +1,7 @@
-//! How long a suspicion lasts.
+//! How long a suspicion lasts: the suspicion timeout, and how confirmations shorten it.
+//!
+//! Defined in: `specs/Meaning/Timeouts.antt`, `specs/Meaning/TimeoutRange.antt`, `specs/Meaning/Config.antt`.
+//! Tested in: `lg_detector_tests/src/timing.rt`, `cases/timeouts.case`.
 ghost use Rattle.std.specs.Prelude.{◌≡◌, ◌≤◌};
 ghost use Rattle.lg_timing.specs.Meaning.Config.{IsChecked};
 ghost use Rattle.lg_timing.specs.Meaning.Timeouts.{confirmations_of, range_of, timeout_of, suspicion_of};
@@ -8,15 +11,14 @@ use crate::tables::{MAX_LIVE, log10_thousandths, ratio};
 use std::alloc::AllocError;
 use std::marker::Model;
 
-/// The longest timeout of a suspicion, in milliseconds: 57,792,000, by the greatest factors, the longest
-/// interval and the greatest logarithm.
+/// The longest timeout of a suspicion, in milliseconds: 57,792,000. It is the one for the greatest factors, the
+/// longest interval and the greatest logarithm.
 pub const MAX_SUSPICION_MS: u64 = 57_792_000;
 
-/// The timeouts of one suspicion: from a greatest one with no confirmation down to a least one once
-/// all the confirmations that count have come (Lifeguard, local health aware suspicion).
+/// The timeouts of one suspicion: the greatest with no confirmation, down to the least once all the confirmations
+/// that count have come (Lifeguard, local health aware suspicion).
 ///
-/// A contract sees the least and the greatest timeout and the number of confirmations. The default
-/// has zeros.
+/// A contract sees the least and the greatest timeout and the number of confirmations. The default has zeros.
 #[derive(Debug)]
 pub struct SuspicionTimeout {
     min_ms: u64,
@@ -65,8 +67,8 @@ impl Default for SuspicionTimeout {
     }
 }
 
-/// The confirmations that count for a suspicion raised among `live` members that haven't failed: those of
-/// the configuration, or 0 where there are fewer members than two more than these (this project's choice).
+/// How many confirmations count for a suspicion raised among `live` members that haven't failed: `confirmations` of
+/// the configuration, or 0 if `live` is less than that plus 2 (this project's choice).
 fn confirmations_among(live: u64, config: &Config) -> u64
     requires { IsChecked config.now }
     ensures { result ≡ confirmations_of live config.now }
@@ -79,8 +81,8 @@ fn confirmations_among(live: u64, config: &Config) -> u64
 }
 
 impl SuspicionTimeout {
-    /// The timeouts of a suspicion raised among `live` members that haven't failed, 1 to [`MAX_LIVE`], of
-    /// which oneself is one.
+    /// The timeouts of a suspicion raised among `live` members that haven't failed, this member included: 1 to
+    /// [`MAX_LIVE`].
     pub fn new(live: u64, config: &Config) -> SuspicionTimeout
         requires checked { IsChecked config.now }
         requires some { 1 ≤ live }
@@ -109,7 +111,7 @@ impl SuspicionTimeout {
         self.max_ms
     }
 
-    /// After how many confirmations the timeout is the least, 0 to [`MAX_CONFIRMATIONS`].
+    /// After how many confirmations the timeout is the least: 0 to [`MAX_CONFIRMATIONS`].
     pub fn confirmations(&self) -> u64
         ensures confirmations { result ≡ self.now.confirmations }
         ensures within { self.now.confirmations ≤ MAX_CONFIRMATIONS }
@@ -117,10 +119,12 @@ impl SuspicionTimeout {
         self.confirmations
     }
 
-    /// The timeout after `c` confirmations, at most the `k` that count, in milliseconds: 10 to [`MAX_SUSPICION_MS`], or
-    /// 0 by default. It is `max - (max - min) * log(c + 1) / log(k + 1)`, the quotient in thousandths and all divisions
-    /// rounding down: `max` with no confirmation, and `min` with `k` (Lifeguard, local health aware suspicion). With a
-    /// `k` of 0 it is always `min` (this project's choice).
+    /// The timeout after c confirmations, at most the k that count, in milliseconds: 10 to [`MAX_SUSPICION_MS`], or 0
+    /// by default.
+    ///
+    /// It is `max - (max - min) * log(c + 1) / log(k + 1)`, with the quotient of the logarithms in thousandths and
+    /// all divisions rounding down. That is `max` with no confirmation, and `min` with k (Lifeguard, local health
+    /// aware suspicion). If k is 0 it is always `min` (this project's choice).
     pub fn after(&self, confirmations: u64) -> u64
         requires { confirmations ≤ self.now.confirmations }
         ensures timeout { result ≡ timeout_of self.now confirmations }
@@ -131,9 +135,9 @@ impl SuspicionTimeout {
     }
 }
 
-/// The timeout of a suspicion raised among `live` members that haven't failed, 1 to [`MAX_LIVE`], after
-/// some confirmations, at most as many as count among so many, in milliseconds: 10 to
-/// [`MAX_SUSPICION_MS`].
+/// The timeout of a suspicion raised among `live` members that haven't failed, after some confirmations, in
+/// milliseconds: 10 to [`MAX_SUSPICION_MS`]. `live` is 1 to [`MAX_LIVE`], and `confirmations` at most the number that
+/// counts among `live` members.
 pub fn suspicion_ms(live: u64, confirmations: u64, config: &Config) -> u64
     requires checked { IsChecked config.now }
     requires some { 1 ≤ live }

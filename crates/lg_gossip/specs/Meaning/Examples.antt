@@ -1,4 +1,4 @@
--- Worked rows.
+-- Worked rows: what is queued, and what packets take.
 use Rattle.std.specs.Prelude.{◌≡◌, ℕ, List, [], ◌∷◌, ◌++◌, Some, None, refl}
 use Rattle.lg_rules.specs.declared.addr.Addr.{Addr}
 use Rattle.lg_rules.specs.declared.claim.Claim.{Claim}
@@ -8,7 +8,7 @@ use Rattle.lg_gossip.specs.declared.queued.Queued.{Queued}
 use Rattle.lg_gossip.specs.Meaning.Queue.{GossipQueue, put_of, taken_of, fill_of, filled}
 use Rattle.std.specs.Fmt.{digits}
 
--- on the member with a name of one letter
+-- a claim about the member with a name of one letter
 abbrev on : ℕ → Status → ℕ → Claim
 on letter status i =
     let addr : Addr = record { octets = 127 ∷ 0 ∷ 0 ∷ 1 ∷ []; port = 7000 } in
@@ -58,13 +58,13 @@ sent_less_first :
 unfolding taken_of digits
 sent_less_first = refl
 
--- seven claims on d to j
+-- seven claims about d to j
 abbrev seven : GossipQueue
 seven =
     let four = row (alive 100) 0 ∷ row (alive 101) 0 ∷ row (alive 102) 0 ∷ row (alive 103) 0 ∷ [] in
     of_rows (four ++ row (alive 104) 0 ∷ row (alive 105) 0 ∷ row (alive 106) 0 ∷ [])
 
--- and a packet to the Suspect c
+-- and a packet to c, which is Suspect
 five_others :
     fill_of seven (Some suspect-c) 9
     ≡ suspect-c ∷ alive 100 ∷ alive 101 ∷ alive 102 ∷ alive 103 ∷ alive 104 ∷ []
@@ -77,7 +77,7 @@ six_without :
 unfolding taken_of digits
 six_without = refl
 
--- a claim that was sent as often as nine members allow, and then ten
+-- a claim that was sent as often as it may be among nine members, which may be sent again among ten
 exhausted : fill_of (of_rows (row (alive 99) 4 ∷ [])) None 9 ≡ []
 unfolding taken_of digits
 exhausted = refl

@@ -1,12 +1,12 @@
--- The queue of claims that packets take with them (SWIM, section 4.1), and the buddy (Lifeguard's buddy system).
+-- The queue of claims that ride on packets (piggyback; SWIM, section 4.1), and the buddy (Lifeguard's buddy system).
 --
--- A packet that takes claims has at most 6. A packet to a member that it pings, whose record is Suspect, begins with
--- that record, its buddy: it has one of the 6 places, and its going counts as no send. The others are of the queue,
--- none about the buddy's member: those that were sent fewer than lambda times for each decimal digit of the number of
--- live members, so those that haven't failed, oneself included; the ones sent least often first, and of those sent
--- equally often the lesser name by its bytes. Each one taken counts as sent once more, and stays in the queue. A claim
--- that is put takes the place of the one about its member, with no sends. Lambda is of the configuration, 4 by
--- default.
+-- A packet that takes claims has at most 6. If it pings a member whose record is Suspect, it begins with that record,
+-- its buddy. The buddy takes one of the 6 places, and doesn't count as sent. The other claims are from the queue, and
+-- none of them is about the buddy's member. They are claims that were sent fewer times than the retransmit limit:
+-- lambda times for each decimal digit of the number of live members, which are those that haven't failed, this member
+-- included. Claims sent least often come first, and of those sent equally often the one about the lesser name by its
+-- bytes. Each claim that is taken counts as sent once more, and stays in the queue. A claim that is put replaces the
+-- one about its member, and has no sends. Lambda is set by the configuration, 4 by default.
 use Rattle.std.specs.Prelude.{ℕ, ◌+◌, ◌-◌, ◌*◌, Bool, true, false, ◌&&◌}
 use Rattle.std.specs.Prelude.{◌||◌, not, Option, Some, None, nat_lt, ◌==◌}
 use Rattle.std.specs.Prelude.{List, [], ◌∷◌, ◌++◌, length, map, filter, take, if◌then◌else◌, decimal}
@@ -20,25 +20,25 @@ use Rattle.lg_rules.specs.Meaning.Claim.{name_of}
 use Rattle.lg_rules.specs.Meaning.Rows.{name_cmp, is_same, is_among, put_row}
 use Rattle.lg_gossip.specs.declared.queued.Queued.{Queued}
 
--- How often a claim may be sent for each decimal digit of the number of members, and the claims that wait, in the
--- order of the members that they are about.
+-- How often a claim may be sent for each decimal digit of the number of members (lambda), and the claims that wait.
+-- These are in the order of the names of the members that they are about.
 pub record GossipQueue : Type 0 where
   pub lambda : ℕ
   pub rows : List Queued
 
--- the claim that waits
+-- the claim of a row
 abbrev pub queued_claim : Queued → Claim
 queued_claim q = q.claim
 
--- the member that it is about
+-- the member that the claim of a row is about
 abbrev pub queued_name : Queued → List ℕ
 queued_name q = q.claim.name
 
--- a claim that no packet took yet
+-- a claim that no packet has taken yet
 abbrev pub fresh : Claim → Queued
 fresh c = record { claim = c; sends = 0 }
 
--- a queue with a claim put, which takes the place of an older one about its member
+-- a queue once a claim was put, which replaces an older one about its member
 abbrev pub put_of : Claim → GossipQueue → GossipQueue
 put_of c queue = record { lambda = queue.lambda; rows = put_row name_cmp queued_name (fresh c) queue.rows }
 
@@ -46,15 +46,16 @@ put_of c queue = record { lambda = queue.lambda; rows = put_row name_cmp queued_
 abbrev pub decimal_digits : ℕ → ℕ
 decimal_digits n = length (decimal n)
 
--- so often may a claim be sent among n live members
+-- the retransmit limit: how often a claim may be sent among n live members
 abbrev pub limit_of : ℕ → ℕ → ℕ
 limit_of lambda n = lambda * decimal_digits n
 
--- whether a claim comes before another: it was sent fewer times, or as often and its member's name is lesser
+-- whether a claim goes before another: it was sent fewer times; or it was sent as often, and its member's name is
+-- lesser
 abbrev pub is_sooner : Queued → Queued → Bool
 is_sooner q r = nat_lt q.sends r.sends || (q.sends == r.sends && is_lt (name_cmp (queued_name q) (queued_name r)))
 
--- these claims by their sends, and then by the names of their members
+-- these claims in the order of their sends, and then of the names of their members
 abbrev pub put_by_sends : Queued → List Queued → List Queued
 put_by_sends q [] = q ∷ []
 put_by_sends q (r ∷ rs) = if is_sooner q r then q ∷ r ∷ rs else r ∷ put_by_sends q rs
@@ -68,12 +69,12 @@ is_suspect Alive = false
 is_suspect (Suspect accuser) = true
 is_suspect Failed = false
 
--- The buddy of a packet is the record of the member to which it pings, where that is Suspect.
+-- The buddy of a packet is the record of the member that it pings, if that record is Suspect.
 abbrev pub buddy_of : Option Claim → Option Claim
 buddy_of None = None
 buddy_of (Some to) = if is_suspect to.status then Some to else None
 
--- With a buddy one claim fewer of a packet's is of the queue, and none of it about the buddy's member.
+-- A packet with a buddy takes one claim fewer from the queue, and none about the buddy's member.
 abbrev pub room_beside : Option Claim → ℕ
 room_beside None = most_claims
 room_beside (Some buddy) = most_claims - 1
@@ -86,20 +87,20 @@ is_beside (Some buddy) q = not (is_same name_cmp (queued_name q) buddy.name)
 abbrev pub may_go : Option Claim → ℕ → Queued → Bool
 may_go buddy limit q = nat_lt q.sends limit && is_beside buddy q
 
--- the rows that it takes: the first by their sends
+-- the rows that it takes: the first in the order of sends
 abbrev pub rows_taken : Option Claim → ℕ → List Queued → List Queued
 rows_taken buddy limit rows = take (room_beside buddy) (by_sends (filter (may_go buddy limit) rows))
 
--- the claims that a packet takes of the queue, to a member with this record or with none, among n live
--- members
+-- The claims that a packet takes from the queue among n live members. The record is that of the member that it pings,
+-- if it pings one.
 unfoldable pub taken_of : GossipQueue → Option Claim → ℕ → List Claim
 taken_of queue to n = map queued_claim (rows_taken (buddy_of to) (limit_of queue.lambda n) queue.rows)
 
--- the claims of that packet
+-- all claims of that packet: its buddy, if it has one, and then those taken
 abbrev pub fill_of : GossipQueue → Option Claim → ℕ → List Claim
 fill_of queue to n = option_to_list (buddy_of to) ++ taken_of queue to n
 
--- a row after a packet that took these claims
+-- a row after a packet that took these claims: one more send if its claim is among them
 abbrev pub sent_once : List Claim → Queued → Queued
 sent_once taken q =
     let is_taken = is_among name_cmp q.claim.name (map name_of taken) in

@@ -1,14 +1,14 @@
--- Rows by their places.
+-- Rows of the queue by their indices.
 use Rattle.std.specs.Prelude.{◌≡◌, List, Some, slice_get, filter_map}
 use Rattle.lg_gossip.specs.declared.choice.TakenRow.{TakenRow}
 use Rattle.lg_gossip.specs.declared.queued.Queued.{Queued}
 
--- there is a row at this place, and it was sent so often
+-- there is a row at this index, and it was sent this often
 pub record IsRowOf (rows : List Queued) (taken : TakenRow) : Type 0 where
   pub row : Queued
   pub stands : slice_get rows taken.place ≡ Some row
   pub sends : taken.sends ≡ row.sends
 
--- the rows at these places
+-- the rows at these indices
 abbrev pub rows_at : List Queued → List TakenRow → List Queued
 rows_at rows taken = filter_map (λ t. slice_get rows t.place) taken

@@ -7,11 +7,11 @@ use Rattle.lg_rules.specs.declared.claim.TheConstants.{MAX_LAMBDA}
 use Rattle.lg_gossip.specs.declared.queued.Queued.{Queued}
 use Rattle.lg_gossip.specs.Meaning.Queue.{queued_name}
 
--- its claims stand in the order of their members, one a member
+-- its claims are in the order of the names of their members, at most one about each
 abbrev pub AreInOrder : List Queued → Type 0
 AreInOrder rows = Rises name_cmp (map queued_name rows)
 
--- no claim was sent more often than some number of members allows
+-- no claim was sent more often than the retransmit limit can be for any number of members
 abbrev pub AreWithin : ℕ → List Queued → Type 0
 AreWithin lambda rows = AllByRecursion (λ q. q.sends ≤ lambda * MAX_DIGITS) rows
 

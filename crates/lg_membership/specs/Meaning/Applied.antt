@@ -1,4 +1,4 @@
--- What applying a claim does, by the log before the claim and after it.
+-- What applying a claim does, by the log before the claim and the log after it.
 use Rattle.std.specs.Prelude.{ℕ, ◌≡◌, ◌≢◌, Bool, true, false}
 use Rattle.std.specs.Prelude.{List, ◌∷◌, Option, Some, None, option_map}
 use Rattle.lg_rules.specs.declared.claim.Claim.{Claim}
@@ -19,7 +19,7 @@ use Rattle.lg_membership.specs.declared.suspected.Suspected.{Suspected}
 use Rattle.lg_membership.specs.Meaning.Log.{Log, Said, own, table, live_others}
 use Rattle.lg_membership.specs.Meaning.Suspicions.{suspicions, suspected_name}
 
--- the record of a member, oneself included; from the opening on it is that of the view
+-- The record of a member, which may be this member itself. From the opening on it is the one of the view.
 abbrev pub record_in : Log → List ℕ → Option Claim
 record_in log m = row_at name_cmp name_of m (view_of (own_record (own log)) (table log))
 
@@ -27,19 +27,19 @@ record_in log m = row_at name_cmp name_of m (view_of (own_record (own log)) (tab
 abbrev pub suspicion_in : Log → List ℕ → Option Suspected
 suspicion_in log m = row_at name_cmp suspected_name m (suspicions log)
 
--- whether a claim about oneself is a suspicion that is refuted
+-- whether a claim about this member is a suspicion that this member refutes
 abbrev pub is_refuted : OwnHeard → Bool
 is_refuted Refuted = true
 is_refuted Raised = false
 is_refuted Ousted = false
 is_refuted Ignored = false
 
--- a record changed, or is as before
+-- whether a record changed, or is as before
 abbrev pub IsRecordChange : Option Claim → Option Claim → Bool → Type 0
 IsRecordChange before after true = after ≢ before
 IsRecordChange before after false = after ≡ before
 
--- A suspicion is as before; or there was one and is none; or there is one, with this deadline.
+-- A suspicion is as before; or there was one, and there is none; or there is one, with this deadline.
 abbrev pub IsDeadlineChange : Option Suspected → Option Suspected → Deadline → Type 0
 IsDeadlineChange before after Stays = after ≡ before
 IsDeadlineChange before after Ends = (before ≢ None) × (after ≡ None)
@@ -49,15 +49,18 @@ IsDeadlineChange before after (Stands deadline) = option_map (λ r. deadline_of 
 abbrev pub is_live : Log → List ℕ → Bool
 is_live log m = is_among name_cmp m (live_others log)
 
--- A member is among them as before; or it is and wasn't; or it was and isn't.
+-- A member is among them or not, as before; or it is and wasn't; or it was and isn't.
 abbrev pub presence_of : Bool → Bool → Presence
 presence_of true true = Remains
 presence_of false false = Remains
 presence_of false true = Joins
 presence_of true false = Leaves
 
--- A claim is said after a log: what it changes of the record and of the deadline of its member, whether it is refuted,
--- and whether its member joins the others that haven't failed, or leaves them.
+-- What applying a claim returns, if the claim is said after this log:
+--     changed     whether it changes the record of its member
+--     refuted     whether it is a suspicion of this member, and this member refutes it
+--     deadline    what becomes of the deadline of its member's suspicion
+--     presence    whether its member joins the others that haven't failed, or leaves them
 pub record IsApplied (now : ℕ) (origin : Origin) (c : Claim) (log : Log) (applied : Applied) : Type 0 where
   pub changed : (let after = Said now origin c ∷ log in
       IsRecordChange (record_in log c.name) (record_in after c.name) applied.changed)

@@ -49,14 +49,14 @@ accused_by letter = Suspect (letter ∷ [])
 abbrev on : ℕ → Status → ℕ → Claim
 on letter status i = record { name = letter ∷ []; addr = here; status = status; incarnation = i }
 
--- the default numbers, and facts at moments
+-- The member is opened with the default numbers. The group says a claim at a moment.
 abbrev opened : Fact
 opened = Opened (defaults (b ∷ []) here)
 
 abbrev says : ℕ → Claim → Fact
 says now claim = Said now Group claim
 
--- b knows that a, d and e are alive, and c
+-- b knows that a, c, d and e are alive
 abbrev others : Log
 others = says 0 (on e Alive 0) ∷ says 0 (on d Alive 0) ∷ says 0 (on c Alive 0) ∷ says 0 (on a Alive 0) ∷ opened
     ∷ []
@@ -65,7 +65,7 @@ five_live : live others ≡ 5
 unfolding table_of record_of roster
 five_live = refl
 
--- c is suspected at 2000 by d, again by d, and then by e
+-- c is suspected by d at 2000, then by d again, and then by e
 abbrev by_d : Log
 by_d = says 2000 (on c (accused_by d) 0) ∷ others
 
@@ -96,7 +96,7 @@ deadline_by_d_and_e : deadlines by_d_and_e ≡ 19500 ∷ []
 unfolding table_of record_of roster suspicions suspected range_of timeout_of log10_of ratio_of counted_accusers
 deadline_by_d_and_e = refl
 
--- The suspicion ends where c is alive at a greater number, and where it failed.
+-- The suspicion ends if c is alive at a greater incarnation, and if it failed.
 ended_by_c : deadlines (says 3000 (on c Alive 1) ∷ by_d_and_e) ≡ []
 unfolding table_of record_of roster suspicions suspected range_of timeout_of log10_of ratio_of counted_accusers
 ended_by_c = refl
@@ -109,23 +109,23 @@ stands_at_the_number : deadlines (says 3000 (on c Alive 0) ∷ by_d) ≡ 32000 �
 unfolding table_of record_of roster suspicions suspected range_of timeout_of log10_of ratio_of counted_accusers
 stands_at_the_number = refl
 
--- One at a greater incarnation raises a suspicion anew.
+-- A suspicion at a greater incarnation is raised anew.
 raised_anew : deadlines (says 4000 (on c (accused_by a) 1) ∷ by_d_and_e) ≡ 34000 ∷ []
 unfolding table_of record_of roster suspicions suspected range_of timeout_of log10_of ratio_of counted_accusers
 raised_anew = refl
 
--- Two live members are too few for three confirmations, so the least timeout counts.
+-- Two live members are too few for three confirmations, so the suspicion has its least timeout.
 too_few : deadlines (says 2000 (on c (accused_by d) 0) ∷ opened ∷ []) ≡ 7000 ∷ []
 unfolding table_of record_of roster suspicions suspected range_of timeout_of log10_of ratio_of counted_accusers
 too_few = refl
 
--- A failed member isn't live when the claim about it is applied.
+-- A member isn't live once the claim that it failed is applied.
 four_live : live (says 2000 (on c Failed 0) ∷ others) ≡ 4
 unfolding table_of record_of roster
 four_live = refl
 
--- a joins the others that haven't failed, stays among them while it is suspected, and leaves them where it fails, for
--- ever.
+-- a joins the others that haven't failed, and stays among them while it is suspected. When it fails it leaves them,
+-- for good.
 abbrev begun : Log
 begun = opened ∷ []
 
@@ -161,7 +161,7 @@ a_leaves : presence_of_a suspected_a failed_a ≡ Leaves
 unfolding table_of record_of roster
 a_leaves = refl
 
--- b is suspected by a and then by c, both at 0: it refutes once.
+-- b is suspected by a and then by c, both at 0. It refutes that once.
 abbrev refuted : Log
 refuted = says 0 (on b (accused_by c) 0) ∷ says 0 (on b (accused_by a) 0) ∷ opened ∷ []
 
@@ -173,7 +173,7 @@ refutation_is_queued : queue refuted ≡ record { lambda = 4; rows = record { cl
 unfolding own_of table_of record_of roster takes put_by queued queue_rows suspicions
 refutation_is_queued = refl
 
--- A seed is known, and isn't queued; a claim that overrides it is.
+-- A seed is known, but isn't queued. A claim that overrides it is queued.
 abbrev seeded : Log
 seeded = Said 0 Seed (on c Alive 0) ∷ opened ∷ []
 
@@ -215,14 +215,14 @@ sendable_again : fill_of (queue (sent (sent (sent (sent heard))))) None 10 ≡ a
 unfolding table_of record_of roster takes put_by queued queue_rows suspicions taken_of digits
 sendable_again = refl
 
--- What is queued afresh has no sends.
+-- A claim that is queued anew has no sends.
 queued_afresh :
     (queue (says 0 (on c Alive 1) ∷ sent heard)).rows ≡ record { claim = on c Alive 1; sends = 0 } ∷ []
 unfolding table_of record_of roster takes put_by queued queue_rows suspicions
 queued_afresh = refl
 
--- c is suspected by a, and d is alive. A Ping to c begins with c's record and takes the claim about d of the queue; so
--- the packet after it still has both.
+-- c is suspected by a, and d is alive. A Ping to c begins with c's record and takes the claim about d from the queue.
+-- So the packet after it still has both.
 abbrev suspected-c : Claim
 suspected-c = on c (accused_by a) 2
 
@@ -249,7 +249,7 @@ after_that_ping : (queue (Sent (alive-d ∷ []) ∷ two_heard)).rows
 unfolding table_of record_of roster takes put_by queued queue_rows suspicions
 after_that_ping = refl
 
--- A packet that is no Ping begins with no buddy: what was sent least often comes first, here the claim about d.
+-- A packet other than a Ping has no buddy. The claim that was sent least often comes first, here that about d.
 abbrev sent_c : Log
 sent_c = Sent (suspected-c ∷ []) ∷ two_heard
 
@@ -261,7 +261,7 @@ ping_still_has_its_buddy : fill (Some (c ∷ [])) sent_c ≡ suspected-c ∷ ali
 unfolding table_of record_of roster takes put_by queued queue_rows suspicions taken_of digits
 ping_still_has_its_buddy = refl
 
--- Neither a name that isn't known nor oneself has a record here, so a Ping to it has no buddy.
+-- A name that isn't known has no record here, and nor has this member itself. So a Ping to either has no buddy.
 abbrev record_of_target : Option (List ℕ) → Option Claim
 record_of_target target = target_record target (table two_heard)
 
@@ -277,7 +277,7 @@ target_is_oneself : record_of_target (Some (b ∷ [])) ≡ None
 unfolding table_of record_of roster
 target_is_oneself = refl
 
--- An accuser that counts is queued, and one that counts already isn't.
+-- A claim of a new accuser that counts is queued. A claim of one that counts already isn't.
 abbrev queued_about : ℕ → Log → Option Queued
 queued_about letter log = queued log (letter ∷ [])
 
@@ -291,8 +291,8 @@ repetition_is_not_queued :
 unfolding table_of record_of roster takes put_by queued suspicions suspected range_of log10_of counted_accusers
 repetition_is_not_queued = refl
 
--- A table of seven records, a to e, g (103) and h (104): its first page has six, and the page behind the sixth has one.
--- The status of a record doesn't matter.
+-- A table of seven records: a to e, g (103) and h (104). Its first page has six, and the page after the sixth has
+-- one. The status of a record doesn't matter.
 abbrev seven : List Claim
 seven =
     on a Alive 0 ∷ on b Alive 3 ∷ on c (accused_by a) 2 ∷ on d Failed 1 ∷ on e Alive 0 ∷ on 103 Failed 7

@@ -1,4 +1,4 @@
--- What waits to be sent (SWIM, section 4.1).
+-- What waits to be sent as gossip (piggyback; SWIM, section 4.1).
 use Rattle.std.specs.Prelude.{ℕ, ◌+◌, Bool, ◌||◌, if◌then◌else◌}
 use Rattle.std.specs.Prelude.{List, [], ◌∷◌, map, Option, Some, None, option_map}
 use Rattle.std.specs.List.{filter_map}
@@ -18,8 +18,9 @@ use Rattle.lg_membership.specs.declared.suspected.Suspected.{Suspected}
 use Rattle.lg_membership.specs.Meaning.Log.{Log, Opened, Said, Sent, config, me, own, table, live, known}
 use Rattle.lg_membership.specs.Meaning.Suspicions.{suspicions, confirms}
 
--- What is put into the queue where a claim is said: the claim, where the opening doesn't say it and it makes or
--- replaces a record, or confirms a suspicion; or one's own record, where the claim raises the own number.
+-- What a claim puts into the queue when it is said. A claim about another member puts itself there if it makes or
+-- replaces a record, or confirms a suspicion, unless the opening says it. A claim about this member puts this
+-- member's own record there if it raises this member's incarnation.
 abbrev pub put_of_own : OwnHeard → Oneself → Option Claim
 put_of_own Refuted oneself = Some (own_record oneself)
 put_of_own Raised oneself = Some (own_record oneself)
@@ -50,7 +51,7 @@ put_last (Opened opening ∷ log) m = None
 put_last (Said now origin c ∷ log) m = put_or (put_by origin log c) m (put_last log m)
 put_last (Sent taken ∷ log) m = put_last log m
 
--- how many packets have held it since
+-- how many packets have taken it since
 abbrev pub since_put : Option Claim → List ℕ → ℕ → ℕ
 since_put None m before = before
 since_put (Some c) m before = if is_same name_cmp c.name m then 0 else before
@@ -75,16 +76,16 @@ lambda_in (Some opening) = opening.lambda
 abbrev pub queue : Log → GossipQueue
 queue log = record { lambda = lambda_in (config log); rows = queue_rows log }
 
--- The record of the member that a Ping goes to, where it is another that is known: where that record is Suspect, it is
--- the packet's buddy (Lifeguard, buddy system). A packet that is no Ping has no such member.
+-- The record of the member that a Ping goes to, if that is another member that is known. If the record is Suspect, it
+-- is the packet's buddy (Lifeguard, buddy system). Any packet but a Ping has no such member.
 abbrev pub target_record : Option (List ℕ) → List Claim → Option Claim
 target_record None rows = None
 target_record (Some target) rows = row_at name_cmp name_of target rows
 
--- the claims of the queue that a packet takes, which goes to this target or is no Ping
+-- The claims that a packet takes from the queue. It is a Ping to the target, or another packet if no target is given.
 abbrev pub taken : Option (List ℕ) → Log → List Claim
 taken target log = taken_of (queue log) (target_record target (table log)) (live log)
 
--- all claims of that packet: its buddy, if it has one, and those taken
+-- all claims of that packet: its buddy, if it has one, and then those taken
 abbrev pub fill : Option (List ℕ) → Log → List Claim
 fill target log = fill_of (queue log) (target_record target (table log)) (live log)

@@ -1,4 +1,4 @@
--- What a member hears of its group, as facts, and what is read off them.
+-- What a member hears of its group, as facts, and what follows from them.
 use Rattle.std.specs.Prelude.{ℕ, not, List, [], ◌∷◌, map, filter, Option, Some, None}
 use Rattle.lg_rules.specs.declared.addr.Addr.{Addr}
 use Rattle.lg_rules.specs.declared.claim.Claim.{Claim}
@@ -10,8 +10,8 @@ use Rattle.lg_rules.specs.Meaning.View.{view_of}
 use Rattle.lg_timing.specs.declared.config.Config.{Config}
 use Rattle.lg_membership.specs.declared.origin.Origin.{Origin}
 
--- A log says what happened in facts, the latest first: the member was opened; a claim was said at a moment, as a seed
--- of the opening or by the group; a packet was sent that took these claims of the queue.
+-- A log says what happened, as facts with the latest first. The member was opened. Or a claim was said at a moment,
+-- as a seed of the opening or by the group. Or a packet was sent that took these claims from the queue.
 pub data Fact : Type 0 where
   Opened : Config → Fact
   Said : ℕ → Origin → Claim → Fact
@@ -20,7 +20,7 @@ pub data Fact : Type 0 where
 abbrev pub Log : Type 0
 Log = List Fact
 
--- what the member was opened with
+-- the configuration that the member was opened with
 abbrev pub config : Log → Option Config
 config [] = None
 config (Opened opening ∷ log) = Some opening
@@ -33,7 +33,7 @@ said (Opened opening ∷ log) = []
 said (Said now origin c ∷ log) = c ∷ said log
 said (Sent taken ∷ log) = said log
 
--- The own name and address; before the opening, those that stand in their place.
+-- This member's name and address. Before the opening these are placeholders.
 abbrev pub name_in : Option Config → List ℕ
 name_in None = 97 ∷ []
 name_in (Some opening) = opening.name
@@ -45,7 +45,7 @@ addr_in (Some opening) = opening.addr
 abbrev pub me : Log → List ℕ
 me log = name_in (config log)
 
--- the own number, and whether one was ousted
+-- what this member knows of itself: its incarnation, and whether it was ousted
 abbrev pub own : Log → Oneself
 own log = own_of (me log) (addr_in (config log)) (said log)
 
@@ -53,11 +53,11 @@ own log = own_of (me log) (addr_in (config log)) (said log)
 abbrev pub table : Log → List Claim
 table log = table_of (me log) (said log)
 
--- how many members haven't failed, oneself included (n)
+-- how many members haven't failed, this member included (n)
 abbrev pub live : Log → ℕ
 live log = live_in (table log)
 
--- of some records, the names of those that aren't Failed
+-- of some records, the names of the members that haven't failed
 abbrev pub live_names : List Claim → List (List ℕ)
 live_names rows = map name_of (filter (λ r. not (is_failed r.status)) rows)
 
@@ -65,11 +65,11 @@ live_names rows = map name_of (filter (λ r. not (is_failed r.status)) rows)
 abbrev pub live_others : Log → List (List ℕ)
 live_others log = live_names (table log)
 
--- the names that are known
+-- the names that are known, this member's among them, in the order of names
 abbrev pub known : Log → List (List ℕ)
 known log = put_key name_cmp (me log) (roster (me log) (said log))
 
--- the member table, oneself included, in the order of names; nothing before the opening
+-- the member table, this member included, in the order of names; empty before the opening
 abbrev pub view_in : Option Config → Oneself → List Claim → List Claim
 view_in None oneself rows = []
 view_in (Some opening) oneself rows = view_of (own_record oneself) rows

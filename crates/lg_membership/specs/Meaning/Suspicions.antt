@@ -16,7 +16,7 @@ use Rattle.lg_gossip.specs.Meaning.Queue.{is_suspect}
 use Rattle.lg_membership.specs.declared.suspected.Suspected.{Suspected}
 use Rattle.lg_membership.specs.Meaning.Log.{Log, Opened, Said, Sent, config, me, said, live}
 
--- a claim accuses a member at an incarnation
+-- whether a claim accuses a member at an incarnation: it says that the member is Suspect, at that incarnation
 abbrev pub accuses : List ℕ → ℕ → Claim → Bool
 accuses m i c = is_same name_cmp c.name m && (is_suspect c.status && c.incarnation == i)
 
@@ -24,7 +24,7 @@ accuses m i c = is_same name_cmp c.name m && (is_suspect c.status && c.incarnati
 abbrev pub accusers_in : List ℕ → ℕ → List Claim → List (List ℕ)
 accusers_in m i past = filter_map (λ c. accuser_of c.status) (filter (accuses m i) past)
 
--- the log up to the first such claim, that claim included
+-- the log up to the first such claim, including it
 abbrev pub raise_of : List ℕ → ℕ → Log → Option Log
 raise_of m i [] = None
 raise_of m i (Opened opening ∷ log) = None
@@ -32,19 +32,19 @@ raise_of m i (Said now origin c ∷ log) =
     or_else (raise_of m i log) (if accuses m i c then Some (Said now origin c ∷ log) else None)
 raise_of m i (Sent taken ∷ log) = raise_of m i log
 
--- the moment at which the latest fact of such a log was said
+-- the moment at which the latest fact of that log was said
 abbrev pub said_at : Log → ℕ
 said_at (Said now origin c ∷ log) = now
 said_at _ = 0
 
--- The suspicion that such a claim raises: at its moment, and with the number of members that haven't failed once it was
--- taken. All who accuse the member at this incarnation are its accusers.
+-- The suspicion that the first such claim raises, at its moment. Its timeouts are those for the number of members
+-- that haven't failed once the claim was taken. Its accusers are all who accuse the member at this incarnation.
 abbrev pub suspicion_since : Config → List ℕ → List (List ℕ) → Option Log → Option Suspected
 suspicion_since opening m accusers None = None
 suspicion_since opening m accusers (Some front) =
     Some record { name = m; suspicion = suspicion_after (said_at front) (range_of (live front) opening) accusers }
 
--- a member is suspected while its record is Suspect, at the incarnation of the record
+-- a member is suspected while its record is Suspect, at the incarnation of that record
 abbrev pub suspected_by : Config → Log → List ℕ → Option Claim → Option Suspected
 suspected_by opening log m None = None
 suspected_by opening log m (Some r) =
@@ -52,7 +52,7 @@ suspected_by opening log m (Some r) =
     then suspicion_since opening m (accusers_in m r.incarnation (said log)) (raise_of m r.incarnation log)
     else None
 
--- nobody is before the opening
+-- nobody is suspected before the opening
 abbrev pub suspected_in : Option Config → Log → List ℕ → Option Suspected
 suspected_in None log m = None
 suspected_in (Some opening) log m = suspected_by opening log m (record_of (said log) m)
@@ -60,14 +60,14 @@ suspected_in (Some opening) log m = suspected_by opening log m (record_of (said 
 unfoldable pub suspected : Log → List ℕ → Option Suspected
 suspected log m = suspected_in (config log) log m
 
--- the suspicions of the others, in the order of their names
+-- the suspicions of the other members, in the order of names
 unfoldable pub suspicions : Log → List Suspected
 suspicions log = filter_map (suspected log) (roster (me log) (said log))
 
 abbrev pub suspected_name : Suspected → List ℕ
 suspected_name r = r.name
 
--- A claim confirms a suspicion where it accuses a suspected member at the incarnation of its record, and its accuser is
+-- A claim confirms a suspicion if it accuses a suspected member at the incarnation of its record, and its accuser is
 -- new and counts.
 abbrev pub is_accusation : Heard → Bool
 is_accusation Overrode = false

@@ -1,4 +1,5 @@
--- What a claim about another changes of the suspicions and of those that haven't failed, by the values before it.
+-- What a claim about another member changes of the suspicions and of those that haven't failed, by the values before
+-- it.
 use Rattle.std.specs.Ordering.{nat_cmp}
 use Rattle.std.specs.Prelude.{◌≡◌, ℕ, Bool, true, false, List, []}
 use Rattle.std.specs.Prelude.{◌∷◌, Option, Some, None, if◌then◌else◌}
@@ -22,7 +23,7 @@ use Rattle.lg_membership.specs.Meaning.Applied.{presence_of}
 use Rattle.lg_membership.specs.Meaning.Log.{live_names}
 use Rattle.lg_membership.specs.Meaning.Suspicions.{suspected_name}
 
--- nothing; the suspicion of a member ends; or one is put, raised anew or with one more accuser
+-- nothing changes; or the suspicion of a member ends; or one is put, raised anew or with one more accuser
 pub data Change : Type 0 where
   Nothing : Change
   Ending : List ℕ → Change
@@ -44,7 +45,7 @@ overriding opened now n m row Alive = ended m row
 overriding opened now n m row (Suspect accuser) = raised opened now n m accuser
 overriding opened now n m row Failed = ended m row
 
--- one more accusation
+-- what one more accusation changes, and what any claim changes by what hearing it did
 abbrev pub accusing : Option (List ℕ) → Option Suspected → Change
 accusing None row = Nothing
 accusing (Some accuser) None = Nothing
@@ -66,13 +67,13 @@ abbrev pub change_of : Option Config → ℕ → List Claim → List Suspected �
 change_of opened now table rows c =
     change_by (hearing_of table c) opened now (live_in (heard table c)) (row_about c rows) c
 
--- such a change concerns one member
+-- such a change is about one member alone
 abbrev pub IsAbout : List ℕ → Change → Type 0
 IsAbout m Nothing = Unit {0}
 IsAbout m (Ending k) = k ≡ m
 IsAbout m (Putting r) = r.name ≡ m
 
--- the suspicions then, and what becomes of the deadline of the claim's member
+-- the suspicions after such a change, and what becomes of the deadline of the claim's member
 abbrev pub suspicions_after : Change → List Suspected → List Suspected
 suspicions_after Nothing rows = rows
 suspicions_after (Ending m) rows = without_row name_cmp suspected_name m rows
@@ -83,7 +84,7 @@ deadline_after Nothing = Stays
 deadline_after (Ending m) = Ends
 deadline_after (Putting r) = Stands (deadline_of r.suspicion)
 
--- whether a suspicion was raised or has one accuser more
+-- whether a suspicion was raised or has one more accuser
 abbrev pub stands : Deadline → Bool
 stands Stays = false
 stands Ends = false
@@ -103,7 +104,7 @@ presence_heard table c =
 abbrev pub presence_by : ℕ → ℕ → Presence
 presence_by before after = by_order (nat_cmp after before) Leaves Remains Joins
 
--- which they are then
+-- the members that haven't failed once that happened
 abbrev pub live_after : Presence → List ℕ → List (List ℕ) → List (List ℕ)
 live_after Remains m names = names
 live_after Joins m names = put_key name_cmp m names

@@ -1,4 +1,4 @@
--- A state that some log has, where the member was opened with a good configuration, if it was opened.
+-- A state that some log has. If the member was opened, its configuration passed its check.
 use Rattle.std.specs.Prelude.{◌≡◌, Option, Some, None}
 use Rattle.lg_timing.specs.declared.config.Config.{Config}
 use Rattle.lg_timing.specs.Meaning.Config.{IsChecked}

@@ -1,5 +1,5 @@
--- What holds of a state that some log has, so that a claim can be applied: oneself has one name, what is put has a
--- place in the queue, and a suspicion has one among the suspicions.
+-- What holds of a state that some log has, so that a claim can be applied. This member has one name. What is put has
+-- a place in the queue. A suspicion has a place among the suspicions.
 use Rattle.std.specs.Prelude.{ℕ, ◌≡◌, ◌≢◌, ◌<◌, ◌≤◌}
 use Rattle.std.specs.Prelude.{map, true, List, length, Option, Some, None}
 use Rattle.lg_rules.specs.declared.claim.Claim.{Claim}
@@ -26,8 +26,8 @@ pub record HasRoom (origin : Origin) (c : Claim) (s : State) : Type 0 where
   pub place : HasPlace (put_in origin c s) s.queue
   pub seat : c.name ≢ s.members.own → takes s.members.table c ≡ true → HasSeat c.name s.suspicions
 
--- what holds of each state: the records of the others and their suspicions are in the order of the names, and none is
--- about oneself
+-- what holds of each state: the records of the others and their suspicions are in the order of names, and no record
+-- there is about this member
 pub record IsOrdered (s : State) : Type 0 where
   pub one_name : s.own.name ≡ s.members.own
   pub rises : Rises name_cmp (map name_of s.members.table)

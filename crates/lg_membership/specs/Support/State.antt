@@ -28,7 +28,7 @@ pub record State : Type 0 where
   pub suspicions : List Suspected
   pub queue : GossipQueue
 
--- each part by its definition
+-- the state after a log: each part by its definition
 abbrev pub state_of : Log → State
 state_of log = record {
   config = config log;
@@ -38,7 +38,7 @@ state_of log = record {
   queue = queue log;
 }
 
--- the member is opened
+-- the state once the member was opened
 abbrev pub open_with : Config → State → State
 open_with opening s = record {
   config = Some opening;
@@ -48,7 +48,7 @@ open_with opening s = record {
   queue = record { lambda = opening.lambda; rows = [] };
 }
 
--- oneself and the records of the others
+-- what this member knows of itself, and the records of the others
 abbrev pub standing : State → Standing
 standing s = record { own = s.own; table = s.members.table }
 
@@ -56,16 +56,16 @@ standing s = record { own = s.own; table = s.members.table }
 abbrev pub live_others_in : State → List (List ℕ)
 live_others_in s = live_names s.members.table
 
--- the member table, oneself included
+-- the member table, this member included
 abbrev pub shown : State → List Claim
 shown s = view_in s.config s.own s.members.table
 
--- the records with one more, where one was found
+-- the records with one more, if one was found
 abbrev pub with_found : Option Claim → List Claim → List Claim
 with_found None rows = rows
 with_found (Some r) rows = put_row name_cmp name_of r rows
 
--- the records with one more, where that is behind a name
+-- the records with one more, if that one comes after a name
 abbrev pub with_behind : Option (List ℕ) → Claim → List Claim → List Claim
 with_behind after r rows = if is_behind after r then put_row name_cmp name_of r rows else rows
 
@@ -73,11 +73,11 @@ with_behind after r rows = if is_behind after r then put_row name_cmp name_of r 
 abbrev pub change_in : ℕ → Claim → State → Change
 change_in now c s = change_of s.config now s.members.table s.suspicions c
 
--- what hearing a claim about oneself does
+-- what hearing a claim about this member does
 abbrev pub own_hearing_in : Claim → State → OwnHeard
 own_hearing_in c s = own_hearing s.own c
 
--- what a claim puts into the queue
+-- what a claim puts into the queue, and the queue then
 abbrev pub put_in : Origin → Claim → State → Option Claim
 put_in origin c s =
     if is_same name_cmp c.name s.own.name
@@ -88,7 +88,7 @@ abbrev pub queue_with : Option Claim → GossipQueue → GossipQueue
 queue_with None waiting = waiting
 queue_with (Some c) waiting = put_of c waiting
 
--- the state once a claim is applied
+-- the state once a claim was applied
 abbrev pub apply_own : Claim → State → State
 apply_own c s = record s {
   own = own_heard s.own c;
@@ -105,7 +105,7 @@ apply_other now origin c s = record s {
 unfoldable pub apply : ℕ → Origin → Claim → State → State
 apply now origin c s = if is_same name_cmp c.name s.own.name then apply_own c s else apply_other now origin c s
 
--- what applying it did
+-- what applying a claim returns
 abbrev pub applied_own : Claim → State → Applied
 applied_own c s =
     let hearing = own_hearing_in c s in
@@ -120,18 +120,18 @@ applied_other now c s =
 unfoldable pub applied : ℕ → Claim → State → Applied
 applied now c s = if is_same name_cmp c.name s.own.name then applied_own c s else applied_other now c s
 
--- claims are applied one after another
+-- the state once claims were applied, one after another
 abbrev pub apply_all : ℕ → Origin → List Claim → State → State
 apply_all now origin [] s = s
 apply_all now origin (c ∷ cs) s = apply_all now origin cs (apply now origin c s)
 
--- the claims of the queue that a packet to this target takes, and all its claims
+-- the claims that a packet to this target takes from the queue, and all its claims
 abbrev pub taken_in : Option (List ℕ) → State → List Claim
 taken_in target s = taken_of s.queue (target_record target s.members.table) (live_in s.members.table)
 
 abbrev pub fill_in : Option (List ℕ) → State → List Claim
 fill_in target s = fill_of s.queue (target_record target s.members.table) (live_in s.members.table)
 
--- a packet is sent that took these claims of the queue
+-- the state once a packet was sent that took these claims from the queue
 abbrev pub send : List Claim → State → State
 send taken s = record s { queue = record { lambda = s.queue.lambda; rows = map (sent_once taken) s.queue.rows } }

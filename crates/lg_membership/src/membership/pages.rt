@@ -1,4 +1,7 @@
-//! The member table by pages, for a member that joins.
+//! The member table by pages, for a member that joins (push-pull).
+//!
+//! Defined in: `specs/Meaning/Pages.antt`, `specs/Meaning/Log.antt`.
+//! Tested in: `lg_detector_tests/src/membership/pages.rt`.
 ghost use Rattle.std.specs.Prelude.{◌≡◌, ◌≤◌, [], map, option_copied};
 ghost use Rattle.arrayvec.specs.ArrayVec.{array_vec_len};
 ghost use Rattle.lg_rules.specs.Meaning.Claim.{name_of};
@@ -11,14 +14,16 @@ use super::Membership;
 use arrayvec::ArrayVec;
 use lg_rules::{MAX_CLAIMS, Name, Record, put_row};
 
-/// The records of a page, and one more: the own record is put among them before the page is cut.
+/// The records of a page and one more: this member's own record is put among them before the page is cut.
 const MAX_GATHERED: usize = MAX_CLAIMS + 1;
 
 impl Membership {
-    /// Writes the records of a page in the place of what the row held: the first [`MAX_CLAIMS`] of all members, oneself
-    /// included, whose names come after this one in the order of names, or the first of all where no name is given. The
-    /// name needn't be known. The next page comes after the name of a page's last record, and none comes after a page
-    /// with fewer records. Nobody is known before the opening. It takes no memory. (Pages are this project's choice.)
+    /// Replaces what the row holds by the records of a page (this project's choice). These are the first
+    /// [`MAX_CLAIMS`] records of all members, this member included, whose names come after the given one in the order
+    /// of names. If no name is given, they are the first of all.
+    ///
+    /// The name needn't be known. The next page comes after the name of this page's last record. No page comes after
+    /// one with fewer records. Before the opening nobody is known. Allocates no memory.
     pub fn put_page(&self, after: Option<&Name>, row: &mut ArrayVec<Record, MAX_CLAIMS>)
         ensures state { row.new.items ≡ page_of (option_copied after.entry) (shown self.now) }
         ensures log { (log : Log) → self.now ≡ state_of log
@@ -36,7 +41,7 @@ impl Membership {
     }
 }
 
-/// Whether a record comes after a name in the order of names; each does where there is none.
+/// Whether a record comes after a name in the order of names. Each record does if no name is given.
 fn is_behind(after: Option<&Name>, candidate: &Record) -> bool
     ensures { result ≡ is_behind (option_copied after.entry) candidate.now }
 {
@@ -46,7 +51,7 @@ fn is_behind(after: Option<&Name>, candidate: &Record) -> bool
     }
 }
 
-/// Writes the first records behind a name into an empty row, as many as a page has.
+/// Writes the first records after a name, as many as a page can have, into an empty row.
 fn put_others(records: &[Record], after: Option<&Name>, row: &mut ArrayVec<Record, MAX_GATHERED>)
     requires { row.old.items ≡ [] }
     ensures { row.new.items ≡ page_of (option_copied after.entry) records.now }
@@ -61,14 +66,14 @@ fn put_others(records: &[Record], after: Option<&Name>, row: &mut ArrayVec<Recor
     }
 }
 
-/// Puts a record among those of a page, where it comes after a name.
+/// Puts a record among those of a page, if it comes after the given name.
 fn put_own(own: Record, after: Option<&Name>, row: &mut ArrayVec<Record, MAX_GATHERED>)
     requires few { array_vec_len row.old ≤ MAX_CLAIMS }
     requires rises { Rises name_cmp (map name_of row.old.items) }
     ensures { row.new.items ≡ with_behind (option_copied after.entry) own row.old.items }
 {
     if is_behind(after, &own) {
-        // Taken apart, since the checker follows no whole record into a generic call.
+        // Taken apart, since the checker doesn't follow a whole record into a generic call.
         let Record {
             name,
             addr,

@@ -1,4 +1,7 @@
-//! What a member is asked of its group.
+//! What a member can be asked about its group.
+//!
+//! Defined in: `specs/Meaning/Log.antt`, `lg_rules/specs/Meaning/Table.antt`, `lg_rules/specs/Meaning/Own.antt`.
+//! Tested in: `lg_detector_tests/src/membership/claims.rt`.
 ghost use Rattle.std.specs.Prelude.{◌≡◌, ◌≤◌, ◌<◌, [], length, map, filter, option_copied};
 ghost use Rattle.arrayvec.specs.ArrayVec.{array_vec_len};
 ghost use Rattle.lg_rules.specs.Meaning.Claim.{name_of};
@@ -14,7 +17,7 @@ use lg_rules::{Incarnation, MAX_CLAIMS, MAX_MEMBERS, MAX_OTHERS, Name, Record, p
 use lg_timing::Config;
 
 impl Membership {
-    /// What the member was opened with; none before the opening.
+    /// The configuration that the member was opened with, or `None` before the opening.
     pub fn config(&self) -> Option<&Config>
         ensures state { option_copied result ≡ self.now.config }
         ensures log { (log : Log) → self.now ≡ state_of log → option_copied result ≡ config log }
@@ -22,7 +25,7 @@ impl Membership {
         self.config.as_ref()
     }
 
-    /// The own name; before the opening a name that stands for none.
+    /// This member's name. Before the opening it is a placeholder.
     pub fn name(&self) -> Name
         ensures state { result ≡ self.now.own.name }
         ensures log { (log : Log) → self.now ≡ state_of log → result ≡ (own log).name }
@@ -30,7 +33,7 @@ impl Membership {
         self.own.name()
     }
 
-    /// The own record: Alive by the own number, at the own address.
+    /// This member's own record: Alive at its incarnation and its address.
     pub fn own_record(&self) -> Record
         ensures state { result ≡ own_record self.now.own }
         ensures log { (log : Log) → self.now ≡ state_of log → result ≡ own_record (own log) }
@@ -38,7 +41,7 @@ impl Membership {
         self.own.record()
     }
 
-    /// The own number.
+    /// This member's incarnation.
     pub fn number(&self) -> Incarnation
         ensures state { result ≡ self.now.own.number }
         ensures log { (log : Log) → self.now ≡ state_of log → result ≡ (own log).number }
@@ -46,7 +49,7 @@ impl Membership {
         self.own.number()
     }
 
-    /// Whether a claim about oneself came that nothing can refute.
+    /// Whether a claim about this member came that nothing can refute.
     pub fn is_ousted(&self) -> bool
         ensures state { result ≡ self.now.own.ousted }
         ensures log { (log : Log) → self.now ≡ state_of log → result ≡ (own log).ousted }
@@ -54,7 +57,7 @@ impl Membership {
         self.own.ousted()
     }
 
-    /// How many members haven't failed, oneself included: 1 to 256.
+    /// How many members haven't failed, this member included: 1 to 256.
     pub fn live(&self) -> usize
         ensures count { result ≡ live_in self.now.members.table }
         ensures few { result ≤ MAX_MEMBERS }
@@ -63,7 +66,7 @@ impl Membership {
         self.members.live()
     }
 
-    /// The record of a name, oneself included, where it is known.
+    /// The record of the member with this name, which may be this member itself, or `None` if it isn't known.
     pub fn record_of(&self, name: &Name) -> Option<Record>
         ensures state { result ≡ row_at name_cmp name_of name.now (shown self.now) }
         ensures log { (log : Log) → self.now ≡ state_of log
@@ -79,15 +82,15 @@ impl Membership {
         self.members.get(name).copied()
     }
 
-    /// Writes the records of these names, at most [`MAX_CLAIMS`] of them, in the order of the names and in the place of
-    /// what the row held.
+    /// Replaces what the row holds by the records of these names, in the order of names. At most [`MAX_CLAIMS`] names
+    /// may be given.
     pub fn put_records(&self, names: &[Name], row: &mut ArrayVec<Record, MAX_CLAIMS>)
         requires { length names.now ≤ MAX_CLAIMS }
         ensures state { row.new.items ≡ filter (λ r. is_among name_cmp r.name names.now) (shown self.now) }
         ensures log { (log : Log) → self.now ≡ state_of log
             → row.new.items ≡ filter (λ r. is_among name_cmp r.name names.now) (view log) }
     {
-        // What the invariant says of the order of names is needed below.
+        // This tells the checker what the invariant says of the order of names.
         let _ = &self.config;
         row.clear();
         for name in names {
@@ -95,7 +98,7 @@ impl Membership {
         }
     }
 
-    /// Puts the record of a name among other records, where the name is known.
+    /// Puts the record of a name among other records, if the name is known.
     fn put_record(&self, name: &Name, row: &mut ArrayVec<Record, MAX_CLAIMS>)
         requires room { array_vec_len row.old < MAX_CLAIMS }
         requires rises { Rises name_cmp (map name_of row.old.items) }
@@ -103,7 +106,7 @@ impl Membership {
             ≡ with_found (row_at name_cmp name_of name.now (shown self.now)) row.old.items }
     {
         if let Some(found) = self.record_of(name) {
-            // Taken apart, since the checker follows no whole record into a generic call.
+            // Taken apart, since the checker doesn't follow a whole record into a generic call.
             let Record {
                 name,
                 addr,
@@ -122,8 +125,8 @@ impl Membership {
         }
     }
 
-    /// Writes the records of all members, oneself included, in the order of their names and in the place of what the
-    /// row held. Nobody is known before the opening.
+    /// Replaces what the row holds by the records of all members, this member included, in the order of names. Before
+    /// the opening nobody is known.
     pub fn put_table(&self, row: &mut ArrayVec<Record, MAX_MEMBERS>)
         ensures state { row.new.items ≡ shown self.now }
         ensures log { (log : Log) → self.now ≡ state_of log → row.new.items ≡ view log }
@@ -136,7 +139,7 @@ impl Membership {
     }
 }
 
-/// Writes these records into an empty row.
+/// Copies these records into an empty row.
 fn copy_all(records: &[Record], row: &mut ArrayVec<Record, MAX_MEMBERS>)
     requires few { length records.now ≤ MAX_OTHERS }
     requires empty { row.old.items ≡ [] }

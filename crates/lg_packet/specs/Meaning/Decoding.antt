@@ -1,4 +1,4 @@
--- What bytes decode to: the packet that they spell or, where they spell none, their fault.
+-- What bytes decode to: the packet that they spell or, if they spell none, their fault.
 use Rattle.std.specs.Prelude.{◌≡◌, ℕ, List, Result, Ok, Err}
 use Rattle.lg_packet.specs.declared.fault.Fault.{Fault}
 use Rattle.lg_packet.specs.declared.packet.Packet.{Packet}

@@ -1,4 +1,4 @@
--- Worked rows.
+-- Worked rows: packets with their bytes, and bytes with their faults.
 use Rattle.std.specs.Prelude.{◌≡◌, ℕ, List, [], ◌∷◌, ◌++◌}
 use Rattle.std.specs.Prelude.{length, replicate, take, Some, None, Ok, Err, refl}
 use Rattle.lg_rules.specs.declared.addr.Addr.{Addr}
@@ -43,7 +43,7 @@ read_ack : packet_of ack_bytes ≡ Ok ack
 unfolding packet_of packet_at head_at name_at body_at claims_at
 read_ack = refl
 
--- the fault by reading, and the fault by places
+-- bytes that are no packet: both reading them and looking at their places give this fault
 pub record Fails (bytes : List ℕ) (f : Fault) : Type 0 where
   pub read : packet_of bytes ≡ Err f
   pub placed : fault_of bytes ≡ f
@@ -57,7 +57,7 @@ half_of_the_magic : Fails (0x53 ∷ []) faults.Short
 unfolding packet_of packet_at head_at name_at body_at claims_at fault_of first_fault fault_behind
 half_of_the_magic = record { read = refl; placed = refl }
 
--- each byte of the magic is judged by itself
+-- each byte of the magic is judged on its own
 other_first : Fails (0 ∷ []) faults.Magic
 unfolding packet_of packet_at head_at name_at body_at claims_at fault_of first_fault fault_behind
 other_first = record { read = refl; placed = refl }
@@ -87,7 +87,7 @@ long_name : Fails (0x53 ∷ 0x4c ∷ 1 ∷ 1 ∷ 0x21 ∷ []) faults.Name
 unfolding packet_of packet_at head_at name_at body_at claims_at fault_of first_fault fault_behind
 long_name = record { read = refl; placed = refl }
 
--- a bad second byte of a name of three whose third is missing, and a good one
+-- a name of three bytes whose third is missing, and whose second is bad, or good
 bad_name_byte : Fails (0x53 ∷ 0x4c ∷ 1 ∷ 1 ∷ 3 ∷ 97 ∷ 32 ∷ []) faults.Name
 unfolding packet_of packet_at head_at name_at body_at claims_at fault_of first_fault fault_behind
 bad_name_byte = record { read = refl; placed = refl }
@@ -96,7 +96,7 @@ half_a_name : Fails (0x53 ∷ 0x4c ∷ 1 ∷ 1 ∷ 3 ∷ 97 ∷ 97 ∷ []) fault
 unfolding packet_of packet_at head_at name_at body_at claims_at fault_of first_fault fault_behind
 half_a_name = record { read = refl; placed = refl }
 
--- the Ping without its last byte, and with one more
+-- the Ping without its last byte, and with a byte too many
 short_ping : Fails (take 12 ping_bytes) faults.Short
 unfolding packet_of packet_at head_at name_at body_at claims_at fault_of first_fault fault_behind
 short_ping = record { read = refl; placed = refl }
@@ -107,13 +107,13 @@ longer_ping :
 unfolding packet_of packet_at head_at name_at body_at claims_at fault_of first_fault fault_behind
 longer_ping = record { read = refl; placed = refl }
 
--- a place at 127.0.0.1 and this port
+-- the address 127.0.0.1 with this port
 abbrev at_port : ℕ → Addr
 at_port port = record { octets = 127 ∷ 0 ∷ 0 ∷ 1 ∷ []; port = port }
 
--- ---- what a helper hears and tells
+-- ---- what a helper is asked, and what it tells
 
--- a asks a helper, by its probe numbered 1, to probe c at port 7003
+-- a asks a helper to probe c at port 7003, for its own probe numbered 1
 abbrev ping_req : Packet
 ping_req = record { sender = 97 ∷ []; body = PingReq 1 (99 ∷ []) (at_port 7003); claims = record { items = [] } }
 
@@ -160,7 +160,7 @@ longest_packet : length (spelling longest) ≡ 543
 unfolding spelling
 longest_packet = refl
 
--- a PingReq that ends in its number, in its target, and in its address: in the four bytes and in the port
+-- a PingReq that ends within its number, within its target, within the four bytes of its address, and within its port
 short_number : Fails (take 9 ping_req_bytes) faults.Short
 unfolding packet_of packet_at head_at name_at body_at claims_at fault_of first_fault fault_behind
 short_number = record { read = refl; placed = refl }
@@ -177,7 +177,7 @@ short_port : Fails (take 17 ping_req_bytes) faults.Short
 unfolding packet_of packet_at head_at name_at addr_at body_at claims_at fault_of first_fault fault_behind
 short_port = record { read = refl; placed = refl }
 
--- a target with no byte, with 33, and with a bad one
+-- a target with no bytes, one with 33 bytes, and one with a bad byte
 no_target : Fails (0x53 ∷ 0x4c ∷ 1 ∷ 2 ∷ 1 ∷ 97 ∷ 0 ∷ 0 ∷ 0 ∷ 1 ∷ 0 ∷ []) faults.Name
 unfolding packet_of packet_at head_at name_at body_at claims_at fault_of first_fault fault_behind
 no_target = record { read = refl; placed = refl }
@@ -190,7 +190,7 @@ bad_target : Fails (0x53 ∷ 0x4c ∷ 1 ∷ 2 ∷ 1 ∷ 97 ∷ 0 ∷ 0 ∷ 0 ∷
 unfolding packet_of packet_at head_at name_at body_at claims_at fault_of first_fault fault_behind
 bad_target = record { read = refl; placed = refl }
 
--- a Nack that ends in its number, and one with a byte more
+-- a Nack that ends within its number, and one with a byte too many
 short_nack : Fails (take 9 nack_bytes) faults.Short
 unfolding packet_of packet_at head_at name_at body_at claims_at fault_of first_fault fault_behind
 short_nack = record { read = refl; placed = refl }
@@ -201,7 +201,7 @@ longer_nack = record { read = refl; placed = refl }
 
 -- ---- claims
 
--- a says to b that c is there
+-- a tells b that c is alive
 abbrev alive : Packet
 alive =
     let claim : Claim = record { name = 99 ∷ []; addr = at_port 7003; status = Alive; incarnation = 0 } in
@@ -220,7 +220,7 @@ read_alive : packet_of alive_bytes ≡ Ok alive
 unfolding packet_of packet_at head_at name_at body_at claims_at claim_at addr_at incarnation_at status_at
 read_alive = refl
 
--- a says to b that it is suspected at the greatest incarnation, by a
+-- a tells b that a suspects b at the greatest incarnation
 abbrev suspect : Packet
 suspect =
     let accused = Suspect (97 ∷ []) in
@@ -249,7 +249,7 @@ fourth_kind : Fails (0x53 ∷ 0x4c ∷ 1 ∷ 3 ∷ 1 ∷ 98 ∷ 0 ∷ 0 ∷ 0 �
 unfolding packet_of packet_at head_at name_at body_at claims_at claim_at fault_of first_fault fault_behind
 fourth_kind = record { read = refl; placed = refl }
 
--- an incarnation above the greatest, which is judged at its fourth byte
+-- an incarnation above the greatest: it is judged at its fourth byte
 third_byte : Fails
     (0x53 ∷ 0x4c ∷ 1 ∷ 3 ∷ 1 ∷ 98 ∷ 0 ∷ 0 ∷ 0 ∷ 7 ∷ 1 ∷ 1 ∷ 1 ∷ 99 ∷ 0x7f ∷ 0 ∷ 0 ∷ 1
     ∷ 0x1b ∷ 0x5b ∷ 0xff ∷ 0xff ∷ 0xff ∷ []) faults.Short
@@ -266,11 +266,11 @@ fourth_byte = record { read = refl; placed = refl }
 
 -- ---- pages of records
 
--- the claim that the member with this one byte of name is there, at this port
+-- the claim that the member with this one-byte name is alive, at this port
 abbrev there : ℕ → ℕ → Claim
 there name port = record { name = name ∷ []; addr = at_port port; status = Alive; incarnation = 0 }
 
--- a asks for the first records, and says that it is there itself
+-- a asks for the first records, and says that a is alive
 abbrev pull : Packet
 pull = record { sender = 97 ∷ []; body = Pull None; claims = record { items = there 97 7001 ∷ [] } }
 
@@ -279,7 +279,7 @@ pull_bytes =
     0x53 ∷ 0x4c ∷ 1 ∷ 5 ∷ 1 ∷ 97 ∷ 0 ∷ 1 ∷ 1 ∷ 1 ∷ 97 ∷ 0x7f ∷ 0 ∷ 0 ∷ 1 ∷ 0x1b ∷ 0x59
     ∷ 0 ∷ 0 ∷ 0 ∷ 0 ∷ []
 
--- b answers by the records of a, b and c
+-- b answers with the records of a, b and c
 abbrev page : Packet
 page =
     let records = there 97 7001 ∷ there 98 7002 ∷ there 99 7003 ∷ [] in
@@ -291,7 +291,7 @@ page_bytes =
     ∷ 0 ∷ 0 ∷ 0 ∷ 1 ∷ 1 ∷ 98 ∷ 0x7f ∷ 0 ∷ 0 ∷ 1 ∷ 0x1b ∷ 0x5a ∷ 0 ∷ 0 ∷ 0 ∷ 0 ∷ 1
     ∷ 1 ∷ 99 ∷ 0x7f ∷ 0 ∷ 0 ∷ 1 ∷ 0x1b ∷ 0x5b ∷ 0 ∷ 0 ∷ 0 ∷ 0 ∷ []
 
--- a asks for the records behind f
+-- a asks for the records after f
 abbrev pull_after : Packet
 pull_after =
     record { sender = 97 ∷ []; body = Pull (Some (102 ∷ [])); claims = record { items = there 97 7001 ∷ [] } }
@@ -328,7 +328,7 @@ unfolding packet_of packet_at head_at name_at some_name_at after_at body_at clai
     status_at
 read_pull_after = refl
 
--- a Pull that ends before the length of its name, in its name, and before its count
+-- a Pull that ends before the length of its name, within its name, and before its count
 no_length : Fails (take 6 pull_bytes) faults.Short
 unfolding packet_of packet_at head_at name_at some_name_at after_at body_at claims_at fault_of first_fault fault_behind
 no_length = record { read = refl; placed = refl }
@@ -341,7 +341,7 @@ no_count : Fails (take 7 pull_bytes) faults.Short
 unfolding packet_of packet_at head_at name_at some_name_at after_at body_at claims_at fault_of first_fault fault_behind
 no_count = record { read = refl; placed = refl }
 
--- the name of a Pull with 32 bytes, with 33, and with a bad one of two
+-- a Pull whose name has 32 bytes, one whose name would have 33, and one whose name has two bytes, of which one is bad
 longest_after : packet_of (take 6 pull_bytes ++ 32 ∷ replicate 32 99 ++ 0 ∷ [])
     ≡ Ok (record { sender = 97 ∷ []; body = Pull (Some (replicate 32 99)); claims = record { items = [] } })
 unfolding packet_of packet_at head_at name_at some_name_at after_at body_at claims_at
@@ -355,7 +355,7 @@ bad_after : Fails (0x53 ∷ 0x4c ∷ 1 ∷ 5 ∷ 1 ∷ 97 ∷ 2 ∷ 32 ∷ []) f
 unfolding packet_of packet_at head_at name_at some_name_at after_at body_at claims_at fault_of first_fault fault_behind
 bad_after = record { read = refl; placed = refl }
 
--- a Page that ends before its count, one of seven records, and one with a byte more
+-- a Page that ends before its count, one with seven records, and one with a byte too many
 short_page : Fails (take 6 page_bytes) faults.Short
 unfolding packet_of packet_at head_at name_at some_name_at after_at body_at claims_at fault_of first_fault fault_behind
 short_page = record { read = refl; placed = refl }

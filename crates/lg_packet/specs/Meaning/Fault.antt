@@ -1,4 +1,5 @@
--- What is wrong with bytes that are no packet, by places: the first place whose byte can't stand there.
+-- What is wrong with bytes that are no packet, by their places: the fault of the first byte that can't stand in its
+-- place. A front is a beginning of some bytes.
 use Rattle.std.specs.Prelude.{◌≡◌, ◌≤◌, ℕ, Bool, true, ◌&&◌, ◌||◌}
 use Rattle.std.specs.Prelude.{nat_lt, nat_le, ◌==◌, if◌then◌else◌}
 use Rattle.std.specs.Prelude.{List, [], ◌∷◌, ◌++◌, length, take, replicate, Option, Some, None, unwrap_or}
@@ -8,8 +9,8 @@ use Rattle.lg_rules.specs.Meaning.Bounds.{greatest_incarnation, most_claims, mos
 use Rattle.lg_packet.specs.declared.fault.Fault.{Fault}
 use Rattle.lg_packet.specs.declared.fault.Fault.TheVariants as faults
 
--- what can be due at a place: of an incarnation, a byte behind those of it that are there; where a Pull has no
--- name, its length is 0
+-- What can be due at a place. AfterLengthByte is the length of the name of a Pull, which is 0 if the Pull has no
+-- name. IncarnationByte has those bytes of the incarnation that are there already.
 pub data Part : Type 0 where
   MagicByte : ℕ → Part
   VersionByte : Part
@@ -22,7 +23,7 @@ pub data Part : Type 0 where
   ClaimKindByte : Part
   IncarnationByte : List ℕ → Part
 
--- whether a byte can stand where this is due
+-- whether a byte can stand at a place where this is due
 abbrev pub is_allowed : Part → ℕ → Bool
 is_allowed (MagicByte magic) b = b == magic
 is_allowed VersionByte b = b == 1
@@ -36,7 +37,7 @@ is_allowed ClaimKindByte b = nat_le 1 b && nat_le b 3
 is_allowed (IncarnationByte before) b =
     nat_lt (length before) 3 || nat_le (from_be_bytes w32 (before ++ b ∷ [])) greatest_incarnation
 
--- the fault of a byte that can't (each byte of a number can)
+-- the fault of a byte that can't stand there (each byte of a number can)
 abbrev pub fault_at : Part → Fault
 fault_at (MagicByte magic) = faults.Magic
 fault_at VersionByte = faults.Version
@@ -49,7 +50,7 @@ fault_at CountByte = faults.Count
 fault_at ClaimKindByte = faults.ClaimKind
 fault_at (IncarnationByte before) = faults.Incarnation
 
--- the parts of a number, of an address, and of the body of a kind
+-- what is due of a number, of an address, and of the body of a packet of this kind
 abbrev pub number_parts : List Part
 number_parts = replicate 4 NumberByte
 
@@ -62,14 +63,14 @@ body_parts kind =
     else if kind == 2 then number_parts ++ LengthByte ∷ addr_parts
     else if kind == 5 then AfterLengthByte ∷ [] else if kind == 6 then [] else number_parts
 
--- the parts of a claim of a kind behind its kind
+-- What is due of a claim after its kind. Of a Suspect, the accuser comes last.
 abbrev pub accuser_parts : ℕ → List Part
 accuser_parts kind = if kind == 2 then LengthByte ∷ [] else []
 
 abbrev pub claim_parts : ℕ → List Part
 claim_parts kind = LengthByte ∷ addr_parts ++ IncarnationByte [] ∷ accuser_parts kind
 
--- the parts that a byte brings with it, due right behind it
+-- what a byte makes due right after it, as the length of a name makes its bytes due
 abbrev pub brought : Part → ℕ → List Part
 brought KindByte kind = LengthByte ∷ body_parts kind ++ CountByte ∷ []
 brought LengthByte n = replicate n NameByte
@@ -80,11 +81,11 @@ brought (IncarnationByte before) b =
     if nat_lt (length before) 3 then IncarnationByte (before ++ b ∷ []) ∷ [] else []
 brought _ b = []
 
--- the parts of a packet before its first byte
+-- what is due at the beginning of a packet
 abbrev pub packet_parts : List Part
 packet_parts = MagicByte 0x53 ∷ MagicByte 0x4c ∷ VersionByte ∷ KindByte ∷ []
 
--- the parts that are still due behind one more byte, and behind a front
+-- what is still due after one more byte, and after a front
 abbrev pub due_behind : List Part → ℕ → List Part
 due_behind [] b = []
 due_behind (part ∷ parts) b = brought part b ++ parts
@@ -93,16 +94,16 @@ abbrev pub due_after : List Part → List ℕ → List Part
 due_after parts [] = parts
 due_after parts (b ∷ front) = due_after (due_behind parts b) front
 
--- the fault of a byte where these parts are due, if it can't stand there
+-- the fault of a byte, if it can't stand at a place where these parts are due
 abbrev pub fault_of_byte : List Part → ℕ → Option Fault
 fault_of_byte [] b = Some faults.Trailing
 fault_of_byte (part ∷ parts) b = if is_allowed part b then None else Some (fault_at part)
 
--- the fault of the byte behind a front
+-- the fault of the byte after a front, if it can't stand there
 unfoldable pub fault_behind : List ℕ → ℕ → Option Fault
 fault_behind front b = fault_of_byte (due_after packet_parts front) b
 
--- the fault of the first place that has one, of the bytes behind a front, or Short
+-- of the bytes after a front, the fault of the first that can't stand in its place, or Short if each can
 unfoldable pub first_fault : List ℕ → List ℕ → Fault
 first_fault front [] = faults.Short
 first_fault front (b ∷ bytes) = unwrap_or (fault_behind front b) (first_fault (front ++ b ∷ []) bytes)
@@ -110,21 +111,21 @@ first_fault front (b ∷ bytes) = unwrap_or (fault_behind front b) (first_fault 
 unfoldable pub fault_of : List ℕ → Fault
 fault_of bytes = first_fault [] bytes
 
--- each place of a front can stand where it stands
+-- each byte of a front can stand in its place
 abbrev pub Stands : List ℕ → Type 0
 Stands front =
     (before after : List ℕ) (b : ℕ) → before ++ b ∷ after ≡ front → fault_behind before b ≡ None
 
--- the bytes of an incarnation that are there, if the next byte that is due is one of its bytes
+-- the bytes of an incarnation that are there, if the next byte that is due belongs to one
 abbrev pub begun_incarnation : List Part → List ℕ
 begun_incarnation (IncarnationByte before ∷ parts) = before
 begun_incarnation _ = []
 
--- the least number of four bytes that begins with these
+-- the least number of four bytes that begins with these bytes
 abbrev pub least_number : List ℕ → ℕ
 least_number before = from_be_bytes w32 (take 4 (before ++ replicate 4 0))
 
--- An incarnation that the front ends in can still be at most the greatest. It is judged at its fourth byte only, so the
--- first three of one that is too great can stand, and then no fourth can.
+-- An incarnation that the front ends in can still be at most the greatest one. An incarnation is judged at its fourth
+-- byte only. So the first three bytes of one that is too great can stand, and then no fourth byte can.
 abbrev pub IncarnationFits : List ℕ → Type 0
 IncarnationFits front = least_number (begun_incarnation (due_after packet_parts front)) ≤ greatest_incarnation

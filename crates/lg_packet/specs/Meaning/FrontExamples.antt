@@ -1,4 +1,4 @@
--- Worked rows of fronts: what stands, and what begins a spelling.
+-- Worked rows of fronts, which are beginnings of byte lists: which stand, and with which a spelling begins.
 use Rattle.std.specs.Prelude.{◌≡◌, ℕ, List, [], ◌∷◌, Some, None, refl}
 use Rattle.std.proofs.Common.{sym, ◌∙◌, arith}
 use Rattle.lg_packet.specs.declared.fault.Fault.TheVariants as faults
@@ -8,12 +8,12 @@ use Rattle.lg_packet.specs.Meaning.Spelling.{spelling, IsPacket, BeginsSpelling}
 use Rattle.lg_packet.specs.Meaning.Fault.{fault_behind, packet_parts, due_after, Stands}
 use Rattle.lg_packet.specs.Meaning.Fault.{begun_incarnation, least_number, IncarnationFits}
 
--- each byte of the magic stands
+-- each byte of the magic can stand in its place
 magic_stands : (fault_behind [] 0x53 ≡ None) × (fault_behind (0x53 ∷ []) 0x4c ≡ None)
 unfolding fault_behind
 magic_stands = (refl, refl)
 
--- a Ping from a for b, numbered 7, and what is behind the magic in its spelling
+-- a Ping from a for b, numbered 7, and what comes after the magic in its spelling
 abbrev ping : Packet
 ping = record { sender = 97 ∷ []; body = Ping 7 (98 ∷ []); claims = record { items = [] } }
 
@@ -28,7 +28,7 @@ magic_begins : BeginsSpelling (0x53 ∷ 0x4c ∷ [])
 unfolding spelling
 magic_begins = (ping, behind_magic, (is_packet, refl))
 
--- a length of 33 doesn't stand, and so no front with it does
+-- a length of 33 can't stand there, so no front that has it stands
 long_length : fault_behind (0x53 ∷ 0x4c ∷ 1 ∷ 1 ∷ []) 0x21 ≡ Some faults.Name
 unfolding fault_behind
 long_length = refl
@@ -39,13 +39,13 @@ no_long_length stands = none (sym long_length ∙ stands (0x53 ∷ 0x4c ∷ 1 �
     none : Some faults.Name ≡ None → ⊥
     none e = cc
 
--- an Ack of b, numbered 7, to the incarnation of its one claim, and the bytes of this that are there
+-- an Ack of b, numbered 7, up to the incarnation of its one claim, and the bytes of the incarnation that are there
 abbrev to_incarnation : List ℕ → List ℕ
 to_incarnation begun =
     0x53 ∷ 0x4c ∷ 1 ∷ 3 ∷ 1 ∷ 98 ∷ 0 ∷ 0 ∷ 0 ∷ 7 ∷ 1 ∷ 1 ∷ 1 ∷ 99 ∷ 0x7f ∷ 0 ∷ 0 ∷ 1
     ∷ 0x1b ∷ 0x5b ∷ begun
 
--- the greatest begins with 3b 9a ca
+-- the greatest incarnation begins with 3b 9a ca
 greatest_begun :
     least_number (begun_incarnation (due_after packet_parts (to_incarnation (0x3b ∷ 0x9a ∷ 0xca ∷ []))))
     ≡ 1000000000
@@ -54,7 +54,7 @@ greatest_begun = refl
 greatest_fits : IncarnationFits (to_incarnation (0x3b ∷ 0x9a ∷ 0xca ∷ []))
 greatest_fits = omega arith
 
--- the third byte can be one more, and then the fourth can't even be 0
+-- the third byte can be one more, and then not even 0 can be the fourth
 greater_stands : fault_behind (to_incarnation (0x3b ∷ 0x9a ∷ [])) 0xcb ≡ None
 unfolding fault_behind
 greater_stands = refl
@@ -66,6 +66,6 @@ greater_ends = refl
 greater_fits_not : ¬ (IncarnationFits (to_incarnation (0x3b ∷ 0x9a ∷ 0xcb ∷ [])))
 greater_fits_not fits = omega (arith, fits)
 
--- a front that ends in no incarnation
+-- a front that doesn't end in an incarnation
 none_begun : IncarnationFits (0x53 ∷ 0x4c ∷ [])
 none_begun = omega arith

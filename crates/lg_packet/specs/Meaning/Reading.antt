@@ -1,6 +1,6 @@
--- What reading the fields of a packet from left to right gives, with the first fault that is met. To believe
--- packet_of, at the end, nothing here need be read: by the law one_reading of src/laws.rt it is what bytes decode to,
--- as Decoding.antt says it, and they decode to nothing else.
+-- What reading the fields of a packet from left to right gives: their values, or the first fault that is met. To
+-- believe packet_of, at the end, nothing here need be read. By the law one_reading of src/laws.rt, packet_of gives
+-- what bytes decode to, as Decoding.antt says it, and they decode to nothing else.
 use Rattle.std.specs.Prelude.{ℕ, zero, suc, nat_lt, ◌==◌, if◌then◌else◌}
 use Rattle.std.specs.Prelude.{List, [], ◌∷◌, length, take, drop, Option, Some, None, Result, Ok, Err}
 use Rattle.std.specs.List.{list_all}
@@ -26,7 +26,7 @@ abbrev pub ◌>>=◌ : {A B : Type 0} → Result A Fault → (A → Result B Fau
 (Ok x) >>= f = f x
 (Err e) >>= f = Err e
 
--- A field is a value and the bytes behind it. Here is one byte that is due, which has no value.
+-- A field is read as its value and the bytes after it. This field is one byte that is due. It has no value.
 abbrev pub literal_at : ℕ → Fault → List ℕ → Result (List ℕ) Fault
 literal_at due fault [] = Err faults.Short
 literal_at due fault (b ∷ rest) = if b == due then Ok rest else Err fault
@@ -47,7 +47,7 @@ abbrev pub kind_at : List ℕ → Result (Kind × List ℕ) Fault
 kind_at [] = Err faults.Short
 kind_at (b ∷ rest) = kind_before rest (kind_of_byte b)
 
--- n bytes of a name: those that are there are judged first
+-- The n bytes of a name. If some are missing, those that are there are judged first.
 abbrev pub name_bytes_at : ℕ → List ℕ → Result (List ℕ × List ℕ) Fault
 name_bytes_at n bytes =
     if list_all is_name_byte (take n bytes) then
@@ -79,7 +79,7 @@ some_name_at bytes = do
   name ← name_at bytes
   Ok (Some name.0, name.1)
 
--- the name of a Pull, or none where its length is 0
+-- the name of a Pull, or none if its length is 0
 unfoldable pub after_at : List ℕ → Result (Option (List ℕ) × List ℕ) Fault
 after_at [] = Err faults.Short
 after_at (n ∷ bytes) = if n == 0 then Ok (None, bytes) else some_name_at (n ∷ bytes)
@@ -115,7 +115,7 @@ body_at kinds.Page bytes = Ok (Page, bytes)
 
 -- ---- claims
 
--- all four bytes are there before the number is judged
+-- an incarnation: all four bytes have to be there before it is judged
 unfoldable pub incarnation_at : List ℕ → Result (ℕ × List ℕ) Fault
 incarnation_at bytes = do
   number ← number_at w32 bytes
@@ -134,7 +134,7 @@ abbrev pub claim_kind_at : List ℕ → Result (ClaimKind × List ℕ) Fault
 claim_kind_at [] = Err faults.Short
 claim_kind_at (b ∷ rest) = claim_kind_before rest (claim_kind_of_byte b)
 
--- the status of a claim of a kind, with the accuser where it has one
+-- the status of a claim of this kind, with the accuser if it has one
 unfoldable pub status_at : ClaimKind → List ℕ → Result (Status × List ℕ) Fault
 status_at claims.Alive bytes = Ok (Alive, bytes)
 status_at claims.Suspect bytes = do
@@ -174,7 +174,7 @@ packet_at bytes = do
   claims ← claims_at count.0 count.1
   Ok (record { sender = sender.0; body = body.0; claims = record { items = claims.0 } }, claims.1)
 
--- all of the bytes
+-- a packet that takes up all of the bytes
 unfoldable pub packet_of : List ℕ → Result Packet Fault
 packet_of bytes = do
   packet ← packet_at bytes

@@ -1,4 +1,4 @@
--- What packets are, and the one spelling of each (the formats are this project's choice).
+-- What packets are, and the one spelling of each, which is its bytes (the formats are this project's choice).
 use Rattle.std.specs.Prelude.{◌≡◌, ℕ, ◌<◌, ◌≤◌, ◌^◌, IsTrue}
 use Rattle.std.specs.Prelude.{List, [], ◌∷◌, ◌++◌, length, Option, Some, None}
 use Rattle.std.specs.Int.{w16, w32, to_be_bytes}
@@ -44,7 +44,7 @@ byte_of_claim_kind claims.Alive = 1
 byte_of_claim_kind claims.Suspect = 2
 byte_of_claim_kind claims.Failed = 3
 
--- a byte of length, and that many bytes
+-- a name: a byte for its length, and then its bytes
 abbrev pub spelled_name : List ℕ → List ℕ
 spelled_name name = length name ∷ name
 
@@ -52,16 +52,16 @@ spelled_name name = length name ∷ name
 abbrev pub spelled_number : ℕ → List ℕ
 spelled_number number = to_be_bytes w32 number
 
--- the four bytes, and the port
+-- an address: its four bytes, and its port
 abbrev pub spelled_addr : Addr → List ℕ
 spelled_addr addr = addr.octets ++ to_be_bytes w16 addr.port
 
--- the name of a Pull, or a length of 0 where it has none
+-- the name of a Pull, or a length of 0 if it has none
 abbrev pub spelled_after : Option (List ℕ) → List ℕ
 spelled_after None = 0 ∷ []
 spelled_after (Some name) = spelled_name name
 
--- a Page has nothing but its claims
+-- The body. A Page has only its claims.
 abbrev pub spelled_body : Body → List ℕ
 spelled_body (Ping number target) = spelled_number number ++ spelled_name target
 spelled_body (PingReq number target addr) = spelled_number number ++ (spelled_name target ++ spelled_addr addr)
@@ -70,32 +70,32 @@ spelled_body (Nack number) = spelled_number number
 spelled_body (Pull after) = spelled_after after
 spelled_body Page = []
 
--- the magic, the version and the kind
+-- the head: the magic, the version and the kind
 abbrev pub spelled_head : Kind → List ℕ
 spelled_head kind = 0x53 ∷ 0x4c ∷ 1 ∷ byte_of_kind kind ∷ []
 
--- the accuser, where there is one
+-- the accuser of a status, if there is one
 abbrev pub spelled_accuser : Status → List ℕ
 spelled_accuser Alive = []
 spelled_accuser (Suspect accuser) = spelled_name accuser
 spelled_accuser Failed = []
 
--- the kind, the name, the address, the incarnation and the accuser
+-- a claim: its kind, its name, its address, its incarnation and its accuser
 abbrev pub spelled_claim : Claim → List ℕ
 spelled_claim c =
     byte_of_claim_kind (claim_kind_of c.status)
     ∷ (spelled_name c.name ++ (spelled_addr c.addr ++ (spelled_number c.incarnation ++ spelled_accuser c.status)))
 
--- a byte of count, and that many claims
+-- claims: a byte for their count, and then the claims
 abbrev pub spelled_claims : List Claim → List ℕ
 spelled_claims cs = length cs ∷ flat_map spelled_claim cs
 
--- the head, the sender, the body and the claims
+-- a packet: its head, its sender, its body and its claims
 unfoldable pub spelling : Packet → List ℕ
 spelling p =
     spelled_head (kind_of p.body) ++ (spelled_name p.sender ++ (spelled_body p.body ++ spelled_claims p.claims.items))
 
--- What has a spelling: names that are names, numbers of four bytes, addresses of four bytes and a port of two,
+-- What has a spelling: names that are names, numbers of four bytes, addresses of four bytes with a port of two bytes,
 -- incarnations of at most 1,000,000,000, and at most 6 claims.
 pub record IsAddr (addr : Addr) : Type 0 where
   pub four : length addr.octets ≡ 4
@@ -138,6 +138,6 @@ pub record IsPacket (p : Packet) : Type 0 where
 abbrev pub Spells : List ℕ → Packet → Type 0
 Spells bytes p = IsPacket p × (bytes ≡ spelling p)
 
--- a spelling begins with these bytes
+-- some spelling begins with these bytes
 abbrev pub BeginsSpelling : List ℕ → Type 0
 BeginsSpelling front = (p : Packet) × (rest : List ℕ) × Spells (front ++ rest) p

@@ -1,4 +1,4 @@
--- The definitions at worked values.
+-- Worked rows: orders, helpers, rounds and relays after some facts.
 use Rattle.std.specs.Prelude.{◌≡◌, ◌≤◌, ℕ, ℤ, pos, true, false, List, [], ◌∷◌, Some, None, refl}
 use Rattle.lg_rules.specs.declared.addr.Addr.{Addr}
 use Rattle.lg_probe.specs.declared.relays.Relay.{Relay}
@@ -47,14 +47,14 @@ no_words = refl
 no_names : picks [] (0 ∷ 7 ∷ []) ≡ []
 no_names = refl
 
--- of b and d the word 1 chooses d, and once c has joined, c
+-- of b and d the word 1 chooses d, and once c has joined, it chooses c
 abbrev chose_c : List OrderFact
 chose_c = Chose 1 ∷ Joined c ∷ Chose 1 ∷ Joined b ∷ Joined d ∷ []
 
 chooses_c : choice_after (Joined c ∷ Chose 1 ∷ Joined b ∷ Joined d ∷ []) 1 ≡ Some c
 chooses_c = refl
 
--- once a has joined, a is a candidate at once; then b is the last of the round, and c the first of the next
+-- once a has joined, it is a candidate at once; then b is the last of the round, and c the first of the next
 a_joins : choices_after (Joined a ∷ chose_c) (0 ∷ 7 ∷ 2 ∷ []) ≡ a ∷ b ∷ c ∷ []
 a_joins = refl
 
@@ -69,11 +69,11 @@ stays_over :
     ≡ record { names = a ∷ b ∷ c ∷ d ∷ []; chosen = a ∷ b ∷ c ∷ d ∷ [] }
 stays_over = refl
 
--- who leaves and comes back in a round stays chosen in it
+-- a member that leaves and comes back within a round stays chosen in it
 comes_back : choice_after (Joined d ∷ Left d ∷ chose_c) 1 ≡ Some b
 comes_back = refl
 
--- who has left has joined all the same, and counts once
+-- a member that has left is still one that ever joined, and counts once
 ever :
     ever_joined (Joined b ∷ Left b ∷ Chose 1 ∷ Joined c ∷ Left d ∷ Joined b ∷ Joined d ∷ [])
     ≡ b ∷ c ∷ d ∷ []
@@ -82,7 +82,7 @@ ever = refl
 nobody_joined : ever_joined (Left d ∷ Chose 1 ∷ []) ≡ []
 nobody_joined = refl
 
--- of b, c and d, of which c and d were chosen, d has left
+-- b, c and d joined, c and d were chosen, and d has left
 known : known_names record { names = b ∷ c ∷ []; chosen = c ∷ d ∷ [] } ≡ b ∷ c ∷ d ∷ []
 known = refl
 
@@ -98,24 +98,24 @@ window_of_one = refl
 window_of_three : window (b ∷ c ∷ d ∷ []) ≡ 5
 window_of_three = refl
 
--- where there are no names, each of them is in every window
+-- if there are no names, each of them is in every window
 each_of_none : EachInWindows [] (0 ∷ 7 ∷ []) []
 each_of_none name i named within = named
 
--- the first three of the choices a, a, a and b don't have b, so not each is in each window
+-- b isn't among the first three of the choices a, a, a and b, so not each name is in each window
 without_b :
     EachInWindows (a ∷ b ∷ []) (0 ∷ 0 ∷ 0 ∷ 1 ∷ []) (a ∷ a ∷ a ∷ b ∷ [])
     → 3 ≤ 4 → false ≡ true
 without_b each within = each b 0 refl within
 
--- of c, d, e and f the words 5, 5 and 5 pick d, then f of c, e and f, and then e of c and e
+-- three words 5 pick helpers: d of c, d, e and f, then f of c, e and f, and then e of c and e
 three_helpers : picked 3 (5 ∷ 5 ∷ 5 ∷ 0 ∷ []) (c ∷ d ∷ e ∷ f ∷ []) ≡ d ∷ f ∷ e ∷ []
 three_helpers = refl
 
 too_few : picked 3 (5 ∷ 5 ∷ 5 ∷ 0 ∷ []) (c ∷ d ∷ []) ≡ d ∷ c ∷ []
 too_few = refl
 
--- b probes a as number 3; c and d are asked
+-- b probes a with the number 3, and c and d are asked
 abbrev asks : List RoundFact
 asks = Asked (c ∷ d ∷ []) ∷ []
 
@@ -143,11 +143,11 @@ target_acks = refl
 helper_acks : mark_in (Acked 3 d ∷ Nacked 3 c ∷ asks) ≡ pos 0
 helper_acks = refl
 
--- an ack of a helper before it was asked doesn't count, nor that of another member or of another number
+-- no ack counts from a helper before it was asked, from another member, or with another number
 acks_in_vain : mark_in (Acked 3 e ∷ Acked 2 a ∷ Asked (c ∷ d ∷ []) ∷ Acked 3 c ∷ []) ≡ pos 2
 acks_in_vain = refl
 
--- the round, once c and d are asked
+-- the round once c and d are asked
 abbrev asking : RoundValue
 asking = record { number = 3; target = a; asked = c ∷ d ∷ []; silent = c ∷ d ∷ []; acked = false }
 
@@ -163,7 +163,7 @@ c_nacked = refl
 d_acked : round_of 3 a (Acked 3 d ∷ Nacked 2 c ∷ asks) ≡ record asking { acked = true }
 d_acked = refl
 
--- who was asked later is asked in the place of those before, and hasn't sent a nack yet
+-- helpers that are asked later replace those asked before, and haven't sent a nack yet
 asked_anew :
     round_of 3 a (Asked (d ∷ e ∷ []) ∷ Nacked 3 d ∷ asks)
     ≡ record asking { asked = d ∷ e ∷ []; silent = d ∷ e ∷ [] }
@@ -196,7 +196,7 @@ nack_of_another_number = refl
 second_nack : nack_counts record asking { silent = d ∷ [] } 3 c ≡ false
 second_nack = refl
 
--- a asks by its number 9 that c is probed, which is done by the number 4
+-- a asks for a probe of c, for its own probe numbered 9. The probe of the relay is numbered 4.
 abbrev at_port : ℕ → Addr
 at_port port = record { octets = 127 ∷ 0 ∷ 0 ∷ 1 ∷ []; port = port }
 
@@ -215,7 +215,7 @@ another_sender = refl
 one_left : relays_after (TargetAcked 4 c ∷ TargetAcked 5 c ∷ Opened to_d ∷ Opened to_c ∷ []) ≡ to_d ∷ []
 one_left = refl
 
--- c's relay is opened, then d's; the ack of the first comes; the time of the second runs out
+-- the relay of c is opened, then that of d; the ack of c comes; the time of d's relay runs out
 one_open : relays_after (Opened to_c ∷ []) ≡ to_c ∷ []
 one_open = refl
 
@@ -228,7 +228,7 @@ first_acked = refl
 second_closed : relays_after (Closed 5 ∷ TargetAcked 4 c ∷ Opened to_d ∷ Opened to_c ∷ []) ≡ []
 second_closed = refl
 
--- what came before its opening doesn't end a relay
+-- what came before the opening of a relay doesn't end it
 opened_since : relays_after (Opened to_c ∷ TargetAcked 4 c ∷ Closed 4 ∷ Opened to_c ∷ []) ≡ to_c ∷ []
 opened_since = refl
 

@@ -1,4 +1,4 @@
--- The order in which members are probed: each round chooses each of them once (SWIM, section 4.3).
+-- The order in which members are probed: rounds in which each of them is chosen once (SWIM, section 4.3).
 use Rattle.std.specs.Prelude.{◌≡◌, ◌≤◌, ◌+◌, ◌-◌, ◌*◌, true, take, drop}
 use Rattle.std.specs.Prelude.{ℕ, ◌%◌, Bool, not, List, [], ◌∷◌}
 use Rattle.std.specs.Prelude.{◌++◌, length, filter, if◌then◌else◌}
@@ -11,44 +11,45 @@ use Rattle.lg_rules.specs.Meaning.Rows.{name_cmp, is_among, put_key, in_order, w
 abbrev pub without : List ℕ → List (List ℕ) → List (List ℕ)
 without n names = without_row name_cmp (λ m. m) n names
 
--- of these names the one that a word chooses: the one at the word modulo their number, from 0
+-- the name that a random word chooses among these: the one whose index, from 0, is the word modulo their number
 abbrev pub candidate : ℕ → List (List ℕ) → Option (List ℕ)
 candidate word names = slice_get names (word % length names)
 
--- the names that may be chosen, where some are chosen in the round already
+-- the candidates: the names that may be chosen, if these were chosen in the round already
 abbrev pub candidates : List (List ℕ) → List (List ℕ) → List (List ℕ)
 candidates names round = filter (λ n. not (is_among name_cmp n round)) names
 
--- whether none may be chosen: each name is chosen in the round
+-- whether no name may be chosen: each was chosen in the round already
 abbrev pub is_over : List (List ℕ) → List (List ℕ) → Bool
 is_over names round = list_all (λ n. is_among name_cmp n round) names
 
--- The round of the next choice, by the names that are chosen in it before that choice. Where none may be chosen, a
+-- The round of the next choice, as the names that were chosen in it before that choice. If no name may be chosen, a
 -- new round begins, and only then.
 abbrev pub current_round : List (List ℕ) → List (List ℕ) → List (List ℕ)
 current_round names round = if is_over names round then [] else round
 
--- whom a word chooses, and the round after that choice
+-- whom a word chooses, and the round once that one is chosen
 abbrev pub choice : List (List ℕ) → List (List ℕ) → ℕ → Option (List ℕ)
 choice names round word = candidate word (candidates names (current_round names round))
 
 abbrev pub next_round : List (List ℕ) → List (List ℕ) → ℕ → List (List ℕ)
 next_round names round word = option_to_list (choice names round word) ++ current_round names round
 
--- what happens to an order: a member joins, or leaves, or one is chosen by a word
+-- what happens to an order: a member joins or leaves, or one is chosen by a word
 pub data OrderFact : Type 0 where
   Joined : List ℕ → OrderFact
   Left : List ℕ → OrderFact
   Chose : ℕ → OrderFact
 
--- A past has the latest fact first. The names that have joined and not left since, in their order:
+-- A past has the latest fact first. These are the names that have joined and not left since, in the order of names.
 abbrev pub names_after : List OrderFact → List (List ℕ)
 names_after [] = []
 names_after (Joined n ∷ past) = put_key name_cmp n (names_after past)
 names_after (Left n ∷ past) = without n (names_after past)
 names_after (Chose word ∷ past) = names_after past
 
--- The names chosen since the last choice that found no candidate, that one's own choice included, the latest first:
+-- The names chosen in the current round, the latest first. The round began with the last choice that found no
+-- candidate, and the name that it chose is among them.
 abbrev pub round_after : List OrderFact → List (List ℕ)
 round_after [] = []
 round_after (Joined n ∷ past) = round_after past
@@ -59,40 +60,40 @@ round_after (Chose word ∷ past) = next_round (names_after past) (round_after p
 abbrev pub choice_after : List OrderFact → ℕ → Option (List ℕ)
 choice_after past word = choice (names_after past) (round_after past) word
 
--- whom words choose one after another
+-- whom words choose one after another, after a past
 abbrev pub choices_after : List OrderFact → List ℕ → List (List ℕ)
 choices_after past [] = []
 choices_after past (word ∷ words) =
     option_to_list (choice_after past word) ++ choices_after (Chose word ∷ past) words
 
--- a past, and then these names join
+-- a past with these names joining after it
 abbrev pub then_joined : List (List ℕ) → List OrderFact → List OrderFact
 then_joined [] past = past
 then_joined (n ∷ names) past = then_joined names (Joined n ∷ past)
 
--- whom words choose one after another of these names
+-- whom words choose, one after another, of these names
 abbrev pub picks : List (List ℕ) → List ℕ → List (List ℕ)
 picks names words = choices_after (then_joined names []) words
 
--- So many choices in a row choose each of p names: any 2p - 1 of them, while the names stay the same.
+-- How many choices in a row always choose each of p names, while the names stay the same: 2p - 1.
 abbrev pub window : List (List ℕ) → ℕ
 window names = 2 * length names - 1
 
--- from each place on where there are so many words, the choices have each name
+-- from each index on at which a whole window of words is left, the choices of that window have each name
 abbrev pub EachInWindows : List (List ℕ) → List ℕ → List (List ℕ) → Type 0
 EachInWindows names words chosen =
     (name : List ℕ) (i : ℕ) → is_among name_cmp name names ≡ true → i + window names ≤ length words
     → is_among name_cmp name (take (window names) (drop i chosen)) ≡ true
 
--- the names that ever joined, in their order
+-- the names that ever joined, in the order of names
 abbrev pub ever_joined : List OrderFact → List (List ℕ)
 ever_joined [] = []
 ever_joined (Joined n ∷ past) = put_key name_cmp n (ever_joined past)
 ever_joined (Left n ∷ past) = ever_joined past
 ever_joined (Chose word ∷ past) = ever_joined past
 
--- What an order holds: the names that have joined and not left, and those chosen in the current round, each in the
--- order of names.
+-- What an order holds: the names that have joined and not left, and those chosen in the current round. Each list is
+-- in the order of names.
 pub record OrderValue : Type 0 where
   pub names : List (List ℕ)
   pub chosen : List (List ℕ)

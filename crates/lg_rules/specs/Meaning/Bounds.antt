@@ -1,4 +1,4 @@
--- The bounds of this project; each is its choice.
+-- The bounds of this project. Each is this project's choice.
 use Rattle.std.specs.Prelude.{ℕ, ◌+◌}
 
 -- the most bytes of a name
@@ -9,7 +9,7 @@ most_name_bytes = 32
 abbrev pub greatest_incarnation : ℕ
 greatest_incarnation = 1000000000
 
--- the most members that are known beside oneself, and with oneself
+-- the most members that are known beside this member, and with this member included
 abbrev pub most_others : ℕ
 most_others = 255
 

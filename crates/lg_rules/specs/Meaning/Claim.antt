@@ -4,7 +4,7 @@ use Rattle.lg_rules.specs.declared.claim.Claim.{Claim}
 use Rattle.lg_rules.specs.declared.claim.Status.{Status}
 use Rattle.lg_rules.specs.declared.claim.Status.TheVariants.{Alive, Suspect, Failed}
 
--- who accuses, where a status is Suspect
+-- who accuses, if a status is Suspect
 abbrev pub accuser_of : Status → Option (List ℕ)
 accuser_of Alive = None
 accuser_of (Suspect accuser) = Some accuser

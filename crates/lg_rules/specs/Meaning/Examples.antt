@@ -1,4 +1,4 @@
--- Worked rows.
+-- Worked rows: what the definitions give for some claims.
 use Rattle.std.specs.Prelude.{◌≡◌, ℕ, ◌+◌, Bool, true, false, List, [], ◌∷◌, Some, refl}
 use Rattle.lg_rules.specs.declared.addr.Addr.{Addr}
 use Rattle.lg_rules.specs.declared.claim.Claim.{Claim}
@@ -55,8 +55,8 @@ failed_below_it = refl
 pub failed_is_final : beats_of (on c Alive 9) (on c Failed 0) ≡ false
 failed_is_final = refl
 
--- b hears, the latest first: c is refuted at 5, accused twice at 4, d failed though it was alive at 3, and itself is
--- suspected
+-- What b hears, the latest first. c is suspected twice at 4, and refutes that at 5. d is alive at 3, fails, and is
+-- then said to be alive at 7. b itself is suspected.
 pub standing_claims :
     table_of (b ∷ [])
     (on c Alive 5 ∷ on c Alive 4 ∷ on b (accused_by d) 0 ∷ on c (accused_by e) 4 ∷ on d Alive 7
@@ -65,7 +65,7 @@ pub standing_claims :
 unfolding table_of record_of roster
 standing_claims = refl
 
--- before the refutation the first accuser stands
+-- before c refutes, the claim of the first accuser stands
 pub first_accuser :
     record_of (on c Alive 4 ∷ on c (accused_by e) 4 ∷ on c (accused_by a) 4 ∷ on c Alive 4 ∷ []) (c ∷ [])
     ≡ Some (on c (accused_by a) 4)
@@ -80,14 +80,14 @@ pub accused_again : hearing_of (on c (accused_by a) 4 ∷ []) (on c (accused_by 
 unfolding takes
 accused_again = refl
 
--- b at 127.0.0.1:7000
+-- b is at 127.0.0.1:7000
 abbrev pub b_at : Addr
 b_at = at_port 7000
 
 abbrev pub b_is : ℕ → Bool → Oneself
 b_is number ousted = record { name = b ∷ []; addr = b_at; number = number; ousted = ousted }
 
--- suspected by a and then by c, both at 0
+-- b is suspected by a and then by c, both at 0
 pub refuted_once : own_of (b ∷ []) b_at (on b (accused_by c) 0 ∷ on b (accused_by a) 0 ∷ []) ≡ b_is 1 false
 unfolding own_of
 refuted_once = refl
@@ -115,11 +115,11 @@ given_up = refl
 pub about_another : own_hearing (b_is 0 false) (on c Failed 0) ≡ Unheeded
 about_another = refl
 
--- the table of members of b after a past
+-- the member table of b after a past
 abbrev pub members_of_b : List Claim → List Claim
 members_of_b past = view_of (own_record (own_of (b ∷ []) b_at past)) (table_of (b ∷ []) past)
 
--- b, which knows c as alive at 2, hears that c is alive at 3, that c is alive at 2, and that itself is suspected
+-- b knows that c is alive at 2. It hears that c is alive at 3, then that c is alive at 2, then that b is suspected.
 pub changed_rows :
     changed (members_of_b (on c Alive 2 ∷ []))
     (members_of_b (on b (accused_by a) 0 ∷ on c Alive 2 ∷ on c Alive 3 ∷ on c Alive 2 ∷ []))

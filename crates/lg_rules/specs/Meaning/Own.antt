@@ -1,4 +1,5 @@
--- The own number, and whether the others gave oneself up. A past has the latest claim first.
+-- What a member knows of itself: its incarnation, by which it refutes suspicions, and whether it was ousted, which
+-- means that the others gave it up. A past has the latest claim first.
 use Rattle.std.specs.Prelude.{ℕ, ◌+◌, Bool, true, false, List, [], ◌∷◌, nat_lt, nat_le, if◌then◌else◌}
 use Rattle.lg_rules.specs.declared.addr.Addr.{Addr}
 use Rattle.lg_rules.specs.declared.claim.Claim.{Claim}
@@ -10,18 +11,18 @@ use Rattle.lg_rules.specs.Meaning.Bounds.{greatest_incarnation}
 use Rattle.lg_rules.specs.Meaning.Rows.{name_cmp, is_same}
 use Rattle.lg_rules.specs.Meaning.Table.{about}
 
--- what a member knows of itself
+-- what a member knows of itself: its name, its address, its incarnation (number), and whether it was ousted
 pub record Oneself : Type 0 where
   pub name : List ℕ
   pub addr : Addr
   pub number : ℕ
   pub ousted : Bool
 
--- What a claim about oneself does, by its status, its incarnation i and the own number:
---     Suspect    where i >= number: refuted by i + 1 (SWIM, section 4.2)
---     Alive      where i > number: the own number is raised to i + 1 (this project's choice)
---     Failed     oneself is ousted (this project's choice)
--- and where i is the greatest incarnation, the first two oust oneself. Nothing else does anything.
+-- What a claim about this member does, by its status, its incarnation i and this member's incarnation (number):
+--     Suspect    if i >= number: this member refutes it and is at i + 1 from now on (SWIM, section 4.2)
+--     Alive      if i > number: this member is at i + 1 from now on (this project's choice)
+--     Failed     this member is ousted (this project's choice)
+-- If i is the greatest incarnation, the first two oust this member. Nothing else does anything.
 abbrev pub beyond : ℕ → OwnHeard → OwnHeard
 beyond i hearing = if nat_lt i greatest_incarnation then hearing else Ousted
 
@@ -30,30 +31,30 @@ own_hearing_at Alive i number = if nat_lt number i then beyond i Raised else Ign
 own_hearing_at (Suspect accuser) i number = if nat_le number i then beyond i Refuted else Ignored
 own_hearing_at Failed i number = Ousted
 
--- what any claim does: one about another does nothing
+-- What any claim does. A claim about another member does nothing.
 abbrev pub own_hearing : Oneself → Claim → OwnHeard
 own_hearing me c = if is_same name_cmp c.name me.name then own_hearing_at c.status c.incarnation me.number else Ignored
 
--- oneself, changed as a claim of incarnation i changes it
+-- this member, changed as a claim with incarnation i changes it
 abbrev pub changed_by : OwnHeard → ℕ → Oneself → Oneself
 changed_by Refuted i me = record me { number = i + 1 }
 changed_by Raised i me = record me { number = i + 1 }
 changed_by Ousted i me = record me { ousted = true }
 changed_by Ignored i me = me
 
--- oneself once a claim is heard
+-- this member once it heard a claim
 abbrev pub own_heard : Oneself → Claim → Oneself
 own_heard me c = changed_by (own_hearing me c) c.incarnation me
 
--- oneself after claims about oneself, from number 0 on
+-- this member after claims that are all about it, from incarnation 0 on
 abbrev pub own_after : List ℕ → Addr → List Claim → Oneself
 own_after name addr [] = record { name = name; addr = addr; number = 0; ousted = false }
 own_after name addr (c ∷ past) = own_heard (own_after name addr past) c
 
--- oneself after a past, of which only the claims about oneself count
+-- this member after a past, in which only the claims about it count
 unfoldable pub own_of : List ℕ → Addr → List Claim → Oneself
 own_of name addr past = own_after name addr (about name past)
 
--- the own record
+-- this member's own record: it is Alive at its incarnation
 abbrev pub own_record : Oneself → Claim
 own_record me = record { name = me.name; addr = me.addr; status = Alive; incarnation = me.number }

@@ -1,4 +1,4 @@
--- The table of members: the claims of a past that stand. A past has the latest claim first.
+-- The table of members: of each other member that is known, the claim that stands. A past has the latest claim first.
 use Rattle.std.specs.Prelude.{ℕ, ◌+◌, ◌==◌, Bool, true, false, not, nat_lt, if◌then◌else◌}
 use Rattle.std.specs.Prelude.{List, length, map, filter, count_by, Option, Some, None}
 use Rattle.std.specs.List.{filter_map}
@@ -13,7 +13,7 @@ use Rattle.lg_rules.specs.Meaning.Claim.{name_of}
 use Rattle.lg_rules.specs.Meaning.Past.{earliest_unbeaten, oldest}
 use Rattle.lg_rules.specs.Meaning.Rows.{name_cmp, is_same, put_row, row_at, in_order, distinct}
 
--- the claims about a member, and those about others
+-- the claims of a past about a member, and those about all members but this one
 abbrev pub about : List ℕ → List Claim → List Claim
 about m past = filter (λ c. is_same name_cmp c.name m) past
 
@@ -24,16 +24,16 @@ about_others own past = filter (λ c. not (is_same name_cmp c.name own)) past
 unfoldable pub record_of : List Claim → List ℕ → Option Claim
 record_of past m = earliest_unbeaten beats_of (about m past)
 
--- the names that were said of others, the latest first
+-- the names of the claims about others, the latest first
 abbrev pub names_said : List ℕ → List Claim → List (List ℕ)
 names_said own past = map name_of (about_others own past)
 
--- The others that are known: the first names that were said, as many as there is room for, in their order (this
+-- The other members that are known: the first 255 different names of claims about others, in the order of names (this
 -- project's choice).
 unfoldable pub roster : List ℕ → List Claim → List (List ℕ)
 roster own past = in_order name_cmp (oldest most_others (distinct name_cmp (names_said own past)))
 
--- their records, in the order of their names
+-- their records, in the order of names
 unfoldable pub table_of : List ℕ → List Claim → List Claim
 table_of own past = filter_map (record_of past) (roster own past)
 
@@ -45,7 +45,8 @@ pub record Known : Type 0 where
 abbrev pub known_of : List ℕ → List Claim → Known
 known_of own past = record { own = own; table = table_of own past }
 
--- whether a claim about another is taken: it overrides the record, or there is none and there is room for one
+-- Whether a claim about another is taken. It is if it overrides the record, or if there is no record and fewer than
+-- 255 others are known.
 abbrev pub takes_over : ℕ → Claim → Option Claim → Bool
 takes_over known c None = nat_lt known most_others
 takes_over known c (Some r) = beats_of c r
@@ -57,9 +58,11 @@ takes table c = takes_over (length table) c (row_at name_cmp name_of c.name tabl
 abbrev pub heard : List Claim → Claim → List Claim
 heard table c = if takes table c then put_row name_cmp name_of c table else table
 
--- What hearing a claim does where the record of its member stands: it accuses a member that is suspected at its
--- incarnation, or has the record's status and incarnation, or says nothing new. Where there is no record, there is no
--- room for one.
+-- What hearing a claim does if it isn't taken, and its member has a record:
+--     Accused    it accuses a member that is suspected already, at the record's incarnation
+--     Same       it has the record's status and incarnation, and is no accusation
+--     Ignored    it says nothing new
+-- If its member has no record, there is no room for one (NoRoom).
 abbrev pub standing_status : Status → Status → Heard
 standing_status Alive Alive = Same
 standing_status (Suspect a) (Suspect b) = Accused
@@ -83,6 +86,6 @@ is_failed Alive = false
 is_failed (Suspect a) = false
 is_failed Failed = true
 
--- n: oneself, and the others that haven't failed
+-- the number of live members, n: how many haven't failed, this member included
 abbrev pub live_in : List Claim → ℕ
 live_in table = 1 + count_by (λ r. not (is_failed r.status)) table

@@ -1,4 +1,5 @@
--- The table of members with the own record in it, and which records of a table differ from an earlier table.
+-- The member table, which has this member's own record among those of the others; and which of its records differ
+-- from an earlier table.
 use Rattle.std.specs.Prelude.{ℕ, Bool, true, false, ◌&&◌, ◌==◌, not, nat_eq}
 use Rattle.std.specs.Prelude.{List, filter, Option, Some, None}
 use Rattle.std.specs.Cmp.Lexicographic.{pointwise}
@@ -9,11 +10,11 @@ use Rattle.lg_rules.specs.declared.claim.Status.TheVariants.{Alive, Suspect, Fai
 use Rattle.lg_rules.specs.Meaning.Claim.{name_of}
 use Rattle.lg_rules.specs.Meaning.Rows.{name_cmp, is_same, put_row, row_at}
 
--- the own record and those of the others, in the order of their names
+-- this member's own record and those of the others, in the order of names
 abbrev pub view_of : Claim → List Claim → List Claim
 view_of own table = put_row name_cmp name_of own table
 
--- whether two claims are one
+-- whether two claims are the same
 abbrev pub is_same_status : Status → Status → Bool
 is_same_status Alive Alive = true
 is_same_status Alive (Suspect b) = false
@@ -37,6 +38,6 @@ abbrev pub is_row : Claim → Option Claim → Bool
 is_row r None = false
 is_row r (Some b) = is_same_claim b r
 
--- the records after that aren't among those before, in the order of their names
+-- of the records after, those that aren't among the records before, in the order of names
 abbrev pub changed : List Claim → List Claim → List Claim
 changed before after = filter (λ r. not (is_row r (row_at name_cmp name_of r.name before))) after

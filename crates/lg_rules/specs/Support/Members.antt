@@ -11,7 +11,7 @@ pub record AreCounted (records : List Claim) (live : ℕ) : Type 0 where
   pub rises : Rises name_cmp (map name_of records)
   pub counted : live ≡ live_in records
 
--- what a record adds to that number
+-- what a record adds to the number of members that haven't failed
 abbrev pub live_weight : Status → ℕ
 live_weight Alive = 1
 live_weight (Suspect accuser) = 1

@@ -1,4 +1,5 @@
--- What stands once claims about anyone are heard, one after another, and which of them change a record.
+-- What a member knows of itself and of the others once it heard some claims about anyone, one after another, and
+-- which of the claims change a record.
 use Rattle.std.specs.Prelude.{ℕ, Bool, true, false, if◌then◌else◌, List, [], ◌∷◌}
 use Rattle.lg_rules.specs.declared.addr.Addr.{Addr}
 use Rattle.lg_rules.specs.declared.claim.Claim.{Claim}
@@ -9,7 +10,7 @@ use Rattle.lg_rules.specs.Meaning.Rows.{name_cmp, is_same}
 use Rattle.lg_rules.specs.Meaning.Table.{table_of, takes, heard}
 use Rattle.lg_rules.specs.Meaning.View.{view_of}
 
--- oneself, and the records of the others
+-- what a member knows of itself, and the records of the others
 pub record Standing : Type 0 where
   pub own : Oneself
   pub table : List Claim
@@ -17,18 +18,18 @@ pub record Standing : Type 0 where
 abbrev pub standing_of : List ℕ → Addr → List Claim → Standing
 standing_of name addr past = record { own = own_of name addr past; table = table_of name past }
 
--- the table of members
+-- the member table, with this member's own record
 abbrev pub view : Standing → List Claim
 view m = view_of (own_record m.own) m.table
 
--- what stands once a claim about anyone is heard
+-- what a member knows once it heard a claim about anyone
 unfoldable pub hear_claim : Standing → Claim → Standing
 hear_claim m c =
     if is_same name_cmp c.name m.own.name
     then record m { own = own_heard m.own c }
     else record m { table = heard m.table c }
 
--- whether it changes a record: it raises the own number, or is taken
+-- whether a claim changes a record: it raises this member's incarnation, or it is about another and is taken
 abbrev pub is_rise : OwnHeard → Bool
 is_rise Refuted = true
 is_rise Raised = true
@@ -38,7 +39,7 @@ is_rise Ignored = false
 unfoldable pub changes_record : Standing → Claim → Bool
 changes_record m c = if is_same name_cmp c.name m.own.name then is_rise (own_hearing m.own c) else takes m.table c
 
--- what stands once these are heard, the first first, and the names whose records they changed
+-- what a member knows once it heard these claims, the first one first; and the names whose records they changed
 abbrev pub hear_claims : Standing → List Claim → Standing
 hear_claims m [] = m
 hear_claims m (c ∷ cs) = hear_claims (hear_claim m c) cs

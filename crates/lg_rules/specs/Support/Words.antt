@@ -1,7 +1,7 @@
 -- Bytes read as big-endian numbers.
 use Rattle.std.specs.Prelude.{ℕ, zero, suc, ◌+◌, ◌*◌, List, [], ◌∷◌, take, drop}
 
--- the number whose digits to the base 256 are those of n and then these bytes
+-- the number whose digits to the base 256 are those of n, followed by these bytes
 abbrev pub number_behind : ℕ → List ℕ → ℕ
 number_behind n [] = n
 number_behind n (b ∷ bs) = number_behind (n * 256 + b) bs

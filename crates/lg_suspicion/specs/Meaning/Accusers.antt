@@ -1,5 +1,6 @@
--- Which accusers of a suspected member count, and when it is taken as failed (Lifeguard, local health aware
--- suspicion). A past of accusers has the latest first; its last is the one that raised the suspicion.
+-- Which accusers of a suspected member count, and when the member is taken as failed (Lifeguard, local health aware
+-- suspicion). A past of accusers has the latest first, so its last one raised the suspicion. Each further accuser
+-- that counts confirms it.
 use Rattle.std.specs.Prelude.{
   ℕ,
   ◌+◌,
@@ -22,13 +23,13 @@ use Rattle.lg_rules.specs.Meaning.Rows.{name_cmp, is_among, distinct, in_order}
 use Rattle.lg_timing.specs.Meaning.TimeoutRange.{TimeoutRange}
 use Rattle.lg_timing.specs.Meaning.Timeouts.{timeout_of}
 
--- when a suspicion was raised, its timeouts, and the accusers that count in the order of arrival
+-- when a suspicion was raised, its timeouts, and the accusers that count, in the order in which they came
 pub record SuspicionValue : Type 0 where
   pub raised : ℕ
   pub timeout : TimeoutRange
   pub accusers : List (List ℕ)
 
--- The accusers that count: the first one, and the first others, as many as confirmations count.
+-- The accusers that count: the first one, and the first others, as many as confirmations may count.
 unfoldable pub counted_accusers : ℕ → List (List ℕ) → List (List ℕ)
 counted_accusers confirmations past = reverse (oldest (confirmations + 1) (distinct name_cmp past))
 
@@ -37,7 +38,8 @@ abbrev pub suspicion_after : ℕ → TimeoutRange → List (List ℕ) → Suspic
 suspicion_after raised timeout past =
     record { raised = raised; timeout = timeout; accusers = counted_accusers timeout.confirmations past }
 
--- whether one more accuser would count beside those that do: fewer count than may, and it isn't one of them
+-- whether one more accuser would count beside those that count: these are fewer than may count, and it isn't one of
+-- them
 abbrev pub would_count : ℕ → List (List ℕ) → List ℕ → Bool
 would_count confirmations accusers accuser =
     nat_le (length accusers) confirmations && not (is_among name_cmp accuser accusers)
@@ -50,11 +52,12 @@ accuser_counts s accuser = would_count s.timeout.confirmations s.accusers accuse
 abbrev pub accused : SuspicionValue → List ℕ → SuspicionValue
 accused s accuser = if accuser_counts s accuser then record s { accusers = s.accusers ++ accuser ∷ [] } else s
 
--- when a suspicion runs out: the member is taken as failed
+-- the deadline of a suspicion: when it runs out, and the member is taken as failed
 abbrev pub deadline_of : SuspicionValue → ℕ
 deadline_of s = s.raised + timeout_of s.timeout (length s.accusers - 1)
 
--- The same by the set of all accusers, in the order of their names: all but one confirm, as far as they count.
+-- The same deadline by the set of all accusers, in the order of names. All but one of them are confirmations, but no
+-- more than may count.
 abbrev pub deadline_by_set : ℕ → TimeoutRange → List (List ℕ) → ℕ
 deadline_by_set raised timeout set = raised + timeout_of timeout (min timeout.confirmations (length set - 1))
 

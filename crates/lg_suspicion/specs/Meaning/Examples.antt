@@ -1,4 +1,4 @@
--- The definitions at worked values.
+-- Worked rows: what the definitions give for some accusers.
 use Rattle.std.specs.Prelude.{◌≡◌, ℕ, List, [], ◌∷◌, refl}
 use Rattle.lg_timing.specs.Meaning.Tables.{ratio_of}
 use Rattle.lg_timing.specs.Meaning.TimeoutRange.{TimeoutRange}
@@ -15,7 +15,7 @@ e = 101 ∷ []
 abbrev five : TimeoutRange
 five = record { min = 5000; max = 30000; confirmations = 3 }
 
--- d accuses twice, then e
+-- d accuses twice, and then e
 two_accusers : counted_accusers 3 (e ∷ d ∷ d ∷ []) ≡ d ∷ e ∷ []
 unfolding counted_accusers
 two_accusers = refl
@@ -36,7 +36,7 @@ first_four : counted_accusers 3 six ≡ (97 ∷ []) ∷ (98 ∷ []) ∷ (99 ∷ 
 unfolding counted_accusers
 first_four = refl
 
--- where none confirms, the first one alone
+-- if no confirmation may count, the first accuser alone counts
 first_alone : counted_accusers 0 six ≡ (97 ∷ []) ∷ []
 unfolding counted_accusers
 first_alone = refl

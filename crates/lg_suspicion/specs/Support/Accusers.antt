@@ -1,4 +1,4 @@
--- How many accusers a suspicion has.
+-- How many accusers of a suspicion count.
 use Rattle.std.specs.Prelude.{ℕ, ◌+◌, ◌≤◌, List, length}
 use Rattle.lg_timing.specs.Meaning.TimeoutRange.{TimeoutRange}
 

@@ -1,4 +1,4 @@
--- The definitions at worked values.
+-- Worked rows: what the definitions give for some timers.
 use Rattle.std.specs.Prelude.{◌≡◌, ℕ, true, false, List, [], ◌∷◌, Some, None, refl}
 use Rattle.lg_timers.specs.declared.timer.Timer.{Timer}
 use Rattle.lg_timers.specs.declared.timer.TimerId.{TimerId}
@@ -15,7 +15,7 @@ use Rattle.lg_timers.specs.Meaning.Timers.{is_set, in_turn, due_of, without_time
 abbrev at : ℕ → TimerId → Timer
 at deadline id = record { deadline = deadline; id = id }
 
--- by deadline, then by kind, then by name or number
+-- they fire by deadline, then by kind, then by name or number
 in_their_order :
     in_turn
     (at 9 RoundStart ∷ at 9 (RelayEnd 7) ∷ at 9 (RelayEnd 6) ∷ at 9 (RelayNack 8)
@@ -42,7 +42,7 @@ one_cancelled :
     ≡ at 8 (RelayNack 1) ∷ at 9 (RelayEnd 2) ∷ []
 one_cancelled = refl
 
--- A relay has two timers of its number.
+-- A relay has two timers with its number.
 abbrev of_a_relay : List Timer
 of_a_relay = at 8 (RelayNack 1) ∷ at 9 (RelayEnd 1) ∷ []
 

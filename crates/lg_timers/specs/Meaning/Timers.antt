@@ -1,4 +1,4 @@
--- Timers in the order in which they fire (this project's choice).
+-- Timers, and the order in which they fire (this project's choice).
 use Rattle.std.specs.Prelude.{
   ℕ,
   Bool,
@@ -37,7 +37,7 @@ kind_of (RelayNack number) = 4
 kind_of (RelayEnd number) = 5
 kind_of RoundStart = 6
 
--- whom a timer is about: the bytes of its member's name, or its relay's number
+-- whom a timer is about: the bytes of its member's name, or its relay's number; nothing for the timers of a round
 abbrev pub subject_of : TimerId → List ℕ
 subject_of RoundEnd = []
 subject_of (Suspicion member) = member
@@ -50,31 +50,31 @@ subject_of RoundStart = []
 abbrev pub id_key : TimerId → List ℕ
 id_key id = kind_of id ∷ subject_of id
 
--- the deadline before its id: timers are ordered by these lists, number by number
+-- A timer as a list of numbers: its deadline, and then its id. Timers are ordered by these lists, number by number.
 abbrev pub timer_key : Timer → List ℕ
 timer_key t = t.deadline ∷ id_key t.id
 
 abbrev pub timer_cmp : Timer → Timer → Ordering
 timer_cmp s t = name_cmp (timer_key s) (timer_key t)
 
--- whether a timer has an id
+-- whether a timer has this id
 abbrev pub has_id : TimerId → Timer → Bool
 has_id id t = is_same name_cmp (id_key t.id) (id_key id)
 
--- whether a timer of an id is set
+-- whether a timer with this id is set
 abbrev pub is_set : TimerId → List Timer → Bool
 is_set id timers = list_any (has_id id) timers
 
--- no two timers have one id
+-- whether no two timers have the same id
 abbrev pub have_distinct_ids : List Timer → Bool
 have_distinct_ids [] = true
 have_distinct_ids (t ∷ timers) = not (is_set t.id timers) && have_distinct_ids timers
 
--- timers in the order in which they fire, with one more in its place
+-- timers in the order in which they fire, with one more at its place in that order
 abbrev pub with_timer : Timer → List Timer → List Timer
 with_timer t timers = put_row name_cmp timer_key t timers
 
--- the timers of other ids
+-- the timers with other ids
 abbrev pub without_timer : TimerId → List Timer → List Timer
 without_timer id timers = filter (λ t. not (has_id id t)) timers
 
@@ -83,20 +83,20 @@ unfoldable pub in_turn : List Timer → List Timer
 in_turn [] = []
 in_turn (t ∷ timers) = with_timer t (in_turn timers)
 
--- the timer that fires first
+-- of timers in the order in which they fire, the first, if there is any
 abbrev pub least_of : List Timer → Option Timer
 least_of [] = None
 least_of (t ∷ timers) = Some t
 
--- whether a deadline isn't after a moment
+-- whether a timer is due: its deadline isn't after the moment
 abbrev pub is_due : ℕ → Timer → Bool
 is_due now t = nat_le t.deadline now
 
--- the first of the timers that are due
+-- the first of the timers that are due, if any is
 abbrev pub due_of : ℕ → List Timer → Option Timer
 due_of now timers = least_of (filter (is_due now) timers)
 
--- what is set once a timer was taken out
+-- the timers that are left once this one was taken out, or all of them if none was
 abbrev pub left_by : Option Timer → List Timer → List Timer
 left_by None timers = timers
 left_by (Some t) timers = without_timer t.id timers

@@ -5,16 +5,16 @@ use Rattle.lg_rules.specs.Meaning.Rows.{name_cmp, Rises}
 use Rattle.lg_timers.specs.declared.timer.Timer.{Timer}
 use Rattle.lg_timers.specs.Meaning.Timers.{timer_key, timer_cmp, have_distinct_ids}
 
--- timers in the order in which they fire, one of an id at most
+-- timers in the order in which they fire, at most one with each id
 pub record IsTimerSet (timers : List Timer) : Type 0 where
   pub rises : Rises name_cmp (map timer_key timers)
   pub distinct : IsTrue (have_distinct_ids timers)
 
--- timers in any order, one of an id at most
+-- timers in any order, at most one with each id
 pub record AreApart (timers : List Timer) : Type 0 where
   pub distinct : IsTrue (have_distinct_ids timers)
 
--- the first of one timer, if there is one, and another
+-- the one that fires first of two timers, of which the first may be missing
 abbrev pub earlier : Option Timer → Timer → Timer
 earlier None t = t
 earlier (Some s) t = if is_lt (timer_cmp s t) then s else t

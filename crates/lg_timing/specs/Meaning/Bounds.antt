@@ -1,7 +1,7 @@
 -- The least and the greatest numbers (this project's choice).
 use Rattle.std.specs.Prelude.{ℕ}
 
--- the interval of a configuration, in milliseconds
+-- the interval of a configuration (the protocol period), in milliseconds
 abbrev pub least_interval_ms : ℕ
 least_interval_ms = 10
 
@@ -20,11 +20,12 @@ most_score = 20
 abbrev pub most_factor : ℕ
 most_factor = 20
 
--- the confirmations that a suspicion waits for
+-- the confirmations after which a suspicion has its least timeout
 abbrev pub most_confirmations : ℕ
 most_confirmations = 5
 
--- the factor of the number of times that a claim is sent
+-- lambda, the factor of the retransmit limit: how often a claim may be sent for each decimal digit of the number of
+-- live members
 abbrev pub most_lambda : ℕ
 most_lambda = 10
 
@@ -35,17 +36,17 @@ least_nack_thousandths = 1
 abbrev pub most_nack_thousandths : ℕ
 most_nack_thousandths = 999
 
--- the limit on a stored history, in entries
+-- the limit of a stored history, in entries
 abbrev pub least_history_limit : ℕ
 least_history_limit = 2
 
 abbrev pub most_history_limit : ℕ
 most_history_limit = 1000000
 
--- the seeds
+-- the seeds of a configuration
 abbrev pub most_seeds : ℕ
 most_seeds = 16
 
--- the members of a table that haven't failed, oneself included
+-- the members of a table that haven't failed, this member included
 abbrev pub most_live : ℕ
 most_live = 256

@@ -1,4 +1,4 @@
--- The configuration by default, which configurations are good, and what is wrong with the others (this project's
+-- The default configuration, which configurations are good, and what is wrong with the others (this project's
 -- choice).
 use Rattle.std.specs.Prelude.{
   ◌≡◌,
@@ -56,7 +56,7 @@ use Rattle.lg_timing.specs.Meaning.Bounds.{
   most_seeds,
 }
 
--- the configuration of a member by default, which knows no other member from the start
+-- the default configuration of a member, which knows no other member from the start
 abbrev pub defaults : List ℕ → Addr → Config
 defaults name addr =
     record {
@@ -75,28 +75,28 @@ defaults name addr =
       addr = addr;
     }
 
--- a number lies between two others, which count
+-- whether a number is at least one number and at most another
 abbrev pub is_within : ℕ → ℕ → ℕ → Bool
 is_within least most n = nat_le least n && nat_le n most
 
--- a seed has this name
+-- whether a seed has this name
 abbrev pub has_name : List ℕ → Seed → Bool
 has_name name seed = pointwise nat_eq seed.name name
 
--- some seed has this name
+-- whether some seed has this name
 abbrev pub is_seed : List ℕ → List Seed → Bool
 is_seed name seeds = list_any (has_name name) seeds
 
--- no two seeds have one name
+-- whether no two seeds have the same name
 abbrev pub have_distinct_names : List Seed → Bool
 have_distinct_names [] = true
 have_distinct_names (seed ∷ seeds) = not (is_seed seed.name seeds) && have_distinct_names seeds
 
--- few enough seeds, with distinct names, none the own name
+-- whether there are at most 16 seeds, with different names, none of them the member's own
 abbrev pub are_good_seeds : List ℕ → List Seed → Bool
 are_good_seeds own seeds = nat_le (length seeds) most_seeds && (have_distinct_names seeds && not (is_seed own seeds))
 
--- each field in turn: whether it is in its range, and the fault where it isn't
+-- each field in turn: whether it is in its range, and the fault if it isn't
 abbrev pub rules_of : Config → List (Bool × ConfigFault)
 rules_of c =
     (is_within least_interval_ms most_interval_ms c.interval_ms, Interval)
@@ -112,19 +112,19 @@ rules_of c =
     ∷ (are_good_seeds c.name c.seeds.items, Seeds)
     ∷ []
 
--- the first rule that is broken
+-- the first rule that is broken, if there is one
 abbrev pub first_broken : List (Bool × ConfigFault) → Option (Bool × ConfigFault)
 first_broken rules = find (λ rule. not rule.0) rules
 
--- the fault of the rule that is broken, if there is one
+-- the fault of the broken rule, or Ok if there is none
 abbrev pub unless_broken : Option (Bool × ConfigFault) → Result (Unit {0}) ConfigFault
 unless_broken None = Ok tt
 unless_broken (Some rule) = Err rule.1
 
--- what checking a configuration answers
+-- what checking a configuration returns
 unfoldable pub check_of : Config → Result (Unit {0}) ConfigFault
 check_of c = unless_broken (first_broken (rules_of c))
 
--- a configuration that was checked
+-- a configuration that passes its check
 abbrev pub IsChecked : Config → Type 0
 IsChecked c = check_of c ≡ Ok tt

@@ -1,4 +1,4 @@
--- The definitions at worked values.
+-- Worked rows: what the definitions give for some numbers.
 use Rattle.std.specs.Prelude.{◌≡◌, ℕ, pos, negsuc, [], ◌∷◌, map, refl}
 use Rattle.lg_timing.specs.declared.config.Config.{Config}
 use Rattle.lg_timing.specs.Meaning.Config.{defaults}
@@ -6,7 +6,7 @@ use Rattle.lg_timing.specs.Meaning.Score.{score_of}
 use Rattle.lg_timing.specs.Meaning.Tables.{log10_of, ratio_of}
 use Rattle.lg_timing.specs.Meaning.Timeouts.{range_of, timeout_of, suspicion_of}
 
--- the member b with the default numbers, but for these
+-- the member b with the default numbers, except for these
 abbrev with_numbers : ℕ → ℕ → Config
 with_numbers interval confirmations =
     record (defaults (98 ∷ []) (record { octets = 127 ∷ 0 ∷ 0 ∷ 1 ∷ []; port = 7946 })) {
@@ -44,13 +44,13 @@ sixteen_members :
 unfolding range_of timeout_of log10_of ratio_of
 sixteen_members = refl
 
--- at the greatest score a missed nack changes nothing, at 0 an ack doesn't
+-- a missed nack changes nothing at the greatest score, and an ack changes nothing at 0
 greatest_score : score_of 8 (pos 2 ∷ pos 2 ∷ pos 2 ∷ pos 2 ∷ pos 1 ∷ []) ≡ 8
 greatest_score = refl
 
 least_score : score_of 8 (negsuc 0 ∷ negsuc 0 ∷ pos 1 ∷ []) ≡ 0
 least_score = refl
 
--- the sum is held at every mark, not at the end alone
+-- the sum is held at every mark, and not only at the end
 held_at_every_mark : score_of 2 (negsuc 0 ∷ pos 2 ∷ pos 2 ∷ []) ≡ 1
 held_at_every_mark = refl

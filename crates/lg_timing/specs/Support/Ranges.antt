@@ -1,4 +1,4 @@
--- The ranges that the fields of a checked configuration have.
+-- The ranges that the fields of a configuration have if it passes its check.
 use Rattle.std.specs.Prelude.{◌≡◌, ◌≤◌, ◌<◌, true, false, length}
 use Rattle.lg_timing.specs.declared.config.Config.{Config}
 use Rattle.lg_rules.specs.declared.claim.TheConstants.{MAX_LAMBDA}

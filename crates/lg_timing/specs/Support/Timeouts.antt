@@ -1,4 +1,4 @@
--- The timeouts that a checked configuration gives.
+-- What holds of the timeouts that a checked configuration gives.
 use Rattle.std.specs.Prelude.{ℕ, ◌≤◌}
 use Rattle.lg_timing.specs.declared.config.TheConstants.{MAX_CONFIRMATIONS}
 use Rattle.lg_timing.specs.declared.timeout.TheConstants.{MAX_SUSPICION_MS}
