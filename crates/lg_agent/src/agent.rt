@@ -1,4 +1,7 @@
 //! The agent: the value under its lock, and the looks that wait for a pass.
+//!
+//! Defined in: `specs/Meaning/Ledger.antt`, `specs/Meaning/Calls.antt`.
+//! Tested in: `lg_agent_tests/src/agent/rows.rt`.
 ghost use Rattle.std.specs.Prelude.{◌≡◌, ◌<◌, ◌≤◌, ◌+◌, ◌⊎◌, [], ◌∷◌, List, true};
 ghost use Rattle.std.specs.Prelude.{All, length, vec_len, IfOk, IfErr};
 ghost use Rattle.std.specs.Vec.{vec_capacity};
@@ -25,8 +28,8 @@ use std::marker::Model;
 use std::mem;
 use std::sync::{Mutex, Wait};
 
-/// What the threads of a service share. A contract sees the member's name, and for each place that waits for a pass the
-/// events that it was told of.
+/// What the threads of a service share. A contract sees the member's name, and for each seat that waits for a pass
+/// the events that its look has seen.
 ///
 /// It isn't `Drop`: [`Agent::close`] or [`Agent::abandon`] ends it.
 pub struct Agent<A: AgentName>
@@ -35,7 +38,7 @@ where
 {
     pub(crate) kept: Mutex<Kept<A>>,
     pub(crate) name: Name,
-    /// The look of each place that waits for a pass.
+    /// The look of each seat that waits for a pass.
     pub(crate) waiting: Vec<Look<A>>,
 }
 
@@ -51,18 +54,18 @@ where
 
     ghost view = { λ a. record { name = a.name; told = a.waiting.items } };
 
-    // Each look was told the opening, and there are no more of them than places.
+    // Each look has seen the opening, and there are no more looks than places.
     ghost invariant = { λ a. All (λ look. begins_open look ≡ true) a.waiting.items
         × (length a.waiting.items ≤ A.places) };
 }
 
 impl<A: AgentName> Agent<A> {
-    /// Opens an agent with so many places, at a moment in milliseconds. The opening is published, and each place waits
-    /// for its pass.
+    /// Opens an agent with this number of places, at a moment in milliseconds. The opening is published, and each
+    /// seat waits for its pass.
     ///
-    /// The book has to be the one that `A` names, the configuration checked, and the places 1 to 32, as many as `A`
-    /// names. It takes memory, and is refused with [`Refusal::NoMemory`] where that was refused, or with
-    /// [`Refusal::NoPlace`] where no reader could be had for a place.
+    /// The book has to be the one that `A` names, and the configuration has to be checked. The places have to be 1 to
+    /// 32, as many as `A` names. Allocates memory. Refused with [`Refusal::NoMemory`] if that was refused, or with
+    /// [`Refusal::NoPlace`] if there was no reader for a seat.
     pub fn open<R: Wait>(
         rt: &R,
         alloc: Global,
@@ -75,7 +78,7 @@ impl<A: AgentName> Agent<A> {
         requires config { IsChecked config }
         requires places { (0 < places) × (places ≤ 32) × (places ≡ A.places) }
         ensures name { IfOk result (λ a. a.name ≡ config.name) }
-        // Each place was told of this opening.
+        // Each look has seen this opening.
         ensures told { IfOk result (λ a. (length a.told ≡ places)
             × All (λ seen. seen ≡ Open now config ∷ []) a.told) }
         ensures refused { IfErr result (λ e. (e ≡ NoMemory) ⊎ (e ≡ NoPlace)) }
@@ -91,13 +94,13 @@ impl<A: AgentName> Agent<A> {
         })
     }
 
-    /// A fresh pass for each place that waits, in the order of the places. Then none waits. It takes memory for the
-    /// list of the passes, and no lock; it is no event. The only error is that memory was refused, and then nothing
-    /// has changed.
+    /// A fresh pass for each seat that waits, in the order of the seats; then none waits. Allocates the list of the
+    /// passes, and takes no lock. It is no event. The only error is that memory was refused, and then nothing has
+    /// changed.
     pub fn passes(&mut self, alloc: Global) -> Result<Vec<Pass<'_, A>>, NoMemory>
         ensures count { IfOk result (λ passes. vec_len passes ≡ length self.old.told) }
         ensures fresh { IfOk result (λ passes. AreFresh self.old.name 0 passes.items) }
-        // Where all places were told of the same, each pass has seen that.
+        // If all looks that wait have seen the same events, each pass has seen these.
         ensures seen { (f : List Happened) → All (λ told. told ≡ f) self.old.told
             → IfOk result (λ passes. All (λ pass. pass.seen ≡ f) passes.items) }
     {
@@ -106,7 +109,7 @@ impl<A: AgentName> Agent<A> {
         Ok(hand_out(alloc, &self.kept, self.name, looks, passes))
     }
 
-    /// Ends the agent, and forgets its history. It waits until no reader reads; from then on each look answers
+    /// Ends the agent, and forgets its history. Waits until no reader reads; from then on each look answers
     /// [`Refusal::NoView`].
     pub fn abandon<R: Wait>(self, rt: &R) {
         let Agent {
@@ -118,7 +121,7 @@ impl<A: AgentName> Agent<A> {
     }
 }
 
-/// A pass for each of these looks, put into a list with room for them.
+/// A pass for each of these looks, put into a list with enough capacity for them.
 fn hand_out<'a, A: AgentName>(
     alloc: Global,
     kept: &'a Mutex<Kept<A>>,
@@ -148,7 +151,7 @@ fn hand_out<'a, A: AgentName>(
     passes
 }
 
-/// Tells each look, none of which has seen anything, of the history.
+/// Brings each look, none of which has seen anything, up to date with the history.
 fn tell_all<A: AgentName>(kept: &Kept<A>, looks: &mut [Look<A>])
     requires { All (λ look. look ≡ []) looks.old }
     ensures told { All (λ look. look ≡ all_events kept.now) looks.new }
@@ -160,7 +163,7 @@ fn tell_all<A: AgentName>(kept: &Kept<A>, looks: &mut [Look<A>])
 }
 
 impl<A: AgentName> Kept<A> {
-    /// Tells a look that has seen nothing.
+    /// Brings a look that has seen nothing up to date.
     fn tell_first(&self, look: &mut Look<A>)
         requires { look.old ≡ [] }
         ensures { look.new ≡ all_events self.now }

@@ -1,4 +1,7 @@
 //! What is left of an agent that was closed.
+//!
+//! Defined in: `specs/Meaning/Closing.antt`, `lg_history/specs/Meaning/Rest.antt`.
+//! Tested in: `lg_agent_tests/src/agent/choosing.rt`.
 ghost use Rattle.std.specs.Prelude.{◌≡◌, ◌≤◌, ◌+◌, ◌++◌, [], List, length, take, max, true, Some, None};
 ghost use Rattle.std.specs.Prelude.{IfOk, MatchOption};
 ghost use Rattle.lg_detector.specs.declared.event.Event.{Event as Happened};
@@ -14,8 +17,8 @@ use lg_rules::Name;
 use std::alloc::Global;
 use std::marker::Model;
 
-/// The history of an agent that was closed. A contract sees it as the list of the entries that are stored, how many
-/// were cut off before them, and what stands for these.
+/// The history of an agent that was closed. A contract sees it as the list of the stored entries, how many were cut
+/// off before them, and the summary of those.
 #[derive(Drop)]
 pub struct Closed {
     summary: Option<Summary>,
@@ -47,41 +50,41 @@ impl Closed {
         }
     }
 
-    /// The entries that are stored: all, the opening's first, or those since the last rotation.
+    /// The stored entries: all of them, that of the opening first, or those since the last rotation.
     pub fn history(&self) -> &[Entry]
         ensures { result.now ≡ self.now.history }
     {
         self.entries.as_slice()
     }
 
-    /// How many entries there were, the opening's and those that were cut off counted.
+    /// How many entries there were, with that of the opening and those that were cut off.
     pub fn count(&self) -> u64
         ensures { result ≡ length self.now.history + self.now.base }
     {
         self.base + self.entries.len() as u64
     }
 
-    /// The position of the first entry that is stored: how many were cut off before it.
+    /// The position of the first stored entry: how many were cut off before it.
     pub fn base(&self) -> u64
         ensures same { result ≡ self.now.base }
-        // Whatever events the summary stands for, they are as many, and none where there is no summary.
+        // Whatever events the summary stands for, this is how many they are. Without a summary there are none.
         ensures length { (f : List Happened) → StandsFor self.now.summary f → result ≡ length f }
     {
         self.base
     }
 
-    /// What stands for the entries before it, if there were any.
+    /// The summary of the entries before the stored ones, if there were any.
     pub fn summary(&self) -> Option<&Summary>
         ensures same { MatchOption result (self.now.summary ≡ None) (λ s. self.now.summary ≡ Some s.now) }
-        // There are events that it stands for, behind which the stored entries have the replies of the definitions.
+        // There are events that it stands for, after which the stored entries have the replies of the definitions.
         ensures well { IsWell self.now }
     {
         self.summary.as_ref()
     }
 
-    /// Whom the starts of rounds chose (SWIM, section 4.3): the targets of the entries at the positions from `from` up
-    /// to `to`, which doesn't count, in order. Where `from` is below the first that is stored, it is taken as that. It
-    /// takes memory for the list. The only error is that memory was refused.
+    /// Whom the starts of rounds chose (SWIM, section 4.3): the targets of the entries at the positions from `from`
+    /// up to `to`, which doesn't count, in order. If `from` is before the first stored entry, that entry's position
+    /// is taken in its stead. Allocates the list. The only error is that memory was refused.
     pub fn choices(&self, alloc: Global, from: u64, to: u64) -> Result<Vec<Name>, NoMemory>
         // After whatever events the summary stands for.
         ensures gained { (f : List Happened) → StandsFor self.now.summary f
@@ -90,7 +93,7 @@ impl Closed {
             → targets_after (take to (f ++ events self.now.history))
             ≡ targets_after (take (max from self.now.base) (f ++ events self.now.history)) ++ names.items) }
         ensures none { IfOk result (λ names. to ≤ max from self.now.base → names.items ≡ []) }
-        // While the others stay the same, any 2p - 1 choices in a row have each of p.
+        // While the others stay the same p members, any 2p - 1 choices in a row have each of them.
         ensures windows { (f : List Happened) → StandsFor self.now.summary f
             → is_accepted (f ++ events self.now.history) ≡ true
             → IfOk result (λ names. max from self.now.base ≤ to

@@ -1,4 +1,7 @@
 //! Closing: what the passes left is compared with the history.
+//!
+//! Defined in: `specs/Meaning/Closing.antt`, `specs/Meaning/Ledger.antt`.
+//! Tested in: `lg_agent_tests/src/agent/choosing.rt`.
 ghost use Rattle.std.specs.Prelude.{◌≡◌, ◌≤◌, ◌<◌, ◌+◌, ◌^◌, ◌==◌, All, Any, drop, length, None};
 ghost use Rattle.std.specs.Prelude.{OnOk, IfOk, IfErr, IsErrAnd};
 ghost use Rattle.std.specs.List.{list_any, find, range_with_len};
@@ -24,7 +27,7 @@ use lg_history::Entry;
 use lg_view::{Published, Update};
 use std::sync::{Mutex, Wait};
 
-/// A refused closing hands everything back, unchanged.
+/// A refused closing. It hands everything back, unchanged.
 pub struct Unclosed<A: AgentName>
 where
     Published<A>: Absorb<Update<A>, State = [Event; 0]>,
@@ -37,7 +40,7 @@ where
     pub spents: Vec<Spent<A>>,
 }
 
-/// How many of these have a place.
+/// How many of these have this seat.
 fn times<A: AgentName>(spents: &[Spent<A>], seat: usize) -> usize
     ensures { result ≡ times spents.now seat }
 {
@@ -45,8 +48,8 @@ fn times<A: AgentName>(spents: &[Spent<A>], seat: usize) -> usize
 }
 
 impl<A: AgentName> Spent<A> {
-    /// The first index of its calls, from the position at `moved` on, at which its positions differ from those of its
-    /// place among these entries, which stand from `base` on.
+    /// Compares its positions, from the index `moved` on, with those of its seat among these entries, of which the
+    /// first has the position `base`. Returns the index of the first of its calls that differs, if one does.
     fn first_difference(&self, moved: usize, base: u64, history: &[Entry]) -> Option<u64>
         requires moved { moved ≤ length self.now.mine }
         requires base { length history.now + base < 2 ^ 64 }
@@ -72,9 +75,9 @@ impl<A: AgentName> Spent<A> {
 }
 
 impl<A: AgentName> Kept<A> {
-    /// Whether these are what the passes of this agent left: one of each place, which bears the agent's name, and whose
-    /// positions are those of its place in the history. Else it is the fault that is the first in the order
-    /// [`CloseFault::Foreign`], [`CloseFault::Missing`], [`CloseFault::Differs`]. It takes no memory.
+    /// Whether these are what the passes of this agent left: one for each seat, which has the agent's name, and whose
+    /// positions are those of its seat in the history. Otherwise it is the fault that is the first in the order
+    /// [`CloseFault::Foreign`], [`CloseFault::Missing`], [`CloseFault::Differs`]. Allocates nothing.
     pub fn audit(&self, spents: &[Spent<A>]) -> Result<(), CloseFault>
         ensures { result ≡ unless_fault (close_fault self.now spents.now) }
     {
@@ -111,7 +114,7 @@ impl<A: AgentName> Kept<A> {
         spent.name() != self.name() || seat == 0 || seat > self.places() || times(spents, seat) > 1
     }
 
-    /// Whether none of them has some place.
+    /// Whether some seat has none of them.
     fn lacks_one(&self, spents: &[Spent<A>]) -> bool
         ensures { result ≡ list_any (is_missing spents.now) (range_with_len 1 self.now.places) }
     {
@@ -123,7 +126,7 @@ impl<A: AgentName> Kept<A> {
         false
     }
 
-    /// The difference at the least place that has one.
+    /// The difference at the least seat that has one.
     fn least_difference(&self, spents: &[Spent<A>]) -> Option<CloseFault>
         ensures { result ≡ least_difference self.now spents.now (range_with_len 1 self.now.places) }
     {
@@ -136,7 +139,7 @@ impl<A: AgentName> Kept<A> {
         None
     }
 
-    /// The difference at a place, if there is one.
+    /// The difference at a seat, if there is one.
     fn difference_at(&self, spents: &[Spent<A>], seat: usize) -> Option<CloseFault>
         ensures { result ≡ difference_at self.now (find (λ s. s.seat == seat) spents.now) }
     {
@@ -148,11 +151,11 @@ impl<A: AgentName> Kept<A> {
         None
     }
 
-    /// The fault that the calls of one of them aren't the entries of its place, if they aren't.
+    /// The fault that the calls of one of them aren't the entries of its seat, if they aren't.
     fn difference(&self, spent: &Spent<A>) -> Option<CloseFault>
         ensures { result ≡ difference self.now spent.now }
     {
-        // So the positions fit.
+        // The count is a `u64`, so all positions fit.
         let _count = self.count();
         let (calls, moved) = spent.cut_at(self.base());
         let cut = self.cut_off(spent.seat);
@@ -171,8 +174,8 @@ impl<A: AgentName> Kept<A> {
         }
     }
 
-    /// As [`Kept::audit`], and where that finds nothing, whether one of them has seen more events than the history has.
-    /// No run meets that; it would be told as a difference behind the last call.
+    /// As [`Kept::audit`]; and if that finds nothing, whether one of them has seen more events than the history has.
+    /// This should never happen. It would be reported as a difference after the last call.
     fn judge(&self, spents: &[Spent<A>]) -> Result<(), CloseFault>
         ensures audited { OnOk result (close_fault self.now spents.now ≡ None) }
         ensures short { OnOk result (All (λ s. length s.seen ≤ count_of self.now) spents.now) }
@@ -194,7 +197,7 @@ impl<A: AgentName> Kept<A> {
         Ok(())
     }
 
-    /// What each of them has seen begins the events of the history.
+    /// Shows that what each of them has seen begins the events of the history.
     fn compare_all(&self, spents: &[Spent<A>])
         requires { All (λ s. length s.seen ≤ count_of self.now) spents.now }
         ensures { All (λ s. IsPrefix s.seen (all_events self.now)) spents.now }
@@ -204,7 +207,7 @@ impl<A: AgentName> Kept<A> {
         }
     }
 
-    /// What this one has seen begins the events of the history.
+    /// Shows that what this one has seen begins the events of the history.
     fn compare_one(&self, spent: &Spent<A>)
         requires { length spent.now.seen ≤ count_of self.now }
         ensures { IsPrefix spent.now.seen (all_events self.now) }
@@ -214,23 +217,23 @@ impl<A: AgentName> Kept<A> {
 }
 
 impl<A: AgentName> Agent<A> {
-    /// Ends the agent, and gives its history. It waits until no reader reads, and takes no memory.
+    /// Ends the agent, and gives its history. Waits until no reader reads, and allocates nothing.
     ///
-    /// It is handed what all passes left, in any order, and is refused with the fault that [`Kept::audit`] finds in
-    /// them, or with [`CloseFault::Differs`] behind the last call of one that has seen more than the history has, which
-    /// no test has met. Then everything is handed back.
+    /// It is handed what all passes left, in any order. It is refused with the fault that [`Kept::audit`] finds in
+    /// them, or with [`CloseFault::Differs`] after the last call of one that has seen more than the history has,
+    /// which no test has met. Then everything is handed back.
     ///
-    /// A contract can't see the history that a refused agent goes on with, and says that there is a legal one by which
-    /// this is the fault. What the list alone settles is said of the list: where one of it has a place that isn't
-    /// from 1 to the number of places, or a place that another has as well, the fault is [`CloseFault::Foreign`], and
-    /// it is [`CloseFault::Missing`] only where some place has none.
+    /// A contract can't see the history that a refused agent goes on with. It says that there is a legal history by
+    /// which this is the fault. What the list alone decides is said of the list. If one of it has a seat that isn't
+    /// from 1 to the number of places, or a seat that another has as well, the fault is [`CloseFault::Foreign`]. The
+    /// fault is [`CloseFault::Missing`] only if some seat has none.
     ///
-    /// Two agents may have one name: that each [`Spent`] was finished from a pass of this agent is seen to by `A`,
+    /// Two agents may have one name. That each [`Spent`] was finished from a pass of this agent follows from `A`,
     /// which no two agents share.
     pub fn close<R: Wait>(self, rt: &R, spents: Vec<Spent<A>>) -> Result<Closed, Unclosed<A>>
         ensures closed { IfOk result (λ c. IsClosed A.places c spents.items) }
         ensures fault { IfErr result (λ u. IsRefusedClosing A.places spents.items u.fault) }
-        // What is so with any history.
+        // What holds for any history.
         ensures missing { IfErr result (λ u. u.fault ≡ Missing → LacksOne A.places spents.items) }
         ensures foreign { Any (IsMisplaced A.places spents.items) spents.items
             → IsErrAnd result (λ u. u.fault ≡ Foreign) }

@@ -1,4 +1,7 @@
 //! The value under the lock: a history, the detector that is after its events, and the feed that publishes them.
+//!
+//! Defined in: `specs/Meaning/Calls.antt`, `specs/Meaning/Ledger.antt`, `lg_history/specs/Meaning/Rest.antt`.
+//! Tested in: `lg_agent_tests/src/agent/rows.rt`, `lg_agent_tests/src/agent/rotating.rt`.
 ghost use Rattle.std.specs.Prelude.{◌≡◌, ◌<◌, ◌≤◌, ◌+◌, ◌⊎◌, [], ℕ, All, length, true, false, Some, None, get_or};
 ghost use Rattle.std.specs.Prelude.{MatchResult, MatchOption, IfOk, IfErr, OnErr};
 ghost use mathlib.Core.List.{IsPrefix};
@@ -25,25 +28,25 @@ use std::sync::Wait;
 
 mod opening;
 
-/// How many seats there are: that of the opening, and one for each of the 32 places that there can be.
+/// How many seats there are: one for the opening, and one for each of at most 32 passes.
 pub(crate) const SEATS: usize = 33;
 
-/// The value under an agent's lock. A contract sees it as the number of its places, its limit, the entries that are
-/// stored, and what stands for those that were cut off before them.
+/// The value under an agent's lock. A contract sees it as the number of its places, its limit, the stored entries,
+/// and the summary of those that were cut off before them.
 ///
-/// Whenever the lock is free, the history is the end of a legal one, the events of the whole are those that are
-/// published, and the detector is after them.
+/// Whenever the lock is free, the stored entries are the end of a legal history. The events of the whole history are
+/// those that are published, and the detector is after them.
 pub struct Kept<A: AgentName>
 where
     Published<A>: Absorb<Update<A>, State = [Event; 0]>,
 {
     places: usize,
     limit: u64,
-    /// How many entries there were since the opening, that one included.
+    /// How many entries there have been since the opening, its own included.
     count: u64,
     /// How many of them were cut off.
     base: u64,
-    /// What stands for those, where there are any.
+    /// The summary of those, if there are any.
     summary: Option<Summary>,
     /// How many of them each seat made.
     cut: [u64; SEATS],
@@ -92,23 +95,23 @@ where
 }
 
 impl<A: AgentName> Kept<A> {
-    /// The entries that are stored: in every state they are the end of a history that a single thread could have made,
-    /// with the places that `A` names; and the whole of one, where nothing was cut off.
+    /// The stored entries. In every state they are the end of a history that a single thread could have made, with
+    /// the places that `A` names. If nothing was cut off, they are the whole of one.
     #[tactic(auto, using(lg_history::proofs::Rests::rest_none))]
     pub fn history(&self) -> &[Entry]
         ensures same { result.now ≡ self.now.history }
         ensures legal { self.now.past ≡ [] → IsLegal self.now.places self.now.history }
         ensures rest { IsRest self.now.places self.now.past self.now.cut self.now.history }
-        // What was cut off, a summary stands for.
+        // The summary is one of what was cut off.
         ensures base { StandsFor self.now.summary self.now.past }
-        // It is full where as many entries are stored as its opening allows.
+        // The history is full if as many entries are stored as its opening allows.
         ensures limit { self.now.limit ≡ own_limit (all_events self.now) }
         ensures named { self.now.places ≡ A.places }
     {
         self.history.entries()
     }
 
-    /// How many entries there were since the opening, that one counted.
+    /// How many entries there have been since the opening, its own included.
     pub fn count(&self) -> u64
         ensures { result ≡ count_of self.now }
     {
@@ -130,12 +133,12 @@ impl<A: AgentName> Kept<A> {
         if seat < cut.len() { cut[seat] } else { 0 }
     }
 
-    /// What stands for the entries that were cut off, if any were.
+    /// The summary of the entries that were cut off, if any were.
     pub fn summary(&self) -> Option<&Summary>
         ensures same { MatchOption result (self.now.summary ≡ None) (λ s. self.now.summary ≡ Some s.now) }
         ensures base { StandsFor self.now.summary self.now.past }
-        // All events are accepted. Each reply that is stored is that of the definitions after all events before it, and
-        // the one that the summary leads to.
+        // All events are accepted. Each stored reply is that of the definitions after all events before it, and the
+        // one that follows from the summary.
         ensures accepted { is_accepted (all_events self.now) ≡ true }
         ensures answered { Answered self.now.past self.now.history }
         ensures from { (s : State) → self.now.summary ≡ Some s → AnsweredFrom s self.now.history }
@@ -153,20 +156,22 @@ impl<A: AgentName> Kept<A> {
         self.places
     }
 
-    /// The member's own name, which the opening gave.
+    /// The member's name, which the opening gave.
     pub fn name(&self) -> Name
         ensures { result ≡ own_name (all_events self.now) }
     {
         self.name
     }
 
-    /// Applies one event of the pass at a seat: the history grows by its entry, and its events are published. The event
-    /// has to be no opening.
+    /// Applies one event of the pass with this seat: the history grows by its entry, and its events are published.
+    /// The event must be no opening.
     ///
-    /// It is refused with [`Refusal::NoPlace`] where the seat isn't from 1 to the number of places, else with
-    /// [`Refusal::HistoryFull`] where there were as many events as a detector accepts, or as many entries are stored as
-    /// may be, else with [`Refusal::NoMemory`] where memory was refused, for the entry, the published event, or their
-    /// room. Then nothing has changed.
+    /// It is refused with the first of these that applies, and then nothing has changed:
+    /// - [`Refusal::NoPlace`] if the seat isn't from 1 to the number of places;
+    /// - [`Refusal::HistoryFull`] if there were as many events as a detector accepts, or if as many entries are
+    ///   stored as are allowed;
+    /// - [`Refusal::NoMemory`] if memory was refused for the entry, for the published event, or for the lists that
+    ///   hold them.
     pub fn apply<R: Wait>(
         &mut self,
         rt: &R,
@@ -210,11 +215,11 @@ impl<A: AgentName> Kept<A> {
         Ok(Receipt { place, reply })
     }
 
-    /// Cuts all stored entries off: a summary of all events so far stands for them, and they are counted with those of
-    /// their seats. It answers how many they were. It is no event: what is published, and who has seen what of it,
-    /// stays.
+    /// Cuts off all stored entries: a summary of all events so far is kept instead, and they are added to the counts
+    /// of their seats. Returns how many they were. It is no event: what is published, and what each reader has seen
+    /// of it, stays as it is.
     ///
-    /// The only refusal is [`Refusal::NoMemory`], where the summary had no memory. Then nothing has changed.
+    /// The only refusal is [`Refusal::NoMemory`], if memory for the summary was refused. Then nothing has changed.
     pub fn rotate(&mut self, alloc: Global) -> Result<u64, Refusal>
         ensures rotated { IfOk result (λ n. (n ≡ length self.old.history) × IsRotated self.old self.new) }
         ensures refused { IfErr result (λ e. (e ≡ NoMemory) × (self.new ≡ self.old)) }
@@ -230,7 +235,8 @@ impl<A: AgentName> Kept<A> {
         Ok(dropped)
     }
 
-    /// Tells a reader the events of the history, which begin with what it has seen. It has to have seen no more.
+    /// Brings a reader up to date with the events of the history, which begin with what it has seen. The reader must
+    /// not be ahead.
     pub fn tell(&self, look: &mut Look<A>)
         requires { length look.old ≤ count_of self.now }
         ensures begins { IsPrefix look.old (all_events self.now) }
@@ -240,7 +246,7 @@ impl<A: AgentName> Kept<A> {
         self.feed.tell(look);
     }
 
-    /// What a reader has seen begins the events of the history, if it is no longer.
+    /// Shows that what a reader has seen begins the events of the history. The reader must not be ahead.
     pub fn compare(&self, look: &Look<A>)
         requires { length look.now ≤ count_of self.now }
         ensures { IsPrefix look.now (all_events self.now) }
@@ -248,8 +254,8 @@ impl<A: AgentName> Kept<A> {
         self.feed.compare(look);
     }
 
-    /// One call of the pass at a seat: its event is applied, and its look is told. It is refused with
-    /// [`Refusal::Behind`] where the look has seen more than is published, else as [`Kept::apply`] is.
+    /// One call of the pass with this seat: applies its event, and brings its look up to date. Refused with
+    /// [`Refusal::Behind`] if the look has seen more than is published, otherwise as [`Kept::apply`] is.
     pub(crate) fn call<R: Wait>(
         &mut self,
         rt: &R,
@@ -276,7 +282,7 @@ impl<A: AgentName> Kept<A> {
         if here < seen {
             return Err(Refusal::Behind { seen, here });
         }
-        // What the look has seen begins all events, so that its opening gives the limit.
+        // What the look has seen begins all events, so its opening gives the limit.
         self.compare(look);
         let _history = self.history();
         let answer = self.apply(rt, alloc, seat, event);
@@ -286,13 +292,13 @@ impl<A: AgentName> Kept<A> {
         answer
     }
 
-    /// Ends it, and forgets its history. It waits until no reader reads; from then on each look answers
+    /// Ends it, and forgets its history. Waits until no reader reads; from then on each look answers
     /// [`NoView`](Refusal::NoView).
     pub fn end<R: Wait>(self, rt: &R) {
         drop(self.into_history(rt));
     }
 
-    /// Ends the feed, and keeps the entries, how many were cut off before them, and what stands for these.
+    /// Ends the feed. Returns the entries, how many were cut off before them, and the summary of those.
     pub(crate) fn into_history<R: Wait>(self, rt: &R) -> (Vec<Entry>, u64, Option<Summary>)
         ensures same { result.0.items ≡ self.history }
         ensures base { result.1 ≡ length self.past }
@@ -318,7 +324,7 @@ impl<A: AgentName> Kept<A> {
     }
 }
 
-/// Adds to the number of each seat how many of these entries it made.
+/// Adds to the count of each seat how many of these entries it made.
 fn count_seats(counts: &mut [u64; SEATS], entries: &[Entry])
     requires seats { All (λ x. x.seat ≤ 32) entries.now }
     requires room { (seat : ℕ) → of_seat counts.old seat + length entries.now ≤ 4000000000 }

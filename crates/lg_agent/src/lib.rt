@@ -1,14 +1,15 @@
 //! The agent that the threads of a service share: one detector under a lock, and views of it that wait for nobody.
 //!
 //! [`Agent::open`] opens it for a number of places. [`Agent::passes`] gives a [`Pass`] for each place, one for each
-//! thread. A pass makes calls, each of which takes the lock, applies one event and gives the reply to it, and looks,
-//! which take no lock and answer from what was published last. [`Pass::finish`] leaves a [`Spent`], and
-//! [`Agent::close`] compares them all with the history and gives it.
+//! thread. The passes have the seats 1, 2 and so on, and the opening has the seat 0. A pass makes calls, each of
+//! which takes the lock, applies one event and gives the reply to it. It also makes looks, which take no lock and
+//! answer from what was published last. [`Pass::finish`] leaves a [`Spent`], and [`Agent::close`] compares them all
+//! with the history and gives it.
 //!
 //! **In every state that the lock can hold, the history is the end of one that a single thread could have made**, and
-//! the whole of it where nothing was cut off: one entry a call, each with the reply that the definitions give after the
-//! entries before it. An answered call ends an accepted list of events which begins with all that its caller had seen.
-//! Every look answers by the member table, the timers or the length of such a list.
+//! the whole of it if nothing was cut off. It has one entry for each call, each with the reply that the definitions
+//! give after the entries before it. An answered call ends an accepted list of events that begins with all that its
+//! caller had seen. Every look answers by the member table, the timers or the length of such a list.
 //!
 //! Where to read on:
 //! - the value under the lock, and what one call does to it: `kept.rt`; how it begins: `kept/opening.rt`;

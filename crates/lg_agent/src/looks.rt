@@ -1,4 +1,7 @@
 //! What a pass reads without the lock: each look answers from what was published last, and waits for nobody.
+//!
+//! Defined in: `specs/Meaning/Calls.antt`, `lg_detector/specs/Meaning/Step.antt`.
+//! Tested in: `lg_agent_tests/src/agent/rows.rt`.
 ghost use Rattle.std.specs.Prelude.{◌≡◌, ◌⊎◌, length, Some, MatchResult};
 ghost use Rattle.lg_rules.specs.Meaning.Claim.{name_of};
 ghost use Rattle.lg_rules.specs.Meaning.Rows.{name_cmp, row_at};
@@ -15,8 +18,8 @@ use lg_view::MembersFault;
 use std::alloc::Global;
 
 impl<'a, A: AgentName> Pass<'a, A> {
-    /// The record of a name, the own one included, where it is known. It takes no memory and no lock. The only refusal
-    /// is [`Refusal::NoView`].
+    /// The record of a name, this member's included, if it is known. Allocates nothing and takes no lock. The only
+    /// refusal is [`Refusal::NoView`].
     pub fn status_of(&mut self, name: &Name) -> Result<Option<Record>, Refusal>
         ensures { MatchResult result
             (λ r. (r ≡ row_at name_cmp name_of name.now (view_after self.new.seen)) × IsLook self.old self.new)
@@ -25,8 +28,8 @@ impl<'a, A: AgentName> Pass<'a, A> {
         self.own.status_of(name)
     }
 
-    /// The least deadline of the timers that are set, in milliseconds. It takes no memory and no lock. The only refusal
-    /// is [`Refusal::NoView`].
+    /// The least deadline of the timers that are set, in milliseconds. Allocates nothing and takes no lock. The only
+    /// refusal is [`Refusal::NoView`].
     pub fn next_deadline(&mut self) -> Result<u64, Refusal>
         ensures { MatchResult result (λ n. (deadline_after self.new.seen ≡ Some n) × IsLook self.old self.new)
             (λ e. (e ≡ NoView) × (self.new ≡ self.old)) }
@@ -34,8 +37,8 @@ impl<'a, A: AgentName> Pass<'a, A> {
         self.own.next_deadline()
     }
 
-    /// How many events the published value is after; after the opening it is 1. It takes no memory and no lock. The
-    /// only refusal is [`Refusal::NoView`].
+    /// How many events the published value is after; after the opening it is 1. Allocates nothing and takes no lock.
+    /// The only refusal is [`Refusal::NoView`].
     pub fn version(&mut self) -> Result<u64, Refusal>
         ensures { MatchResult result (λ n. (n ≡ length self.new.seen) × IsLook self.old self.new)
             (λ e. (e ≡ NoView) × (self.new ≡ self.old)) }
@@ -43,8 +46,8 @@ impl<'a, A: AgentName> Pass<'a, A> {
         self.own.version()
     }
 
-    /// The records of all members, the own one included, in the order of their names. It takes memory for 256 records,
-    /// and no lock. It is refused with [`Refusal::NoMemory`] where that was refused, else with [`Refusal::NoView`].
+    /// The records of all members, this one's included, in the order of their names. Allocates memory for 256 records,
+    /// and takes no lock. Refused with [`Refusal::NoMemory`] if that was refused, otherwise with [`Refusal::NoView`].
     pub fn members(&mut self, alloc: Global) -> Result<Vec<Record>, Refusal>
         ensures { MatchResult result
             (λ records. (records.items ≡ view_after self.new.seen) × IsLook self.old self.new)

@@ -1,10 +1,10 @@
-//! What a type parameter names of an agent.
+//! The type parameter that names an agent.
 use lg_view::PairName;
 use std::marker::Brand;
 
 /// Names one published pair, and how many places its agent has.
 ///
-/// A function that opens an agent takes a type parameter with this bound, and requires that the book and the number of
+/// A function that opens an agent takes a type parameter with this bound. It requires that the book and the number of
 /// places that it is handed are those that the parameter names. At run time the type is [`Brand`].
 pub trait AgentName: PairName {
     ghost use Rattle.std.specs.Prelude.{ℕ};

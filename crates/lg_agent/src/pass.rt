@@ -1,4 +1,7 @@
 //! A pass and its calls. Each call takes the lock once.
+//!
+//! Defined in: `specs/Meaning/Calls.antt`, `specs/Meaning/Ledger.antt`, `lg_packet/specs/Meaning/Reading.antt`.
+//! Tested in: `lg_agent_tests/src/agent/rows.rt`.
 ghost use Rattle.std.specs.Prelude.{◌≡◌, ◌⊎◌, Ok, Err, false, MatchResult, IfOk, IfErr, OnErr};
 ghost use Rattle.lg_packet.specs.declared.fault.Fault.{Fault as Broken};
 ghost use Rattle.lg_packet.specs.declared.packet.Packet.{Packet as Read};
@@ -23,12 +26,13 @@ use std::alloc::Global;
 use std::marker::Model;
 use std::sync::{Mutex, Wait};
 
-/// A thread's access to the agent. A contract sees the name of its agent, its place, the events that it has seen, and
-/// of its answered calls the positions, but for the first so many, whose entries were cut off.
+/// A thread's access to the agent. A contract sees the name of its agent, its seat, the events that it has seen, and
+/// the positions of its answered calls in the history. Of the first calls, whose entries were cut off, it sees only
+/// how many they are.
 ///
-/// Each call takes the lock, and may wait for it. An answered one makes one entry of the history, and its reply is the
-/// one that the definitions give to its event after a list of events which begins with all that the pass had seen. A
-/// refused one makes none, and changes nothing.
+/// Each call takes the lock, and may wait for it. An answered call makes one entry of the history. Its reply is the
+/// one that the definitions give to its event after a list of events that begins with all that the pass had seen. A
+/// refused call makes no entry, and changes nothing.
 #[derive(Drop)]
 pub struct Pass<'a, A: AgentName>
 where
@@ -50,7 +54,7 @@ where
 }
 
 impl<'a, A: AgentName> Pass<'a, A> {
-    /// One event, under the lock.
+    /// Makes one event, under the lock.
     fn call<R: Wait>(&mut self, rt: &R, alloc: Global, event: &Event) -> Result<Receipt, Refusal>
         requires { is_open event.now ≡ false }
         ensures answered { MatchResult result (λ r. IsCall self.old event.now r self.new)
@@ -60,8 +64,8 @@ impl<'a, A: AgentName> Pass<'a, A> {
         self.own.call(self.kept, rt, alloc, event)
     }
 
-    /// Time has passed: the first timer that is due fires, if one is. The moment is in milliseconds, and the words are
-    /// random.
+    /// Time has passed: fires the first timer that is due, if one is. The moment is in milliseconds, and the words
+    /// are random.
     pub fn tick<R: Wait>(
         &mut self,
         rt: &R,
@@ -76,8 +80,8 @@ impl<'a, A: AgentName> Pass<'a, A> {
         self.call(rt, alloc, &Event::Tick { now, words })
     }
 
-    /// A datagram came from an address. [`Refusal::BadPacket`] comes exactly where its bytes are no packet, with their
-    /// fault; else the packet that they spell is heard.
+    /// A datagram came from an address: hears the packet that its bytes spell. If they are no packet, and only then,
+    /// the refusal is [`Refusal::BadPacket`], with their fault.
     pub fn datagram<R: Wait>(
         &mut self,
         rt: &R,
@@ -122,7 +126,7 @@ impl<'a, A: AgentName> Pass<'a, A> {
         self.call(rt, alloc, &Event::Ask { now, name: *name })
     }
 
-    /// Asks for the health score, the own incarnation and the number of members.
+    /// Asks for the health score, this member's incarnation and the number of members.
     pub fn health<R: Wait>(
         &mut self,
         rt: &R,
@@ -151,9 +155,9 @@ impl<'a, A: AgentName> Pass<'a, A> {
         self.call(rt, alloc, &Event::Pull { now, peer })
     }
 
-    /// Cuts the entries that are stored off the history; a summary of all events so far stands for them. It answers how
-    /// many they were. It is no event, and makes no entry: what the pass has seen and how many calls it made stays. The
-    /// only refusal is [`Refusal::NoMemory`], and then nothing has changed.
+    /// Cuts the stored entries off the history; a summary of all events so far is kept instead. Returns how many they
+    /// were. It is no event, and makes no entry: what the pass has seen and how many calls it made stay as they are.
+    /// The only refusal is [`Refusal::NoMemory`], and then nothing has changed.
     pub fn rotate<R: Wait>(&mut self, rt: &R, alloc: Global) -> Result<u64, Refusal>
         ensures rotated { MatchResult result (λ _. IsRotatedPass self.old self.new)
             (λ e. (e ≡ NoMemory) × (self.new ≡ self.old)) }
@@ -161,7 +165,7 @@ impl<'a, A: AgentName> Pass<'a, A> {
         self.own.rotate(self.kept, rt, alloc)
     }
 
-    /// What the pass leaves.
+    /// Ends the pass, and gives what it leaves.
     pub fn finish(self) -> Spent<A>
         ensures { result ≡ self.entry }
     {

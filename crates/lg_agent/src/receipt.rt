@@ -4,7 +4,7 @@ use lg_detector::Reply;
 /// What an answered call gives.
 #[derive(Debug, Drop)]
 pub struct Receipt {
-    /// The position of the call's entry, from 1; the opening has 0. Entries that were cut off count.
+    /// The position of the call's entry in the history, from 1; the opening has 0. Entries that were cut off count.
     pub place: u64,
     /// The reply to the call's event.
     pub reply: Reply,

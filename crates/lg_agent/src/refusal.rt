@@ -1,4 +1,6 @@
 //! Why a call or a look is refused, and why an agent isn't closed.
+//!
+//! Defined in: `specs/Meaning/Numbers.antt`, `specs/Meaning/Calls.antt`, `specs/Meaning/Closing.antt`.
 ghost use Rattle.std.specs.Prelude.{◌≡◌};
 ghost use Rattle.lg_agent.specs.Meaning.Numbers.{refusal_number, close_fault_number};
 
@@ -6,10 +8,10 @@ use lg_packet::Fault;
 use lg_view::NoView;
 use thiserror::Error;
 
-/// Why a call or a look was refused. It then has changed nothing, and made no entry.
+/// Why a call or a look was refused. It has then changed nothing, and made no entry.
 ///
-/// Where several are due, a call is refused by the first in this order: `BadPacket`, `NoMemory` for the pass's own
-/// list, `Behind`, `NoPlace`, `HistoryFull`, `NoMemory` for the history and the publication.
+/// If several refusals apply, a call gets the first in this order: `BadPacket`, `NoMemory` for the pass's own list,
+/// `Behind`, `NoPlace`, `HistoryFull`, `NoMemory` for the history and the publication.
 #[derive(Clone, Copy, Debug, PartialEq, Eq, Error)]
 pub enum Refusal {
     /// The bytes are no packet.
@@ -18,11 +20,11 @@ pub enum Refusal {
     /// Memory was refused.
     #[error("memory was refused")]
     NoMemory,
-    /// As many entries are stored as may be, this limit of the configuration; or there were 4,000,000,000 events, which
-    /// is then the number here.
+    /// As many entries are stored as the configuration allows, which is the number here. Or there were 4,000,000,000
+    /// events, and that is then the number here.
     #[error("the history is full: {0} entries are its limit")]
     HistoryFull(u64),
-    /// The pass has seen more events than are published. No run meets this.
+    /// The pass has seen more events than are published. This should never happen.
     #[error("the pass has seen {seen} events, and {here} are published")]
     Behind {
         /// How many events the pass has seen.
@@ -30,10 +32,10 @@ pub enum Refusal {
         /// How many are published.
         here: u64,
     },
-    /// There is no such place, or at an opening no reader could be had for one.
+    /// There is no such seat; or, at an opening, there was no reader for one.
     #[error("there is no such place, or no reader for one")]
     NoPlace,
-    /// At a look: the published value wasn't handed out. While the agent is open, this doesn't come.
+    /// At a look: the published value wasn't handed out. While the agent is open, this should never happen.
     #[error("{view}", view = NoView)]
     NoView,
 }
@@ -54,24 +56,24 @@ impl Refusal {
     }
 }
 
-/// Why an agent wasn't closed. Where several are due it is the first in the order `Foreign`, `Missing`, `Differs`.
+/// Why an agent wasn't closed. If several faults apply, it is the first in the order `Foreign`, `Missing`, `Differs`.
 #[derive(Clone, Copy, Debug, PartialEq, Eq, Error)]
 pub enum CloseFault {
-    /// Some place from 1 to the number of places has no [`Spent`](crate::Spent).
+    /// Some seat from 1 to the number of places has no [`Spent`](crate::Spent).
     #[error("a place has no Spent")]
     Missing,
-    /// Some [`Spent`](crate::Spent) bears another agent's name, or has a place that isn't there, or one that another
-    /// has as well.
+    /// Some [`Spent`](crate::Spent) has another agent's name, or a seat that isn't from 1 to the number of places, or
+    /// one that another has as well.
     #[error("a Spent is another agent's, or has a place that isn't there, or that another Spent has")]
     Foreign,
-    /// The calls that a [`Spent`](crate::Spent) tells of aren't those of its place in the history: of the entries that
-    /// were cut off their number, of the others the positions.
+    /// The calls of a [`Spent`](crate::Spent) aren't those of its seat in the history. Of the entries that were cut
+    /// off the number is compared, of the others the positions.
     #[error("the calls of place {seat} aren't those of the history, from call {index} on")]
     Differs {
-        /// The least such place.
+        /// The least such seat.
         seat: usize,
         /// The first index, counted over all calls of the pass, at which the two lists differ; one of them may end
-        /// there. Where the numbers differ, it is the lesser of the two.
+        /// there. If the numbers differ, it is the lesser of the two.
         index: u64,
     },
 }

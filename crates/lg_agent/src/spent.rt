@@ -1,4 +1,7 @@
 //! What a pass keeps, and leaves when it is finished.
+//!
+//! Defined in: `specs/Meaning/Calls.antt`, `specs/Meaning/Ledger.antt`.
+//! Tested in: `lg_agent_tests/src/agent/leaving.rt`.
 ghost use Rattle.std.specs.Prelude.{◌≡◌, ◌+◌, ◌≤◌, drop, length, vec_len, false, MatchResult, IfErr, IfOk, OnErr};
 ghost use Rattle.std.specs.Vec.{vec_capacity};
 ghost use Rattle.lg_detector.specs.Meaning.Step.{is_open};
@@ -17,13 +20,14 @@ use std::alloc::Global;
 use std::marker::Model;
 use std::sync::{Mutex, MutexGuard, Wait};
 
-/// What a pass leaves: the name of its agent, its place, its reader, and the positions of its answered calls.
+/// What a pass leaves: the name of its agent, its seat, its reader, and the positions of its answered calls in the
+/// history.
 #[derive(Drop)]
 pub struct Spent<A: AgentName> {
     pub(crate) name: Name,
     pub(crate) seat: usize,
     pub(crate) look: Look<A>,
-    /// How many of its calls were cut off from its positions.
+    /// How many of its first calls have no position here any more, since their entries were cut off.
     pub(crate) gone: u64,
     pub(crate) mine: Vec<u64>,
 }
@@ -37,7 +41,7 @@ impl<A: AgentName> Model for Spent<A> {
 
     ghost view = { λ s. record { name = s.name; seat = s.seat; seen = s.look; gone = s.gone; mine = s.mine.items } };
 
-    // It has seen the opening, and all its calls. Its place is one of the agent's.
+    // It has seen the opening, and all its calls. Its seat is one of the agent's.
     ghost invariant = { λ s. (begins_open s.look ≡ true)
         × All (λ k. k < length s.look) s.mine.items
         × (s.gone + length s.mine.items < length s.look)
@@ -53,7 +57,7 @@ impl<A: AgentName> Spent<A> {
         self.name
     }
 
-    /// Its place, from 1.
+    /// Its seat, from 1.
     pub fn seat(&self) -> usize
         ensures { result ≡ self.now.seat }
     {
@@ -67,14 +71,14 @@ impl<A: AgentName> Spent<A> {
         self.look.seen()
     }
 
-    /// How many of its answered calls it has no positions of any more: the first ones, whose entries were cut off.
+    /// How many of its answered calls have no position here any more: the first ones, whose entries were cut off.
     pub fn gone(&self) -> u64
         ensures { result ≡ self.now.gone }
     {
         self.gone
     }
 
-    /// How many calls it had answered.
+    /// How many of its calls were answered.
     pub fn made(&self) -> u64
         ensures { result ≡ self.now.gone + length self.now.mine }
     {
@@ -90,7 +94,7 @@ impl<A: AgentName> Spent<A> {
         self.mine.as_slice()
     }
 
-    /// One event, under the lock, which is taken once.
+    /// Makes one event, under the lock, which is taken once.
     pub(crate) fn call<R: Wait>(
         &mut self,
         kept: &Mutex<Kept<A>>,
@@ -109,8 +113,9 @@ impl<A: AgentName> Spent<A> {
         answer
     }
 
-    /// One event, by the value under the lock: room for the position is had first, then the event is applied and the
-    /// look told, and the position is kept. Where it is refused, neither the pass nor the value has changed.
+    /// Makes one event, by the value under the lock. First it reserves memory for the position. Then it applies the
+    /// event, brings the look up to date, and keeps the position. If it is refused, neither the pass nor the value
+    /// has changed.
     fn call_in<R: Wait>(
         &mut self,
         kept: &mut Kept<A>,
@@ -137,7 +142,7 @@ impl<A: AgentName> Spent<A> {
         answer
     }
 
-    /// How many of its calls have their entries before the base, and how many positions these have.
+    /// How many of its calls have their entries before the base, and how many of these have positions here.
     pub(crate) fn cut_at(&self, base: u64) -> (u64, usize)
         ensures moved { result.1 ≡ below base self.now.mine }
         ensures few { result.1 ≤ length self.now.mine }
@@ -149,7 +154,7 @@ impl<A: AgentName> Spent<A> {
         (self.gone + moved as u64, moved)
     }
 
-    /// A rotation, under the lock, which is taken once.
+    /// Rotates, under the lock, which is taken once.
     pub(crate) fn rotate<R: Wait>(
         &mut self,
         kept: &Mutex<Kept<A>>,
@@ -165,7 +170,7 @@ impl<A: AgentName> Spent<A> {
         answer
     }
 
-    /// A rotation of the value under the lock. Where it is refused, neither the pass nor the value has changed.
+    /// Rotates the value under the lock. If it is refused, neither the pass nor the value has changed.
     fn rotate_in(&mut self, kept: &mut Kept<A>, alloc: Global) -> Result<u64, Refusal>
         ensures pass { IfOk result (λ _. IsRotatedPass self.old self.new) }
         ensures history { IfOk result (λ n. (n ≡ length kept.old.history) × IsRotated kept.old kept.new) }
@@ -182,7 +187,7 @@ impl<A: AgentName> Spent<A> {
     }
 }
 
-/// How many of these positions are below the base.
+/// How many of the first positions are below the base.
 fn below(base: u64, mine: &[u64]) -> usize
     ensures count { result ≡ below base mine.now }
     ensures few { result ≤ length mine.now }
@@ -190,7 +195,7 @@ fn below(base: u64, mine: &[u64]) -> usize
     mine.iter().take_while(|place| **place < base).count()
 }
 
-/// Cuts the positions below the base off, and answers how many they were.
+/// Cuts off the first positions that are below the base, and returns how many they were.
 fn cut_positions(base: u64, mine: &mut Vec<u64>) -> usize
     ensures count { result ≡ below base mine.old.items }
     ensures few { result ≤ length mine.old.items }

@@ -1,5 +1,5 @@
--- What is right: whoever wants to believe the contracts reads these. Step says which lists of events are accepted, and
--- gives the reply to an event after a list; what each kind of event does is in the file of its name.
+-- What is right: whoever wants to believe the contracts reads these. Step says which lists of events are accepted,
+-- and gives the reply to an event after a list. What each kind of event does is in the file of its name.
 
 -- the log of what happened
 pub mod Log
@@ -12,7 +12,7 @@ pub mod Timing
 -- what is added to a log, and what is sent
 pub mod Apply
 pub mod Send
--- the kinds of event; Hear is Heard, Ask is Ask and Health, and Joining has Pull
+-- the kinds of event: Hear has Heard, Ask has Ask and Health, and Joining has Pull
 pub mod Open
 pub mod Hear
 pub mod Tick

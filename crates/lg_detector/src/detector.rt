@@ -1,5 +1,8 @@
-//! The detector: what it keeps, which events it accepts, and the two calls that lead it on by one, `step` and `absorb`.
-//! Each kind of event is a file of its own.
+//! The detector: what it holds, which events it accepts, and the two calls that advance it by one event, `step` and
+//! `absorb`. Each kind of event has a file of its own.
+//!
+//! Defined in: `specs/Meaning/Step.antt`, `specs/Support/Step.antt`, `specs/Meaning/Window.antt`.
+//! Tested in: `lg_detector_tests/src/detector/open.rt`, `lg_detector_tests/src/detector/copies.rt`.
 ghost use Rattle.std.specs.Prelude.{◌≡◌, ℕ, ◌≤◌, ◌<◌, ◌+◌, ◌++◌, [], ◌∷◌, List, length};
 ghost use Rattle.std.specs.Prelude.{IfOk, IsTrue, true, false, is_some};
 ghost use Rattle.std.specs.Option.{option_to_list};
@@ -38,7 +41,7 @@ mod round;
 mod send;
 mod tick;
 
-/// No memory could be had. The call that fails with it has changed nothing.
+/// Memory was refused. The call that fails with this error has changed nothing.
 pub type NoMemory = AllocError;
 
 /// The most events that a detector accepts: 4,000,000,000 (this project's choice).
@@ -46,30 +49,30 @@ pub const MAX_EVENTS: u64 = 4_000_000_000;
 
 /// The failure detector of one member (SWIM, sections 3 and 4; Lifeguard).
 ///
-/// A contract sees it as its state, which is a function of the list of the events that it accepted.
+/// A contract sees it as its state, which is a function of the list of the events that it has accepted.
 #[derive(Drop)]
 pub struct Detector {
     parts: Box<Parts>,
 }
 
-/// What a detector keeps, on the heap.
+/// What a detector holds, on the heap.
 #[derive(Drop)]
 struct Parts {
-    /// How many events came.
+    /// How many events have come.
     events: u64,
-    /// The greatest moment handed in.
+    /// The greatest moment handed in so far.
     moment: Moment,
-    /// The health score.
+    /// The health score (Lifeguard's local health multiplier, LHM).
     score: Score,
-    /// The timers that are set: those of the round, one for each suspicion, and two at most for each relay.
+    /// The timers that are set: those of the round, one for each suspicion, and at most two for each relay.
     timers: Timers,
-    /// Whom rounds choose: the others that haven't failed, and who was chosen in the current round.
+    /// Whom rounds choose: the other members that haven't failed, and which of them the current round has chosen.
     order: Order,
-    /// The next sequence number, of a probe or a relay.
+    /// The next sequence number, for a probe or a relay.
     number: u32,
-    /// The probe that runs.
+    /// The probe that runs, if one does.
     round: Option<Round>,
-    /// The relays that are open.
+    /// The open relays.
     relays: Relays,
     /// What it knows of its group.
     membership: Membership,
@@ -88,8 +91,8 @@ impl Model for Detector {
 }
 
 impl Detector {
-    /// A detector that nothing has happened to. It takes all the memory that the detector will ever keep,
-    /// in one box; the only error is that memory was refused.
+    /// A detector to which nothing has happened yet. Allocates one box, which is all the memory that the detector
+    /// will ever hold. The only error is that memory was refused.
     pub fn blank(alloc: Global) -> Result<Detector, NoMemory>
         ensures { IfOk result (λ detector. detector ≡ state_after []) }
     {
@@ -110,7 +113,7 @@ impl Detector {
         Ok(Detector { parts })
     }
 
-    /// An equal detector. It takes memory for it; the only error is that memory was refused.
+    /// An equal detector. Allocates one box for it; the only error is that memory was refused.
     pub(crate) fn copy(&self, alloc: Global) -> Result<Detector, NoMemory>
         ensures { IfOk result (λ detector. detector ≡ self.now) }
     {
@@ -136,24 +139,25 @@ impl Detector {
         Ok(Detector { parts })
     }
 
-    /// Whether an event can come next: an opening with a good configuration first and never again, and at most
-    /// 4,000,000,000 events in all.
+    /// Whether an event can come next. The first event has to be an opening with a good configuration, and no later
+    /// one may be an opening. At most 4,000,000,000 events are accepted in all.
     pub fn accepts(&self, event: &Event) -> bool
         ensures state { result ≡ accepts_of self.now event.now }
-        // After an accepted list, exactly where the list with this event is accepted.
+        // After an accepted list: exactly if the list with this event is accepted.
         ensures list { (f : List Happened) → is_accepted f ≡ true → self.now ≡ state_after f
             → result ≡ is_accepted (f ++ event.now ∷ []) }
     {
         can_come(self.parts.events, event)
     }
 
-    /// Leads the state on by an event that is accepted, and writes the reply to it in the place of what `reply` held.
-    /// It takes no memory, and always succeeds.
+    /// Advances the state by an accepted event, and overwrites `reply` with the reply to it. Allocates nothing, and
+    /// always succeeds.
     pub fn step(&mut self, event: &Event, reply: &mut Reply)
         requires { IsTrue (accepts_of self.old event.now) }
         ensures state { self.new ≡ state.step self.old event.now }
         ensures reply { reply.new ≡ state.reply self.old event.now }
-        // After any list of events, the list goes on by this one, and the reply is that of the definitions after it.
+        // After any list of events: the state is then that of the list with this event, and the reply is the one that
+        // the definitions give after the list.
         ensures after { (f : List Happened) → self.old ≡ state_after f
             → self.new ≡ state_after (f ++ event.now ∷ []) }
         ensures answer { (f : List Happened) → self.old ≡ state_after f → reply.new ≡ reply_after f event.now }
@@ -161,8 +165,8 @@ impl Detector {
         self.advance(event, reply);
     }
 
-    /// Leads the state on by an event, without a reply. An event that isn't accepted changes nothing. It takes no
-    /// memory, and always succeeds.
+    /// Advances the state by an event, without a reply. An event that isn't accepted changes nothing. Allocates
+    /// nothing, and always succeeds.
     pub fn absorb(&mut self, event: &Event)
         ensures state { self.new ≡ state.step self.old event.now }
         ensures after { (f : List Happened) → self.old ≡ state_after f → IsTrue (accepts_of self.old event.now)
@@ -175,7 +179,7 @@ impl Detector {
         }
     }
 
-    /// Leads the state on by an event that is accepted, and writes the reply to it.
+    /// Advances the state by an accepted event, and writes the reply to it.
     fn advance(&mut self, event: &Event, reply: &mut Reply)
         requires { IsTrue (accepts_of self.old event.now) }
         ensures state { self.new ≡ state.advance self.old event.now }
@@ -188,7 +192,7 @@ impl Detector {
 }
 
 impl Detector {
-    /// Leads the state on by an event that is accepted, and writes the parts of the reply that the event makes.
+    /// Advances the state by an accepted event, and writes the parts of the reply that the event itself makes.
     fn react(&mut self, event: &Event, reply: &mut Reply)
         requires { IsTrue (accepts_of self.old event.now) }
         ensures state { self.new ≡ state.advance self.old event.now }
@@ -229,7 +233,7 @@ fn opens_well(event: &Event) -> bool
     }
 }
 
-/// Whether an event can come after so many others.
+/// Whether an event can come after this many others.
 fn can_come(events: u64, event: &Event) -> bool
     ensures { result ≡ accepts_at events event.now }
 {
@@ -240,28 +244,29 @@ fn can_come(events: u64, event: &Event) -> bool
     }
 }
 
-/// The law by itself: the states that the contracts speak of are functions of the list of events. One that accepts an
-/// event leads on as the list does, and gives the reply of the definitions.
+/// The law by itself: the states that the contracts speak of are functions of the list of events. A state that
+/// accepts an event advances as the list does, and its reply is the one of the definitions.
 pub fn states_lead_on()
     ensures next { (f : List Happened) (e : Happened) → IsTrue (accepts_of (state_after f) e)
         → state.step (state_after f) e ≡ state_after (f ++ e ∷ []) }
     ensures reply { (f : List Happened) (e : Happened) → state.reply (state_after f) e ≡ reply_after f e }
-    // After an accepted list, an event is accepted exactly where the list with it is.
+    // After an accepted list: an event is accepted exactly if the list with it is.
     ensures accepts { (f : List Happened) (e : Happened) → is_accepted f ≡ true
         → accepts_of (state_after f) e ≡ is_accepted (f ++ e ∷ []) }
     ensures events { (f : List Happened) → (state_after f).events ≡ length f }
-    // After a list that begins with an opening a timer is always set: by its first event, and by the list.
+    // After a list that begins with an opening a timer is always set. One clause says it of the first event, the
+    // other of the list.
     ensures deadline { (x : Happened) (f : List Happened) → is_open x ≡ true
         → is_some (deadline_after (x ∷ f)) ≡ true }
     ensures timed { (f : List Happened) → begins_open f ≡ true → is_some (deadline_after f) ≡ true }
-    // Whom an event chose is told by the reply to it.
+    // The reply to an event says whom the event chose.
     ensures chosen { (f : List Happened) (e : Happened)
         → targets_after (f ++ e ∷ []) ≡ targets_after f ++ option_to_list (choice (reply_after f e)) }
 {}
 
-/// Which lists of events are accepted: they have at most 4,000,000,000 events, and the first is an opening. The list of
-/// an opening alone is, where its configuration passes the check, and so is one with a further event that is no
-/// opening, as long as there is room.
+/// Which lists of events are accepted. They have at most 4,000,000,000 events, and the first one is an opening. The
+/// list of an opening alone is accepted if its configuration passes the check. An accepted list that has an opening
+/// and fewer than 4,000,000,000 events is also accepted with a further event that is no opening.
 pub fn accepted_lists()
     ensures few { (f : List Happened) → is_accepted f ≡ true → length f ≤ MAX_EVENTS }
     ensures opens { (x : Happened) (f : List Happened) → is_accepted (x ∷ f) ≡ true → is_open x ≡ true }
@@ -271,9 +276,9 @@ pub fn accepted_lists()
         → is_accepted (Opening now opening ∷ []) ≡ true }
 {}
 
-/// While the others that haven't failed stay the same and have p names, any 2p - 1 rounds in a row that choose a target
-/// choose each of them (SWIM, section 4.3; the p here is one less than the number of members there). With no names
-/// nobody is chosen.
+/// As long as the others that haven't failed stay the same p names, any 2p - 1 rounds in a row that choose a target
+/// choose each of them (SWIM, section 4.3). The p here is one less than the number of members there. If there are no
+/// such names, nobody is chosen.
 pub fn windows_have_each()
     ensures each { (log stretch : Log) (name : List ℕ) → AreOthers (others log) stretch log
         → is_among name_cmp name (others log) ≡ true → window (others log) ≤ length (targets stretch log)

@@ -1,21 +1,21 @@
-//! What happens to a detector.
+//! The events: what happens to a detector.
 ghost use Rattle.std.specs.Prelude.{◌≡◌};
 
 use lg_packet::Packet;
 use lg_rules::{Addr, Name};
 use lg_timing::{Config, Moment};
 
-/// What happens to a detector, at the moment that is handed in.
+/// What happens to a detector, at the moment that the caller hands in.
 #[derive(Debug, Drop)]
 pub enum Event {
-    /// The detector is opened: the first event, and never another.
+    /// The detector is opened. The first event is an opening, and no later one is.
     Open {
         /// When.
         now: Moment,
         /// What it is opened with.
         config: Config,
     },
-    /// Time has passed: the first of the timers that are due fires, if one is due, and no other.
+    /// Time has passed. The first of the timers that are due fires, if one is due, and no other.
     Tick {
         /// When.
         now: Moment,
@@ -31,19 +31,19 @@ pub enum Event {
         /// The packet.
         packet: Packet,
     },
-    /// The record of a name is asked for.
+    /// Asks for the record of a name.
     Ask {
         /// When.
         now: Moment,
         /// Whose record.
         name: Name,
     },
-    /// The health score, the own number and the number of members are asked for.
+    /// Asks for the health score, this member's incarnation and the number of members.
     Health {
         /// When.
         now: Moment,
     },
-    /// Another member is asked for its table, page by page, and told of oneself (this project's choice).
+    /// Asks another member for its table, page by page, and sends it this member's record (this project's choice).
     Pull {
         /// When.
         now: Moment,
@@ -53,7 +53,7 @@ pub enum Event {
 }
 
 impl Event {
-    /// An equal event. It takes no memory.
+    /// An equal event. Allocates nothing.
     pub fn copy(&self) -> Event
         ensures { result ≡ self.now }
     {

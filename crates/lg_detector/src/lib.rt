@@ -1,13 +1,13 @@
 //! The sequential detector: its state and its replies depend on the list of past events alone.
 //!
 //! Where to read on:
-//! - what an event does: `detector/open.rt`, `hear.rt`, `tick.rt`, `ask.rt` and `joining.rt` (Pull), and by the
-//!   log of what happened the files of the same names in `specs/Meaning`;
+//! - what an event does: `detector/open.rt`, `hear.rt`, `tick.rt`, `ask.rt` and `joining.rt` (Pull). The files of the
+//!   same names in `specs/Meaning` say it by the log of what happened;
 //! - what an opening or a claim does to the score, the timers and the order of probing: `detector/facts.rt`;
-//! - the rounds of probing and the relays: `detector/round.rt` and `relay.rt`, and how packets are filled: `send.rt`;
+//! - the rounds of probing and the relays: `detector/round.rt` and `relay.rt`; how packets are filled: `send.rt`;
 //! - what a claim changes of the group's records, suspicions and queued claims: `lg_membership`;
-//! - when a suspicion runs out, and how its accusers bring that nearer: `lg_suspicion`;
-//! - which of the queued claims a packet takes: `lg_gossip`.
+//! - when a suspicion runs out, and how its accusers bring that moment nearer: `lg_suspicion`;
+//! - which of the queued claims a packet takes (gossip): `lg_gossip`.
 #![tactic(auto)]
 
 mod detector;

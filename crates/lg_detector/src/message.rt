@@ -1,4 +1,4 @@
-//! A packet that is to be sent, before its sender and its claims are written.
+//! A packet to be sent, before its sender and its claims are written.
 ghost use Rattle.std.specs.Prelude.{◌≡◌, [], ◌∷◌};
 
 use crate::reply::MAX_SENDS;
@@ -6,16 +6,16 @@ use arrayvec::ArrayVec;
 use lg_packet::Body;
 use lg_rules::{Addr, Name};
 
-/// Where a packet goes, and what it asks for or responds.
+/// Where a packet goes, and what it asks for or answers.
 #[derive(Clone, Copy, Debug, PartialEq, Eq)]
 pub(crate) struct Message {
     /// Where it goes.
     pub(crate) to: Addr,
-    /// What it asks for or responds.
+    /// What it asks for or answers.
     pub(crate) body: Body,
 }
 
-/// An Ack numbered 0 to no address, which fills those places of a row of fixed capacity that hold no message.
+/// An Ack numbered 0 to the address 0.0.0.0:0. It fills the slots of a fixed-capacity row that hold no message.
 impl Default for Message {
     ghost use Rattle.std.specs.Prelude.{◌≡◌, [], ◌∷◌};
     ghost use Rattle.lg_packet.specs.declared.packet.Body.TheVariants.{Ack};
@@ -31,11 +31,11 @@ impl Default for Message {
     }
 }
 
-/// One message to an address, with this body.
+/// A row of one message to an address, with this body.
 pub(crate) fn one(to: Addr, body: Body) -> ArrayVec<Message, MAX_SENDS>
     ensures { result.items ≡ record { to = to; body = body } ∷ [] }
 {
-    // The checker follows a message into a row where the types of its parts are named.
+    // The checker follows a message into a row only if the types of its parts are named.
     let _part: Option<Name> = None;
     let mut messages = ArrayVec::new();
     messages.push(Message { to, body });

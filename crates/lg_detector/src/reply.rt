@@ -1,4 +1,7 @@
 //! The reply to an event: what fired, what is to be sent, and what changed.
+//!
+//! Defined in: `specs/Meaning/Choice.antt`, `specs/Meaning/Step.antt`.
+//! Tested in: `lg_detector_tests/src/detector/probing.rt`.
 ghost use Rattle.std.specs.Prelude.{◌≡◌, ◌<◌, ◌≤◌, ◌++◌, List, length, [], ◌∷◌, None};
 ghost use Rattle.std.specs.Option.{option_to_list};
 ghost use Rattle.arrayvec.specs.ArrayVec.{array_vec_len};
@@ -12,7 +15,7 @@ use lg_packet::{Body, Packet};
 use lg_rules::{Addr, Incarnation, MAX_CLAIMS, Name, Record};
 use lg_timers::{Timer, TimerId};
 
-/// The most packets that one event sends: the requests to 8 helpers (this project's choice).
+/// The most packets that one event sends: the PingReqs to 8 helpers (this project's choice).
 pub const MAX_SENDS: usize = 8;
 
 /// The most records that one event changes: those of the 6 claims of a packet (this project's choice).
@@ -23,15 +26,15 @@ pub const MAX_CHANGED: usize = MAX_CLAIMS;
 pub struct Outgoing {
     /// Where it goes.
     pub to: Addr,
-    /// What it is.
+    /// The packet.
     pub packet: Packet,
 }
 
-/// A place for a packet to be sent.
+/// A slot for a packet to be sent.
 impl Default for Outgoing {
     ghost is_default = { λ _. Unit {0} };
 
-    // A row has eight of these. Inlined eight times, they are more code than a processor's cache of instructions holds.
+    // A row has eight of these. Inlined eight times, they are more code than a processor's instruction cache holds.
     #[inline(never)]
     fn default() -> Self {
         Outgoing {
@@ -42,7 +45,7 @@ impl Default for Outgoing {
 }
 
 impl Outgoing {
-    /// An equal packet to the same address. It takes no memory.
+    /// An equal packet to the same address. Allocates nothing.
     pub fn copy(&self) -> Outgoing
         ensures { result ≡ self.now }
     {
@@ -56,37 +59,38 @@ impl Outgoing {
 /// The answer to a question.
 #[derive(Clone, Copy, Debug, PartialEq, Eq)]
 pub enum Answer {
-    /// To [`Event::Ask`](crate::Event::Ask): the record of the name, or none where it isn't known.
+    /// To [`Event::Ask`](crate::Event::Ask): the record of the name, or none if it isn't known.
     Status(Option<Record>),
     /// To [`Event::Health`](crate::Event::Health).
     Health {
         /// The health score, 0 to the configuration's greatest score (Lifeguard, local health aware probe).
         score: u64,
-        /// The own incarnation.
+        /// This member's incarnation.
         number: Incarnation,
-        /// How many members haven't failed, oneself included: 1 to 256.
+        /// How many members haven't failed, this one included: 1 to 256.
         members: u64,
     },
 }
 
-/// What a detector gives back for an event. It is of fixed size, so it always has room.
+/// What a detector gives back for an event. Its size is fixed, so everything always fits.
 #[derive(Debug, Drop)]
 pub struct Reply {
-    /// The timer that fired; only a tick fires one.
+    /// The timer that fired. Only a tick fires one.
     pub fired: Option<Timer>,
     /// The packets to be sent, in order.
     pub sends: ArrayVec<Outgoing, MAX_SENDS>,
-    /// The records that differ from those before the event, in the order of their names; none for the opening.
+    /// The records that differ from those before the event, in the order of their names. The opening has none.
     pub changed: ArrayVec<Record, MAX_CHANGED>,
     /// The answer to a question.
     pub answer: Option<Answer>,
-    /// Whether a claim about this member came that nothing can refute.
+    /// Whether a claim about this member has come that nothing can refute.
     pub ousted: bool,
-    /// The least deadline of the timers that are set after the event, in milliseconds. After the opening one always is.
+    /// The least deadline of the timers that are set after the event, in milliseconds. After the opening one is
+    /// always set.
     pub next: u64,
 }
 
-/// Says nothing, and the deadline is 0: a place for the first reply.
+/// An empty reply with the deadline 0, for the first reply to overwrite.
 impl Default for Reply {
     ghost use Rattle.std.specs.Prelude.{◌≡◌, [], None, false};
 
@@ -135,7 +139,7 @@ fn copy_records(records: &[Record]) -> ArrayVec<Record, MAX_CHANGED>
     copies
 }
 
-/// The target of the first of some packets, where that is a Ping.
+/// The target of the first of some packets, if that is a Ping.
 fn first_pinged(sends: &[Outgoing]) -> Option<Name>
     ensures { result ≡ first_pinged sends.now }
 {
@@ -163,8 +167,8 @@ fn choice_by(fired: &Option<Timer>, sends: &[Outgoing]) -> Option<Name>
 }
 
 impl Reply {
-    /// Whom the start of a round chose: the target of the Ping that it sent (SWIM, section 4.3). None where no start
-    /// of a round fired, or it chose nobody. It takes no memory.
+    /// Whom the start of a round chose: the target of the Ping that it sent (SWIM, section 4.3). None if no start of
+    /// a round fired, or if it chose nobody. Allocates nothing.
     pub fn chosen(&self) -> Option<Name>
         ensures reply { result ≡ choice self.now }
         // The reply to an event after a list of events says which target the event adds to those of the list.
@@ -174,7 +178,7 @@ impl Reply {
         choice_by(&self.fired, self.sends.as_slice())
     }
 
-    /// Drops the timer, what was to be sent, what changed and the answer.
+    /// Clears the timer, the packets, the changed records and the answer.
     pub(crate) fn say_nothing(&mut self)
         ensures { self.new ≡ record self.old {
           fired = None;
@@ -189,7 +193,7 @@ impl Reply {
         self.answer = None;
     }
 
-    /// An equal reply. It takes no memory.
+    /// An equal reply. Allocates nothing.
     pub fn copy(&self) -> Reply
         ensures { result ≡ self.now }
     {

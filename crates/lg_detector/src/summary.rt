@@ -1,4 +1,7 @@
-//! What a detector leaves of its past: a summary, from which a detector goes on as it did.
+//! A summary: what a detector leaves of its past. A detector that is resumed from it goes on as the first one would.
+//!
+//! Defined in: `specs/Meaning/Step.antt`, `specs/Support/Summary.antt`.
+//! Tested in: `lg_detector_tests/src/detector/resuming.rt`.
 ghost use Rattle.std.specs.Prelude.{◌≡◌, ◌++◌, List, true, IfOk};
 ghost use Rattle.lg_detector.specs.declared.event.Event.{Event as Happened};
 ghost use Rattle.lg_detector.specs.Meaning.Step.{is_accepted, reply_after};
@@ -10,7 +13,7 @@ use crate::detector::{Detector, NoMemory};
 use std::alloc::Global;
 use std::marker::Model;
 
-/// A summary of all that a detector heard of: what its definitions say of the list of events, and not the list.
+/// A summary of all that a detector has heard. It is what the definitions say of the list of events, and not the list.
 ///
 /// A contract sees it as the state that the events leave.
 #[derive(Drop)]
@@ -27,7 +30,7 @@ impl Model for Summary {
 }
 
 impl Detector {
-    /// A summary of all the events that came. It takes memory for it; the only error is that memory was refused.
+    /// A summary of all the events that have come. Allocates one box for it; the only error is that memory was refused.
     pub fn summary(&self, alloc: Global) -> Result<Summary, NoMemory>
         ensures state { IfOk result (λ s. s ≡ self.now) }
         // After a list of events, it is a summary of that list.
@@ -38,8 +41,8 @@ impl Detector {
         })
     }
 
-    /// A detector that is after each list of events that the summary is of. It takes memory for it; the only error is
-    /// that memory was refused.
+    /// A detector in the state after each list of events that the summary is of. Allocates one box for it; the only
+    /// error is that memory was refused.
     pub fn resume(alloc: Global, summary: &Summary) -> Result<Detector, NoMemory>
         ensures state { IfOk result (λ d. d ≡ summary.now) }
         ensures list { (f : List Happened) → IsSummary summary.now f → IfOk result (λ d. d ≡ state_after f) }
@@ -48,8 +51,8 @@ impl Detector {
     }
 }
 
-/// The law by itself: a summary of a list of events leads on as the list does, and gives the replies of the
-/// definitions after the whole list.
+/// The law by itself: a summary of a list of events advances as the list does, and gives the replies that the
+/// definitions give after the whole list.
 pub fn summaries_lead_on()
     ensures state { (s : State) (f g : List Happened) → IsSummary s f → is_accepted (f ++ g) ≡ true
         → led_on s g ≡ state_after (f ++ g) }

@@ -1,4 +1,7 @@
 //! One entry of a history.
+//!
+//! Defined in: `specs/Meaning/History.antt`, `lg_detector/specs/Meaning/Choice.antt`.
+//! Tested in: `lg_agent_tests/src/history/refused_memory.rt`.
 ghost use Rattle.std.specs.Prelude.{◌≡◌};
 ghost use Rattle.lg_detector.specs.Meaning.Choice.{choice};
 
@@ -10,10 +13,10 @@ use std::marker::Model;
 
 /// One entry of a history: an event, the seat that made it, and the reply to it.
 ///
-/// It takes the memory that the event and the reply need: with its part of the history's list at most 320 bytes for
-/// a tick that fires nothing, 512 for a Ping without claims and its Ack, and 2,560 for a packet of six claims that
-/// changes six records and is answered by six claims (this project's choice). Where memory was refused after the
-/// event, the reply is in a box for a whole one, some 5 KB.
+/// It takes the memory that the event and the reply need. With its part of the history's list, a tick that fires
+/// nothing takes at most 320 bytes, and a Ping without claims and its Ack at most 512. A packet of six claims that
+/// changes six records and is answered by six claims takes at most 2,560 (the bounds are this project's choice). If
+/// memory for the reply was refused, the reply is in a box for a whole one, some 5 KB.
 ///
 /// A contract sees it as the record of the three.
 #[derive(Drop)]
@@ -32,21 +35,21 @@ impl Model for Entry {
 }
 
 impl Entry {
-    /// The seat: 0 for the opening, else the place of the pass that made the call, from 1.
+    /// The seat: 0 for the opening, otherwise that of the pass that made the call, from 1.
     pub fn seat(&self) -> usize
         ensures { result ≡ self.now.seat }
     {
         self.seat
     }
 
-    /// The event, as a copy. It takes no memory.
+    /// A copy of the event. Allocates nothing.
     pub fn event(&self) -> Event
         ensures { result ≡ self.now.event }
     {
         self.event.event()
     }
 
-    /// The reply, as a copy of some 5 KB. It takes no memory.
+    /// A copy of the reply, of some 5 KB. Allocates nothing.
     pub fn reply(&self) -> Reply
         ensures { result ≡ self.now.reply }
     {
@@ -54,7 +57,7 @@ impl Entry {
     }
 
     /// Whom the start of a round chose, by the reply: the target of the Ping that it sent (SWIM, section 4.3). None
-    /// where no start of a round fired, or it chose nobody. It takes no memory, and makes no copy of the reply.
+    /// if no start of a round fired, or if it chose nobody. Allocates nothing, and makes no copy of the reply.
     pub fn chosen(&self) -> Option<Name>
         ensures { result ≡ choice self.now.reply }
     {

@@ -1,4 +1,7 @@
-//! Events, in the memory that they take.
+//! Events, in as much memory as they need.
+//!
+//! Defined in: `specs/Support/Stored.antt`.
+//! Tested in: `lg_agent_tests/src/history/refused_memory.rt`.
 ghost use Rattle.std.specs.Prelude.{◌≡◌, IfOk};
 
 use crate::packet::StoredPacket;
@@ -15,7 +18,7 @@ pub(crate) struct Hearing {
     packet: StoredPacket,
 }
 
-/// What an event has beside its moment. What is larger than a pointer stands in a box, so that an entry is small.
+/// What an event has besides its moment. What is larger than a pointer is in a box, so that an entry is small.
 #[derive(Drop)]
 enum Content {
     Opens(Box<Config>),
@@ -26,7 +29,7 @@ enum Content {
     Pulls(Addr),
 }
 
-/// An event in one box at most, beside the list of a packet's claims. A contract sees it as the event.
+/// An event in at most one box, besides the list of a packet's claims. A contract sees it as the event.
 #[derive(Drop)]
 pub(crate) struct StoredEvent {
     moment: Moment,
@@ -43,7 +46,7 @@ impl Model for StoredEvent {
 }
 
 impl StoredEvent {
-    /// Stores an event. It takes memory for what the event has beside its moment.
+    /// Stores an event. Allocates memory for what the event has besides its moment.
     pub(crate) fn of(alloc: Global, event: &Event) -> Result<StoredEvent, NoMemory>
         ensures { IfOk result (λ stored. stored ≡ event.now) }
     {

@@ -1,4 +1,7 @@
-//! The history: its entries, and the one that is prepared.
+//! The history: its entries, and the entry that is prepared.
+//!
+//! Defined in: `specs/Meaning/History.antt`.
+//! Tested in: `lg_agent_tests/src/history/refused_memory.rt`.
 ghost use Rattle.std.specs.Prelude.{◌≡◌, [], length, false, Some, None, IfOk, OnOk, OnErr};
 ghost use Rattle.lg_history.specs.Meaning.History.{completed};
 
@@ -24,8 +27,8 @@ impl Model for Waiting {
     ghost view = { λ w. record { seat = w.seat; event = w.event } };
 }
 
-/// A box for a whole reply, which says nothing yet. It isn't inlined: a function that makes a reply of its own pays for
-/// its size at each call, also where it makes none.
+/// A box for a whole reply, which is still empty. It isn't inlined: a function that makes a reply of its own pays for
+/// its size at each call, even at a call that makes none.
 #[cold]
 #[inline(never)]
 fn reply_room(alloc: Global) -> Result<Box<Reply>, NoMemory>
@@ -49,7 +52,8 @@ fn reply_room(alloc: Global) -> Result<Box<Reply>, NoMemory>
 pub struct History {
     entries: Vec<Entry>,
     prepared: Option<Waiting>,
-    // Room for any reply. It is had by the first `prepare`, and again after a reply had to be stored in it.
+    // A box that any reply fits in. The first `prepare` allocates it, and so does the next one after a reply had to
+    // be stored in it.
     room: Option<Box<Reply>>,
 }
 
@@ -62,13 +66,13 @@ impl Model for History {
 
     ghost view = { λ h. record { entries = h.entries.items; prepared = h.prepared } };
 
-    // What is prepared has its place in the list, and room for its reply.
+    // If an entry is prepared, the list has a free slot for it, and there is a box for its reply.
     ghost invariant = { λ h. is_some h.prepared ≡ true
         → (length h.entries.items < vec_capacity h.entries) × (is_some h.room ≡ true) };
 }
 
 impl History {
-    /// A history without entries, and nothing is prepared. It takes no memory.
+    /// A history without entries, in which nothing is prepared. Allocates nothing.
     pub fn new(alloc: Global) -> History
         ensures { result ≡ record { entries = []; prepared = None } }
     {
@@ -100,9 +104,9 @@ impl History {
         self.entries
     }
 
-    /// Takes all memory that the entry of an event can need, whatever the reply: its place in the list, the event, and
-    /// a box for a whole reply, which is kept for the next entry where it isn't needed. What was prepared before, if
-    /// anything was, is dropped. The only error is that memory was refused; then nothing is changed.
+    /// Allocates all memory that the entry of an event can need, whatever the reply: a slot in the list, the event,
+    /// and a box for a whole reply. If the box isn't needed, it is kept for the next entry. What was prepared before,
+    /// if anything was, is dropped. The only error is that memory was refused; then nothing has changed.
     pub fn prepare(&mut self, alloc: Global, seat: usize, event: &Event) -> Result<(), NoMemory>
         ensures prepared { OnOk result (self.new ≡ record self.old {
           prepared = Some (record { seat = seat; event = event.now });
@@ -125,7 +129,7 @@ impl History {
         self.prepared = None;
     }
 
-    /// Drops all entries, and what is prepared, if anything is. It keeps the memory of the list.
+    /// Drops all entries, and what is prepared, if anything is. Keeps the memory of the list.
     pub fn clear(&mut self)
         ensures { self.new ≡ record { entries = []; prepared = None } }
     {
@@ -133,11 +137,10 @@ impl History {
         self.entries.clear();
     }
 
-    /// Adds the entry of what is prepared, with this reply, behind all others. Where nothing is prepared it changes
-    /// nothing.
+    /// Adds the prepared entry, with this reply, after all others. If nothing is prepared, it changes nothing.
     ///
-    /// It always succeeds. It tries to take the memory that the reply needs; where that is refused the entry keeps the
-    /// box for a whole reply, some 5 KB.
+    /// It always succeeds. It tries to allocate the memory that the reply needs. If that is refused, the entry keeps
+    /// the box for a whole reply, some 5 KB.
     pub fn complete(&mut self, alloc: Global, reply: &Reply)
         ensures { self.new ≡ completed reply.now self.old }
     {

@@ -1,4 +1,6 @@
 //! Laws of legal histories.
+//!
+//! Defined in: `specs/Meaning/History.antt`, `specs/Meaning/Rest.antt`.
 ghost use Rattle.std.specs.Prelude.{◌≡◌, ℕ, ◌<◌, ◌≤◌, ◌+◌, ◌++◌, [], ◌∷◌, List, length, take};
 ghost use Rattle.std.specs.Prelude.{slice_get, Some, false, true};
 ghost use Rattle.lg_timing.specs.declared.config.Config.{Config};
@@ -12,8 +14,8 @@ ghost use Rattle.lg_detector.specs.Meaning.Step.{is_accepted};
 ghost use Rattle.lg_history.specs.Meaning.History.{Entry, entry, events, Answered, IsLegal};
 ghost use Rattle.lg_history.specs.Meaning.Rest.{IsRest, AnsweredFrom, AreCut, of_seat, made_by};
 
-/// How legal histories begin and grow: that of an opening alone is legal, and a legal one that isn't full stays so with
-/// one more entry of a seat, whose reply is that of the definitions after the events before it.
+/// How legal histories begin and grow. The history of an opening alone is legal. A legal one that isn't full stays
+/// legal with one more entry of a seat, if its reply is the one that the definitions give after the events before it.
 pub fn histories_grow()
     ensures begins { (places now : ℕ) (config : Config) → IsChecked config
         → IsLegal places (entry 0 (Open now config) (reply_after [] (Open now config)) ∷ []) }
@@ -25,16 +27,16 @@ pub fn histories_grow()
     ensures counted { (h : List Entry) → length (events h) ≡ length h }
 {}
 
-/// A legal history by its places: at each of them the reply of the entry is the one that the definitions give to its
-/// event after the events of the entries before it.
+/// A legal history by its positions: at each of them the reply of the entry is the one that the definitions give to
+/// its event after the events of the entries before it.
 pub fn replies_by_place()
     ensures { (places n : ℕ) (h : List Entry) (x : Entry) → IsLegal places h → slice_get h n ≡ Some x
         → x.reply ≡ reply_after (take n (events h)) x.event }
 {}
 
-/// How a history goes on whose first entries were cut off: by one entry more, as the whole would, and by a further cut.
-/// Each reply that is left is that of the definitions after the whole list, and the one that a summary of what was cut
-/// off leads to.
+/// How a history goes on whose first entries were cut off: by one more entry, as the whole would, and by a further
+/// cut. Each reply that is left is the one that the definitions give after the whole list. It is also the one that
+/// follows from a summary of what was cut off.
 pub fn rests_go_on()
     ensures whole { (places : ℕ) (cut : List ℕ) (h : List Entry) → ((seat : ℕ) → of_seat cut seat ≡ 0)
         → IsLegal places h → IsRest places [] cut h }

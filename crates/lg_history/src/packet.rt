@@ -1,4 +1,7 @@
-//! Packets, in the memory that their claims take.
+//! Packets, in as much memory as their claims need.
+//!
+//! Defined in: `lg_detector/specs/Meaning/Choice.antt`.
+//! Tested in: `lg_agent_tests/src/history/refused_memory.rt`.
 ghost use Rattle.std.specs.Prelude.{◌≡◌, IfOk};
 ghost use Rattle.lg_detector.specs.Meaning.Choice.{pinged};
 
@@ -9,7 +12,7 @@ use lg_rules::{Addr, Claim, Name};
 use std::alloc::Global;
 use std::marker::Model;
 
-/// A packet whose claims stand in a list of their number. A contract sees it as the packet.
+/// A packet whose claims are in a list of exactly their number. A contract sees it as the packet.
 #[derive(Drop)]
 pub(crate) struct StoredPacket {
     sender: Name,
@@ -30,7 +33,7 @@ impl Model for StoredPacket {
 }
 
 impl StoredPacket {
-    /// Stores a packet. It takes memory for its claims, where it has any.
+    /// Stores a packet. Allocates memory for its claims, if it has any.
     pub(crate) fn of(alloc: Global, packet: &Packet) -> Result<StoredPacket, NoMemory>
         ensures { IfOk result (λ stored. stored ≡ packet.now) }
     {
@@ -42,7 +45,7 @@ impl StoredPacket {
         })
     }
 
-    /// Its target, where it is a Ping.
+    /// Its target, if it is a Ping.
     fn pinged(&self) -> Option<Name>
         ensures { result ≡ pinged self.now.body }
     {
@@ -83,7 +86,7 @@ impl Model for StoredOutgoing {
 }
 
 impl StoredOutgoing {
-    /// Stores a packet to be sent. It takes memory for its claims, where it has any.
+    /// Stores a packet to be sent. Allocates memory for its claims, if it has any.
     pub(crate) fn of(alloc: Global, outgoing: &Outgoing) -> Result<StoredOutgoing, NoMemory>
         ensures { IfOk result (λ stored. stored ≡ outgoing.now) }
     {
@@ -94,7 +97,7 @@ impl StoredOutgoing {
         })
     }
 
-    /// The target of the packet, where it is a Ping.
+    /// The target of the packet, if it is a Ping.
     pub(crate) fn pinged(&self) -> Option<Name>
         ensures { result ≡ pinged self.now.packet.body }
     {

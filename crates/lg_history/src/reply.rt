@@ -1,4 +1,7 @@
-//! Replies, in the memory that they take.
+//! Replies, in as much memory as they need.
+//!
+//! Defined in: `lg_detector/specs/Meaning/Choice.antt`, `specs/Support/Stored.antt`.
+//! Tested in: `lg_agent_tests/src/history/refused_memory.rt`.
 ghost use Rattle.std.specs.Prelude.{◌≡◌, ◌≤◌, length, option_map, IfOk};
 ghost use Rattle.lg_detector.specs.declared.reply.TheConstants.{MAX_SENDS};
 ghost use Rattle.lg_detector.specs.Meaning.Probing.{is_round_start};
@@ -11,7 +14,7 @@ use lg_rules::{Name, Record};
 use std::alloc::Global;
 use std::marker::Model;
 
-/// A reply whose packets and records stand in lists of their number. A contract sees it as the reply.
+/// A reply whose packets and records are in lists of exactly their number. A contract sees it as the reply.
 #[derive(Drop)]
 pub(crate) struct ExactReply {
     fired: Option<Box<Timer>>,
@@ -41,7 +44,7 @@ impl Model for ExactReply {
     ghost invariant = { λ r. (length r.sends.items ≤ MAX_SENDS) × (length r.changed.items ≤ MAX_CHANGED) };
 }
 
-/// Stores a timer, where there is one.
+/// Stores a timer, if there is one.
 fn store_timer(alloc: Global, timer: &Option<Timer>) -> Result<Option<Box<Timer>>, NoMemory>
     ensures { IfOk result (λ stored. option_map (λ it. it.value) stored ≡ timer.now) }
 {
@@ -51,7 +54,7 @@ fn store_timer(alloc: Global, timer: &Option<Timer>) -> Result<Option<Box<Timer>
     }
 }
 
-/// The timer, where there is one.
+/// The timer, if there is one.
 fn timer_in(stored: &Option<Box<Timer>>) -> Option<Timer>
     ensures { result ≡ option_map (λ it. it.value) stored.now }
 {
@@ -68,14 +71,14 @@ fn is_round_start(timer: &Timer) -> bool
     matches!(timer.id, TimerId::RoundStart)
 }
 
-/// The target of the first of some packets, where that is a Ping.
+/// The target of the first of some packets, if that is a Ping.
 fn first_pinged(sends: &[StoredOutgoing]) -> Option<Name>
     ensures { result ≡ first_pinged sends.now }
 {
     sends.first()?.pinged()
 }
 
-/// Stores an answer, where there is one.
+/// Stores an answer, if there is one.
 fn store_answer(alloc: Global, answer: &Option<Answer>) -> Result<Option<Box<Answer>>, NoMemory>
     ensures { IfOk result (λ stored. option_map (λ it. it.value) stored ≡ answer.now) }
 {
@@ -85,7 +88,7 @@ fn store_answer(alloc: Global, answer: &Option<Answer>) -> Result<Option<Box<Ans
     }
 }
 
-/// The answer, where there is one.
+/// The answer, if there is one.
 fn answer_in(stored: &Option<Box<Answer>>) -> Option<Answer>
     ensures { result ≡ option_map (λ it. it.value) stored.now }
 {
@@ -120,7 +123,7 @@ fn sends_in(stored: &[StoredOutgoing]) -> ArrayVec<Outgoing, MAX_SENDS>
 }
 
 impl ExactReply {
-    /// Stores a reply. It takes memory for each part that it has.
+    /// Stores a reply. Allocates memory for each part that it has.
     fn of(alloc: Global, reply: &Reply) -> Result<ExactReply, NoMemory>
         ensures { IfOk result (λ stored. stored ≡ reply.now) }
     {
@@ -169,9 +172,9 @@ impl ExactReply {
 /// How a reply is stored.
 #[derive(Drop)]
 enum Form {
-    /// In the memory that it takes.
+    /// In as much memory as it needs.
     Exact(Box<ExactReply>),
-    /// In a box that has room for any reply, where memory was refused.
+    /// In a box that any reply fits in, if memory was refused.
     Whole(Box<Reply>),
 }
 
@@ -190,7 +193,7 @@ impl Model for StoredReply {
     ghost view = { λ r. reply_in r.form };
 }
 
-/// Stores a reply in the memory that it takes.
+/// Stores a reply in as much memory as it needs.
 fn store_exactly(alloc: Global, reply: &Reply) -> Result<Box<ExactReply>, NoMemory>
     ensures { IfOk result (λ stored. stored.value ≡ reply.now) }
 {
@@ -198,8 +201,8 @@ fn store_exactly(alloc: Global, reply: &Reply) -> Result<Box<ExactReply>, NoMemo
     Ok(Box::new(alloc, exact)?)
 }
 
-/// Stores a reply in a box that has room for any. It isn't inlined: a function that copies a reply pays for its size at
-/// each call, also where it copies none.
+/// Stores a reply in a box that any reply fits in. It isn't inlined: a function that copies a reply pays for its size
+/// at each call, even at a call that copies none.
 #[cold]
 #[inline(never)]
 fn store_whole(room: Box<Reply>, reply: &Reply) -> Box<Reply>
@@ -211,7 +214,7 @@ fn store_whole(room: Box<Reply>, reply: &Reply) -> Box<Reply>
 }
 
 impl StoredReply {
-    /// Stores a reply, and always succeeds. The box comes back, unless memory was refused and the reply is in it.
+    /// Stores a reply, and always succeeds. The box is returned, unless memory was refused and the reply is in it.
     pub(crate) fn of(
         alloc: Global,
         room: Box<Reply>,

@@ -1,4 +1,4 @@
-//! How much memory an entry takes: its place in the history's list, which can be twice as long as the entries, and its
+//! How much memory an entry takes: its slot in the history's list, which can be twice as long as the entries, and its
 //! boxes and lists. The bounds are this project's choice.
 use crate::entry::Entry;
 use crate::event::Hearing;
@@ -6,13 +6,13 @@ use crate::packet::StoredOutgoing;
 use crate::reply::ExactReply;
 use lg_rules::{Claim, MAX_CLAIMS, Record};
 
-/// The place in the list, and the reply without packets, records and answer.
+/// The slot in the list, and the reply without packets, records and answer.
 const LEAST: usize = 2 * size_of::<Entry>() + size_of::<ExactReply>();
 
 /// The claims of a full packet, in a list.
 const CLAIMS: usize = MAX_CLAIMS * size_of::<Claim>();
 
-/// A tick that fires nothing: beside that its random words.
+/// A tick that fires nothing: besides that, its random words.
 const IDLE_TICK: usize = LEAST + size_of::<[u32; 8]>();
 
 /// A Ping without claims, and its Ack: the packet that was heard, and a list of one that is sent.

@@ -1,4 +1,7 @@
 //! The seeds are asked for their tables.
+//!
+//! Defined in: `specs/Meaning/Nodes.antt`, `specs/Meaning/Turns.antt`.
+//! Tested in: `lg_agent_tests/src/node/asking.rt`.
 ghost use Rattle.std.specs.Prelude.{◌≤◌, ◌*◌, length, IfOk, IfErr};
 ghost use Rattle.lg_agent.specs.Meaning.Ledger.{Own};
 ghost use Rattle.lg_agent.specs.Meaning.Calls.{IsRefusal};
@@ -14,8 +17,8 @@ use lg_timing::{MAX_SEEDS, Seed};
 use std::alloc::Global;
 use std::sync::Wait;
 
-/// Asks each seed for its table, in order, and goes on where a packet isn't sent. It says how many weren't sent. The
-/// error is the refusal of the first call that is refused.
+/// Asks each seed for its table, in order, and goes on if a packet isn't sent. Returns how many packets weren't sent.
+/// The error is the refusal of the first call that is refused.
 pub(crate) fn ask_each<A: AgentName, R: Wait, L: Link, C: Clock>(
     rt: &R,
     alloc: Global,

@@ -1,4 +1,7 @@
-//! The calls of a loop: one that is refused because the history is full is made again, once, after a rotation.
+//! The calls of a loop. A call that is refused because the history is full is made again, once, after a rotation.
+//!
+//! Defined in: `lg_agent/specs/Meaning/Calls.antt`, `specs/Meaning/Turns.antt`.
+//! Tested in: `lg_agent_tests/src/node/rotating.rt`.
 ghost use Rattle.std.specs.Prelude.{◌≡◌, ◌⊎◌, ℕ, Ok, Err, MatchResult, IfOk, IfErr, OnErr};
 ghost use Rattle.lg_packet.specs.declared.fault.Fault.{Fault as Broken};
 ghost use Rattle.lg_packet.specs.declared.packet.Packet.{Packet as Read};
@@ -14,8 +17,8 @@ use lg_timing::Moment;
 use std::alloc::Global;
 use std::sync::Wait;
 
-/// Rotates a pass whose call was refused, where that was because the history is full. The error is that the call isn't
-/// to be made again: it was refused for something else, or memory for the rotation was refused.
+/// Rotates a pass whose call was refused, if that was because the history is full. The error means that the call
+/// isn't to be made again: it was refused for something else, or memory for the rotation was refused.
 fn make_room<A: AgentName, R: Wait>(
     rt: &R,
     alloc: Global,
@@ -35,7 +38,7 @@ fn make_room<A: AgentName, R: Wait>(
     }
 }
 
-/// [`Pass::datagram`], made again after a rotation where the history was full.
+/// [`Pass::datagram`], made again after a rotation if the history was full.
 pub(crate) fn datagram<A: AgentName, R: Wait>(
     rt: &R,
     alloc: Global,
@@ -61,7 +64,7 @@ pub(crate) fn datagram<A: AgentName, R: Wait>(
     }
 }
 
-/// [`Pass::tick`], made again after a rotation where the history was full, with the same words.
+/// [`Pass::tick`], made again after a rotation if the history was full, with the same words.
 pub(crate) fn tick<A: AgentName, R: Wait>(
     rt: &R,
     alloc: Global,
@@ -82,7 +85,7 @@ pub(crate) fn tick<A: AgentName, R: Wait>(
     }
 }
 
-/// [`Pass::pull`], made again after a rotation where the history was full.
+/// [`Pass::pull`], made again after a rotation if the history was full.
 pub(crate) fn pull<A: AgentName, R: Wait>(
     rt: &R,
     alloc: Global,

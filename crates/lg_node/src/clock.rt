@@ -6,17 +6,17 @@ use std::sync::atomic::Ordering::SeqCst;
 use std::time::{Duration, Instant};
 use std::{io, rt, thread};
 
-/// Tells moments, and waits.
+/// Gives the moment, and waits.
 pub trait Clock {
-    /// The moment that it is.
+    /// The current moment.
     fn now(&self) -> Moment;
 
-    /// Waits so many milliseconds.
+    /// Waits this many milliseconds.
     fn pause(&self, ms: u64);
 }
 
-/// The machine's clock, which counts milliseconds from its making. Where it can't be read, it stays at the moment that
-/// was read last.
+/// The machine's clock, which counts milliseconds from when it was made. If it can't be read, it stays at the moment
+/// that was read last.
 #[derive(Drop)]
 pub struct MachineClock<'a, R> {
     rt: &'a R,

@@ -1,4 +1,7 @@
 //! Random words.
+//!
+//! Defined in: `specs/Meaning/Words.antt`.
+//! Tested in: `lg_agent_tests/src/node/dice.rt`.
 ghost use Rattle.std.specs.Prelude.{◌≡◌};
 ghost use Rattle.lg_node.specs.Meaning.Words.{seeded, DrawsEight};
 
@@ -11,7 +14,7 @@ use std::marker::Model;
 pub trait Dice {
     ghost use Rattle.std.specs.Prelude.{ℕ, List};
 
-    // It may give these words, and is then the other.
+    // From the first state it may give these words, and is then in the second.
     ghost throws: { Self → List ℕ → Self → Type 0 };
 
     /// The next eight words.
@@ -35,7 +38,7 @@ impl Model for PcgDice {
 }
 
 impl PcgDice {
-    /// The generator of a number.
+    /// The generator that this number seeds.
     pub fn new(dice: u64) -> PcgDice
         ensures { result ≡ seeded dice }
     {

@@ -7,20 +7,20 @@ use thiserror::Error;
 /// Why a loop ended.
 #[derive(Clone, Copy, Debug, PartialEq, Eq, Error)]
 pub enum Why {
-    /// It was told to stop, or the moment came until which it was to run.
+    /// It was told to stop, or its end time came.
     #[error("the loop was told to stop, or its time was over")]
     Stopped,
-    /// A claim about the own member came that nothing can refute. The packets of that reply were handed over first.
+    /// A claim about this member came that nothing can refute. The packets of that reply were handed over first.
     #[error("the member was ousted: a claim about it came that nothing can refute")]
     Ousted,
     /// Receiving failed.
     #[error("receiving failed")]
     LinkFailed,
-    /// A call or a look of the pass was refused, for another reason than that bytes are no packet. A call that is
-    /// refused because the history is full was made again after a rotation, or memory for that was refused.
+    /// A call or a look of the pass was refused, for another reason than that bytes are no packet. If a call was
+    /// refused because the history is full, it was made again after a rotation, or memory for that was refused.
     #[error(transparent)]
     Refused(Refusal),
-    /// It made as many turns as it may.
+    /// It made as many turns as are allowed.
     #[error("the loop made as many turns as it may")]
     ReadBound,
 }

@@ -1,4 +1,7 @@
 //! A node: an agent whose two loops run over UDP.
+//!
+//! Defined in: `specs/Meaning/Nodes.antt`, `specs/Meaning/Turns.antt`, `specs/Meaning/Words.antt`.
+//! Tested in: `lg_agent_tests/src/node/asking.rt`, `cases/nodes`.
 ghost use Rattle.std.specs.Prelude.{◌≡◌, ◌≤◌, ◌⊎◌, ◌∷◌, [], ℕ, false};
 ghost use Rattle.std.specs.Prelude.{All, IfOk, IfErr, MatchResult, length};
 ghost use Rattle.std.specs.Vec.{vec_capacity};
@@ -31,17 +34,17 @@ use std::sync::Wait;
 use std::thread::Threads;
 use thiserror::Error;
 
-/// How a node ended that had begun its loops.
+/// How a node ended whose loops had begun.
 #[derive(Drop)]
 pub struct NodeEnd {
     /// How the receiving loop ended.
     pub received: End,
-    /// How the ticking loop ended. The packets that asked the seeds and weren't sent count among its own.
+    /// How the ticking loop ended. The packets to the seeds that weren't sent count among its own.
     pub ticked: End,
-    /// The members, the own record included, in the order of their names, as both loops left them. It is refused as
-    /// [`Pass::members`](lg_agent::Pass::members) is.
+    /// The records of the members, this one's included, in the order of their names, as both loops left them. Refused
+    /// as [`Pass::members`](lg_agent::Pass::members) is.
     pub members: Result<Vec<Record>, Refusal>,
-    /// The history from the last rotation on, if there was one, or why the agent wasn't closed.
+    /// The history, from the last rotation on if there was one, or why the agent wasn't closed.
     pub closed: Result<Closed, CloseFault>,
 }
 
@@ -54,7 +57,7 @@ pub enum NodeFault {
     /// The machine's clock couldn't be read.
     #[error("the machine's clock can't be read")]
     Clock,
-    /// The opening, the handing out of the passes, or the question to a seed was refused.
+    /// The opening, the handing out of the passes, or the call that asks a seed was refused.
     #[error(transparent)]
     Refused(Refusal),
 }
@@ -70,7 +73,7 @@ struct Left<A: AgentName> {
     reader: Spent<A>,
 }
 
-/// A node of this socket and a fresh agent, until one of its loops ends.
+/// Runs a node with this socket and a fresh agent, until one of its loops ends.
 fn run_opened<A, R, C>(
     rt: &R,
     alloc: Global,
@@ -127,7 +130,7 @@ where
     })
 }
 
-/// Closes the agent of a node, with a list that has room for what its passes leave.
+/// Closes the agent of a node, with a list that has enough capacity for what its passes leave.
 fn close<A: AgentName, R: Wait>(
     rt: &R,
     agent: Agent<A>,
@@ -217,18 +220,17 @@ where
 
 /// Runs a node over UDP until a moment, in milliseconds from its start, or until one of its loops ends before that.
 ///
-/// It binds a socket to the configured address, opens an agent with three passes, asks each seed for its table, in
-/// order, and then runs [`run_loops`] with the machine's clock, the words of [`PcgDice`] for the number `dice`, and at
-/// most 1,000,000,000 turns a loop. Then the members are read, and the agent is closed. A node that hears of no member
-/// goes on alone.
+/// It binds a socket to the configured address, opens an agent with three passes, and asks each seed for its table,
+/// in order. Then it runs [`run_loops`] with the machine's clock, the words of [`PcgDice`] for the number `dice`, and
+/// at most 1,000,000,000 turns a loop. At the end the members are read, and the agent is closed. A node that hears of
+/// no member goes on alone.
 ///
 /// A full history ends nothing, whether a seed is asked or a loop runs: it is rotated, and the node goes on with a
-/// summary in place of its entries. So it never has more than the configuration's `history_limit`. What ends a loop is
-/// told at [`receive_loop`](crate::receive_loop) and [`tick_loop`](crate::tick_loop).
+/// summary in place of its entries. So it never has more than the configuration's `history_limit`. What ends a loop
+/// is described at [`receive_loop`](crate::receive_loop) and [`tick_loop`](crate::tick_loop).
 ///
 /// The configuration has to be checked. The error says why there were no loops: [`NodeFault::Socket`],
-/// [`NodeFault::Clock`], or [`NodeFault::Refused`] where memory was refused, or where no reader could be had for a
-/// pass.
+/// [`NodeFault::Clock`], or [`NodeFault::Refused`] if memory was refused or there was no reader for a pass.
 pub fn run_node<R>(
     rt: &R,
     alloc: Global,
@@ -239,7 +241,7 @@ pub fn run_node<R>(
 where
     R: Wait + Threads + Net + rt::Clock + Sync,
     requires { IsChecked config.now }
-    // A link over UDP tells its failures alone.
+    // Of a link over UDP contracts see only the failures.
     ensures ran { IfOk result (λ e. (hears : Line) × (hears' : Line) × (sends : Line) × (sends' : Line)
         × IsRun DrawsEight (seeded dice) false MAX_TURNS config.now until hears hears' sends sends' e) }
     ensures refused { IfErr result IsEarly }

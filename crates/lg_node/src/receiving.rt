@@ -1,4 +1,7 @@
 //! The receiving loop.
+//!
+//! Defined in: `specs/Meaning/Turns.antt`, `specs/Support/Took.antt`.
+//! Tested in: `lg_agent_tests/src/node/receiving.rt`.
 ghost use Rattle.std.specs.Prelude.{◌≡◌, ◌≤◌, ◌+◌, ◌∷◌, ◌++◌, [], List, length, true};
 ghost use Rattle.lg_node.specs.Meaning.Links.{LinkEvent};
 ghost use Rattle.lg_node.specs.Meaning.Links.LinkEvent.{Received};
@@ -21,7 +24,7 @@ use std::sync::atomic::Ordering::SeqCst;
 /// How long one turn waits for a datagram, in milliseconds.
 const WAIT_MS: u64 = 20;
 
-/// A datagram came: it is heard, or dropped where its bytes are no packet.
+/// Hears a datagram that came, or drops it if its bytes are no packet.
 fn hear<A: AgentName, R: Wait, L: Link>(
     rt: &R,
     alloc: Global,
@@ -31,7 +34,7 @@ fn hear<A: AgentName, R: Wait, L: Link>(
     source: Addr,
     bytes: &[u8],
 ) -> Turned
-    // The link told that it came, and before that a log.
+    // The link's log ends with this datagram.
     ensures { (log : List LinkEvent)
         → (L.tells ≡ true → L.log link.old ≡ log ++ Received source bytes.now ∷ [])
         → Took receives L.tells (line log (L.failed link.old)) (line (L.log link.new) (L.failed link.new))
@@ -46,7 +49,7 @@ fn hear<A: AgentName, R: Wait, L: Link>(
     }
 }
 
-/// One turn: it waits for a datagram, and hears it.
+/// One turn: waits for a datagram, and hears it.
 fn receive_turn<A: AgentName, R: Wait, L: Link, C: Clock>(
     rt: &R,
     alloc: Global,
@@ -103,16 +106,17 @@ fn receive_turns<A: AgentName, R: Wait, L: Link, C: Clock>(
     End::of(Why::ReadBound, dropped, unsent, bound)
 }
 
-/// Hears the datagrams that come over a link, and hands the packets of the replies to it, until it is told to stop.
+/// Hears the datagrams that come over a link, and hands the packets of the replies to it, until the stop flag is set.
 ///
-/// It makes at most so many turns, each of which waits 20 ms for a datagram. A datagram whose bytes are no packet is
-/// dropped, a packet that isn't sent is lost, and both are counted. A full history ends nothing: it is rotated, as
-/// [`Pass::rotate`] tells, and the datagram is heard then.
+/// It makes at most `bound` turns, each of which waits 20 ms for a datagram. A datagram whose bytes are no packet is
+/// dropped, and a packet that isn't sent is lost. Both are counted. A full history ends nothing: it is rotated, as
+/// [`Pass::rotate`] says, and the datagram is heard then.
 ///
-/// It ends with [`Why::LinkFailed`] where receiving failed, with [`Why::Refused`] where a datagram whose bytes are a
-/// packet couldn't be heard, and with [`Why::Ousted`] behind a reply that says so. A datagram can't be heard where
-/// memory was refused, also for the rotation, or where the history is still full behind one: another pass has filled
-/// it meanwhile, or there were as many events as a detector accepts. Whatever its end is, it tells the others to stop.
+/// It ends with [`Why::LinkFailed`] if receiving failed, with [`Why::Refused`] if a datagram whose bytes are a packet
+/// couldn't be heard, and with [`Why::Ousted`] after a reply that says so. A datagram can't be heard if memory was
+/// refused, for the call or for the rotation. Nor can it be heard if the history is still full after a rotation:
+/// another pass has filled it meanwhile, or there were as many events as a detector accepts. However the loop ends,
+/// it sets the stop flag for the others.
 pub fn receive_loop<A: AgentName, R: Wait, L: Link, C: Clock>(
     rt: &R,
     alloc: Global,

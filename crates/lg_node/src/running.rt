@@ -1,4 +1,7 @@
-//! Both loops at once, each in a thread of its own.
+//! Both loops at once, in two threads.
+//!
+//! Defined in: `specs/Meaning/Turns.antt`.
+//! Tested in: `lg_agent_tests/src/node/both.rt`.
 ghost use Rattle.std.specs.Prelude.{◌≡◌, ◌≤◌, ◌⊎◌};
 ghost use Rattle.std.specs.List.{flat_map};
 ghost use Rattle.lg_node.specs.declared.ending.Why.TheVariants.{Stopped};
@@ -36,7 +39,7 @@ where
     pub link: L,
 }
 
-/// Names from where a loop starts, and how many turns it may make.
+/// Names the state in which a loop starts, and how many turns it may make.
 trait Start {
     ghost use Rattle.std.specs.Prelude.{ℕ};
     ghost use Rattle.lg_agent.specs.Meaning.Ledger.{Own};
@@ -59,7 +62,7 @@ impl Start for Brand {
     ghost bound = { 0 };
 }
 
-/// What the receiving loop promises of its end, where it starts from there.
+/// What the receiving loop promises of its end, if it starts in that state.
 #[derive(Drop)]
 struct Receives<S: Start> {
     start: PhantomData<S>,
@@ -157,11 +160,11 @@ where
 }
 
 /// Runs both loops at once, the receiving one in a thread of its own and the ticking one in this thread, until one of
-/// them ends: then the other one ends with the turn that it is in.
+/// them ends. Then the other one ends with the turn that it is in.
 ///
-/// It gives both ends, the receiving loop's first. Where no thread can be had, both are told to stop before they begin:
-/// the receiving loop ends with [`Why::Refused`] since memory was refused, and the ticking one, which makes no turn,
-/// with [`Why::Stopped`].
+/// Returns both ends, the receiving loop's first. If no thread can be started, the stop flag is set before either
+/// begins. The receiving loop then ends with [`Why::Refused`], since memory was refused. The ticking one makes no
+/// turn and ends with [`Why::Stopped`].
 pub fn run_loops<A, R, L, C, D>(
     rt: &R,
     alloc: Global,

@@ -1,4 +1,7 @@
 //! The packets of a reply are handed to a link.
+//!
+//! Defined in: `specs/Meaning/Links.antt`.
+//! Tested in: `lg_agent_tests/src/node/receiving.rt`.
 ghost use Rattle.std.specs.Prelude.{◌≤◌, length};
 ghost use Rattle.lg_node.specs.Meaning.Links.{WereHanded};
 
@@ -7,7 +10,7 @@ use arrayvec::ArrayVec;
 use lg_detector::{MAX_SENDS, Outgoing};
 use lg_packet::encode;
 
-/// Hands each packet to the link once, in order, and goes on where one isn't sent. It says how many were not.
+/// Hands each packet to the link once, in order, and goes on if one isn't sent. Returns how many were not.
 pub(crate) fn send_all<L: Link>(link: &mut L, sends: &[Outgoing]) -> u64
     requires { length sends.now ≤ MAX_SENDS }
     ensures { WereHanded L.tells (L.log link.old) (L.log link.new) (L.failed link.old) (L.failed link.new)

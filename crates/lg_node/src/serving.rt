@@ -1,4 +1,7 @@
 //! The seeds are asked, and both loops run.
+//!
+//! Defined in: `specs/Meaning/Nodes.antt`.
+//! Tested in: `lg_agent_tests/src/node/asking.rt`.
 ghost use Rattle.std.specs.Prelude.{◌≡◌, ◌≤◌, ◌∷◌, [], ℕ, All, IfOk, IfErr, IfSome, length};
 ghost use Rattle.lg_timing.specs.declared.config.Config.{Config as Opened};
 ghost use Rattle.lg_detector.specs.declared.event.Event.TheVariants.{Open};
@@ -20,7 +23,7 @@ use std::sync::Wait;
 use std::sync::atomic::AtomicBool;
 use std::thread::Threads;
 
-/// How many passes a node has: that of the receiving loop, that of the ticking loop, and one that asks the seeds.
+/// How many passes a node has: one for the receiving loop, one for the ticking loop, and one that asks the seeds.
 pub(crate) const PLACES: usize = 3;
 
 /// How many turns each loop of a node may make.
@@ -35,7 +38,7 @@ pub(crate) struct Passes<'a, A: AgentName> {
     pub(crate) asker: Pass<'a, A>,
 }
 
-/// The passes of a fresh agent, or none where memory was refused.
+/// The passes of a fresh agent, or none if memory was refused.
 pub(crate) fn passes_of<'a, A: AgentName>(
     alloc: Global,
     agent: &'a mut Agent<A>,

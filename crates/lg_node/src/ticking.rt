@@ -1,4 +1,7 @@
 //! The ticking loop.
+//!
+//! Defined in: `specs/Meaning/Turns.antt`, `specs/Support/Took.antt`.
+//! Tested in: `lg_agent_tests/src/node/ticking.rt`.
 ghost use Rattle.std.specs.Prelude.{◌≡◌, ◌≤◌, ◌<◌, ℕ, IfSome};
 ghost use Rattle.std.specs.List.{flat_map};
 ghost use Rattle.lg_node.specs.Meaning.Turns.{line, ticks_before, words_in, Ran, Threw};
@@ -20,7 +23,7 @@ use std::sync::atomic::Ordering::SeqCst;
 /// How long one turn pauses at most, in milliseconds.
 const PAUSE_MS: u64 = 20;
 
-/// One turn at a moment: it ticks where the next deadline has come, and else pauses.
+/// One turn at a moment: ticks if the next deadline has come, and otherwise pauses.
 fn tick_turn<A: AgentName, R: Wait, L: Link, C: Clock, D: Dice>(
     rt: &R,
     alloc: Global,
@@ -50,7 +53,7 @@ fn tick_turn<A: AgentName, R: Wait, L: Link, C: Clock, D: Dice>(
     }
 }
 
-/// The moment of the next turn, or none where the loop is to stop.
+/// The moment of the next turn, or none if the loop is to stop.
 fn next_moment<C: Clock>(clock: &C, until: Moment, stop: &AtomicBool) -> Option<Moment>
     ensures { IfSome result (λ now. now < until) }
 {
@@ -65,7 +68,7 @@ fn next_moment<C: Clock>(clock: &C, until: Moment, stop: &AtomicBool) -> Option<
     }
 }
 
-/// The turns of the loop, until one ends it, or the moment comes until which it runs.
+/// The turns of the loop, until one ends it or its end time comes.
 fn tick_turns<A: AgentName, R: Wait, L: Link, C: Clock, D: Dice>(
     rt: &R,
     alloc: Global,
@@ -97,17 +100,17 @@ fn tick_turns<A: AgentName, R: Wait, L: Link, C: Clock, D: Dice>(
     End::of(Why::ReadBound, dropped, unsent, bound)
 }
 
-/// Ticks whenever the next deadline has come, and hands the packets of the replies to a link, until it is told to stop,
-/// or a moment comes.
+/// Ticks whenever the next deadline has come, and hands the packets of the replies to a link, until the stop flag is
+/// set or its end time (`until`) comes.
 ///
-/// It makes at most so many turns. One that doesn't tick pauses to the deadline, but 20 ms at most. A packet that isn't
-/// sent is lost, and counted. A full history ends nothing: it is rotated, as [`Pass::rotate`] tells, and the tick is
-/// made then, with the same words.
+/// It makes at most `bound` turns. One that doesn't tick pauses until the deadline, but 20 ms at most. A packet that
+/// isn't sent is lost, and counted. A full history ends nothing: it is rotated, as [`Pass::rotate`] says, and the
+/// tick is made then, with the same words.
 ///
-/// It ends with [`Why::Refused`] where no tick could be made or a look was refused, and with [`Why::Ousted`] behind a
-/// reply that says so. No tick can be made where memory was refused, also for the rotation, or where the history is
-/// still full behind one: another pass has filled it meanwhile, or there were as many events as a detector accepts.
-/// Whatever its end is, it tells the others to stop.
+/// It ends with [`Why::Refused`] if no tick could be made or a look was refused, and with [`Why::Ousted`] after a
+/// reply that says so. No tick can be made if memory was refused, for the call or for the rotation. Nor can one be
+/// made if the history is still full after a rotation: another pass has filled it meanwhile, or there were as many
+/// events as a detector accepts. However the loop ends, it sets the stop flag for the others.
 pub fn tick_loop<A: AgentName, R: Wait, L: Link, C: Clock, D: Dice + Drop>(
     rt: &R,
     alloc: Global,

@@ -1,4 +1,7 @@
-//! What one turn tells its loop.
+//! What one turn reports to its loop.
+//!
+//! Defined in: `specs/Meaning/Links.antt`.
+//! Tested in: `lg_agent_tests/src/node/receiving.rt`.
 ghost use Rattle.std.specs.Prelude.{◌≡◌, ◌≤◌, None, Some, if◌then◌else◌};
 ghost use Rattle.lg_node.specs.declared.ending.Why.TheVariants.{Ousted};
 ghost use Rattle.lg_node.specs.Meaning.Links.{WereHanded};
@@ -8,7 +11,7 @@ use crate::link::Link;
 use crate::sending::send_all;
 use lg_agent::Receipt;
 
-/// What one turn tells its loop.
+/// What one turn reports to its loop.
 #[derive(Drop)]
 pub(crate) struct Turned {
     /// Why the loop ends, if it does.
@@ -59,8 +62,7 @@ impl Turned {
         }
     }
 
-    /// A call was answered: the packets of its reply are handed to the link, and then the loop ends where the member
-    /// was ousted.
+    /// A call was answered: hands the packets of its reply to the link. The loop ends then if the member was ousted.
     pub(crate) fn of<L: Link>(link: &mut L, receipt: &Receipt) -> Turned
         ensures handed { WereHanded L.tells (L.log link.old) (L.log link.new) (L.failed link.old) (L.failed link.new)
             receipt.now.reply.sends.items result.unsent }

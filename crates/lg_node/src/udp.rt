@@ -8,19 +8,19 @@ use std::io::ErrorKind;
 use std::net::{Ipv4Addr, SocketAddr, UdpSocket};
 use std::time::Duration;
 
-/// A link over a socket that others may use too. It tells how often it failed, and nothing of the bytes.
+/// A link over a socket that others may use too. Contracts see how often it failed, and nothing of the bytes.
 ///
-/// The failures are counted up to 2^64 - 1, and later ones aren't told.
+/// The failures are counted up to 2^64 - 1, and later ones aren't reported.
 #[derive(Drop)]
 pub struct UdpLink<'a> {
     socket: &'a UdpSocket,
-    /// How long the socket waits, in milliseconds; 0 where that isn't known.
+    /// How long the socket waits, in milliseconds; 0 if that isn't known.
     limit_ms: u64,
     failures: u64,
 }
 
 impl<'a> UdpLink<'a> {
-    /// A link over a socket, which hasn't failed yet.
+    /// A link over a socket. It hasn't failed yet.
     pub fn new(socket: &'a UdpSocket) -> UdpLink<'a>
         ensures { result.failures ≡ 0 }
     {
@@ -31,7 +31,7 @@ impl<'a> UdpLink<'a> {
         }
     }
 
-    /// Has the socket wait so long, 1 ms at least. The system is told only where that changes.
+    /// Makes the socket wait this long, at least 1 ms. The system is called only if that changes.
     fn limit(&mut self, limit_ms: u64) -> io::Result<()>
         ensures { self.new.failures ≡ self.old.failures }
     {
@@ -44,7 +44,7 @@ impl<'a> UdpLink<'a> {
         Ok(())
     }
 
-    /// Counts a failure, where there is a number for it.
+    /// Counts a failure, if a number is left for it. Returns whether it did.
     fn count(&mut self) -> bool
         ensures { MatchBool result (self.new.failures ≡ self.old.failures + 1)
             (self.new.failures ≡ self.old.failures) }
@@ -57,7 +57,7 @@ impl<'a> UdpLink<'a> {
     }
 }
 
-/// No datagram came in time, or a signal came.
+/// Whether no datagram came in time, or a signal came.
 fn is_nothing(kind: ErrorKind) -> bool {
     matches!(kind, ErrorKind::WouldBlock | ErrorKind::Interrupted)
 }

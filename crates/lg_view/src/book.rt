@@ -1,5 +1,8 @@
-//! The book of a published pair: the one list of all the events that were ever added. The list exists in proofs alone;
-//! what stands in memory is its length, in a word that the writer alone has.
+//! The book of a published pair: the one list of all the events that were ever added. The list exists in proofs
+//! alone. In memory there is its length, in a word that only the writer has.
+//!
+//! Defined in: `specs/Meaning/Rule.antt`.
+//! Tested in: `lg_agent_tests/src/view/looks.rt`.
 ghost use Rattle.std.specs.Prelude.{◌≡◌, []};
 ghost use Rattle.lg_view.specs.Meaning.Rule.{head_of};
 
@@ -29,7 +32,7 @@ impl Rule<Event, u64> for BookRule {
     ghost moves = { λ ask before after answer. Unit {0} };
 }
 
-/// Whoever adds an event gets nothing in return but what the step tells.
+/// Whoever adds an event gains nothing besides what the step itself shows.
 pub struct NoGain;
 
 impl Gain<Event, u64> for NoGain {
@@ -38,7 +41,7 @@ impl Gain<Event, u64> for NoGain {
     ghost after = { λ names about answer. ftrue };
 }
 
-/// What the step that adds an event is given: which event.
+/// What the step that adds an event is given: the event.
 pub(crate) type EventOffer = Offer<Event, u64, BookRule, NoGain>;
 
 /// The step that adds an event.
@@ -60,8 +63,8 @@ impl Plain<Event, Event, u64> for Adding {
 
 /// Names one book, and with it one published pair.
 ///
-/// A function that makes a pair takes a type parameter with this bound, and requires that the book it is handed is
-/// the one that the parameter names. So two fronts under one name are fronts of one list. At run time the type is
+/// A function that makes a pair takes a type parameter with this bound. It requires that the book that it is handed
+/// is the one that the parameter names. So two fronts under one name are fronts of one list. At run time the type is
 /// [`Brand`].
 pub trait PairName {
     ghost use Rattle.logbook.specs.Pages.{Book};
@@ -75,7 +78,7 @@ impl PairName for Brand {
     ghost book = { no_book };
 }
 
-/// A book with no events, which has no name yet. It has the eight bytes of its word, and takes no memory elsewhere.
+/// A book with no events, which has no name yet. It has the eight bytes of its word, and allocates nothing.
 #[derive(Drop)]
 pub struct UnnamedBook {
     head: Word<Event, u64, BookRule>,
@@ -85,7 +88,7 @@ pub struct UnnamedBook {
 }
 
 impl UnnamedBook {
-    /// A book with no events, which is no other book.
+    /// A new book with no events, different from every other book.
     pub fn new() -> UnnamedBook {
         let (seen, mut first, _second) = Seen::open(Start::alone(), 0, 0);
         UnnamedBook {
@@ -94,7 +97,7 @@ impl UnnamedBook {
         }
     }
 
-    /// The book under its name, and its front of no events.
+    /// The book under its name, and its empty front.
     pub(crate) fn named<P: PairName>(self) -> (Book<P>, Front<P>)
         requires { self.seen.book ≡ P.book }
         ensures { result.1 ≡ [] }

@@ -1,16 +1,19 @@
 //! The writer's side of a published pair.
 //!
-//! An event is appended, and then published. Appending takes all the memory, and can be refused; publishing can't be,
-//! since by then the event is in the book. This holds in three steps:
-//! - `append` first puts an update with no event into the writer's log. It is there for its room alone;
-//! - it then adds the event to the book. This is the last thing that can be refused;
+//! An event is appended, and then published. Appending allocates all the memory, and can be refused. Publishing can't
+//! be refused, since the event is in the book by then. This holds in three steps:
+//! - `append` first puts an update with no event into the writer's log, only to reserve memory there;
+//! - it then adds the event to the book, which is the last thing that can be refused;
 //! - `publish` puts the update with the event into the log, again as long as memory for it is refused, and publishes.
 //!
-//! That the log takes that update at the first try is no theorem of this crate, but follows from how `left_right` and
-//! its log are made. The log never holds more than four updates: the two of the last publication, which one of the two
-//! copies lacks, and the two of this one. A log whose updates have at most 1,024 bytes takes room for four when it
-//! first grows, and an update has 24. So the last of the four finds its room, and `publish` returns once no reader
-//! reads the copy that is to be led on.
+//! That the log takes this update at the first try is no theorem of this crate. It follows from how `left_right` and
+//! its log are made. The log never holds more than four updates: the two of the last publication, which one of the
+//! two copies lacks, and the two of this one. A log whose updates have at most 1,024 bytes reserves memory for four
+//! when it first grows, and an update has 24. So the last of the four finds its memory, and `publish` returns once no
+//! reader reads the copy that is to be advanced.
+//!
+//! Defined in: `specs/Meaning/Views.antt`, `specs/Support/Updates.antt`.
+//! Tested in: `lg_agent_tests/src/view/looks.rt`.
 ghost use Rattle.std.specs.Prelude.{◌≡◌, ◌≤◌, ◌++◌, ◌∷◌, [], length, drop, fold, true};
 ghost use Rattle.std.specs.Prelude.{Some, MatchResult};
 ghost use Rattle.lg_detector.specs.Meaning.Step.{is_accepted};
@@ -36,7 +39,8 @@ pub(crate) type FeedWriter<P> = Writer<Published<P>, Update<P>, (), Unruled>;
 
 /// The writer's side of a published pair. It isn't `Drop`: [`Feed::end`] ends it.
 ///
-/// A contract sees it as the events that are published, and those that wait to be, of which there is one at most.
+/// A contract sees it as the events that are published, and those that wait to be published, of which there is at
+/// most one.
 pub struct Feed<P: PairName>
 where
     Published<P>: Absorb<Update<P>, State = [Event; 0]>,
@@ -45,7 +49,7 @@ where
     book: Book<P>,
     /// What is published.
     front: Front<P>,
-    /// What waits.
+    /// The event that waits, if one does.
     waiting: Option<Added<P>>,
 }
 
@@ -81,8 +85,8 @@ impl<P: PairName> Feed<P> {
         }
     }
 
-    /// The event waits to be published. The events that are published have to be accepted with it, and none may wait
-    /// before. It takes memory for the event, and room in the writer's log. The only error is that memory was refused,
+    /// Makes an event wait to be published. The events that are published have to be accepted with it, and no other
+    /// may wait. Allocates memory for the event, and in the writer's log. The only error is that memory was refused,
     /// and then nothing has changed.
     pub fn append(&mut self, alloc: Global, event: &Event) -> Result<(), NoMemory>
         requires accepted { is_accepted (self.old.events ++ event.now ∷ []) ≡ true }
@@ -94,7 +98,7 @@ impl<P: PairName> Feed<P> {
         if self.writer.append(Update { added: None }).is_err() {
             return Err(AllocError);
         }
-        // There is one word with the length of the book, and this feed has it. So this is never none.
+        // There is one word with the length of the book, and only this feed has it. So this is never none.
         let Some(front) = self.front.add(&self.book, event) else {
             return Err(AllocError);
         };
@@ -105,10 +109,10 @@ impl<P: PairName> Feed<P> {
         Ok(())
     }
 
-    /// Publishes what waits: each look that is entered from then on finds it. It takes no memory, and waits until no
-    /// reader reads any more what was published before the last time. Where nothing waits, it does nothing.
+    /// Publishes the event that waits: each look that is entered from then on finds it. Allocates nothing. Waits until
+    /// no reader still reads what was published before the last time. If no event waits, it does nothing.
     ///
-    /// It never fails, and returns, for the room was made by [`Feed::append`]: at the head of this file stands how.
+    /// It never fails, and it returns, since [`Feed::append`] has reserved the memory: the head of this file says how.
     pub fn publish<R: Wait>(&mut self, rt: &R)
         ensures { self.new ≡ record self.old { events = self.old.events ++ self.old.waiting; waiting = [] } }
     {
@@ -122,8 +126,8 @@ impl<P: PairName> Feed<P> {
         })
     }
 
-    /// Tells a reader of what is published: it has then seen these events, which begin with what it had seen. It has
-    /// to have seen no more than is published. It takes no memory, and no step on what threads share.
+    /// Brings a reader up to date with what is published. It has then seen these events, which begin with what it had
+    /// seen. The reader must not be ahead. Allocates nothing, and touches nothing that threads share.
     pub fn tell(&self, look: &mut Look<P>)
         requires { length look.old ≤ length self.now.events }
         ensures begins { IsPrefix look.old self.now.events }
@@ -133,7 +137,7 @@ impl<P: PairName> Feed<P> {
         look.seen = self.front.copy();
     }
 
-    /// What a reader has seen begins what is published, if it is no longer.
+    /// Shows that what a reader has seen begins what is published. The reader must not be ahead.
     pub fn compare(&self, look: &Look<P>)
         requires { length look.now ≤ length self.now.events }
         ensures { IsPrefix look.now self.now.events }
@@ -141,7 +145,7 @@ impl<P: PairName> Feed<P> {
         look.seen.begins(&self.front);
     }
 
-    /// Ends the feed. It waits until no reader reads; from then on each look answers [`NoView`](crate::NoView).
+    /// Ends the feed. Waits until no reader reads; from then on each look answers [`NoView`](crate::NoView).
     pub fn end<R: Wait>(self, rt: &R) {
         let Feed {
             writer,
@@ -153,7 +157,7 @@ impl<P: PairName> Feed<P> {
     }
 }
 
-/// Puts an event where it will be published. The room for it was made before, so the first try is the last.
+/// Puts an event where it will be published. The memory for it was reserved before, so the first try is the last.
 fn put<P: PairName, R: Wait>(rt: &R, writer: &mut FeedWriter<P>, added: Added<P>)
     ensures desk { writer.new.desk ≡ writer.old.desk }
     ensures pending { drop writer.new.behind writer.new.log.items

@@ -1,4 +1,7 @@
-//! A front of the book: the events at its beginning, up to some length.
+//! A front of the book: the events at its beginning, up to some length (a prefix).
+//!
+//! Defined in: `lg_detector/specs/Meaning/Step.antt`.
+//! Tested in: `lg_agent_tests/src/view/looks.rt`.
 ghost use Rattle.std.specs.Prelude.{◌≡◌, ◌≤◌, ◌++◌, ◌∷◌, [], length, true, IfSome, MatchBool};
 ghost use Rattle.lg_detector.specs.Meaning.Step.{is_accepted};
 ghost use mathlib.Core.List.{IsPrefix};
@@ -31,7 +34,7 @@ impl<P: PairName> Model for Front<P> {
 }
 
 impl<P: PairName> Front<P> {
-    /// The front of no events.
+    /// The empty front.
     pub(crate) fn empty(seen: Seen<Event, u64, BookRule>) -> Front<P>
         requires { (seen.book ≡ P.book) × (seen.log ≡ []) }
         ensures { result ≡ [] }
@@ -43,7 +46,7 @@ impl<P: PairName> Front<P> {
         }
     }
 
-    /// How many events it has, at most 4,000,000,000: it is a list that a detector accepts.
+    /// How many events it has: at most 4,000,000,000, since it is a list that a detector accepts.
     pub(crate) fn len(&self) -> u64
         ensures length { result ≡ length self.now }
         ensures accepted { is_accepted self.now ≡ true }
@@ -51,7 +54,7 @@ impl<P: PairName> Front<P> {
         self.count
     }
 
-    /// An equal front. It takes no memory.
+    /// An equal front. Allocates nothing.
     pub(crate) fn copy(&self) -> Front<P>
         ensures { result ≡ self.now }
     {
@@ -62,7 +65,7 @@ impl<P: PairName> Front<P> {
         }
     }
 
-    /// Of two fronts of one book, the one that is no longer begins the other.
+    /// Shows that this front begins the other one of the same book. The other must not be shorter.
     pub(crate) fn begins(&self, other: &Front<P>)
         requires { length self.now ≤ length other.now }
         ensures { IsPrefix self.now other.now }
@@ -83,8 +86,8 @@ impl<P: PairName> Front<P> {
         true
     }
 
-    /// Adds an event to the book, whose list this front has to be, and returns the front with the event. It is none,
-    /// and nothing is added, where the book has another length.
+    /// Adds an event to the book if this front is its whole list, and returns the front with the event. If the book
+    /// has another length, adds nothing and returns none.
     pub(crate) fn add(&self, book: &Book<P>, event: &Event) -> Option<Front<P>>
         requires { is_accepted (self.now ++ event.now ∷ []) ≡ true }
         ensures { IfSome result (λ front. front ≡ self.now ++ event.now ∷ []) }

@@ -1,4 +1,7 @@
 //! A reader of a published pair, and what it has seen.
+//!
+//! Defined in: `lg_detector/specs/Meaning/Step.antt`, `specs/Meaning/Views.antt`.
+//! Tested in: `lg_agent_tests/src/view/looks.rt`.
 ghost use Rattle.std.specs.Prelude.{◌≡◌, length, true, Some, MatchResult};
 ghost use Rattle.lg_rules.specs.Meaning.Claim.{name_of};
 ghost use Rattle.lg_rules.specs.Meaning.Rows.{name_cmp, row_at};
@@ -24,14 +27,14 @@ mod reading;
 /// The reader of `left_right`, over the published value.
 pub(crate) type LookReader<P> = Reader<Published<P>, (), Unruled>;
 
-/// The published value wasn't handed out, since the feed was ended; or what was handed out is after fewer events than
-/// the reader has seen. A look takes what was published last, so the second doesn't come; but no contract of
-/// `left_right` says so.
+/// The published value wasn't handed out, since the feed was ended; or it is after fewer events than the reader has
+/// seen. A look takes what was published last, so the second should never happen. But no contract of `left_right`
+/// says so.
 #[derive(Clone, Copy, Debug, PartialEq, Eq, Error)]
 #[error("the published members weren't handed out")]
 pub struct NoView;
 
-/// Why a look has no members.
+/// Why a look has no members to give.
 #[derive(Clone, Copy, Debug, PartialEq, Eq, Error)]
 pub enum MembersFault {
     /// As [`NoView`].
@@ -44,9 +47,9 @@ pub enum MembersFault {
 
 /// A reader of a published pair. A contract sees it as the list of the events that it has seen.
 ///
-/// A look waits for nobody, and keeps nothing open: each call enters the published value, takes its answer and leaves.
-/// An answer is that of a list of events which begins with all that was seen, and which is then seen; at an error what
-/// was seen stays as it was.
+/// A look waits for nobody, and keeps nothing open: each call enters the published value, takes its answer and
+/// leaves. An answer is that of a list of events that begins with all that was seen before, and this list is then
+/// what was seen. After an error, what was seen is as it was.
 #[derive(Drop)]
 pub struct Look<P: PairName> {
     reader: LookReader<P>,
@@ -78,14 +81,13 @@ impl<P: PairName> Look<P> {
         self.seen.len()
     }
 
-    /// The record of a name, the member's own included, where it is known. It takes no memory. The only error is
-    /// [`NoView`].
+    /// The record of a name, this member's included, if it is known. Allocates nothing. The only error is [`NoView`].
     pub fn status_of(&mut self, name: &Name) -> Result<Option<Record>, NoView>
         ensures { MatchResult result
             (λ known. (known ≡ row_at name_cmp name_of name.now (view_after self.new)) × IsPrefix self.old self.new)
             (λ _. self.new ≡ self.old) }
     {
-        // A guard of a `match` can't lend the front beside an option, so this has an `if`.
+        // A guard of a `match` can't lend the front beside an option, so this is an `if`.
         let Some((record, front)) = replace_with(&mut self.reader, *name, read_status) else {
             return Err(NoView);
         };
@@ -97,7 +99,7 @@ impl<P: PairName> Look<P> {
     }
 
     /// The least deadline of the timers that are set, in milliseconds. What was seen has to begin with the opening,
-    /// since a timer is always set from then on. It takes no memory. The only error is [`NoView`].
+    /// since a timer is always set from then on. Allocates nothing. The only error is [`NoView`].
     #[tactic(auto, using(crate::proofs::DeadlineLaws::known_deadline))]
     pub fn next_deadline(&mut self) -> Result<u64, NoView>
         requires { begins_open self.old ≡ true }
@@ -111,7 +113,7 @@ impl<P: PairName> Look<P> {
         }
     }
 
-    /// How many events the published value is after. It takes no memory. The only error is [`NoView`].
+    /// How many events the published value is after. Allocates nothing. The only error is [`NoView`].
     pub fn version(&mut self) -> Result<u64, NoView>
         ensures { MatchResult result (λ version. (version ≡ length self.new) × IsPrefix self.old self.new)
             (λ _. self.new ≡ self.old) }
@@ -122,8 +124,8 @@ impl<P: PairName> Look<P> {
         }
     }
 
-    /// The records of all members, the own record included, in the order of their names. It takes memory for 256
-    /// records, before it enters. [`MembersFault::NoMemory`] comes where that is refused, else
+    /// The records of all members, this one's included, in the order of their names. Allocates memory for 256
+    /// records, before it enters. If that is refused the error is [`MembersFault::NoMemory`], otherwise it is
     /// [`MembersFault::NoView`].
     pub fn members(&mut self, alloc: Global) -> Result<Vec<Record>, MembersFault>
         ensures { MatchResult result

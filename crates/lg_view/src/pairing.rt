@@ -1,4 +1,7 @@
 //! Makes a published pair.
+//!
+//! Defined in: `specs/Meaning/Views.antt`.
+//! Tested in: `lg_agent_tests/src/view/looks.rt`.
 ghost use Rattle.std.specs.Prelude.{◌≡◌, ◌<◌, ◌≤◌, ◌^◌, [], drop, All, vec_len, IfOk, IfSome};
 ghost use Rattle.std.specs.Bool.{OnTrue};
 ghost use Rattle.std.specs.Vec.{vec_capacity};
@@ -19,15 +22,15 @@ pub enum PairFault {
     /// Memory was refused.
     #[error("memory was refused")]
     NoMemory,
-    /// A reader wasn't given.
+    /// No reader was given for a look.
     #[error("no reader was given for a place")]
     NoPlace,
 }
 
-/// Makes a feed and so many looks, at least one and fewer than 2^32, over a book that has no events. Nothing is
-/// published yet, and each look has seen nothing. It takes memory for the looks, for two detectors, each with some 5 KB
-/// for a reply, and for what the threads share; where that is refused, it fails with [`PairFault::NoMemory`]. It fails
-/// with [`PairFault::NoPlace`] where a reader isn't given.
+/// Makes a feed and `places` looks, at least one and fewer than 2^32, over a book that has no events. Nothing is
+/// published yet, and each look has seen nothing. Allocates memory for the looks, for two detectors, each with some 5
+/// KB for a reply, and for what the threads share. If that is refused, it fails with [`PairFault::NoMemory`]. If no
+/// reader is given for a look, it fails with [`PairFault::NoPlace`].
 pub fn pair<P: PairName, R: Wait>(
     rt: &R,
     alloc: Global,
@@ -69,7 +72,7 @@ fn blank_writer<P: PairName>(
     Writer::new(alloc, first, second, places).ok()
 }
 
-/// Makes a look for each place, in a list that has room for them. Returns whether each was given its reader.
+/// Makes the looks, in a list with enough capacity for them. Returns whether each was given its reader.
 fn fill<P: PairName>(
     writer: &FeedWriter<P>,
     front: &Front<P>,

@@ -1,4 +1,7 @@
 //! What is published: a detector, and the front that it is after.
+//!
+//! Defined in: `lg_detector/specs/Meaning/Step.antt`, `specs/Support/Updates.antt`.
+//! Tested in: `lg_agent_tests/src/view/looks.rt`.
 ghost use Rattle.std.specs.Prelude.{◌≡◌, [], IfOk, Some};
 ghost use Rattle.lg_rules.specs.Meaning.Claim.{name_of};
 ghost use Rattle.lg_rules.specs.Meaning.Rows.{name_cmp, row_at};
@@ -17,14 +20,14 @@ use std::marker::Model;
 
 /// A detector beside the front of the book that it is after. A contract sees it as that front.
 ///
-/// `left_right` keeps two of them: readers read the one while the writer leads the other on. Each takes the memory of a
+/// `left_right` keeps two of them: readers read one while the writer advances the other. Each takes the memory of a
 /// detector, and some 5 KB for a reply.
 #[derive(Drop)]
 pub struct Published<P: PairName> {
     detector: Detector,
     front: Front<P>,
-    // A place for the replies to the events, which nobody reads. It is kept, since to make one for each event would
-    // take longer than most events do.
+    // A scratch buffer for the replies to the events, which nobody reads. It is kept, since making one for each event
+    // would take longer than most events do.
     unread: Box<Reply>,
 }
 
@@ -41,7 +44,7 @@ impl<P: PairName> Model for Published<P> {
 }
 
 impl<P: PairName> Published<P> {
-    /// A detector before any event. It takes the detector's memory, and a box for a reply; the only error is that
+    /// A detector before any event. Allocates the detector's memory, and a box for a reply; the only error is that
     /// memory was refused.
     pub(crate) fn blank(alloc: Global, front: Front<P>) -> Result<Published<P>, NoMemory>
         requires { front ≡ [] }
@@ -61,28 +64,28 @@ impl<P: PairName> Published<P> {
         &self.front
     }
 
-    /// The record of a name, where it is known.
+    /// The record of a name, if it is known.
     pub(crate) fn status_of(&self, name: &Name) -> Option<Record>
         ensures { result ≡ row_at name_cmp name_of name.now (view_after self.now) }
     {
         self.detector.record_of(name)
     }
 
-    /// The least deadline; none before the opening.
+    /// The least deadline. There is none before the opening.
     pub(crate) fn next_deadline(&self) -> Option<u64>
         ensures { result ≡ deadline_after self.now }
     {
         self.detector.next_deadline()
     }
 
-    /// Writes the records of all members, in the order of their names, in the place of what the row held.
+    /// Overwrites `row` with the records of all members, in the order of their names.
     pub(crate) fn put_table(&self, row: &mut ArrayVec<Record, MAX_MEMBERS>)
         ensures { row.new.items ≡ view_after self.now }
     {
         self.detector.put_table(row);
     }
 
-    /// Goes on by an event that was added, where it is the next one.
+    /// Advances by an event that was added, if it is the next one.
     fn advance(&mut self, added: &Added<P>)
         ensures { self.new ≡ taken self.old (Some added.now) }
     {
@@ -97,7 +100,7 @@ impl<P: PairName> Published<P> {
 impl<P: PairName> Absorb<Update<P>> for Published<P> {
     ghost use Rattle.lg_view.specs.Support.Updates.{taken};
 
-    // For contracts a state is a list of events. No value of this type is made.
+    // A state, as contracts see it, is a list of events. No value of this type is made.
     type State = [Event; 0];
 
     ghost state = { λ published. published };

@@ -1,4 +1,6 @@
 //! What the writer hands to the published value.
+//!
+//! Defined in: `specs/Support/Updates.antt`.
 use crate::book::PairName;
 use crate::front::Front;
 use lg_detector::Event;
@@ -23,8 +25,8 @@ impl<P: PairName> Model for Added<P> {
     ghost invariant = { λ a. (before : List Event) × (a.front ≡ before ++ a.event.value ∷ []) };
 }
 
-/// What leads the published value on by one event. One without an event changes nothing: it only makes room for one
-/// that has an event. The event stands on the heap, so that an update takes 24 bytes.
+/// What advances the published value by one event. An update without an event changes nothing: it only reserves
+/// memory for one that has an event. The event is on the heap, so that an update takes 24 bytes.
 #[derive(Drop)]
 pub struct Update<P: PairName> {
     pub(crate) added: Option<Added<P>>,

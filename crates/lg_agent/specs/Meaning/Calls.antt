@@ -21,8 +21,8 @@ use Rattle.lg_agent.specs.Meaning.Ledger.{Ledger, Own, all_events, count_of, own
 abbrev pub with_entry : Ledger → ℕ → Event → Ledger
 with_entry l seat e = record l { history = l.history ++ entry seat e (reply_after (all_events l) e) ∷ [] }
 
--- A ledger whose entries are all cut off: none is stored, a summary stands for all events so far, and each seat's number
--- of entries cut off has grown by those that it had stored.
+-- A ledger after a rotation. All entries are cut off and none is stored; there is a summary of all events so far.
+-- Each seat's count of entries that were cut off has grown by those of it that were stored.
 pub record IsRotated (before after : Ledger) : Type 0 where
   pub history : after.history ≡ []
   pub past : after.past ≡ all_events before
@@ -33,8 +33,8 @@ pub record IsRotated (before after : Ledger) : Type 0 where
   pub places : after.places ≡ before.places
   pub limit : after.limit ≡ before.limit
 
--- Why the ledger refuses a call of a seat, if it does: there is no such place, a detector accepts no more events, or as
--- many entries are stored as may be.
+-- Why the ledger refuses a call of a seat, if it does: there is no such seat, a detector accepts no more events, or
+-- as many entries are stored as are allowed.
 abbrev pub refusal_of : Ledger → ℕ → Option Refusal
 refusal_of l seat =
     if (seat == 0) || nat_lt l.places seat
@@ -44,8 +44,8 @@ refusal_of l seat =
     else (if nat_le l.limit (length l.history) then Some (HistoryFull l.limit) else None))
 
 -- An answered call, by what its caller has seen before and after. There is an accepted list of events which begins
--- with all that the caller had seen and ends with the call's event. The event stands at the receipt's place, and the
--- reply is that of the definitions there. The caller has then seen the list.
+-- with all that the caller had seen and ends with the call's event. The event has the receipt's position (`place`),
+-- and the reply is the one that the definitions give there. The caller has then seen the list.
 pub record IsAnswered (seen : List Event) (e : Event) (r : Receipt) (now : List Event) : Type 0 where
   pub before : List Event
   pub begins : IsPrefix seen before
@@ -54,8 +54,8 @@ pub record IsAnswered (seen : List Event) (e : Event) (r : Receipt) (now : List 
   pub place : length before ≡ r.place
   pub reply : r.reply ≡ reply_after before e
 
--- An answered call of a pass: its place is one more of the pass's positions, and later than all of them. The first of
--- these, whose entries were cut off, may have become a number before.
+-- An answered call of a pass: its position is one more of the pass's positions, and later than all of them. Of the
+-- first of these, whose entries were cut off, perhaps only the number is kept from then on.
 pub record IsCall (before : Own) (e : Event) (r : Receipt) (after : Own) : Type 0 where
   pub answered : IsAnswered before.seen e r after.seen
   pub moved : ℕ
@@ -66,8 +66,8 @@ pub record IsCall (before : Own) (e : Event) (r : Receipt) (after : Own) : Type 
   pub seat : after.seat ≡ before.seat
   pub name : after.name ≡ before.name
 
--- A pass after a rotation: it has seen what it had seen, all its calls among it, and made as many calls. The first of its
--- positions may have become a number.
+-- A pass after a rotation: it has seen what it had seen, all its calls among it, and made as many calls. Of the first
+-- of its positions perhaps only the number is kept from then on.
 pub record IsRotatedPass (before after : Own) : Type 0 where
   pub early : All (λ k. k < length before.seen) before.mine
   pub moved : ℕ
@@ -78,9 +78,10 @@ pub record IsRotatedPass (before after : Own) : Type 0 where
   pub seat : after.seat ≡ before.seat
   pub name : after.name ≡ before.name
 
--- What a call of a pass that has seen these events can be refused for. HistoryFull tells the limit that the opening
--- gives, or the most events that a detector accepts. Behind tells that the pass has seen more events than there are. It
--- is refused neither for its place, which is one of the agent's, nor for its bytes, nor for what looks are refused for.
+-- What a call of a pass that has seen these events can be refused for. HistoryFull has the limit that the opening
+-- gives, or the most events that a detector accepts. Behind has how many events the pass has seen and how many there
+-- are, which is fewer. A call is refused neither for its seat, which is one of the agent's, nor for its bytes, nor
+-- for what looks are refused for.
 abbrev pub IsRefusal : List Event → Refusal → Type 0
 IsRefusal seen (BadPacket fault) = ⊥
 IsRefusal seen NoMemory = Unit {0}
@@ -111,7 +112,7 @@ pub record IsFresh (agent : List ℕ) (place : ℕ) (pass : Own) : Type 0 where
   pub gone : pass.gone ≡ 0
   pub mine : pass.mine ≡ []
 
--- fresh passes, in the order of their places, which follow n
+-- fresh passes, in the order of their seats, which follow n
 abbrev pub AreFresh : List ℕ → ℕ → List Own → Type 0
 AreFresh agent n [] = Unit {0}
 AreFresh agent n (pass ∷ passes) = IsFresh agent (n + 1) pass × AreFresh agent (n + 1) passes

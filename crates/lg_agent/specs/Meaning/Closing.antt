@@ -20,16 +20,16 @@ use Rattle.lg_agent.specs.declared.refusal.CloseFault.{CloseFault}
 use Rattle.lg_agent.specs.declared.refusal.CloseFault.TheVariants.{Missing, Foreign, Differs}
 use Rattle.lg_agent.specs.Meaning.Ledger.{Ledger, Own, own_name, all_events, count_of}
 
--- how many of these passes have a place
+-- how many of these passes have this seat
 abbrev pub times : List Own → ℕ → ℕ
 times all place = count_by (λ s. s.seat == place) all
 
--- A pass doesn't belong here: it bears another name, its place isn't from 1 to `places`, or another has it as well.
+-- A pass doesn't belong here: it has another name, its seat isn't from 1 to `places`, or another pass has it as well.
 abbrev pub is_foreign : List ℕ → ℕ → List Own → Own → Bool
 is_foreign name places all s =
     not (pointwise nat_eq s.name name) || ((s.seat == 0) || (nat_lt places s.seat || nat_lt 1 (times all s.seat)))
 
--- no pass has the place
+-- no pass has the seat
 abbrev pub is_missing : List Own → ℕ → Bool
 is_missing all place = times all place == 0
 
@@ -40,12 +40,12 @@ first_difference n [] (y ∷ ys) = Some n
 first_difference n (x ∷ xs) [] = Some n
 first_difference n (x ∷ xs) (y ∷ ys) = if x == y then first_difference (n + 1) xs ys else Some n
 
--- how many of a pass's first positions are those of entries that were cut off, of which there are `base`
+-- how many of a pass's first positions are those of entries that were cut off, which are the first `base` ones
 abbrev pub below : ℕ → List ℕ → ℕ
 below base mine = prefix_len (λ n. nat_lt n base) mine
 
--- Where a pass's calls differ from the entries of its place, those that were cut off by their number, the others by their
--- positions. The calls are counted from 0; where the numbers differ it is the lesser of the two.
+-- Where a pass's calls differ from the entries of its seat. Those that were cut off are compared by their number, the
+-- others by their positions. The calls are counted from 0. If the numbers differ, it is the lesser of the two.
 abbrev pub difference : Ledger → Own → Option CloseFault
 difference l s =
     let base = length l.past in
@@ -59,13 +59,14 @@ abbrev pub difference_at : Ledger → Option Own → Option CloseFault
 difference_at l None = None
 difference_at l (Some s) = difference l s
 
--- the first such difference, going through these places
+-- the first such difference, going through these seats
 abbrev pub least_difference : Ledger → List Own → List ℕ → Option CloseFault
 least_difference l all [] = None
 least_difference l all (p ∷ ps) =
     option_or (difference_at l (find (λ s. s.seat == p) all)) (least_difference l all ps)
 
--- The fault of closing: some pass is foreign, else some place has none, else the least place whose calls differ.
+-- The fault of closing: some pass is foreign; otherwise some seat has none; otherwise the least seat whose calls
+-- differ.
 abbrev pub close_fault : Ledger → List Own → Option CloseFault
 close_fault l all =
     if list_any (is_foreign (own_name (all_events l)) l.places all) all
@@ -74,7 +75,7 @@ close_fault l all =
     then Some Missing
     else least_difference l all (range_with_len 1 l.places))
 
--- what is answered where there may be a fault
+-- the fault as an error, if there is one
 abbrev pub unless_fault : Option CloseFault → Result (Unit {0}) CloseFault
 unless_fault None = Ok tt
 unless_fault (Some fault) = Err fault
@@ -85,28 +86,29 @@ pub record IsLegalLedger (places : ℕ) (l : Ledger) : Type 0 where
   pub rest : IsRest places l.past l.cut l.history
   pub base : StandsFor l.summary l.past
 
--- One of the passes has seen more events than there are, and the fault is told as a difference behind its last call.
+-- One of the passes has seen more events than there are. The fault is then a difference after its last call.
 pub record SawMore (l : Ledger) (fault : CloseFault) (s : Own) : Type 0 where
   pub more : count_of l < length s.seen
   pub behind : fault ≡ Differs s.seat (s.gone + length s.mine)
 
--- A closing is refused with this fault: there is a legal history by which it is the fault of closing, or by which there
--- is none, and one of the passes has seen more events than that history has.
+-- A closing is refused with this fault. There is a legal history by which it is the fault of closing. Or there is one
+-- by which there is no fault, and one of the passes has seen more events than that history has.
 pub record IsRefusedClosing (places : ℕ) (all : List Own) (fault : CloseFault) : Type 0 where
   pub ledger : Ledger
   pub legal : IsLegalLedger places ledger
   pub found : (close_fault ledger all ≡ Some fault)
       ⊎ ((close_fault ledger all ≡ None) × Any (SawMore ledger fault) all)
 
--- whatever the history: some place has none of the passes
+-- whatever the history: some seat has none of the passes
 abbrev pub LacksOne : ℕ → List Own → Type 0
 LacksOne places all = (p : ℕ) × (0 < p) × (p ≤ places) × (times all p ≡ 0)
 
--- whatever the history: a pass has a place that isn't from 1 to `places`, or one that another has as well
+-- whatever the history: a pass has a seat that isn't from 1 to `places`, or one that another has as well
 abbrev pub IsMisplaced : ℕ → List Own → Own → Type 0
 IsMisplaced places all s = (s.seat ≡ 0) ⊎ (places < s.seat) ⊎ (1 < times all s.seat)
 
--- What is left of an agent: a summary of the entries that were cut off, if any were, how many these are, and the others.
+-- What is left of an agent: a summary of the entries that were cut off, if any were; how many these are; and the
+-- other entries.
 pub record Left : Type 0 where
   pub summary : Option State
   pub base : ℕ
@@ -120,9 +122,9 @@ pub record IsWell (c : Left) : Type 0 where
   pub accepted : is_accepted (past ++ events c.history) ≡ true
   pub answered : Answered past c.history
 
--- Whom rounds chose between a list of events and a longer one that it begins (SWIM, section 4.3): if throughout the
--- others that haven't failed are the same and have p names, any 2p - 1 choices in a row have each of them; if there are
--- none, nobody is chosen.
+-- Whom rounds chose between a list of events and a longer one that it begins (SWIM, section 4.3). If the others that
+-- haven't failed are the same p names throughout, any 2p - 1 choices in a row have each of them. If there are none,
+-- nobody is chosen.
 pub record HasWindows (before whole : List Event) (names : List (List ℕ)) : Type 0 where
   pub each : (stretch : Log) (name : List ℕ) → log_of (reverse whole) ≡ stretch ++ log_of (reverse before)
       → AreOthers (others (log_of (reverse before))) stretch (log_of (reverse before))
@@ -131,9 +133,9 @@ pub record HasWindows (before whole : List Event) (names : List (List ℕ)) : Ty
   pub none : (stretch : Log) → log_of (reverse whole) ≡ stretch ++ log_of (reverse before)
       → AreOthers [] stretch (log_of (reverse before)) → names ≡ []
 
--- A pass agrees with a whole history, of which the first `base` entries were cut off: it bears its name and has one of
--- its places, as many of its calls were cut off as entries of its place, its positions are those of its place from the
--- base on, and what it has seen begins the events.
+-- A pass agrees with a whole history, of which the entries `gone` were cut off. It has the history's name and one of
+-- its seats. As many of its calls were cut off as entries of its seat. Its other positions are those of its seat
+-- among the entries that are left, and what it has seen begins the events.
 pub record Agrees (places : ℕ) (gone h : List Entry) (s : Own) : Type 0 where
   pub name : s.name ≡ own_name (events (gone ++ h))
   pub low : 0 < s.seat
@@ -142,9 +144,9 @@ pub record Agrees (places : ℕ) (gone h : List Entry) (s : Own) : Type 0 where
   pub mine : drop (below (length gone) s.mine) s.mine ≡ positions s.seat (length gone) h
   pub seen : IsPrefix s.seen (events (gone ++ h))
 
--- An agent is closed: there are entries that were cut off, with which its history is legal and of whose events the
--- summary is; each place has exactly one of the passes, each pass agrees with the history, and the entries, those that
--- were cut off too, are the opening's and one for each answered call.
+-- An agent is closed. There are entries that were cut off, with which its history is legal and of whose events the
+-- summary is. Each seat has exactly one of the passes, and each pass agrees with the history. The entries, with those
+-- that were cut off, are the opening's and one for each answered call.
 pub record IsClosed (places : ℕ) (c : Left) (all : List Own) : Type 0 where
   pub gone : List Entry
   pub base : length gone ≡ c.base

@@ -1,4 +1,4 @@
--- Worked refusals and faults of closing. b is opened at 0; the first pass made a call, then the second, then the first.
+-- Worked refusals and faults of closing. b is opened at 0. The first pass made a call, then the second, then the first.
 use Rattle.std.specs.Prelude.{◌≡◌, ◌≤◌, ◌+◌, ℕ, Bool, List, [], ◌∷◌, length, Some, None, if◌then◌else◌, refl}
 use Rattle.std.proofs.Common.{inl, inr, ap, arith}
 use Rattle.std.proofs.lemmas.Bool.{le-leb}
@@ -25,7 +25,7 @@ history = entry 0 (opening 0) (nothing 0) ∷ asked 1 ∷ asked 2 ∷ asked 1 �
 it_is_the_history_of_b : own_name (events history) ≡ b ∷ []
 it_is_the_history_of_b = refl
 
--- There are two places, and four entries at the most.
+-- There are two places, and at most four entries may be stored.
 abbrev ledger : Ledger
 ledger = record { places = 2; limit = 4; summary = None; cut = []; past = []; history = history }
 
@@ -41,7 +41,7 @@ nobody_is_at_three = refl
 it_is_full : refusal_of ledger 2 ≡ Some (HistoryFull 4)
 it_is_full = refl
 
--- where a detector accepts no more events either, that is told
+-- if a detector accepts no more events either, that is the refusal
 no_more_events : (past : List Event) → most_events ≤ length past
     → refusal_of (record ledger { past = past }) 2 ≡ Some (HistoryFull most_events)
 no_more_events past many =
@@ -73,7 +73,7 @@ one_of_another_agent_is_foreign = refl
 a_place_that_is_not_there_is_foreign : close_fault alone (first ∷ second ∷ []) ≡ Some Foreign
 a_place_that_is_not_there_is_foreign = refl
 
--- Nobody is at the second place either, but that comes after.
+-- Nobody has the second seat either, but that fault comes later.
 a_place_twice_is_foreign : close_fault ledger (first ∷ first ∷ []) ≡ Some Foreign
 a_place_twice_is_foreign = refl
 
@@ -105,7 +105,7 @@ rotated = record {
 there_is_room_again : refusal_of rotated 2 ≡ None
 there_is_room_again = refl
 
--- A pass that made its calls into a number, and one that still has their positions.
+-- A pass that kept only the number of its calls, and one that still has their positions.
 abbrev counts : Own
 counts = record (left_by (b ∷ []) 1 []) { gone = 2 }
 
@@ -154,7 +154,7 @@ nobody_has_the_second_place = (2, zero-lt-suc 1, le_refl 2, refl)
 the_first_place_is_there_twice : IsMisplaced 2 (idle ∷ idle ∷ []) idle
 the_first_place_is_there_twice = inr (inr (lt-suc_self 1))
 
--- A pass that made no call, and has seen an event more than there is.
+-- A pass that made no call, and has seen one event more than there is.
 abbrev ahead : Own
 ahead = record idle { seen = opening 0 ∷ Health 20 ∷ [] }
 

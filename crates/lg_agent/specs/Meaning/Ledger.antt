@@ -5,8 +5,8 @@ use Rattle.lg_detector.specs.declared.event.Event.TheVariants.{Open}
 use Rattle.lg_detector.specs.Support.State.{State}
 use Rattle.lg_history.specs.Meaning.History.{Entry, events}
 
--- The value under the lock: how many passes there are, how many entries may be stored, and the entries that are stored.
--- Where others were cut off before them: a summary of these, how many of them each seat made, and their events.
+-- The value under the lock: how many passes there are, how many entries may be stored, and the stored entries. If
+-- others were cut off before them, it also has a summary of those, how many of them each seat made, and their events.
 pub record Ledger : Type 0 where
   pub places : ℕ
   pub limit : ℕ
@@ -23,8 +23,8 @@ all_events l = l.past ++ events l.history
 abbrev pub count_of : Ledger → ℕ
 count_of l = length l.history + length l.past
 
--- A pass: the name of its agent, its place, the events that it has seen, and of its answered calls the positions, but
--- for the first so many, whose entries were cut off.
+-- A pass: the name of its agent, its seat, the events that it has seen, and the positions of its answered calls in
+-- the history. Of the first calls, whose entries were cut off, only the number is kept.
 pub record Own : Type 0 where
   pub name : List ℕ
   pub seat : ℕ
@@ -32,7 +32,7 @@ pub record Own : Type 0 where
   pub gone : ℕ
   pub mine : List ℕ
 
--- An agent: its name, and for each place that waits for a pass the events that it was told of.
+-- An agent: its name, and for each seat that waits for a pass the events that its look has seen.
 pub record Waiting : Type 0 where
   pub name : List ℕ
   pub told : List (List Event)

@@ -1,4 +1,7 @@
 //! How the value under the lock begins: with the entry of the opening, which is published.
+//!
+//! Defined in: `specs/Meaning/Ledger.antt`, `lg_history/specs/Meaning/History.antt`.
+//! Tested in: `lg_agent_tests/src/agent/rows.rt`.
 ghost use Rattle.std.specs.Prelude.{◌≡◌, ℕ, ◌<◌, ◌≤◌, ◌⊎◌, [], ◌∷◌, ◌++◌};
 ghost use Rattle.std.specs.Prelude.{All, IfOk, IfErr, OnOk, IsTrue, vec_len, None, true};
 ghost use Rattle.lg_timing.specs.Meaning.Config.{IsChecked};
@@ -20,11 +23,11 @@ use std::alloc::Global;
 use std::sync::Wait;
 
 impl<A: AgentName> Kept<A> {
-    /// A history of one entry, that of the opening, and a look for each place, which has seen nothing.
+    /// A history of one entry, that of the opening, and a look for each seat, which has seen nothing.
     ///
-    /// The book has to be the one that `A` names, the configuration checked, and the places 1 to 32, as many as `A`
-    /// names. It is refused with [`Refusal::NoPlace`] where no reader could be had for a place, or with
-    /// [`Refusal::NoMemory`] where memory was refused.
+    /// The book has to be the one that `A` names, and the configuration has to be checked. The places have to be 1 to
+    /// 32, as many as `A` names. Refused with [`Refusal::NoPlace`] if there was no reader for a seat, or with
+    /// [`Refusal::NoMemory`] if memory was refused.
     pub fn open<R: Wait>(
         rt: &R,
         alloc: Global,
@@ -57,8 +60,8 @@ impl<A: AgentName> Kept<A> {
         Ok((kept, looks))
     }
 
-    /// A history of the opening's entry, which is published by a feed that nothing was appended to. Where memory is
-    /// refused the feed is ended.
+    /// A history of the opening's entry, which is published by a feed that nothing was appended to. If memory is
+    /// refused, the feed is ended.
     fn over<R: Wait>(
         rt: &R,
         alloc: Global,
@@ -104,8 +107,8 @@ impl<A: AgentName> Kept<A> {
     }
 }
 
-/// The opening happens: a detector that it opened, a history of its entry, and a feed on which it waits to be
-/// published. The only error is that memory was refused.
+/// The opening happens. This makes a detector that it opened, a history of its entry, and a feed on which it waits to
+/// be published. The only error is that memory was refused.
 fn happen<A: AgentName>(
     alloc: Global,
     feed: &mut Feed<A>,

@@ -1,4 +1,4 @@
--- What is added to a log: an event came, claims were said, a timer fired.
+-- What is added to a log: an event came, claims were applied, a timer fired.
 use Rattle.std.specs.Prelude.{ℕ, List, [], ◌∷◌}
 use Rattle.lg_rules.specs.declared.claim.Claim.{Claim}
 use Rattle.lg_timers.specs.declared.timer.Timer.{Timer}
@@ -10,7 +10,7 @@ use Rattle.lg_detector.specs.Meaning.Log.{Log, Came, Fired, OfGroup, moment}
 abbrev pub come : ℕ → Log → Log
 come now log = Came now ∷ log
 
--- a claim is said, at the moment of the log
+-- a claim is applied, at the moment of the log
 abbrev pub apply : Origin → Claim → Log → Log
 apply origin c log = OfGroup (group.Said (moment log) origin c) ∷ log
 

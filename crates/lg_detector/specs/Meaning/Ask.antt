@@ -1,4 +1,4 @@
--- The events Ask and Health: questions, which change nothing but the moment and the number of events.
+-- The events Ask and Health: questions. They change nothing but the moment and the number of events.
 use Rattle.std.specs.Prelude.{ℕ, List}
 use Rattle.lg_rules.specs.Meaning.Claim.{name_of}
 use Rattle.lg_rules.specs.Meaning.Rows.{name_cmp, row_at}
@@ -12,11 +12,11 @@ use Rattle.lg_detector.specs.Meaning.Apply.{come}
 abbrev pub ask : ℕ → Log → Log
 ask now log = come now log
 
--- the answer is the record of the name, where it is known
+-- the answer is the record of the name, if it is known
 abbrev pub status : List ℕ → Log → Answer
 status name log = Status (row_at name_cmp name_of name (group.view (group_log log)))
 
--- or the score, the own number, and how many members haven't failed
+-- or the score, this member's incarnation, and how many members haven't failed
 abbrev pub health : Log → Answer
 health log =
     let members = group_log log in

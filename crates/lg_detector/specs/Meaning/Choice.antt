@@ -11,7 +11,7 @@ use Rattle.lg_detector.specs.Meaning.Probing.{is_round_start}
 use Rattle.lg_detector.specs.Meaning.Window.{targets}
 use Rattle.lg_detector.specs.Meaning.Step.{log_of}
 
--- the target of a packet that is a Ping, and that of the first of some packets
+-- the target of a packet if it is a Ping, and that of the first of some packets
 abbrev pub pinged : Body → Option (List ℕ)
 pinged (Ping number target) = Some target
 pinged _ = None
@@ -20,8 +20,8 @@ abbrev pub first_pinged : List Outgoing → Option (List ℕ)
 first_pinged [] = None
 first_pinged (sent ∷ rest) = pinged sent.packet.body
 
--- By a reply: where a start of a round fired, the target of its Ping, if it sent one. A Ping that is sent for another
--- member is none, since nothing fired then.
+-- By a reply: if a start of a round fired, the target of its Ping, if it sent one. A Ping that is sent for another
+-- member doesn't count, since nothing fired then.
 abbrev pub choice_by : Option Timer → List Outgoing → Option (List ℕ)
 choice_by None sends = None
 choice_by (Some timer) sends = if is_round_start timer.id then first_pinged sends else None

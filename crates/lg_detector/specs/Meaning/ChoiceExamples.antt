@@ -1,4 +1,4 @@
--- Worked choices of b: whom the reply to a start of a round tells, and that no other reply tells of anyone.
+-- Worked choices of b: whom the reply to a start of a round names, and that no other reply names anyone.
 use Rattle.std.specs.Prelude.{◌≡◌, List, [], ◌∷◌, Some, None, refl}
 use Rattle.lg_packet.specs.declared.packet.Body.TheVariants.{PingReq, Ack}
 use Rattle.lg_detector.specs.declared.event.Event.{Event}
@@ -16,13 +16,13 @@ nobody_is_told : choice (reply_after (opening 0 ∷ []) (ticks 0)) ≡ None
 unfolding by_computing
 nobody_is_told = refl
 
--- A Ping of c that is sent for a is no choice.
+-- A Ping to c that is sent for a is no choice.
 a_relayed_ping_tells_of_nobody :
     choice (reply_after (opening 0 ∷ []) (says 510 (PingReq 1 (c ∷ []) (at 7003)) [])) ≡ None
 unfolding by_computing
 a_relayed_ping_tells_of_nobody = refl
 
--- Nor is what is sent where c didn't ack in time: d is asked to ping it.
+-- Nor is what is sent if c didn't ack in time: d is asked to ping it.
 abbrev both_known : List Event
 both_known = opening 0 ∷ says 0 (Ack 7) (alive c 0 ∷ alive d 0 ∷ []) ∷ ticks 0 ∷ []
 
@@ -30,7 +30,7 @@ asking_a_helper_tells_of_nobody : choice (reply_after both_known (ticks 500)) �
 unfolding by_computing
 asking_a_helper_tells_of_nobody = refl
 
--- The list has the same: c alone was chosen.
+-- The list of events gives the same: c alone was chosen.
 the_list_has_it : targets_after both_known ≡ (c ∷ []) ∷ []
 unfolding by_computing
 the_list_has_it = refl

@@ -1,4 +1,4 @@
--- Worked events of b, which is at 127.0.0.1:7000 and hears from port 1: what opens it, packets that it hears, ticks,
+-- Worked events of b, which is at 127.0.0.1:7000 and hears from port 1: its opening, packets that it hears, ticks,
 -- and questions.
 use Rattle.std.specs.Prelude.{◌≡◌, ℕ, Bool, true, false, List, [], ◌∷◌, Some, None, reverse, refl}
 use Rattle.std.specs.Fmt.{digits}
@@ -31,7 +31,7 @@ use Rattle.lg_detector.specs.declared.reply.Reply.{Reply}
 use Rattle.lg_detector.specs.Meaning.Log.{Log, moment, group_log}
 use Rattle.lg_detector.specs.Meaning.Step.{log_of, reply_after, view_after, deadline_after, is_accepted}
 
--- What a worked event unfolds to be computed.
+-- What has to be unfolded to compute a worked event.
 unfoldable pub by_computing : Unit {0}
 unfolding digits own_of record_of roster table_of takes check_of log10_of ratio_of range_of timeout_of counted_accusers
     taken_of in_turn suspicions suspected put_by queued queue_rows
@@ -86,7 +86,7 @@ opening_with interval seeds =
 abbrev pub seeded : Event
 seeded = opening_with 1000 (record { name = c ∷ []; addr = at 7000 } ∷ [])
 
--- a packet of a, and among these a Ping for a member
+-- a packet of a; and one that is a Ping for a member
 abbrev pub says : ℕ → Body → List Claim → Event
 says now body claims = Heard now (at 1) (record { sender = a ∷ []; body = body; claims = record { items = claims } })
 
@@ -106,7 +106,7 @@ timer_of deadline id = record { deadline = deadline; id = id }
 abbrev pub start_of_round : ℕ → Timer
 start_of_round deadline = timer_of deadline RoundStart
 
--- the reply that says nothing, where this is the least deadline
+-- the reply that says nothing, with this least deadline
 abbrev pub nothing : ℕ → Reply
 nothing next =
     record {
@@ -118,7 +118,7 @@ nothing next =
       next = next;
     }
 
--- what b sends to a port, and among this an Ack to port 1
+-- what b sends to a port; and an Ack that it sends to port 1
 abbrev pub sent : ℕ → Body → List Claim → List Outgoing
 sent port body claims =
     record { to = at port; packet = record { sender = b ∷ []; body = body; claims = record { items = claims } } }
@@ -131,12 +131,13 @@ acks number claims = sent 1 (Ack number) claims
 abbrev pub log_after : List Event → Log
 log_after events = log_of (reverse events)
 
--- c is suspected and a is alive, by one Ack: no packet took these claims yet.
+-- c is suspected and a is alive, by one Ack. No packet has taken these claims yet.
 abbrev pub suspects_c : List Event
 suspects_c = opening 0 ∷ says 2000 (Ack 7) (suspect c 0 d ∷ alive a 0 ∷ []) ∷ []
 
 -- OPEN
--- A seed is known, and the opening changes nothing. No packet says it, but one says the claim that overrides it.
+-- A seed is known, and the opening's reply shows no change. No packet takes the seed's claim, but one takes the claim
+-- that overrides it.
 opening_says_nothing : reply_after [] seeded ≡ nothing 0
 unfolding by_computing
 opening_says_nothing = refl
@@ -174,7 +175,7 @@ unfolding by_computing
 interval_too_short = refl
 
 -- HEAR
--- A Ping of a for c says that c is alive: it isn't acked. Then a asks b.
+-- A Ping of a for c claims that c is alive: it isn't acked. Then a pings b.
 a_ping_for_another_is_not_acked :
     reply_after (opening 0 ∷ []) (pings 0 7 c (alive c 0 ∷ []))
     ≡ record (nothing 0) { changed = record { items = alive c 0 ∷ [] } }
@@ -187,7 +188,7 @@ an_ack_takes_what_was_heard :
 unfolding by_computing
 an_ack_takes_what_was_heard = refl
 
--- An Ack is heard: its claims are said, and it isn't acked.
+-- An Ack is heard: its claims are applied, and it isn't acked.
 an_ack_is_not_acked :
     reply_after (opening 0 ∷ []) (says 0 (Ack 7) (alive c 0 ∷ []))
     ≡ record (nothing 0) { changed = record { items = alive c 0 ∷ [] } }
@@ -199,7 +200,7 @@ the_claims_of_an_ack_are_said :
 unfolding by_computing
 the_claims_of_an_ack_are_said = refl
 
--- One packet says that a and then c suspect b, both at 0: b refutes the first alone, before it acks.
+-- One packet claims that a, and then that c, suspects b, both at 0. b refutes the first claim alone, before it acks.
 abbrev pub accused_twice : Event
 accused_twice = pings 0 9 b (suspect b 0 a ∷ suspect b 0 c ∷ [])
 
@@ -212,7 +213,7 @@ refutes_once :
 unfolding by_computing
 refutes_once = refl
 
--- the own number, and whether one was ousted
+-- this member's incarnation, and whether it was ousted
 abbrev oneself_after : List Event → Oneself
 oneself_after f = own (group_log (log_after f))
 
@@ -223,7 +224,8 @@ a_refutation_raises_the_number : oneself_after (opening 0 ∷ accused_twice ∷ 
 unfolding by_computing
 a_refutation_raises_the_number = refl
 
--- It is claimed to have failed, and suspected beyond refuting: the number stays, nothing changes, and no claim is sent.
+-- b is claimed to have failed, or is suspected beyond refuting: its incarnation stays, no record changes, and no
+-- claim is sent.
 abbrev ousted : Reply
 ousted = record (nothing 0) { sends = record { items = acks 1 [] }; ousted = true }
 
@@ -240,7 +242,7 @@ one_that_is_ousted_keeps_its_number :
 unfolding by_computing
 one_that_is_ousted_keeps_its_number = refl
 
--- Moments may go back: what comes at an earlier one leaves the moment, and none moves a deadline.
+-- Moments may go back: an event at an earlier moment leaves the moment as it is, and no packet moves a deadline.
 abbrev moment_after : List Event → ℕ
 moment_after f = moment (log_after f)
 
@@ -268,7 +270,7 @@ nothing_is_due : reply_after (opening 0 ∷ ticks 0 ∷ []) (ticks 999) ≡ noth
 unfolding by_computing
 nothing_is_due = refl
 
--- The next round starts an interval after the greatest moment, here that of a question.
+-- The next round starts one interval after the greatest moment, here that of a question.
 a_round_counts_from_the_greatest_moment :
     reply_after (opening 0 ∷ Health 5000 ∷ []) (ticks 4000)
     ≡ record (nothing 6000) { fired = Some (start_of_round 0) }
@@ -282,7 +284,7 @@ a_round_counts_by_the_score :
 unfolding by_computing
 a_round_counts_by_the_score = refl
 
--- A claim that overrides ends the suspicion, and its deadline with it.
+-- A claim that overrides the record ends the suspicion, and its deadline with it.
 an_ended_suspicion_has_no_deadline :
     (reply_after (opening 0 ∷ accusing 2000 d ∷ pings 3000 2 b (alive c 1 ∷ []) ∷ []) (ticks 6500)).next
     ≡ 7000
@@ -293,7 +295,7 @@ an_ended_suspicion_has_no_deadline = refl
 abbrev alive_others : List Claim
 alive_others = alive a 0 ∷ alive d 0 ∷ alive e 0 ∷ []
 
--- what comes after b heard of the others
+-- what comes after b has heard of the others
 abbrev among_five : List Event → List Event
 among_five f = opening 0 ∷ says 0 (Ack 7) alive_others ∷ f
 
@@ -308,7 +310,7 @@ another_accuser_shortens_the_deadline :
 unfolding by_computing
 another_accuser_shortens_the_deadline = refl
 
--- The accusation of e counts, so it is sent, before the claims that an earlier Ack held.
+-- The accusation of e counts, so it is sent. It goes before the claims that came with an earlier Ack.
 an_accusation_that_counts_is_sent :
     (reply_after (among_five (accusing 2000 d ∷ [])) (accusing 2000 e)).sends.items
     ≡ acks 1 (suspect c 0 e ∷ alive_others)
@@ -334,7 +336,7 @@ asked_for_a_stranger : reply_after knows_c (Ask 20 (z ∷ [])) ≡ record (nothi
 unfolding by_computing
 asked_for_a_stranger = refl
 
--- A new member has the score 0 and the number 0; of two accusations one was refuted, so both are 1.
+-- A new member has the score 0 and the incarnation 0. Of two accusations one was refuted, so both are 1.
 health_at_the_opening : (reply_after (opening 0 ∷ []) (Health 0)).answer ≡ Some (OfHealth 0 0 1)
 unfolding by_computing
 health_at_the_opening = refl
@@ -344,7 +346,7 @@ health_after_a_refutation :
 unfolding by_computing
 health_after_a_refutation = refl
 
--- A member that is suspected counts, and one that failed doesn't.
+-- A member that is suspected counts, and one that has failed doesn't.
 a_suspect_counts : (reply_after suspecting (Health 2000)).answer ≡ Some (OfHealth 0 0 2)
 unfolding by_computing
 a_suspect_counts = refl

@@ -1,4 +1,4 @@
--- The event Heard: the claims of a packet are said in their order, and then its body is responded to (SWIM, section
+-- The event Heard: the claims of a packet are applied in their order, and then its body is handled (SWIM, section
 -- 3.1; Lifeguard, local health aware probe; Joining.antt).
 use Rattle.std.specs.Prelude.{ℕ, Bool, ◌||◌, not, List, [], ◌∷◌, Option, Some, None, if◌then◌else◌}
 use Rattle.lg_rules.specs.declared.addr.Addr.{Addr}
@@ -20,10 +20,10 @@ use Rattle.lg_detector.specs.Meaning.Probing.{number}
 use Rattle.lg_detector.specs.Meaning.Relaying.{relays, is_full}
 use Rattle.lg_detector.specs.Meaning.Send.{send_all, packets}
 
--- The packet by which a body is responded to, where one is. A Ping or a PingReq for oneself is acked, by its number. A
--- PingReq for another is relayed as a Ping with the next sequence number to the address in it, or, where as many relays
--- are open as may be, answered by a Nack at once. The Ack of a relay's target is passed on to its asker, by the asker's
--- number. How a Pull and a Page are answered is in Joining.antt.
+-- The packet that responds to a body, if there is one. A Ping or a PingReq for this member gets an Ack with its
+-- number. A PingReq for another member (an indirect probe) is relayed as a Ping, with the next sequence number, to
+-- the address in it. If as many relays are open as are allowed, it gets a Nack at once. The Ack of a relay's target
+-- is passed on to the relay's asker, with the asker's number. How a Pull and a Page are answered is in Joining.antt.
 abbrev pub ack_to : Addr → ℕ → List Message
 ack_to to k = record { to = to; body = Ack k } ∷ []
 
@@ -34,7 +34,7 @@ pass_on (Some asker) = ack_to asker.0 asker.1
 abbrev pub relay_or_refuse : Bool → Addr → ℕ → Message → List Message
 relay_or_refuse full source k ping = if full then record { to = source; body = Nack k } ∷ [] else ping ∷ []
 
--- the same, of what is asked of: one's own name, the next sequence number, and the relays that are open
+-- the same, of what it depends on: this member's name, the next sequence number, and the relays that are open
 abbrev pub response_by : List ℕ → ℕ → List Relay → Addr → List ℕ → Body → List Message
 response_by me next open_ones source sender (Ping k target) =
     if is_same name_cmp target me then ack_to source k else []
@@ -67,14 +67,14 @@ note source sender Page log = log
 abbrev pub respond : Addr → List ℕ → Body → Log → Log
 respond source sender body log = send_all (response source sender body log) (note source sender body log)
 
--- the claims of a packet are said
+-- the claims of a packet are applied
 abbrev pub hear_claims : ℕ → Packet → Log → Log
 hear_claims now packet log = apply_all Group packet.claims.items (come now log)
 
 abbrev pub hear : ℕ → Addr → Packet → Log → Log
 hear now source packet log = respond source packet.sender packet.body (hear_claims now packet log)
 
--- the packets that are sent, by what the claims left
+-- the packets that are sent, once the claims were applied
 abbrev pub sends_to : Addr → List ℕ → Body → List Claim → Log → List Outgoing
 sends_to source sender (Pull after) claims log = page_behind source after log ∷ []
 sends_to source sender Page claims log = next_pull source (sixth_of claims) log

@@ -1,6 +1,6 @@
--- Joining: a member asks another for its table by a Pull, and is answered by Pages of at most 6 records, in the order
--- of names. None of these takes claims of the queue (this project's choice; SWIM, section 3.2, leaves open how a member
--- joins).
+-- Joining, by a form of anti-entropy (push-pull): a member asks another for its table by a Pull. The answers are
+-- Pages of at most 6 records, in the order of names. None of these takes claims of the queue (this project's choice;
+-- SWIM, section 3.2, leaves open how a member joins).
 use Rattle.std.specs.Prelude.{ℕ, ◌-◌, List, [], ◌∷◌, Option, Some, None, slice_get}
 use Rattle.lg_rules.specs.declared.addr.Addr.{Addr}
 use Rattle.lg_rules.specs.declared.claim.Claim.{Claim}
@@ -19,19 +19,20 @@ abbrev pub with_claims : Addr → List ℕ → Body → List Claim → Outgoing
 with_claims to sender body claims =
     record { to = to; packet = record { sender = sender; body = body; claims = record { items = claims } } }
 
--- A Pull asks for the records behind a name, or for the first of all where there is none. It carries the own record.
+-- A Pull asks for the records after a name, or for the first of all if it has no name. It carries this member's record.
 abbrev pub pull_after : Addr → Option (List ℕ) → Log → Outgoing
 pull_after to after log =
     let members = group_log log in
     with_claims to (group.me members) (Pull after) (own_record (group.own members) ∷ [])
 
--- A Page has the next records behind the name of a Pull, the own one among them.
+-- A Page has the next records after the name of a Pull. This member's own may be among them.
 abbrev pub page_behind : Addr → Option (List ℕ) → Log → Outgoing
 page_behind to after log =
     let members = group_log log in
     with_claims to (group.me members) Page (page_of after (group.view members))
 
--- A Page with a sixth claim is full, and is answered by a Pull after this one, its last, known or not.
+-- A Page with a sixth claim is full. It is answered by a Pull for the records after that claim, whether or not it was
+-- known.
 abbrev pub next_pull : Addr → Option Claim → Log → List Outgoing
 next_pull to None log = []
 next_pull to (Some sixth) log = pull_after to (Some sixth.name) log ∷ []
@@ -39,7 +40,7 @@ next_pull to (Some sixth) log = pull_after to (Some sixth.name) log ∷ []
 abbrev pub sixth_of : List Claim → Option Claim
 sixth_of claims = slice_get claims (most_claims - 1)
 
--- the event Pull: a Pull goes to a peer, for its first records
+-- the event Pull: a Pull for the first records goes to a peer
 abbrev pub pull : ℕ → Log → Log
 pull now log = come now log
 

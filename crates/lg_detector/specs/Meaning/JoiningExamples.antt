@@ -10,7 +10,7 @@ use Rattle.lg_detector.specs.Meaning.Examples.{by_computing, a, b, c, d, at, ali
 use Rattle.lg_detector.specs.Meaning.Examples.{sent}
 use Rattle.lg_detector.specs.Meaning.Examples.{log_after, suspects_c}
 
--- b asks the member at port 7002 for its table, and tells of itself. It is one event more.
+-- b asks the member at port 7002 for its table, and sends its own record with that. This is one more event.
 it_asks_a_peer :
     reply_after (opening 0 ∷ []) (Pulls 5 (at 7002))
     ≡ record (nothing 0) { sends = record { items = sent 7002 (Pull None) (alive b 0 ∷ []) } }
@@ -24,7 +24,7 @@ it_is_an_event = refl
 it_cannot_come_first : is_accepted (Pulls 5 (at 7002) ∷ []) ≡ false
 it_cannot_come_first = refl
 
--- A Pull is answered by the records behind its name, oneself among them, after its own claims.
+-- A Pull is answered by the records after its name, this member's among them, once its own claims were applied.
 a_pull_is_answered :
     (reply_after suspects_c (says 2000 (Pull None) [])).sends.items
     ≡ sent 1 Page (alive a 0 ∷ alive b 0 ∷ suspect c 0 d ∷ [])
@@ -37,7 +37,7 @@ a_pull_behind_a_name :
 unfolding by_computing
 a_pull_behind_a_name = refl
 
--- A Page of six claims is answered by a Pull after its last one, and one of five by nothing.
+-- A Page of six claims is answered by a Pull for what comes after the last one, and a Page of five by nothing.
 abbrev five : List Claim
 five = alive 99 0 ∷ alive 100 0 ∷ alive 101 0 ∷ alive 102 0 ∷ alive 103 0 ∷ []
 

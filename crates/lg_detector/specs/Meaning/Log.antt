@@ -4,10 +4,13 @@ use Rattle.lg_rules.specs.declared.addr.Addr.{Addr}
 use Rattle.lg_membership.specs.Meaning.Log as group
 use Rattle.lg_timers.specs.declared.timer.Timer.{Timer}
 
--- A log lists what happened as facts, the latest first: an event came at a moment; a timer fired at a tick with these
--- random words; an Ack or a Nack with a number came from a member; a relay to a target was opened for an asker, which
--- is reached at an address and asked by a number; or something that concerns the group: the member was opened, a claim
--- was said, a packet was sent that took claims of the queue.
+-- A log lists what happened as facts, the latest first. A fact is one of these:
+-- - an event came at a moment;
+-- - a timer fired at a tick with these random words;
+-- - an Ack or a Nack with a number came from a member;
+-- - a relay to a target was opened for an asker, which is reached at an address and asked by a number;
+-- - something that concerns the group: the member was opened, a claim was applied, or a packet was sent that took
+--   claims of the queue.
 pub data Fact : Type 0 where
   Came : ℕ → Fact
   Fired : Timer → List ℕ → Fact
@@ -31,7 +34,7 @@ moment [] = 0
 moment (Came now ∷ log) = max now (moment log)
 moment (_ ∷ log) = moment log
 
--- what concerns the group, of which known members, records, suspicions and queue are functions
+-- what concerns the group: known members, records, suspicions and queue are functions of it
 abbrev pub group_log : Log → group.Log
 group_log [] = []
 group_log (OfGroup fact ∷ log) = fact ∷ group_log log

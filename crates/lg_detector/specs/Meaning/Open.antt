@@ -1,4 +1,4 @@
--- The event Open: the detector is opened, and its seeds are said.
+-- The event Open: the detector is opened, and a claim is applied for each of its seeds.
 use Rattle.std.specs.Prelude.{ℕ, List, ◌∷◌, map}
 use Rattle.lg_rules.specs.declared.claim.Claim.{Claim}
 use Rattle.lg_rules.specs.declared.claim.Status.TheVariants.{Alive}
@@ -9,7 +9,7 @@ use Rattle.lg_membership.specs.Meaning.Log as group
 use Rattle.lg_detector.specs.Meaning.Log.{Log, OfGroup}
 use Rattle.lg_detector.specs.Meaning.Apply.{come, apply_all}
 
--- a seed, as a claim: alive at number 0
+-- the claim that a seed is alive, at incarnation 0
 abbrev pub alive_seed : Seed → Claim
 alive_seed seed = record { name = seed.name; addr = seed.addr; status = Alive; incarnation = 0 }
 

@@ -17,12 +17,12 @@ abbrev pub is_round_start : TimerId → Bool
 is_round_start RoundStart = true
 is_round_start _ = false
 
--- the members that may be probed, or help: the others that haven't failed, in the order of names
+-- the members that may be probed or asked to help: the others that haven't failed, in the order of names
 abbrev pub others : Log → List (List ℕ)
 others log = group.live_others (group_log log)
 
--- The names chosen in the current round, the latest first: those chosen since the last start of a round that found no
--- candidate, its own choice included.
+-- The names chosen in the current round, the latest first. These are the choice of the last start of a round that
+-- found no candidate, and all choices since.
 abbrev pub first_word : List ℕ → ℕ
 first_word words = slice_index words 0
 
@@ -35,11 +35,13 @@ round_names (Fired timer words ∷ log) =
     else round_names log
 round_names (_ ∷ log) = round_names log
 
--- The candidates of the next start of a round: the others that aren't among these names; all of them, where each is.
+-- The candidates of the next start of a round: the others that aren't among these names, or all of the others if each
+-- is.
 abbrev pub candidates : Log → List (List ℕ)
 candidates log = order.candidates (others log) (order.current_round (others log) (round_names log))
 
--- whom a start of a round with these words chooses: the candidate at the first word modulo their number
+-- whom a start of a round with these words chooses: the candidate at the index that is the first word modulo their
+-- number
 abbrev pub chosen : List ℕ → Log → Option (List ℕ)
 chosen words log = candidate (first_word words) (candidates log)
 
@@ -47,7 +49,7 @@ chosen words log = candidate (first_word words) (candidates log)
 abbrev pub starts : TimerId → List ℕ → Log → Bool
 starts id words log = is_round_start id && is_some (chosen words log)
 
--- the next sequence number: one more than the probes and the relays that were started
+-- the next sequence number: one more than how many probes and relays were started
 abbrev pub number : Log → ℕ
 number [] = 1
 number (OfGroup (group.Opened opening) ∷ log) = 1
@@ -55,7 +57,7 @@ number (Fired timer words ∷ log) = if starts timer.id words log then number lo
 number (Relayed target asker asked ∷ log) = number log + 1
 number (_ ∷ log) = number log
 
--- The probe that runs: that of the last start of a round that chose a target, unless a round ended since.
+-- The probe that runs: that of the last start of a round that chose a target, unless a round has ended since.
 pub record Probe : Type 0 where
   pub number : ℕ
   pub target : List ℕ
@@ -74,7 +76,7 @@ probe (OfGroup (group.Opened opening) ∷ log) = None
 probe (Fired timer words ∷ log) = probe_by timer.id words log (probe log)
 probe (_ ∷ log) = probe log
 
--- The helpers that are picked by these words, where a probe runs: others than its target, as many as the configuration
+-- The helpers that these words pick if a probe runs. They are others than its target, as many as the configuration
 -- says, in the order in which they are picked.
 abbrev pub indirect_in : Option Config → ℕ
 indirect_in None = 0
@@ -90,7 +92,7 @@ target log = option_map (λ p. p.target) (probe log)
 abbrev pub helpers : List ℕ → Log → List (List ℕ)
 helpers words log = helpers_of (indirect_in (group.config (group_log log))) words (others log) (target log)
 
--- what happened since a round started, the latest first: helpers were asked, Acks and Nacks came
+-- what has happened since a round started, the latest first: helpers were asked, Acks and Nacks came
 abbrev pub asked_by : TimerId → List ℕ → Log → List RoundFact → List RoundFact
 asked_by RoundStart words log past = []
 asked_by Direct words log past = Asked (helpers words log) ∷ past
@@ -104,7 +106,7 @@ since_start (AckHeard k sender ∷ log) = Acked k sender ∷ since_start log
 since_start (NackHeard k sender ∷ log) = Nacked k sender ∷ since_start log
 since_start (_ ∷ log) = since_start log
 
--- the round of the probe that runs: who was asked, who of these sent no Nack, and whether an Ack counted
+-- the round of the probe that runs: who was asked, which of these sent no Nack, and whether an Ack counted
 abbrev pub round_at : List RoundFact → Option Probe → Option RoundValue
 round_at past p = option_map (λ p. round_of p.number p.target past) p
 

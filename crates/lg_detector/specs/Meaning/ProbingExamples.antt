@@ -22,7 +22,7 @@ use Rattle.lg_detector.specs.Meaning.Examples.{opening, says, pings, accusing, a
 use Rattle.lg_detector.specs.Meaning.Examples.{start_of_round, nothing, sent, log_after, suspecting, suspects_c}
 
 -- A ROUND
--- c is pinged, with its record, which says that it is suspected. Nobody can help.
+-- c is pinged. The Ping carries c's record, which says that it is suspected. Nobody can help.
 the_round_starts :
     reply_after suspecting (ticks 2000)
     ≡ record (nothing 2500) {
@@ -40,7 +40,7 @@ nobody_helps :
 unfolding by_computing
 nobody_helps = refl
 
--- c is suspected already, and one accuser counts among two. The next round is set to start at 7000.
+-- c is suspected already, and among two members only one accuser counts. The next round is set to start at 7000.
 the_round_ends :
     reply_after (opening 0 ∷ accusing 2000 d ∷ ticks 2000 ∷ ticks 7000 ∷ []) (ticks 7000)
     ≡ record (nothing 7000) { fired = Some (timer_of 3000 RoundEnd) }
@@ -64,7 +64,7 @@ a_suspicion_runs_out :
 unfolding by_computing
 a_suspicion_runs_out = refl
 
--- Nobody can be chosen then, and the next round starts two intervals later, by the score.
+-- Nobody can be chosen then. The next round starts two intervals later, by the score.
 nobody_is_chosen :
     reply_after
     (opening 0 ∷ accusing 2000 d ∷ ticks 2000 ∷ ticks 7000 ∷ ticks 7000 ∷ ticks 7000 ∷ []) (ticks 7000)
@@ -72,7 +72,7 @@ nobody_is_chosen :
 unfolding by_computing
 nobody_is_chosen = refl
 
--- After an Ack of c that counts no helper is asked. One from a stranger, or with another number, doesn't count.
+-- After an Ack of c that counts no helper is asked. An Ack from a stranger, or one with another number, doesn't count.
 abbrev acked_by : ℕ → ℕ → Event
 acked_by sender number =
     Heard 2100 (at 1) (record { sender = sender ∷ []; body = Ack number; claims = record { items = [] } })
@@ -90,7 +90,7 @@ unfolding by_computing
 an_ack_of_another_number_does_not_count = refl
 
 -- TURNS
--- b knows c and d. Of both the word 0 chooses c; 6 then chooses d, who is left; and 5 begins a new round, with d.
+-- b knows c and d. The word 0 chooses c of both. Then 6 chooses d, which is left, and 5 begins a new round, with d.
 abbrev knows_two : List Event
 knows_two = opening 0 ∷ says 0 (Ack 7) (alive c 0 ∷ alive d 0 ∷ []) ∷ []
 
@@ -115,8 +115,8 @@ a_new_round_begins : round_names (started 5 started_twice) ≡ (d ∷ []) ∷ []
 unfolding by_computing
 a_new_round_begins = refl
 
--- The stretch in which these three rounds start: its targets, of which any three are to have both names, and that both
--- are the others that haven't failed throughout it.
+-- The stretch in which these three rounds start: its targets, of which any three must include both names; and that
+-- both names are the others that haven't failed throughout it.
 abbrev three_starts : Log
 three_starts = started 5 (started 6 (started 0 []))
 
@@ -138,14 +138,14 @@ unfolding by_computing
 the_other_is_pinged = refl
 
 -- HELPERS
--- b knows c, d, e and f, and probes c. Of d, e and f the word 5 picks f, then 0 picks d, and 9 picks e, who is left.
+-- b knows c, d, e and f, and probes c. Of d, e and f the word 5 picks f, then 0 picks d, and 9 picks e, which is left.
 abbrev alive_at : ℕ → ℕ → Claim
 alive_at port letter = record { name = letter ∷ []; addr = at port; status = Alive; incarnation = 0 }
 
 abbrev four_others : List Claim
 four_others = alive_at 7003 c ∷ alive_at 7004 d ∷ alive_at 7005 e ∷ alive_at 7006 f ∷ []
 
--- what comes after c was pinged, and what after the helpers were asked
+-- what comes after c was pinged, and what comes after the helpers were asked
 abbrev pinged_then : List Event → List Event
 pinged_then events = opening 0 ∷ says 0 (Ack 7) four_others ∷ ticks 0 ∷ events
 
@@ -162,7 +162,7 @@ helpers_are_picked : helpers (5 ∷ 0 ∷ 9 ∷ []) (log_after (pinged_then []))
 unfolding by_computing
 helpers_are_picked = refl
 
--- Each is asked, at its own address, to ping c at that of c.
+-- Each helper is asked, at its own address, to ping c at c's address.
 abbrev request : Body
 request = PingReq 1 (c ∷ []) (at 7003)
 
@@ -175,8 +175,8 @@ who_is_not_known_is_not_asked :
 unfolding by_computing
 who_is_not_known_is_not_asked = refl
 
--- The Ping to c took the four claims, and so does each of these packets. Then each claim was sent four times, which is
--- as often as it may be.
+-- The Ping to c took the four claims, and so does each of these packets. Then each claim has been sent four times,
+-- which is its retransmit limit.
 helpers_are_asked :
     reply_after (pinged_then []) asking
     ≡ record (nothing 1000) {
@@ -193,8 +193,8 @@ no_claim_is_left : claims_of (Ack 1) (log_after (asked_then [])) ≡ []
 unfolding by_computing
 no_claim_is_left = refl
 
--- A PingReq takes a suspected target's record as any claim of the queue; a Ping to it begins with that, and a Nack has
--- none.
+-- A PingReq takes a suspected target's record like any claim of the queue. A Ping to that target begins with the
+-- record, and a Nack has no claims.
 a_request_has_no_buddy : claims_of request (log_after suspects_c) ≡ alive a 0 ∷ suspect c 0 d ∷ []
 unfolding by_computing
 a_request_has_no_buddy = refl
@@ -237,7 +237,7 @@ unfolding by_computing
 a_failed_target_is_not_accused = refl
 
 -- THE SCORE
--- No Ack of c counts. The round marks 2 where a helper is silent, and 1 where each sent its Nack.
+-- No Ack of c counts. The round marks 2 if a helper is silent, and 1 if each sent its Nack.
 abbrev nacked_by : ℕ → Event
 nacked_by sender =
     Heard 600 (at 1) (record { sender = sender ∷ []; body = Nack 1; claims = record { items = [] } })
@@ -278,7 +278,7 @@ the_score_is_one :
 unfolding by_computing
 the_score_is_one = refl
 
--- At a score of 1, since b refuted a suspicion, the first Ack that counts lowers it to 0; a second one does nothing.
+-- The score is 1, since b refuted a suspicion. The first Ack that counts lowers it to 0; a second one does nothing.
 abbrev refuted_then : List Event → List Event
 refuted_then events = opening 0 ∷ accused_twice ∷ says 0 (Ack 7) (alive c 0 ∷ []) ∷ ticks 0 ∷ events
 
@@ -300,7 +300,7 @@ two_acks_mark_once : earned_after (refuted_then (acked_by c 1 ∷ acked_by c 1 �
 unfolding by_computing
 two_acks_mark_once = refl
 
--- An Ack of a helper that was asked counts too.
+-- An Ack of a helper that was asked also counts.
 an_ack_of_a_helper_marks : earned_after (asked_then (acked_by d 1 ∷ [])) ≡ negsuc 0 ∷ []
 unfolding by_computing
 an_ack_of_a_helper_marks = refl

@@ -1,5 +1,5 @@
--- The relays: probes of a target for another member, which is told of its Ack (SWIM, section 3.1), or that none came
--- yet (Lifeguard, local health aware probe).
+-- The relays: indirect probes of a target for another member, the asker. The target's Ack is passed on to the asker
+-- (SWIM, section 3.1). If none comes in time, the asker gets a Nack (Lifeguard, local health aware probe).
 use Rattle.std.specs.Prelude.{ℕ, Bool, false, ◌||◌, ◌==◌, List, [], ◌∷◌, length, if◌then◌else◌}
 use Rattle.lg_rules.specs.declared.addr.Addr.{Addr}
 use Rattle.lg_timers.specs.declared.timer.TimerId.{TimerId}
@@ -10,7 +10,7 @@ use Rattle.lg_membership.specs.Meaning.Log as group
 use Rattle.lg_detector.specs.Meaning.Log.{Log, Fired, AckHeard, Relayed, OfGroup, moment}
 use Rattle.lg_detector.specs.Meaning.Probing.{number}
 
--- at most so many are open (this project's choice)
+-- the most relays that are open (this project's choice)
 abbrev pub most_relays : ℕ
 most_relays = 64
 
@@ -18,7 +18,7 @@ most_relays = 64
 abbrev pub new_relay : ℕ → List ℕ → Addr → ℕ → Relay
 new_relay k target asker asked = record { number = k; target = target; asker = asker; asked = asked }
 
--- what happened to relays since the opening, the latest first: one was opened, an Ack came, the time of one ran out
+-- what happened to relays since the opening, the latest first: one was opened, an Ack came, or the time of one ran out
 abbrev pub closed_by : TimerId → List RelayFact → List RelayFact
 closed_by (RelayEnd k) past = Closed k ∷ past
 closed_by _ past = past
@@ -35,13 +35,13 @@ relay_past (_ ∷ log) = relay_past log
 abbrev pub relays : Log → List Relay
 relays log = relays_after (relay_past log)
 
--- the moment at which the relay of a number was opened
+-- the moment at which the relay with a number was opened
 abbrev pub opened_at : Log → ℕ → ℕ
 opened_at [] k = 0
 opened_at (Relayed target asker asked ∷ log) k = if number log == k then moment log else opened_at log k
 opened_at (_ ∷ log) k = opened_at log k
 
--- whether it sent its Nack
+-- whether that relay has sent its Nack
 abbrev pub is_nack_of : ℕ → TimerId → Bool
 is_nack_of k (RelayNack j) = k == j
 is_nack_of k _ = false
@@ -52,6 +52,6 @@ has_nacked (Fired timer words ∷ log) k = is_nack_of k timer.id || has_nacked l
 has_nacked (Relayed target asker asked ∷ log) k = if number log == k then false else has_nacked log k
 has_nacked (_ ∷ log) k = has_nacked log k
 
--- whether as many relays are open as may be
+-- whether as many relays are open as are allowed
 abbrev pub is_full : List Relay → Bool
 is_full open_ones = length open_ones == most_relays

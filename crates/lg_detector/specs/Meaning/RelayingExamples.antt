@@ -16,8 +16,8 @@ use Rattle.lg_detector.specs.Meaning.Step.{reply_after}
 use Rattle.lg_detector.specs.Meaning.Examples.{by_computing, a, b, c, d, at, alive, suspect, opening, says, ticks}
 use Rattle.lg_detector.specs.Meaning.Examples.{timer_of, nothing, sent, acks, log_after, suspects_c}
 
--- b is asked to ping c for a, by the number 1 of a. It takes the number 1 too, as its first. The Nack goes to a 400 ms
--- later, and the relay is closed after 1000.
+-- a asks b by the number 1 to ping c. The relay takes the number 1 too, as the first of b. The Nack goes to a 400 ms
+-- later, and the relay is closed after 1000 ms.
 abbrev requested : List Event
 requested = opening 0 ∷ says 510 (PingReq 1 (c ∷ []) (at 7003)) [] ∷ []
 
@@ -73,7 +73,7 @@ no_relay_is_open :
 unfolding by_computing
 no_relay_is_open = refl
 
--- A relayed Ping to a suspected member begins with its record, though of the queue the claim about a would come first.
+-- A relayed Ping to a suspected member begins with its record, although in the queue the claim about a comes first.
 a_relayed_ping_has_its_buddy :
     (reply_after suspects_c (says 2100 (PingReq 1 (c ∷ []) (at 7003)) [])).sends.items
     ≡ sent 7003 (Ping 1 (c ∷ [])) (suspect c 0 d ∷ alive a 0 ∷ [])
@@ -81,8 +81,8 @@ unfolding by_computing
 a_relayed_ping_has_its_buddy = refl
 
 -- NUMBERS
--- Probes and relays are numbered together: b pings c by 1, then d for a by 2. At 1000 the timers Direct, RelayNack and
--- RoundEnd fire, and then b pings c by 3, who is suspected now.
+-- Probes and relays are numbered together: b pings c with 1, and then d, for a, with 2. At 1000 the timers Direct,
+-- RelayNack and RoundEnd fire. Then b pings c, which is suspected now, with 3.
 abbrev pinged : List Event
 pinged = opening 0 ∷ says 0 (Ack 7) (alive c 0 ∷ []) ∷ ticks 0 ∷ []
 
@@ -113,8 +113,8 @@ a_probe_takes_the_third :
 unfolding by_computing
 a_probe_takes_the_third = refl
 
--- ROOM
--- So many relays are open to c, each for a, which asked by the number 5.
+-- THE LIMIT
+-- This many relays to c are open, each for a, which asked by the number 5.
 abbrev relaying : ℕ → Log
 relaying count = replicate count (Relayed (c ∷ []) (at 1) 5) ++ log_after (opening 0 ∷ [])
 
@@ -124,8 +124,8 @@ one_place_is_left = refl
 no_place_is_left : is_full (relays (relaying 64)) ≡ true
 no_place_is_left = refl
 
--- Then a asks by the number 9 that d be pinged: the last place is taken, by the number 64; or a Nack goes to a by its
--- number, and no relay is opened.
+-- Then a asks by the number 9 that d be pinged. If 63 relays are open, one more is opened, with the number 64. If 64
+-- are, a Nack with a's number goes to a, and no relay is opened.
 abbrev ninth : Body
 ninth = PingReq 9 (d ∷ []) (at 7004)
 

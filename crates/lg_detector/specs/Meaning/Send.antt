@@ -1,7 +1,7 @@
--- The packets that are sent. Each has what it asks for or acknowledges, and goes to an address; Pings, PingReqs and
--- Acks take claims, filled one after another (SWIM, section 4.1), and a Ping for a suspected member begins with its
--- record (Lifeguard's buddy system). Nacks take none, and nor do Pulls and Pages, whose claims are told in Joining.antt
--- (this project's choice).
+-- The packets that are sent, and the claims that ride on them (piggyback). A packet has what it asks for or
+-- acknowledges, and goes to an address. Pings, PingReqs and Acks take claims of the queue, and are filled one after
+-- another (SWIM, section 4.1). A Ping for a suspected member begins with its record (Lifeguard's buddy system).
+-- Nacks, Pulls and Pages take none (this project's choice); which claims Pulls and Pages have is in Joining.antt.
 use Rattle.std.specs.Prelude.{List, [], ◌∷◌, Some, None}
 use Rattle.lg_rules.specs.declared.claim.Claim.{Claim}
 use Rattle.lg_packet.specs.declared.packet.Body.{Body}
@@ -32,7 +32,7 @@ outgoing message log =
       packet = record { sender = sender; body = message.body; claims = record { items = claims } };
     }
 
--- it is sent, with the claims that it took of the queue
+-- the packet is sent, with the claims that it took of the queue
 abbrev pub send : Body → Log → Log
 send (Ping number target) log = OfGroup (group.Sent (taken (Some target) (group_log log))) ∷ log
 send (PingReq number target addr) log = OfGroup (group.Sent (taken None (group_log log))) ∷ log

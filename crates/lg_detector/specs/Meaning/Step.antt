@@ -38,7 +38,7 @@ use Rattle.lg_detector.specs.Meaning.Tick.{tick, sends_at}
 use Rattle.lg_detector.specs.Meaning.Ask.{ask, status, health}
 use Rattle.lg_detector.specs.Meaning.Joining.{pull, pulls}
 
--- the log once an event came
+-- the log once an event has come
 abbrev pub step : Event → Log → Log
 step (Open now opening) log = open_with now opening log
 step (Heard now source packet) log = hear now source packet log
@@ -65,7 +65,7 @@ sends_by (Tick now words) log = sends_at now words log
 sends_by (Pull now peer) log = pulls now peer log
 sends_by _ log = []
 
--- the records of the member table that weren't in it before, but for the opening;
+-- the records of the member table that weren't in it before, except for the opening;
 abbrev pub view : Log → List Claim
 view log = group.view (group_log log)
 
@@ -80,7 +80,7 @@ answer_by (Ask now name) log = Some (status name log)
 answer_by (Health now) log = Some (health log)
 answer_by _ log = None
 
--- and, after the event, whether one was ousted, and the least deadline.
+-- and, after the event, whether this member was ousted, and the least deadline.
 abbrev pub reply : Event → Log → Reply
 reply e log =
     let behind = step e log in
@@ -104,8 +104,9 @@ view_after f = view (log_of (reverse f))
 abbrev pub deadline_after : List Event → Option ℕ
 deadline_after f = deadline_in (pending (log_of (reverse f)))
 
--- A list of events is accepted where it is empty, or its first event is an opening with a configuration that passes its
--- check, no later one is an opening, and it has at most 4,000,000,000 events (this project's choice).
+-- A list of events is accepted if it is empty. It is also accepted if its first event is an opening with a
+-- configuration that passes its check, no later one is an opening, and it has at most 4,000,000,000 events (this
+-- project's choice).
 abbrev pub most_events : ℕ
 most_events = 4000000000
 

@@ -1,5 +1,5 @@
 -- The event Tick: the first of the timers that are due fires, and no other (this project's choice). Which timers are
--- set is `pending` in Timing.antt; whom a start of a round chooses and who helps is in Probing.antt.
+-- set is `pending` in Timing.antt. Whom a start of a round chooses and who helps is in Probing.antt.
 use Rattle.std.specs.Prelude.{ℕ, List, [], ◌∷◌, Option, Some, None, option_map, if◌then◌else◌}
 use Rattle.std.specs.List.{filter_map}
 use Rattle.lg_rules.specs.declared.addr.Addr.{Addr}
@@ -29,9 +29,9 @@ use Rattle.lg_detector.specs.Meaning.Send.{send_all, packets}
 abbrev pub found : List ℕ → List Claim → Option Claim
 found m rows = row_at name_cmp name_of m rows
 
--- The claims that a timer says when it fires, at the incarnation and the address of a record: a member whose suspicion
--- runs out has failed (SWIM, section 4.2); and where a round ends without an Ack that counts, its target is suspected
--- by oneself, unless it has failed already.
+-- The claims that a timer makes when it fires, at the incarnation and the address of a record. A member whose
+-- suspicion runs out has failed (SWIM, section 4.2). If a round ends without an Ack that counts, this member suspects
+-- its target, unless that has failed already.
 abbrev pub failed_of : Option Claim → List Claim
 failed_of None = []
 failed_of (Some r) = record { name = r.name; addr = r.addr; status = Failed; incarnation = r.incarnation } ∷ []
@@ -59,9 +59,9 @@ claims_said id log =
     let g = group_log log in
     fired_claims id (group.me g) (round log) (group.view g)
 
--- The packets that a timer sends: a start of a round pings the chosen member at the address of its record; where no Ack
--- came in time, the helpers are asked to ping the target, in the order in which they were picked; and a relay tells its
--- asker that no Ack came, by the asker's number.
+-- The packets that a timer sends. A start of a round pings the chosen member at the address of its record. If no Ack
+-- came in time, the helpers are asked to ping the target (PingReq), in the order in which they were picked. A relay
+-- sends its asker a Nack with the asker's number, since no Ack came.
 abbrev pub ping_at : ℕ → Option Claim → List Message
 ping_at k None = []
 ping_at k (Some r) = record { to = r.addr; body = Ping k r.name } ∷ []
@@ -91,7 +91,7 @@ messages Direct words log = requests (round log) (group.view (group_log log)) (h
 messages (RelayNack k) words log = nack_to (asker_at k (relays log))
 messages _ words log = []
 
--- a timer fires, if one is due: it says its claims, and sends its packets
+-- a timer fires, if one is due: its claims are applied, and its packets are sent
 abbrev pub expire : Option Timer → List ℕ → Log → Log
 expire None words log = log
 expire (Some timer) words log =

@@ -1,4 +1,5 @@
--- The health score and the timers that are set (Lifeguard, local health aware probe; SWIM, section 3.1).
+-- The health score (Lifeguard's local health multiplier, LHM) and the timers that are set (Lifeguard, local health
+-- aware probe; SWIM, section 3.1).
 use Rattle.std.specs.Prelude.{ℕ, ◌+◌, ◌*◌, ◌/◌, ℤ, pos, negsuc, Bool, true, false, ◌&&◌, not}
 use Rattle.std.specs.Prelude.{List, [], ◌∷◌, ◌++◌, map, filter, Option}
 use Rattle.std.specs.Prelude.{Some, None, option_map, if◌then◌else◌}
@@ -22,9 +23,9 @@ use Rattle.lg_detector.specs.Meaning.Log.{Log, Fired, AckHeard, OfGroup, moment,
 use Rattle.lg_detector.specs.Meaning.Probing.{Probe, is_round_start, chosen, probe, since_start, round}
 use Rattle.lg_detector.specs.Meaning.Relaying.{relays, opened_at, has_nacked}
 
--- The marks that were earned since the opening, the latest first: 1 for each suspicion of oneself that was refuted; -1
--- for the first Ack that counts for a probe; and at the end of a round without one 1, or 2 where a helper that was
--- asked sent no Nack.
+-- The marks that were earned since the opening, the latest first. Each refuted suspicion of this member earns 1. The
+-- first Ack that counts for a probe earns -1. The end of a round without such an Ack earns 1, or 2 if a helper that
+-- was asked sent no Nack.
 abbrev pub mark_of : OwnHeard → List ℤ → List ℤ
 mark_of Refuted past = pos 1 ∷ past
 mark_of _ past = past
@@ -61,7 +62,7 @@ score log =
     let max = max_in (group.config (group_log log)) in
     record { value = score_of max (earned log); max = max }
 
--- the interval and the timeout, scaled by the score
+-- the interval (protocol period) and the timeout, scaled by the score
 abbrev pub scaled_interval : Option Config → ScoreValue → ℕ
 scaled_interval None s = 0
 scaled_interval (Some opening) s = opening.interval_ms * (s.value + 1)
@@ -70,14 +71,14 @@ abbrev pub scaled_timeout : Option Config → ScoreValue → ℕ
 scaled_timeout None s = 0
 scaled_timeout (Some opening) s = opening.timeout_ms * (s.value + 1)
 
--- the moment one scaled interval, or timeout, after a log
+-- the moment one scaled interval, or one scaled timeout, after a log
 abbrev pub interval_later : Log → ℕ
 interval_later log = moment log + scaled_interval (group.config (group_log log)) (score log)
 
 abbrev pub timeout_later : Log → ℕ
 timeout_later log = moment log + scaled_timeout (group.config (group_log log)) (score log)
 
--- When the round that started last ends, and when its helpers are asked: by the score at its start.
+-- When the round that started last ends, and when its helpers are asked, by the score at its start.
 abbrev pub end_at : Log → ℕ
 end_at [] = 0
 end_at (Fired timer words ∷ log) = if is_round_start timer.id then interval_later log else end_at log
@@ -88,7 +89,7 @@ direct_at [] = 0
 direct_at (Fired timer words ∷ log) = if is_round_start timer.id then timeout_later log else direct_at log
 direct_at (_ ∷ log) = direct_at log
 
--- When the next round starts: at the moment of the opening; at the moment at which a round ended; and one scaled
+-- When the next round starts: at the moment of the opening, at the moment at which a round ended, or one scaled
 -- interval after a start that chose nobody. While a probe runs, none is set.
 abbrev pub start_unless : ℕ → Option (List ℕ) → Option ℕ
 start_unless later None = Some later
@@ -105,7 +106,7 @@ round_start (OfGroup (group.Opened opening) ∷ log) = Some (moment log)
 round_start (Fired timer words ∷ log) = start_by timer.id words log (round_start log)
 round_start (_ ∷ log) = round_start log
 
--- The timers of the round. Its helpers are to be asked until an Ack counted, or they were asked.
+-- The timers of the round. Its helpers are still to be asked until an Ack has counted or they were asked.
 abbrev pub start_timer : ℕ → Timer
 start_timer deadline = record { deadline = deadline; id = RoundStart }
 
@@ -137,7 +138,8 @@ abbrev pub round_timers : Log → List Timer
 round_timers log =
     probe_timers (end_at log) (direct_at log) (probe log) (since_start log) ++ start_timers (round_start log)
 
--- The timers of the relays, not scaled: when the Nack of each is sent, unless it was, and when it is closed.
+-- The timers of the relays, which the score doesn't scale: when the Nack of each is sent, unless it was, and when it
+-- is closed.
 abbrev pub nack_time : Option Config → ℕ
 nack_time None = 0
 nack_time (Some opening) = opening.timeout_ms * opening.nack_thousandths / 1000
@@ -164,7 +166,7 @@ relay_timers log =
     map (λ r. relay_timer (opened_at log r.number + later) r.number) (relays log)
 
 -- The timers that are set, in the order in which they fire: those of the round, those of the relays, and the deadline
--- of each suspicion. Each accuser that counts brings that nearer, as lg_suspicion says.
+-- of each suspicion. Each accuser that counts brings that deadline nearer, as lg_suspicion says.
 abbrev pub suspicion_timer : Suspected → Timer
 suspicion_timer r = record { deadline = deadline_of r.suspicion; id = Suspicion r.name }
 

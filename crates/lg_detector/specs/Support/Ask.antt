@@ -1,4 +1,4 @@
--- The events Ask and Health, by the state.
+-- The events Ask and Health, as functions of the state.
 use Rattle.std.specs.Prelude.{ℕ, List}
 use Rattle.lg_rules.specs.Meaning.Claim.{name_of}
 use Rattle.lg_rules.specs.Meaning.Rows.{name_cmp, row_at}

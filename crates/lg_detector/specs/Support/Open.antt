@@ -1,4 +1,4 @@
--- The event Open, by the state.
+-- The event Open, as a function of the state.
 use Rattle.std.specs.Prelude.{ℕ}
 use Rattle.lg_timing.specs.declared.config.Config.{Config}
 use Rattle.lg_membership.specs.declared.origin.Origin.TheVariants.{Seed}

@@ -1,5 +1,5 @@
--- A state that some log has, where the detector was opened with a good configuration, if it was opened; and bounds that
--- hold between the facts of an accepted event.
+-- A state that some log has, of a detector that was opened with a good configuration if it was opened at all; and
+-- bounds that hold between the facts of accepted events.
 use Rattle.std.specs.Prelude.{◌≡◌, ◌≤◌, ◌+◌, length}
 use Rattle.lg_membership.specs.Support.Reached.{IsGood}
 use Rattle.lg_probe.specs.declared.relays.TheConstants.{MAX_RELAYS}

@@ -1,4 +1,4 @@
--- The packets that are sent, by the state.
+-- The packets that are sent, as functions of the state.
 use Rattle.std.specs.Prelude.{List, [], ◌∷◌, Some, None}
 use Rattle.lg_rules.specs.declared.claim.Claim.{Claim}
 use Rattle.lg_packet.specs.declared.packet.Body.{Body}

@@ -74,8 +74,8 @@ begin opening s = record s {
   membership = group.open_with opening s.membership;
 }
 
--- once a claim is applied: the score, the timers by what became of the deadline of a member, and the order by its
--- presence
+-- once a claim is applied: the score, the timer of the member's suspicion by what became of its deadline, and the
+-- order by what became of the member's presence
 abbrev pub marked_if : Bool → ScoreValue → ScoreValue
 marked_if true s = marked s (pos 1)
 marked_if false s = s
@@ -91,7 +91,7 @@ reorder m presence.Stays order = order
 reorder m presence.Joins order = order_with order (Joined m)
 reorder m presence.Leaves order = order_with order (Left m)
 
--- a claim is said
+-- a claim is applied
 unfoldable pub apply : Origin → Claim → State → State
 apply origin c s =
     let applied = group.applied s.moment c s.membership in

@@ -1,4 +1,4 @@
--- The state after an event, and the reply to it, by the state before it.
+-- The state after an event, and the reply to the event, as functions of the state before it.
 use Rattle.std.specs.Prelude.{ℕ, Bool, ◌&&◌, not, List, [], reverse, Option}
 use Rattle.std.specs.Prelude.{Some, None, nat_lt, ◌==◌, if◌then◌else◌}
 use Rattle.lg_rules.specs.declared.claim.Claim.{Claim}
@@ -23,7 +23,7 @@ use Rattle.lg_detector.specs.Support.Joining.{pull, pulls}
 abbrev pub state_after : List Event → State
 state_after f = state_of (log_of (reverse f))
 
--- a good opening is the first event, and there is never another
+-- the first event is a good opening, and there is never another one
 abbrev pub accepts_at : ℕ → Event → Bool
 accepts_at events e = if events == 0 then opens_well e else (not (is_open e) && nat_lt events most_events)
 

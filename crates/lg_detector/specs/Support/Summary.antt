@@ -1,4 +1,4 @@
--- What a summary is of, and the states and replies that it leads to.
+-- What a summary is of, and the states and replies that follow from it.
 use Rattle.std.specs.Prelude.{◌≡◌, List, [], ◌∷◌}
 use Rattle.lg_detector.specs.declared.event.Event.{Event}
 use Rattle.lg_detector.specs.declared.reply.Reply.{Reply}
@@ -9,7 +9,7 @@ use Rattle.lg_detector.specs.Support.Step.{state_after, step, reply}
 abbrev pub IsSummary : State → List Event → Type 0
 IsSummary s f = s ≡ state_after f
 
--- a state that is led on through further events
+-- a state advanced through further events
 abbrev pub led_on : State → List Event → State
 led_on s [] = s
 led_on s (e ∷ g) = led_on (step s e) g

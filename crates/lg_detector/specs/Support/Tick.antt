@@ -1,4 +1,4 @@
--- The event Tick, by the state.
+-- The event Tick, as functions of the state.
 use Rattle.std.specs.Prelude.{ℕ, List, [], Option, Some, None}
 use Rattle.lg_rules.specs.declared.claim.Claim.{Claim}
 use Rattle.lg_timers.specs.declared.timer.Timer.{Timer}
@@ -18,7 +18,7 @@ use Rattle.lg_detector.specs.Support.Send.{send_all, packets}
 abbrev pub due : State → Option Timer
 due s = due_of s.moment s.timers
 
--- what it says, and what it sends
+-- the claims that it makes, and the packets that it sends
 abbrev pub claims_said : TimerId → State → List Claim
 claims_said id s = fired_claims id s.membership.own.name s.round (shown s.membership)
 

@@ -1,4 +1,7 @@
-//! The events Ask and Health: questions, which change nothing but how many events came and the moment.
+//! The events Ask and Health: questions. They change nothing but the number of events and the moment.
+//!
+//! Defined in: `specs/Meaning/Ask.antt`, `specs/Support/Ask.antt`.
+//! Tested in: `lg_detector_tests/src/detector/ask.rt`.
 ghost use Rattle.std.specs.Prelude.{◌≡◌, ◌<◌, [], None, Some};
 ghost use Rattle.lg_detector.specs.Support.Ask.{ask, status, health};
 
@@ -8,7 +11,7 @@ use lg_rules::Name;
 use lg_timing::Moment;
 
 impl Detector {
-    /// The record of a name is asked for.
+    /// Answers with the record of a name.
     pub(super) fn ask(&mut self, now: Moment, name: &Name, reply: &mut Reply)
         requires { self.old.events < MAX_EVENTS }
         ensures state { self.new ≡ ask now self.old }
@@ -22,7 +25,7 @@ impl Detector {
         self.come(now);
     }
 
-    /// The health score, the own number and the number of members are asked for.
+    /// Answers with the health score, this member's incarnation and the number of members.
     pub(super) fn ask_health(&mut self, now: Moment, reply: &mut Reply)
         requires { self.old.events < MAX_EVENTS }
         ensures state { self.new ≡ ask now self.old }
@@ -36,7 +39,7 @@ impl Detector {
         self.come(now);
     }
 
-    /// The score, the own number and how many members haven't failed.
+    /// The health score, this member's incarnation, and how many members haven't failed.
     fn health(&self) -> Answer
         ensures { result ≡ health self.now }
     {

@@ -1,5 +1,9 @@
-//! The facts that events are made of: an event comes, the member is opened, a claim is said. Each says what becomes of
-//! the score and of the timers; what becomes of the group lg_membership says. A timer that fires is in `tick.rt`.
+//! The facts that events are made of: an event comes, the member is opened, a claim is applied. This file has what
+//! they do to the score, the timers and the order of probing. What they do to the group is in `lg_membership`. A
+//! timer that fires is in `tick.rt`.
+//!
+//! Defined in: `specs/Meaning/Apply.antt`, `specs/Support/State.antt`, `specs/Meaning/Timing.antt`.
+//! Tested in: `lg_detector_tests/src/detector/hear.rt`.
 ghost use Rattle.std.specs.Prelude.{◌≡◌, ◌<◌, ◌≤◌, length};
 ghost use Rattle.lg_rules.specs.Meaning.Rows.{name_cmp, put_key};
 ghost use Rattle.lg_rules.specs.Support.Standing.{changed_names};
@@ -20,8 +24,8 @@ use lg_rules::{Claim, MAX_CLAIMS, MAX_OTHERS, Name};
 use lg_timers::{MAX_TIMERS, Timer, TimerId, Timers};
 use lg_timing::{Config, Moment, Score};
 
-/// Follows what became of the deadline of a member's suspicion: its timer is set, or moved where an accuser brings the
-/// deadline nearer, or cancelled where the suspicion ended.
+/// Makes the timer of a member's suspicion follow its deadline. The timer is set, or moved if an accuser brings the
+/// deadline nearer, or cancelled if the suspicion ended.
 fn follow(timers: &mut Timers, member: &Name, deadline: Deadline)
     requires { length timers.old < MAX_TIMERS }
     ensures { timers.new ≡ follow member.now deadline timers.old }
@@ -36,7 +40,7 @@ fn follow(timers: &mut Timers, member: &Name, deadline: Deadline)
     }
 }
 
-/// Marks the score where a suspicion of oneself was refuted (Lifeguard, local health aware probe).
+/// Marks the score if a suspicion of this member was refuted (Lifeguard, local health aware probe).
 fn mark_if(score: &mut Score, refuted: bool)
     ensures { score.new ≡ marked_if refuted score.old }
 {
@@ -45,8 +49,8 @@ fn mark_if(score: &mut Score, refuted: bool)
     }
 }
 
-/// Follows what became of the presence of a member among those that haven't failed: it joins the order of probing, or
-/// leaves it.
+/// Makes the order of probing follow a member's presence among those that haven't failed: the member joins the order,
+/// leaves it, or neither.
 fn reorder(order: &mut Order, member: &Name, presence: Presence)
     requires { (presence ≡ Joins) → length (put_key name_cmp member.now (known_names order.old)) ≤ MAX_OTHERS }
     ensures { order.new ≡ reorder member.now presence order.old }
@@ -59,7 +63,7 @@ fn reorder(order: &mut Order, member: &Name, presence: Presence)
 }
 
 impl Detector {
-    /// An event comes.
+    /// Counts an event, and moves the moment on to that of the event if it is later.
     pub(super) fn come(&mut self, now: Moment)
         requires { self.old.events < MAX_EVENTS }
         ensures state { self.new ≡ come now self.old }
@@ -70,7 +74,7 @@ impl Detector {
         parts.moment = parts.moment.later(now);
     }
 
-    /// The member is opened: its score is 0, nobody is probed, and the first round starts at once.
+    /// Opens the member: its score is 0, nobody is probed, and the first round starts at once.
     pub(super) fn begin(&mut self, config: &Config)
         requires { IsChecked config.now }
         ensures { self.new ≡ begin config.now self.old }
@@ -90,7 +94,7 @@ impl Detector {
         parts.membership.open_with(config);
     }
 
-    /// A claim is said. Returns whether the record of its member changed.
+    /// Applies a claim. Returns whether the record of its member changed.
     #[tactic(auto, unfolding(crate::specs::Support::State::apply))]
     pub(super) fn apply(&mut self, origin: Origin, claim: &Claim) -> bool
         ensures state { self.new ≡ apply origin claim.now self.old }
@@ -105,7 +109,7 @@ impl Detector {
         applied.changed
     }
 
-    /// The claims of a packet or a timer are said one after another. Returns the names of those whose records changed.
+    /// Applies the claims of a packet or a timer, one after another. Returns the names of those whose records changed.
     pub(super) fn apply_all(&mut self, claims: &[Claim]) -> ArrayVec<Name, MAX_CLAIMS>
         requires { length claims.now ≤ MAX_CLAIMS }
         ensures state { self.new ≡ apply_all Group claims.now self.old }

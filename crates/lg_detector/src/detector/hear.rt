@@ -1,13 +1,18 @@
-//! The event Heard: the claims of a packet are said in their order, and then its body is responded to. So an Ack or a
+//! The event Heard: the claims of a packet are applied in their order, and then its body is handled. So an Ack or a
 //! relayed Ping carries what the claims have just put into the queue.
 //!
-//! - A Ping or a PingReq for oneself is acked, to where it came from, by its number. A Ping for another does nothing.
-//! - A PingReq for another opens a relay, unless 64 are open: the next sequence number, and a Ping for the target to
-//!   the address in the PingReq. Else a Nack is sent at once, to where it came from, by its number.
-//! - An Ack counts for the probe that runs by its number and its sender, and for a relay likewise: the relay is closed,
-//!   and its asker gets an Ack by its own number.
+//! - A Ping or a PingReq for this member gets an Ack with its number, sent to where it came from. A Ping for another
+//!   member does nothing.
+//! - A PingReq for another member (an indirect probe) opens a relay, unless 64 are open. The relay takes the next
+//!   sequence number, and a Ping for the target goes to the address in the PingReq. If 64 are open, a Nack with the
+//!   PingReq's number goes at once to where the PingReq came from.
+//! - An Ack counts for the probe that runs, by its number and its sender. It counts for a relay in the same way: the
+//!   relay is closed, and its asker gets an Ack with the asker's number.
 //! - A Nack counts for the probe that runs, once for each helper that was asked.
-//! - A Pull is answered by a Page, and a Page that is full by the next Pull: `joining.rt`.
+//! - A Pull is answered by a Page, and a full Page by the next Pull: `joining.rt`.
+//!
+//! Defined in: `specs/Meaning/Hear.antt`, `specs/Support/Hear.antt`, `specs/Meaning/Joining.antt`.
+//! Tested in: `lg_detector_tests/src/detector/hear.rt`, `lg_detector_tests/src/detector/acks.rt`.
 ghost use Rattle.std.specs.Prelude.{◌≡◌, ◌<◌, ◌≤◌, [], ◌∷◌};
 ghost use Rattle.std.specs.Prelude.{◌==◌, None, Some, length, option_map};
 ghost use Rattle.lg_rules.specs.Meaning.Rows.{name_cmp, is_same};
@@ -30,7 +35,7 @@ use lg_rules::{Addr, Claim, MAX_CLAIMS, Name, Record};
 use lg_timing::Moment;
 
 impl Detector {
-    /// A packet is heard from a source: its claims are said, and its body is responded to.
+    /// Hears a packet from a source: applies its claims, and handles its body.
     pub(super) fn hear(&mut self, now: Moment, source: Addr, packet: &Packet, reply: &mut Reply)
         requires { self.old.events < MAX_EVENTS }
         ensures state { self.new ≡ hear now source packet.now self.old }
@@ -42,7 +47,7 @@ impl Detector {
             ≡ changed (view_in self.old) (view_in (hear_claims now packet.now self.old)) }
         ensures answer { reply.new.answer ≡ None }
     {
-        // The other parts are written over, not cleared first.
+        // The other parts are overwritten, not cleared first.
         reply.fired = None;
         reply.answer = None;
         self.come(now);
@@ -50,8 +55,8 @@ impl Detector {
         self.answer(source, packet, &mut reply.sends);
     }
 
-    /// The body of a packet is responded to: a Pull by a Page, a Page that is full by the next Pull, and any other by
-    /// what it means for the probe that runs and for the relays.
+    /// Handles the body of a packet. A Pull is answered by a Page, and a full Page by the next Pull. For any other
+    /// body, notes what it means for the probe that runs and for the relays, and sends the packet that responds to it.
     fn answer(&mut self, source: Addr, packet: &Packet, sends: &mut ArrayVec<Outgoing, MAX_SENDS>)
         requires { self.old.number ≤ self.old.events }
         ensures state { self.new ≡ respond source packet.now.sender packet.now.body self.old }
@@ -68,21 +73,21 @@ impl Detector {
         }
     }
 
-    /// Claims are said one after another. Writes the records that differ then, in the place of what the row held.
+    /// Applies claims one after another. Overwrites `differing` with the records that changed by them.
     pub(super) fn say(&mut self, claims: &[Claim], differing: &mut ArrayVec<Record, MAX_CHANGED>)
         requires { length claims.now ≤ MAX_CLAIMS }
         ensures state { self.new ≡ apply_all Group claims.now self.old }
         ensures differing { differing.new.items
             ≡ changed (view_in self.old) (view_in (apply_all Group claims.now self.old)) }
     {
-        // What the invariant says of the state at the start is needed at the end.
+        // The end of the proof needs what the invariant says of the state at the start.
         let _ = &self.parts;
         let names = self.apply_all(claims);
         self.put_records(names.as_slice(), differing);
     }
 
-    /// Notes what a body means for the probe that runs and for the relays. Returns the packet that responds to it,
-    /// where one does.
+    /// Notes what a body means for the probe that runs and for the relays. Returns the packet that responds to it, if
+    /// there is one.
     fn respond(&mut self, source: Addr, sender: &Name, body: &Body) -> ArrayVec<Message, MAX_SENDS>
         requires { self.old.number ≤ self.old.events }
         ensures state { self.new ≡ note source sender.now body.now self.old }
@@ -104,14 +109,14 @@ impl Detector {
         }
     }
 
-    /// Whether a name is one's own.
+    /// Whether a name is this member's.
     fn is_own(&self, name: &Name) -> bool
         ensures { result ≡ is_same name_cmp name.now self.now.membership.own.name }
     {
         name.cmp(&self.name()).is_eq()
     }
 
-    /// A Ping for oneself is acked.
+    /// Acks a Ping for this member.
     fn hear_ping(&self, source: Addr, number: u32, target: &Name) -> ArrayVec<Message, MAX_SENDS>
         ensures { result.items ≡ response source [] (Ping number target.now) self.now }
     {
@@ -122,8 +127,8 @@ impl Detector {
         }
     }
 
-    /// A PingReq for oneself is acked, and one for another is relayed, or refused where as many relays are open as may
-    /// be.
+    /// Acks a PingReq for this member. One for another member is relayed, or refused if as many relays are open as
+    /// are allowed.
     fn hear_request(
         &mut self,
         source: Addr,
@@ -152,7 +157,7 @@ impl Detector {
         }
     }
 
-    /// An Ack comes: for the probe that runs, or for a relay, whose asker is told.
+    /// Takes an Ack: for the probe that runs, or for a relay, whose asker then gets an Ack.
     #[tactic(auto, unfolding(crate::specs::Support::State::hear_ack))]
     fn hear_ack(&mut self, number: u32, sender: &Name) -> ArrayVec<Message, MAX_SENDS>
         ensures state { self.new ≡ hear_ack number sender.now self.old }
@@ -169,7 +174,7 @@ impl Detector {
         relay::pass_on(relay::take_ack(&mut parts.relays, &mut parts.timers, number, sender))
     }
 
-    /// A Nack comes, for the probe that runs.
+    /// Takes a Nack, for the probe that runs.
     #[tactic(auto, unfolding(crate::specs::Support::State::hear_nack))]
     fn hear_nack(&mut self, number: u32, sender: &Name)
         ensures { self.new ≡ hear_nack number sender.now self.old }

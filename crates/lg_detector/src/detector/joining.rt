@@ -1,6 +1,10 @@
-//! Joining: a member asks another for its table by a Pull, which tells of itself, and is answered by Pages of at most
-//! 6 records in the order of names. A Page of 6 is answered by a Pull after its last claim, and so the whole table
-//! comes. Pulls and Pages take no claims of the queue (this project's choice).
+//! Joining, by a form of anti-entropy (push-pull): a member asks another for its table by a Pull, which carries the
+//! asker's own record. The answers are Pages of at most 6 records, in the order of names. A Page of 6 is answered by
+//! a Pull for the records after its last claim, and so the whole table comes. Pulls and Pages take no claims of the
+//! queue (this project's choice).
+//!
+//! Defined in: `specs/Meaning/Joining.antt`, `specs/Support/Joining.antt`.
+//! Tested in: `lg_detector_tests/src/detector/joining.rt`.
 ghost use Rattle.std.specs.Prelude.{◌≡◌, ◌<◌, [], ◌∷◌, None};
 ghost use Rattle.lg_detector.specs.Meaning.Joining.{sixth_of};
 ghost use Rattle.lg_detector.specs.Support.Joining.{next_pull, page_behind, pull, pull_after, pulls};
@@ -14,7 +18,7 @@ use lg_rules::{Addr, Claim, MAX_CLAIMS, Name, Record};
 use lg_timing::Moment;
 
 impl Detector {
-    /// Another member is asked for its table: a Pull for its first records.
+    /// Asks another member for its table: sends a Pull for its first records.
     pub(super) fn pull(&mut self, now: Moment, peer: Addr, reply: &mut Reply)
         requires { self.old.events < MAX_EVENTS }
         ensures state { self.new ≡ pull now self.old }
@@ -28,7 +32,7 @@ impl Detector {
         self.send_pull(peer, None, &mut reply.sends);
     }
 
-    /// A Pull is answered: the next records behind its name go to where it came from.
+    /// Answers a Pull: sends the next records after its name to where it came from.
     pub(super) fn send_page(
         &self,
         to: Addr,
@@ -41,7 +45,7 @@ impl Detector {
         self.write_page(to, after, &mut sends[0]);
     }
 
-    /// A Page is answered, where it is full: the records behind its last claim are asked for.
+    /// Answers a Page if it is full: asks for the records after its last claim.
     pub(super) fn send_next_pull(
         &self,
         to: Addr,
@@ -56,7 +60,7 @@ impl Detector {
         }
     }
 
-    /// One Pull is sent, and nothing else.
+    /// Sends one Pull, and nothing else.
     fn send_pull(&self, to: Addr, after: Option<Name>, sends: &mut ArrayVec<Outgoing, MAX_SENDS>)
         ensures { sends.new.items ≡ pull_after to after self.now ∷ [] }
     {
@@ -64,7 +68,7 @@ impl Detector {
         self.write_pull(to, after, &mut sends[0]);
     }
 
-    /// Writes a Page over another packet.
+    /// Overwrites a packet with a Page.
     fn write_page(&self, to: Addr, after: &Option<Name>, place: &mut Outgoing)
         ensures { place.new ≡ page_behind to after.now self.now }
     {
@@ -76,7 +80,7 @@ impl Detector {
             .put_page(after.as_ref(), &mut place.packet.claims);
     }
 
-    /// Writes a Pull over another packet. Its only claim is the own record.
+    /// Overwrites a packet with a Pull, whose only claim is this member's record.
     fn write_pull(&self, to: Addr, after: Option<Name>, place: &mut Outgoing)
         ensures { place.new ≡ pull_after to after self.now }
     {
@@ -85,7 +89,7 @@ impl Detector {
         place.packet.body = Body::Pull { after };
         let claims = &mut place.packet.claims;
         claims.clear();
-        // Taken apart, since the checker follows no whole record into a generic call.
+        // Taken apart, since the checker doesn't follow a whole record into a generic call.
         let Record {
             name,
             addr,

@@ -1,5 +1,8 @@
-//! The event Open: the detector is opened, and its seeds are said. They come from the configuration and not from the
-//! group, so no packet takes them.
+//! The event Open: the detector is opened, and a claim is applied for each of its seeds. These claims come from the
+//! configuration and not from the group, so no packet takes them.
+//!
+//! Defined in: `specs/Meaning/Open.antt`, `specs/Support/Open.antt`.
+//! Tested in: `lg_detector_tests/src/detector/open.rt`.
 ghost use Rattle.std.specs.Prelude.{◌≡◌, ◌<◌, [], None, map};
 ghost use Rattle.lg_timing.specs.Meaning.Config.{IsChecked};
 ghost use Rattle.lg_membership.specs.declared.origin.Origin.TheVariants.{Seed as OfSeed};
@@ -13,7 +16,7 @@ use lg_membership::Origin;
 use lg_rules::{Claim, Incarnation, Status};
 use lg_timing::{Config, Moment, Seed};
 
-/// A seed, as a claim: alive at number 0.
+/// The claim that a seed is alive, at incarnation 0.
 fn alive(seed: &Seed) -> Claim
     ensures { result ≡ alive_seed seed.now }
 {
@@ -26,7 +29,7 @@ fn alive(seed: &Seed) -> Claim
 }
 
 impl Detector {
-    /// The detector is opened, and its seeds are said.
+    /// Opens the detector, and applies the claims of its seeds.
     pub(super) fn open_with(&mut self, now: Moment, config: &Config, reply: &mut Reply)
         requires room { self.old.events < MAX_EVENTS }
         requires good { IsChecked config.now }
@@ -42,7 +45,7 @@ impl Detector {
         self.apply_seeds(config.seeds.as_slice());
     }
 
-    /// The seeds are said.
+    /// Applies the claims of the seeds.
     fn apply_seeds(&mut self, seeds: &[Seed])
         ensures { self.new ≡ apply_all OfSeed (map alive_seed seeds.now) self.old }
     {

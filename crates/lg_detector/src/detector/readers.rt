@@ -1,4 +1,7 @@
 //! What can be read of a detector without an event.
+//!
+//! Defined in: `specs/Meaning/Step.antt`, `specs/Support/Step.antt`, `lg_rules/specs/Meaning/Rows.antt`.
+//! Tested in: `lg_detector_tests/src/detector/ask.rt`.
 ghost use Rattle.std.specs.Prelude.{◌≡◌, ◌≤◌, List, IfOk, length, filter};
 ghost use Rattle.lg_rules.specs.Meaning.Claim.{name_of};
 ghost use Rattle.lg_rules.specs.Meaning.Rows.{name_cmp, is_among, row_at};
@@ -14,18 +17,18 @@ use lg_rules::{MAX_MEMBERS, Name, Record};
 use std::alloc::Global;
 
 impl Detector {
-    /// The record of a name, oneself included, where it is known. It takes no memory.
+    /// The record of a name, this member's included, if it is known. Allocates nothing.
     pub fn record_of(&self, name: &Name) -> Option<Record>
         ensures state { result ≡ row_at name_cmp name_of name.now (view_in self.now) }
-        // After any list of events, it is that of the list's table.
+        // After any list of events: the record in the table after the list.
         ensures list { (f : List Happened) → self.now ≡ state_after f
             → result ≡ row_at name_cmp name_of name.now (view_after f) }
     {
         self.parts.membership.record_of(name)
     }
 
-    /// Writes the records of all members, oneself included, in the order of their names, in the place of what the row
-    /// held. Nothing is known before the opening. It takes no memory.
+    /// Overwrites `row` with the records of all members, this one included, in the order of their names. Nothing is
+    /// known before the opening. Allocates nothing.
     pub fn put_table(&self, row: &mut ArrayVec<Record, MAX_MEMBERS>)
         ensures state { row.new.items ≡ view_in self.now }
         ensures list { (f : List Happened) → self.now ≡ state_after f → row.new.items ≡ view_after f }
@@ -33,7 +36,7 @@ impl Detector {
         self.parts.membership.put_table(row);
     }
 
-    /// Writes the records of these names, oneself included, in the place of what the row held.
+    /// Overwrites `row` with the records of these names, of which this member's may be one.
     pub(super) fn put_records(&self, names: &[Name], row: &mut ArrayVec<Record, MAX_CHANGED>)
         requires { length names.now ≤ MAX_CHANGED }
         ensures { row.new.items ≡ filter (λ r. is_among name_cmp r.name names.now) (view_in self.now) }
@@ -41,8 +44,8 @@ impl Detector {
         self.parts.membership.put_records(names, row);
     }
 
-    /// The records of all members, oneself included, in the order of their names. It takes memory for them
-    /// alone, at most 256 records; the only error is that memory was refused.
+    /// The records of all members, this one included, in the order of their names. Allocates the list alone, of at
+    /// most 256 records; the only error is that memory was refused.
     pub fn table(&self, alloc: Global) -> Result<Vec<Record>, NoMemory>
         ensures state { IfOk result (λ table. table.items ≡ view_in self.now) }
         ensures list { (f : List Happened) → self.now ≡ state_after f
@@ -53,7 +56,7 @@ impl Detector {
         Vec::from_slice(alloc, row.as_slice())
     }
 
-    /// The least deadline of the timers that are set, in milliseconds; none before the opening.
+    /// The least deadline of the timers that are set, in milliseconds. There is none before the opening.
     pub fn next_deadline(&self) -> Option<u64>
         ensures state { result ≡ deadline_of self.now }
         ensures list { (f : List Happened) → self.now ≡ state_after f → result ≡ deadline_after f }
@@ -64,7 +67,7 @@ impl Detector {
         }
     }
 
-    /// The same, where 0 stands for none.
+    /// The same, with 0 for none.
     pub(super) fn next(&self) -> u64
         ensures { result ≡ or_zero (deadline_of self.now) }
     {
@@ -74,21 +77,21 @@ impl Detector {
         }
     }
 
-    /// Whether it was ousted.
+    /// Whether this member was ousted.
     pub(super) fn is_ousted(&self) -> bool
         ensures { result ≡ self.now.membership.own.ousted }
     {
         self.parts.membership.is_ousted()
     }
 
-    /// The own name.
+    /// This member's name.
     pub(super) fn name(&self) -> Name
         ensures { result ≡ self.now.membership.own.name }
     {
         self.parts.membership.name()
     }
 
-    /// How many events it accepted, at most 4,000,000,000.
+    /// How many events it has accepted, at most 4,000,000,000.
     pub fn events(&self) -> u64
         ensures state { result ≡ self.now.events }
         ensures list { (f : List Happened) → self.now ≡ state_after f → result ≡ length f }

@@ -1,10 +1,13 @@
-//! The relays: a PingReq for another has its target pinged, and what comes of it is told to the asker (SWIM, section
-//! 3.1; Lifeguard, local health aware probe).
+//! The relays (indirect probes for others): the target of a PingReq for another member is pinged, and the asker gets
+//! what comes of it (SWIM, section 3.1; Lifeguard, local health aware probe).
 //!
-//! - A relay is opened: `RelayNack` and `RelayEnd` of its number are set, neither scaled by the score.
-//! - RelayNack, where no Ack came by then: the asker gets a Nack by its own number, and the relay stays open.
+//! - A relay is opened: `RelayNack` and `RelayEnd` are set for its number. The score scales neither.
+//! - RelayNack, if no Ack came by then: the asker gets a Nack with the asker's number, and the relay stays open.
 //! - RelayEnd: the relay is closed, and nothing is sent.
-//! - The target's Ack closes it, cancels both, and is passed on to the asker by its own number.
+//! - The target's Ack closes the relay and cancels both timers. The asker gets an Ack with the asker's number.
+//!
+//! Defined in: `specs/Meaning/Relaying.antt`, `specs/Support/State.antt`, `specs/Meaning/Timing.antt`.
+//! Tested in: `lg_detector_tests/src/detector/relaying.rt`.
 ghost use Rattle.std.specs.Prelude.{◌≡◌, ◌<◌, ◌≤◌, ◌+◌, []};
 ghost use Rattle.std.specs.Prelude.{◌∷◌, length, option_copied, is_some};
 ghost use Rattle.lg_timers.specs.Meaning.Timers.{with_timer, without_timer};
@@ -27,7 +30,7 @@ use lg_rules::{Addr, Name};
 use lg_timers::{MAX_TIMERS, Timer, TimerId, Timers};
 use lg_timing::{Config, MAX_INTERVAL_MS};
 
-/// How long after its opening a relay sends its Nack, in milliseconds. It isn't scaled by the score.
+/// How long after its opening a relay sends its Nack, in milliseconds. The score doesn't scale it.
 fn nack_time(config: Option<&Config>) -> u64
     requires { IsGood (option_copied config) }
     ensures time { result ≡ nack_time (option_copied config.entry) }
@@ -39,7 +42,7 @@ fn nack_time(config: Option<&Config>) -> u64
     }
 }
 
-/// How long after its opening a relay is closed, in milliseconds. It isn't scaled by the score.
+/// How long after its opening a relay is closed, in milliseconds. The score doesn't scale it.
 fn relay_time(config: Option<&Config>) -> u64
     requires { IsGood (option_copied config) }
     ensures time { result ≡ relay_time (option_copied config.entry) }
@@ -51,7 +54,7 @@ fn relay_time(config: Option<&Config>) -> u64
     }
 }
 
-/// The timers of a relay that is opened: when its Nack is sent, and when it is closed.
+/// Sets the timers of a relay that is opened: when its Nack is sent, and when it is closed.
 fn set_relay(timers: &mut Timers, nack: u64, end: u64, number: u32)
     requires { length timers.old + 1 < MAX_TIMERS }
     ensures { timers.new ≡ with_relay nack end number timers.old }
@@ -66,7 +69,7 @@ fn set_relay(timers: &mut Timers, nack: u64, end: u64, number: u32)
     });
 }
 
-/// The timers of a relay are cancelled.
+/// Cancels the timers of a relay.
 fn cancel_relay(timers: &mut Timers, number: u32)
     ensures { timers.new ≡ without_relay number timers.old }
 {
@@ -74,8 +77,8 @@ fn cancel_relay(timers: &mut Timers, number: u32)
     timers.cancel(&TimerId::RelayNack(number));
 }
 
-/// Takes an Ack for the relays: that of the target of one closes it. Returns the asker, and the number by which it
-/// asked.
+/// Takes an Ack for the relays: the Ack of a relay's target closes the relay. Returns the asker of that relay, and
+/// the number that it asked by.
 pub(super) fn take_ack(
     relays: &mut Relays,
     timers: &mut Timers,
@@ -94,7 +97,7 @@ pub(super) fn take_ack(
     asker
 }
 
-/// The packet that tells an asker, by its number, that its target acked.
+/// The Ack that is passed on to an asker when its target acked, with the asker's number.
 pub(super) fn pass_on(asker: Option<(Addr, u32)>) -> ArrayVec<Message, MAX_SENDS>
     ensures { result.items ≡ pass_on asker }
 {
@@ -104,7 +107,7 @@ pub(super) fn pass_on(asker: Option<(Addr, u32)>) -> ArrayVec<Message, MAX_SENDS
     }
 }
 
-/// The packet that tells an asker, by its number, that no Ack came so far.
+/// The Nack that an asker gets when no Ack has come so far, with the asker's number.
 fn nack_to(asker: Option<(Addr, u32)>) -> ArrayVec<Message, MAX_SENDS>
     ensures { result.items ≡ nack_to asker }
 {
@@ -115,7 +118,7 @@ fn nack_to(asker: Option<(Addr, u32)>) -> ArrayVec<Message, MAX_SENDS>
 }
 
 impl Detector {
-    /// A relay to a target is opened, for an asker that asks by a number.
+    /// Opens a relay to a target, for an asker that asks by a number.
     #[tactic(auto, unfolding(crate::specs::Support::State::open_relay))]
     pub(super) fn open_relay(&mut self, target: &Name, asker: Addr, asked: u32)
         requires numbered { self.old.number ≤ self.old.events }
@@ -132,7 +135,7 @@ impl Detector {
         parts.number += 1;
     }
 
-    /// The asker of a relay is told that no Ack came so far. The relay stays open.
+    /// Returns the Nack for the asker of a relay, since no Ack has come so far. The relay stays open.
     pub(super) fn nack_relay(&mut self, number: u32) -> ArrayVec<Message, MAX_SENDS>
         ensures state { self.new ≡ nack_relay number self.old }
         ensures messages { result.items ≡ nack_to (asker_at number self.old.relays) }
@@ -142,7 +145,7 @@ impl Detector {
         nack_to(parts.relays.get(number))
     }
 
-    /// A relay is closed.
+    /// Closes a relay.
     pub(super) fn close_relay(&mut self, number: u32)
         ensures { self.new ≡ close_relay number self.old }
     {

@@ -1,11 +1,16 @@
-//! The rounds of probing, and the timers of a round (SWIM, sections 3.1 and 4.3; Lifeguard, local health aware probe).
+//! The rounds of probing, one each protocol period (interval), and the timers of a round (SWIM, sections 3.1 and 4.3;
+//! Lifeguard, local health aware probe).
 //!
-//! - A round starts: the order chooses a member by the first random word. It is pinged with the next sequence number at
-//!   the address of its record; `Direct` is set one scaled timeout later and `RoundEnd` one scaled interval later, by
-//!   the score at the start. Where nobody can be chosen, the next round starts one scaled interval later.
-//! - Direct, where no Ack counted by then: helpers are picked by the words and asked to ping the target.
-//! - The round ends: where no Ack counted, the score is marked, and the target is suspected by oneself, unless its
-//!   record is Failed. The next round starts at once.
+//! - A round starts: the order chooses a member by the first random word. It is pinged with the next sequence number
+//!   at the address of its record. `Direct` is set one scaled timeout later and `RoundEnd` one scaled interval later,
+//!   by the score at the start. If nobody can be chosen, the next round starts one scaled interval later.
+//! - Direct, if no Ack counted by then: helpers are picked by the words and asked to ping the target (an indirect
+//!   probe).
+//! - The round ends: if no Ack counted, the score is marked, and this member suspects the target, unless its record
+//!   is Failed. The next round starts at once.
+//!
+//! Defined in: `specs/Meaning/Probing.antt`, `specs/Support/State.antt`, `specs/Meaning/Tick.antt`.
+//! Tested in: `lg_detector_tests/src/detector/probing.rt`, `lg_detector_tests/src/detector/acks.rt`.
 ghost use Rattle.std.specs.Prelude.{◌≡◌, ◌<◌, ◌≤◌, ◌+◌, []};
 ghost use Rattle.std.specs.Prelude.{◌∷◌, length, option_copied, option_map};
 ghost use Rattle.std.specs.List.{filter_map};
@@ -30,7 +35,7 @@ use lg_rules::{Claim, MAX_CLAIMS, Name, Record, Status};
 use lg_timers::{MAX_TIMERS, Timer, TimerId, Timers};
 use lg_timing::{Config, MAX_SCALED_MS, Score};
 
-/// The interval, scaled by the score, in milliseconds.
+/// The interval (protocol period), scaled by the score, in milliseconds.
 fn scaled_interval(score: &Score, config: Option<&Config>) -> u64
     requires { IsGood (option_copied config) }
     ensures interval { result ≡ scaled_interval (option_copied config.entry) score.now }
@@ -66,7 +71,7 @@ fn indirect(config: Option<&Config>) -> usize
     }
 }
 
-/// The timers where nobody is probed: the next round starts at this moment.
+/// Sets the timers for a time in which nobody is probed: the next round starts at this moment.
 fn set_start(timers: &mut Timers, deadline: u64)
     requires { length timers.old < MAX_TIMERS }
     ensures { timers.new ≡ with_start deadline timers.old }
@@ -79,7 +84,7 @@ fn set_start(timers: &mut Timers, deadline: u64)
     });
 }
 
-/// The timers where a probe runs: when the round ends, and when helpers are asked.
+/// Sets the timers of a probe: when the round ends, and when helpers are asked.
 fn set_probe(timers: &mut Timers, end: u64, direct: u64)
     requires { length timers.old + 1 < MAX_TIMERS }
     ensures { timers.new ≡ with_probe end direct timers.old }
@@ -95,7 +100,7 @@ fn set_probe(timers: &mut Timers, end: u64, direct: u64)
     });
 }
 
-/// The timers of a round that chose a member, or nobody.
+/// Sets the timers of a round that chose a member, or nobody.
 fn set_round(timers: &mut Timers, chosen: &Option<Name>, end: u64, direct: u64)
     requires { length timers.old + 1 < MAX_TIMERS }
     ensures { timers.new ≡ with_round chosen.now end direct timers.old }
@@ -106,7 +111,7 @@ fn set_round(timers: &mut Timers, chosen: &Option<Name>, end: u64, direct: u64)
     }
 }
 
-/// The round of a member that is chosen, by a number.
+/// The round of the chosen member, if there is one, with this sequence number.
 fn new_round(number: u32, chosen: &Option<Name>) -> Option<Round>
     ensures { result ≡ round_of_choice number chosen.now }
 {
@@ -116,7 +121,7 @@ fn new_round(number: u32, chosen: &Option<Name>) -> Option<Round>
     }
 }
 
-/// The next sequence number, once a member is chosen, or nobody.
+/// The next sequence number, after a round chose a member or nobody.
 fn number_after(number: u32, chosen: &Option<Name>) -> u32
     requires { number ≤ MAX_EVENTS }
     ensures { result ≡ number_after number chosen.now }
@@ -127,7 +132,7 @@ fn number_after(number: u32, chosen: &Option<Name>) -> u32
     }
 }
 
-/// Marks the score where the round that runs ends without an Ack that counts.
+/// Marks the score if the round that runs ends without an Ack that counts.
 fn mark_end(score: &mut Score, round: Option<Round>)
     ensures { score.new ≡ marked_end round score.old }
 {
@@ -139,7 +144,7 @@ fn mark_end(score: &mut Score, round: Option<Round>)
     }
 }
 
-/// Takes an Ack for the round that runs: the first that counts marks the score, and no helpers are asked then.
+/// Takes an Ack for the round that runs. The first one that counts marks the score, and no helpers are asked then.
 pub(super) fn take_ack(
     round: &mut Option<Round>,
     score: &mut Score,
@@ -170,7 +175,7 @@ pub(super) fn take_nack(round: &mut Option<Round>, number: u32, sender: &Name)
     }
 }
 
-/// The helpers are asked, where a probe runs.
+/// Notes that the helpers are asked, if a probe runs.
 fn ask(round: &mut Option<Round>, helpers: &Helpers)
     ensures { round.new ≡ option_map (λ r. round_with r (Asked helpers.now)) round.old }
 {
@@ -179,7 +184,7 @@ fn ask(round: &mut Option<Round>, helpers: &Helpers)
     }
 }
 
-/// The Ping of a member at the address of its record, by a number.
+/// The Ping of a member at the address of its record, with this sequence number.
 fn ping(number: u32, current: &Option<Record>) -> ArrayVec<Message, MAX_SENDS>
     ensures { result.items ≡ ping_at number current.now }
 {
@@ -196,7 +201,7 @@ fn ping(number: u32, current: &Option<Record>) -> ArrayVec<Message, MAX_SENDS>
     messages
 }
 
-/// The claim that a member is suspected, by oneself, unless it has failed.
+/// The claim that this member suspects another one, unless that one has failed.
 fn accusation(me: &Name, current: &Record) -> ArrayVec<Claim, MAX_CLAIMS>
     ensures { result.items ≡ accusation me.now current.now.status current.now }
 {
@@ -211,7 +216,7 @@ fn accusation(me: &Name, current: &Record) -> ArrayVec<Claim, MAX_CLAIMS>
 }
 
 impl Detector {
-    /// The claim that the end of the round says, where no Ack counted: its target is suspected.
+    /// The claim that the end of the round makes if no Ack counted: its target is suspected.
     pub(super) fn failure(&self) -> ArrayVec<Claim, MAX_CLAIMS>
         ensures { result.items ≡ failure_of self.now.membership.own.name self.now.round (view_in self.now) }
     {
@@ -221,7 +226,7 @@ impl Detector {
         }
     }
 
-    /// The claim that a member is suspected, where it has a record that isn't Failed.
+    /// The claim that a member is suspected, if it has a record that isn't Failed.
     fn suspicion_of(&self, member: &Name) -> ArrayVec<Claim, MAX_CLAIMS>
         ensures { result.items ≡ suspect_of self.now.membership.own.name (found member.now (view_in self.now)) }
     {
@@ -231,7 +236,7 @@ impl Detector {
         }
     }
 
-    /// A round starts. Returns the Ping of whom it chooses.
+    /// Starts a round. Returns the Ping of the member that it chooses.
     pub(super) fn start_round(&mut self, words: &[u32; 8]) -> ArrayVec<Message, MAX_SENDS>
         requires { self.old.number ≤ self.old.events }
         ensures state { self.new ≡ start_round words.now self.old }
@@ -244,7 +249,7 @@ impl Detector {
         }
     }
 
-    /// The order chooses, and the timers of the round are set anew.
+    /// Lets the order choose, and sets the timers of the round anew.
     fn choose(&mut self, words: &[u32; 8]) -> Option<Name>
         requires { self.old.number ≤ self.old.events }
         ensures state { self.new ≡ start_round words.now self.old }
@@ -262,8 +267,8 @@ impl Detector {
         chosen
     }
 
-    /// Helpers are picked and asked, and no more are. Returns the PingReqs for them, in the order in which they were
-    /// picked.
+    /// Picks helpers and asks them. After that no more are asked. Returns the PingReqs for them, in the order in
+    /// which they were picked.
     pub(super) fn ask_helpers(&mut self, words: &[u32; 8]) -> ArrayVec<Message, MAX_SENDS>
         ensures state { self.new ≡ ask_helpers words.now self.old }
         ensures messages { result.items
@@ -277,7 +282,7 @@ impl Detector {
         messages
     }
 
-    /// The helpers that words pick.
+    /// The helpers that the words pick.
     fn pick(&self, words: &[u32; 8]) -> Helpers
         ensures { result ≡ helpers words.now self.now }
     {
@@ -289,7 +294,7 @@ impl Detector {
         helpers
     }
 
-    /// The PingReqs for helpers: each is asked to ping the target at the address of its record.
+    /// The PingReqs for helpers. Each asks its helper to ping the target at the address of the target's record.
     fn requests(&self, helpers: &Helpers) -> ArrayVec<Message, MAX_SENDS>
         ensures { result.items ≡ requests self.now.round (view_in self.now) helpers.now }
     {
@@ -305,7 +310,7 @@ impl Detector {
         }
     }
 
-    /// The PingReqs for a target, by a number.
+    /// The PingReqs for a target, with this sequence number.
     fn requests_for(
         &self,
         number: u32,
@@ -335,7 +340,7 @@ impl Detector {
         messages
     }
 
-    /// A round ends. The claim that its target is suspected is said by the caller.
+    /// Ends a round. The caller applies the claim that its target is suspected.
     pub(super) fn end_round(&mut self)
         ensures { self.new ≡ end_round self.old }
     {

@@ -1,6 +1,10 @@
-//! The packets that are sent. They are filled one after another, each over the packet that stood in its place in the
-//! reply before, since a packet is large. A Ping for a member whose record is Suspect begins with that record
-//! (Lifeguard's buddy system); a Nack takes no claims (this project's choice). Pulls and Pages are in `joining.rt`.
+//! The packets that are sent, and the claims that ride on them (piggyback). The packets are filled one after another.
+//! Each is written over the packet that the reply had in the same slot before, since a packet is large. A Ping for a
+//! member whose record is Suspect begins with that record (Lifeguard's buddy system). A Nack takes no claims (this
+//! project's choice). Pulls and Pages are in `joining.rt`.
+//!
+//! Defined in: `specs/Meaning/Send.antt`, `specs/Support/Send.antt`.
+//! Tested in: `lg_detector_tests/src/detector/hear.rt`.
 ghost use Rattle.std.specs.Prelude.{◌≡◌, ◌≤◌, [], length};
 ghost use Rattle.arrayvec.specs.ArrayVec.{array_vec_len};
 ghost use Rattle.lg_detector.specs.Support.Send.{outgoing, packets, send, send_all};
@@ -11,7 +15,7 @@ use crate::reply::{MAX_SENDS, Outgoing};
 use arrayvec::ArrayVec;
 use lg_packet::Body;
 
-/// Gives a row so many packets: those that it has, and further ones behind them.
+/// Gives a row exactly this many packets: cuts off those beyond that, or appends further ones.
 pub(super) fn make_places(sends: &mut ArrayVec<Outgoing, MAX_SENDS>, count: usize)
     requires { count ≤ MAX_SENDS }
     ensures { array_vec_len sends.new ≡ count }
@@ -23,7 +27,7 @@ pub(super) fn make_places(sends: &mut ArrayVec<Outgoing, MAX_SENDS>, count: usiz
 }
 
 impl Detector {
-    /// Sends packets one after another, each filled after those before it, in the place of what `sends` held.
+    /// Sends packets one after another, each filled after those before it. Overwrites what `sends` held.
     pub(super) fn send_all(
         &mut self,
         messages: &[Message],
@@ -39,7 +43,7 @@ impl Detector {
         }
     }
 
-    /// Writes a packet over another. The claims that it takes of the queue count as sent.
+    /// Overwrites a packet. The claims that it takes of the queue count as sent.
     fn put_packet(&mut self, message: &Message, place: &mut Outgoing)
         ensures state { self.new ≡ send message.now.body self.old }
         ensures sent { place.new ≡ outgoing message.now self.old }

@@ -1,17 +1,22 @@
-//! The event Tick. It is counted, and the detector's moment becomes that of the tick, where this is later. Of the
-//! timers that are due, set for that moment or before it, the first one fires and no other: the one with the least
-//! deadline, and of those with one deadline the end of a round before a suspicion, then Direct, the Nack of a relay,
-//! its end, and the start of a round; of one kind the lesser name or number. It is one alone so that the reply always
-//! has room; the next tick fires the next one. Where none is due, nothing fires. What it sets counts from the
-//! detector's moment, however long it was due.
+//! The event Tick. It is counted, and the detector's moment becomes that of the tick if this is later. A timer is due
+//! if it is set for that moment or an earlier one. The first of the due timers fires, and no other. If none is due,
+//! nothing fires.
+//!
+//! The first is the one with the least deadline. Of those with the same deadline, the end of a round comes before a
+//! suspicion, then Direct, the Nack of a relay, its end, and the start of a round. Within one kind, the lesser name
+//! or number comes first. Only one fires, so that the packets always fit in the reply; the next tick fires the next
+//! one. What a timer sets counts from the detector's moment, however long the timer was due.
 //!
 //! - A round starts, its helpers are asked, or it ends: `round.rt`.
 //! - A suspicion runs out: its member has failed, at the incarnation and the address of its record.
 //! - A relay sends its Nack, or is closed: `relay.rt`.
 //!
-//! A claim that it says is applied as one that a packet says, so it ends or raises a suspicion, sets its timer, and is
-//! queued. The reply has the timer that fired, the packets that are sent, the records that changed, and as each reply
-//! whether this member is ousted and the least deadline after the event.
+//! A claim that the timer makes is applied like one of a packet, so it ends or raises a suspicion, sets its timer,
+//! and is queued. The reply has the timer that fired, the packets that are sent and the records that changed. Like
+//! every reply, it also says whether this member is ousted, and has the least deadline after the event.
+//!
+//! Defined in: `specs/Meaning/Tick.antt`, `specs/Support/Tick.antt`, `specs/Meaning/Timing.antt`.
+//! Tested in: `lg_detector_tests/src/detector/tick.rt`.
 ghost use Rattle.std.specs.Prelude.{◌≡◌, ◌<◌, ◌≤◌, [], None};
 ghost use Rattle.lg_rules.specs.Meaning.View.{changed};
 ghost use Rattle.lg_detector.specs.Meaning.Tick.{failed_of};
@@ -28,7 +33,7 @@ use lg_rules::{Claim, MAX_CLAIMS, Record, Status};
 use lg_timers::{Timer, TimerId};
 use lg_timing::Moment;
 
-/// The claim that a member has failed, where it has a record.
+/// The claim that a member has failed, if it has a record.
 fn failed_claims(current: &Option<Record>) -> ArrayVec<Claim, MAX_CLAIMS>
     ensures { result.items ≡ failed_of current.now }
 {
@@ -43,7 +48,7 @@ fn failed_claims(current: &Option<Record>) -> ArrayVec<Claim, MAX_CLAIMS>
 }
 
 impl Detector {
-    /// Time has passed: the first of the timers that are due fires.
+    /// Time has passed: fires the first of the timers that are due.
     pub(super) fn tick(&mut self, now: Moment, words: &[u32; 8], reply: &mut Reply)
         requires { self.old.events < MAX_EVENTS }
         ensures state { self.new ≡ tick now words.now self.old }
@@ -69,8 +74,8 @@ impl Detector {
         self.parts.timers.due(self.parts.moment)
     }
 
-    /// The claims that a timer says, if one is due: a member whose suspicion runs out has failed (SWIM, section 4.2),
-    /// and the target of a round that fails is suspected.
+    /// The claims that a timer makes, if one is due. A member whose suspicion runs out has failed (SWIM, section
+    /// 4.2). The target of a round that ends without an Ack that counts is suspected.
     fn claims_by(&self, fired: &Option<Timer>) -> ArrayVec<Claim, MAX_CLAIMS>
         ensures { result.items ≡ claims_by fired.now self.now }
     {
@@ -80,7 +85,7 @@ impl Detector {
         }
     }
 
-    /// The claims that a timer says when it fires.
+    /// The claims that a timer makes when it fires.
     fn claims_said(&self, id: &TimerId) -> ArrayVec<Claim, MAX_CLAIMS>
         ensures { result.items ≡ claims_said id.now self.now }
     {
@@ -91,7 +96,7 @@ impl Detector {
         }
     }
 
-    /// A timer fires, if one is due. Returns the packets that it sends. The claims that it says are said by the caller.
+    /// Fires a timer, if one is due. Returns the packets that it sends. The caller applies the claims that it makes.
     fn fire_due(&mut self, fired: &Option<Timer>, words: &[u32; 8]) -> ArrayVec<Message, MAX_SENDS>
         requires { self.old.number ≤ self.old.events }
         ensures state { self.new ≡ fire_due fired.now words.now self.old }
@@ -103,7 +108,7 @@ impl Detector {
         }
     }
 
-    /// A timer fires. Returns the packets that it sends.
+    /// Fires a timer. Returns the packets that it sends.
     #[tactic(auto, unfolding(crate::specs::Support::State::fire))]
     fn fire(&mut self, timer: &Timer, words: &[u32; 8]) -> ArrayVec<Message, MAX_SENDS>
         requires { self.old.number ≤ self.old.events }

@@ -7,7 +7,7 @@ use Rattle.lg_detector.specs.Meaning.Step.{is_accepted}
 use Rattle.lg_detector.specs.Meaning.Examples.{by_computing, b, c, opening, pings, alive, nothing, acks}
 use Rattle.lg_history.specs.Meaning.History.{Entry, entry, events, Answered, Seated, completed, positions}
 
--- A Ping for b that says that c is alive, of the first pass, and its Ack.
+-- A Ping for b, heard by the first pass, which claims that c is alive; and its Ack.
 abbrev ping : Event
 ping = pings 10 8 b (alive c 0 ∷ [])
 
@@ -33,7 +33,7 @@ they_are_accepted = refl
 no_history_is_without_an_opening : Seated 2 [] ≡ ⊥
 no_history_is_without_an_opening = refl
 
--- Between the two the second pass asked nothing. Then it is prepared to, and answered.
+-- A question of the second pass is prepared and then completed. Without anything prepared, nothing is added.
 abbrev asked : Event
 asked = Health 20
 
@@ -49,7 +49,7 @@ nothing_is_added :
     completed (nothing 0) (record { entries = two; prepared = None }) ≡ record { entries = two; prepared = None }
 nothing_is_added = refl
 
--- Of three entries the first and the last are of the first pass.
+-- Of the three entries after that of the opening, the first and the last are of the first pass.
 abbrev mixed : List Entry
 mixed =
     entry 0 (opening 0) (nothing 0) ∷ entry 1 ping ack

@@ -36,7 +36,7 @@ completed reply h = record { entries = completed_by reply h.entries h.prepared; 
 abbrev pub events : List Entry → List Event
 events h = map (λ x. x.event) h
 
--- after these events, each entry has the reply that the definitions give after the events before it
+-- each entry has the reply that the definitions give after these events and those of the entries before it
 abbrev pub Answered : List Event → List Entry → Type 0
 Answered f [] = Unit {0}
 Answered f (x ∷ h) = (x.reply ≡ reply_after f x.event) × Answered (f ++ x.event ∷ []) h
@@ -45,20 +45,20 @@ Answered f (x ∷ h) = (x.reply ≡ reply_after f x.event) × Answered (f ++ x.e
 abbrev pub IsSeat : ℕ → Entry → Type 0
 IsSeat places x = (0 < x.seat) × (x.seat ≤ places)
 
--- there is a first entry, which has the seat 0, and each later one has one of the others
+-- there is a first entry, which has the seat 0, and each later one has one of the seats 1 to `places`
 abbrev pub Seated : ℕ → List Entry → Type 0
 Seated places [] = ⊥
 Seated places (x ∷ h) = (x.seat ≡ 0) × All (IsSeat places) h
 
--- A history is legal where a single thread that steps one detector could have made it: its events are accepted, the
--- opening has the seat 0 and each other event one of the seats 1 to `places`, and each reply is the one that the
+-- A history is legal if a single thread that steps one detector could have made it. Its events are accepted. The
+-- opening has the seat 0, and each other event one of the seats 1 to `places`. Each reply is the one that the
 -- definitions give after the events before it.
 pub record IsLegal (places : ℕ) (h : List Entry) : Type 0 where
   pub accepted : is_accepted (events h) ≡ true
   pub seated : Seated places h
   pub answered : Answered [] h
 
--- the positions of the entries of a seat, where the first entry has the position n
+-- the positions of the entries of a seat, if the first entry has the position n
 abbrev pub positions : ℕ → ℕ → List Entry → List ℕ
 positions seat n [] = []
 positions seat n (x ∷ h) = if x.seat == seat then n ∷ positions seat (n + 1) h else positions seat (n + 1) h

@@ -1,4 +1,4 @@
--- What is stored, as what it stands for.
+-- What a stored event or reply stands for.
 use Rattle.std.specs.Prelude.{ℕ}
 use Rattle.lg_detector.specs.declared.event.Event.{Event}
 use Rattle.lg_detector.specs.declared.event.Event.TheVariants.{Open, Tick, Heard, Ask, Health, Pull}
@@ -8,7 +8,7 @@ use Rattle.lg_history.specs.declared.event.Content.TheVariants.{Opens, Ticks, He
 use Rattle.lg_history.specs.declared.reply.Form.{Form}
 use Rattle.lg_history.specs.declared.reply.Form.TheVariants.{Exact, Whole}
 
--- the event of a moment and of what it has beside it
+-- the event with this moment and this content
 abbrev pub event_in : ℕ → Content → Event
 event_in now (Opens config) = Open now config.value
 event_in now (Ticks words) = Tick now words.value

@@ -74,7 +74,7 @@ it_is_called = record {
   name = refl;
 }
 
--- No datagram comes, then one that breaks off, and then the Ping.
+-- No datagram comes, then one that is cut short, and then the Ping.
 abbrev heard : Bool → List Turn
 heard was_sent =
     Quiet ∷ Dropped (at 1) (0x53 ∷ []) ∷ Heard 20 (at 1) ping_bytes ping answer (was_sent ∷ []) ∷ []
@@ -95,7 +95,7 @@ one_is_dropped = refl
 none_is_lost : sum_by losses (heard true) ≡ 0
 none_is_lost = refl
 
--- The Ack isn't sent: it was handed over all the same, and the loop goes on.
+-- The Ack isn't sent. It was handed over all the same, and the loop goes on.
 it_was_handed_over : deeds (Heard 20 (at 1) ping_bytes ping answer (false ∷ []))
     ≡ Received (at 1) ping_bytes ∷ Handed (at 1) ack_bytes false ∷ []
 unfolding spelling
@@ -107,7 +107,7 @@ one_is_lost = refl
 a_lost_packet_ends_nothing : stops (Heard 20 (at 1) ping_bytes ping answer (false ∷ [])) ≡ None
 a_lost_packet_ends_nothing = refl
 
--- Of three packets the second is lost; each was handed over, in order.
+-- Of three packets the second is lost. Each was handed over, in order.
 abbrev to : ℕ → Outgoing
 to port = record { to = at port; packet = ping }
 
@@ -119,8 +119,8 @@ all_are_handed_over = refl
 one_of_three : lost (true ∷ false ∷ true ∷ []) ≡ 1
 one_of_three = refl
 
--- The history has room for two entries, so it is full when the Ping is heard again. It is rotated, and both are one
--- call: the call before has become a number.
+-- Only two entries may be stored, so the history is full when the Ping is heard again. It is rotated, and the call is
+-- made again. Both count as one call, and of the call before only the number is kept.
 abbrev again : Receipt
 again = record { place = 2; reply = reply_after (opening 0 ∷ asked ∷ []) asked }
 
@@ -147,7 +147,7 @@ it_is_one_call = record {
   name = refl;
 }
 
--- Or memory for that call is refused: the pass was rotated, and made no call.
+-- If memory for that call is refused, the pass was rotated and made no call.
 it_is_not_heard : IsTurn after (Unheard 20 (at 1) ping_bytes NoMemory) (rotated (opening 0 ∷ asked ∷ []) [])
 it_is_not_heard = (
   inr (
@@ -194,7 +194,7 @@ it_is_due = record {
   come = lit≤ tt;
 }
 
--- The next one is a second later.
+-- The next round is due a second later.
 none_is_due : SeesNoneDue later 999 later
 unfolding by_computing
 none_is_due = record {

@@ -7,21 +7,21 @@ use Rattle.lg_packet.specs.Meaning.Spelling.{spelling}
 use Rattle.lg_detector.specs.declared.reply.Outgoing.{Outgoing}
 use Rattle.lg_node.specs.declared.link.LinkFault.{LinkFault}
 
--- One call of a link: a datagram with these bytes came from an address; none came; receiving failed; these bytes were
--- handed over for an address, and were sent or not.
+-- One call of a link: a datagram with these bytes came from an address; none came; receiving failed; or these bytes
+-- were handed over for an address, and were sent or not.
 pub data LinkEvent : Type 0 where
   Received : Addr → List ℕ → LinkEvent
   Silent : LinkEvent
   Failed : LinkEvent
   Handed : Addr → List ℕ → Bool → LinkEvent
 
--- what a call of `receive` is, by what it gives and leaves in the buffer
+-- what a call of `receive` was, by what it returns and leaves in the buffer
 abbrev pub reception : Result (Option (Addr × ℕ)) LinkFault → List ℕ → LinkEvent
 reception (Ok (Some came)) buffer = Received came.0 (take came.1 buffer)
 reception (Ok None) buffer = Silent
 reception (Err fault) buffer = Failed
 
--- The packets of a reply are handed over once each, in order, by their spellings; which of them were sent.
+-- The packets of a reply, handed over once each and in order, by their spellings; and which of them were sent.
 abbrev pub handed : List Outgoing → List Bool → List LinkEvent
 handed (o ∷ sends) (was_sent ∷ sent) = Handed o.to (spelling o.packet) was_sent ∷ handed sends sent
 handed _ _ = []
@@ -30,7 +30,8 @@ handed _ _ = []
 abbrev pub lost : List Bool → ℕ
 lost sent = count_by not sent
 
--- Some packets were handed to a link, which has counted each failure, and tells of its calls where it tells at all.
+-- Some packets were handed to a link, which has counted each failure. If contracts see what the link did, its log has
+-- these calls.
 pub record WereHanded
     (tells : Bool) (log log' : List LinkEvent) (failed failed' : ℕ) (sends : List Outgoing) (unsent : ℕ)
     : Type 0 where

@@ -19,18 +19,18 @@ use Rattle.lg_node.specs.declared.node.NodeFault.TheVariants.{Refused}
 use Rattle.lg_node.specs.Meaning.Turns.{Turn, Line, Made, Ran, HadNoThread, Threw}
 use Rattle.lg_node.specs.Meaning.Turns.{pulls, receives, ticks_before, losses, peers_in, words_in}
 
--- where the seeds are reached
+-- the addresses of the seeds
 abbrev pub addrs : List Seed → List Addr
 addrs seeds = map (λ s. s.addr) seeds
 
--- Seeds were asked for their tables: each one once, in order. So many of the packets weren't sent.
+-- Seeds were asked for their tables, each once and in order. `unsent` of the packets weren't sent.
 pub record Asked (tells : Bool) (seeds : List Seed) (k k' : Line) (p q : Own) (unsent : ℕ) : Type 0 where
   pub turns : List Turn
   pub made : Made pulls tells turns k k' p q
   pub each : flat_map peers_in turns ≡ addrs seeds
   pub unsent_is : unsent ≡ sum_by losses turns
 
--- the pass at a place of an agent that was opened at a moment: it has seen the opening, and made no call
+-- the pass with this seat of an agent that was opened at a moment: it has seen the opening, and made no call
 abbrev pub fresh : Config → ℕ → ℕ → Own
 fresh config start place =
     record { name = config.name; seat = place; seen = Open start config ∷ []; gone = 0; mine = [] }
@@ -39,8 +39,8 @@ fresh config start place =
 abbrev pub unstarted : End
 unstarted = record { why = Stopped; dropped = 0; unsent = 0; turns = 0 }
 
--- The seeds were asked with one pass, and then both loops ran, each with a pass of its own; the ticking one over the
--- link with which the seeds were asked. Where no thread could be had, neither made a turn.
+-- One pass asked the seeds, and then both loops ran, each with a pass of its own. The ticking loop ran over the link
+-- by which the seeds were asked. If no thread could be started, the ticking loop made no turn.
 pub record HasServed
     {D : Type 0} (throws : D → List ℕ → D → Type 0) (dice : D) (tells : Bool) (bound : ℕ) (config : Config)
     (until start : ℕ) (hears hears' sends sends' : Line) (received ticked : End) (receiver ticker asker : Own)
@@ -59,8 +59,9 @@ pub record HasServed
       × ((rest : D) × Threw throws dice (flat_map words_in ran.turns) rest)
   pub counted : later + unsent < 2 ^ 64 → ticked.unsent ≡ later + unsent
 
--- A node ran. It opened an agent with three places, which asked its seeds and ran its loops. Then the pass that had
--- asked the seeds read the members, and the agent was closed with what the three passes left.
+-- A node ran. It opened an agent with three places, asked its seeds and ran its loops. Then the pass that had asked
+-- the seeds read the members, and the agent was closed with what the three passes left. Reading or closing may have
+-- been refused.
 pub record IsRun
     {D : Type 0} (throws : D → List ℕ → D → Type 0) (dice : D) (tells : Bool) (bound : ℕ) (config : Config)
     (until : ℕ) (hears hears' sends sends' : Line) (e : NodeEnd) : Type 0 where
@@ -76,8 +77,8 @@ pub record IsRun
   pub closed : MatchResult e.closed (λ c. IsClosed 3 c (receiver ∷ ticker ∷ reader ∷ []))
       (λ f. IsRefusedClosing 3 (receiver ∷ ticker ∷ reader ∷ []) f)
 
--- what a node can be refused for before its loops: not for bytes that are no packet, and not for what looks are refused
--- for
+-- what a node can be refused for before its loops: neither for bytes that are no packet, nor for what looks are
+-- refused for
 abbrev pub IsEarly : NodeFault → Type 0
 IsEarly (Refused (BadPacket fault)) = ⊥
 IsEarly (Refused NoView) = ⊥

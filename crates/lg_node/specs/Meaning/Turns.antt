@@ -22,16 +22,17 @@ use Rattle.lg_node.specs.Meaning.Links.{LinkEvent, handed, lost}
 use Rattle.lg_node.specs.Meaning.Links.LinkEvent.{Received, Silent, Failed}
 
 -- One turn of a loop. A turn of receiving:
---   no datagram came; receiving failed;
---   a datagram with these bytes came from an address, and was dropped, since the bytes are no packet;
---   it was heard at a moment as a packet, with this receipt, and of the reply's packets these were sent;
---   or the call for it was refused.
+-- - no datagram came, or receiving failed;
+-- - a datagram with these bytes came from an address, and was dropped, since the bytes are no packet;
+-- - it was heard at a moment as a packet, with this receipt, and these of the reply's packets were sent;
+-- - the call for it was refused.
 -- A turn of ticking:
---   nothing was due at a moment;
---   there was a tick at a moment with random words, with this receipt, and of the reply's packets these were sent;
---   the call for it was refused; or the look at the next deadline was.
--- A turn of asking: a member at an address was asked at a moment for its table, with this receipt, and of the reply's
--- packets these were sent.
+-- - nothing was due at a moment;
+-- - there was a tick at a moment with random words, with this receipt, and these of the reply's packets were sent;
+-- - the call for it was refused, or the look at the next deadline was.
+-- A turn of asking:
+-- - a member at an address was asked at a moment for its table, with this receipt, and these of the reply's packets
+--   were sent.
 pub data Turn : Type 0 where
   Quiet : Turn
   Broken : Turn
@@ -66,8 +67,8 @@ abbrev pub pulls : Turn → Bool
 pulls (Pulled now peer r sent) = true
 pulls _ = false
 
--- What the link did in a turn: first the datagram is received, then the packets of the reply are handed over, once each
--- and in order, to the addresses that the reply gives them.
+-- What the link did in a turn. First the datagram is received. Then the packets of the reply are handed over, once
+-- each and in order, to the addresses that the reply gives them.
 abbrev pub deeds : Turn → List LinkEvent
 deeds Quiet = Silent ∷ []
 deeds Broken = Failed ∷ []
@@ -104,12 +105,12 @@ abbrev pub peers_in : Turn → List Addr
 peers_in (Pulled now peer r sent) = peer ∷ []
 peers_in _ = []
 
--- dice gave these words, one throw after another
+-- the dice gave these words, one throw after another
 abbrev pub Threw : {D : Type 0} → (D → List ℕ → D → Type 0) → D → List (List ℕ) → D → Type 0
 Threw throws d [] e = e ≡ d
 Threw throws d (words ∷ more) e = (m : _) × throws d words m × Threw throws m more e
 
--- after these events the next deadline is this
+-- after these events the next deadline is this one
 abbrev pub IsDeadline : List Event → ℕ → Type 0
 IsDeadline seen due = deadline_after seen ≡ Some due
 
@@ -120,7 +121,7 @@ pub record SeesDue (p : Own) (now : ℕ) (q : Own) : Type 0 where
   pub deadline : IsDeadline q.seen due
   pub come : due ≤ now
 
--- and one at a deadline that hasn't
+-- and a look at a deadline that hasn't come
 pub record SeesNoneDue (p : Own) (now : ℕ) (q : Own) : Type 0 where
   pub look : IsLook p q
   pub due : ℕ
@@ -131,9 +132,9 @@ pub record SeesNoneDue (p : Own) (now : ℕ) (q : Own) : Type 0 where
 abbrev pub MadeNoCall : Own → Own → Type 0
 MadeNoCall p q = (q ≡ p) ⊎ IsRotatedPass p q
 
--- What a turn does with the pass: where a datagram is a packet, it is heard; where the next deadline has come, there is
--- a tick. Each packet of the reply was sent or not. A call counts once, also where it was refused since the history was
--- full, and was made again after a rotation.
+-- What a turn does with the pass. If a datagram is a packet, it is heard. If the next deadline has come, there is a
+-- tick. Each packet of the reply was sent or not. A call counts once, even if it was refused because the history was
+-- full and was made again after a rotation.
 abbrev pub IsTurn : Own → Turn → Own → Type 0
 IsTurn p Quiet q = q ≡ p
 IsTurn p Broken q = q ≡ p
@@ -176,14 +177,14 @@ pub record EndsBy (turns : List Turn) (why : Why) : Type 0 where
   pub went_on : All goes_on before
   pub ended : stops last ≡ Some why
 
--- Why a loop ended after these turns: it was stopped, or made as many turns as it may, and no turn ended it; or else
--- the last one did.
+-- Why a loop ended after these turns. It was stopped, or made as many turns as are allowed, and no turn ended it.
+-- Otherwise the last turn ended it.
 abbrev pub Ends : ℕ → List Turn → Why → Type 0
 Ends bound turns Stopped = All goes_on turns
 Ends bound turns ReadBound = All goes_on turns × (length turns ≡ bound)
 Ends bound turns why = EndsBy turns why
 
--- What a link is told by its contracts: what it did, and how often it failed.
+-- What contracts see of a link: what it did, and how often it failed.
 pub record Line : Type 0 where
   pub log : List LinkEvent
   pub failed : ℕ
@@ -191,9 +192,9 @@ pub record Line : Type 0 where
 abbrev pub line : List LinkEvent → ℕ → Line
 line log failed = record { log = log; failed = failed }
 
--- Some turns, all of one kind, led a pass and a link from one state to another: each turn is what it is of the pass,
--- the link did what the turns do, in order and nothing else, and its failures were counted. A link that tells nothing
--- has no log.
+-- Some turns, all of one kind, led a pass and a link from one state to another. Each turn does with the pass what its
+-- definition says. The link did what the turns do, in order and nothing else, and its failures were counted. If
+-- contracts don't see what the link did, nothing is said of its log.
 pub record Made (kind : Turn → Bool) (tells : Bool) (turns : List Turn) (k k' : Line) (p q : Own) : Type 0 where
   pub kinds : All (λ t. kind t ≡ true) turns
   pub follows : Follows p turns q
@@ -206,15 +207,14 @@ pub record Counts (turns : List Turn) (dropped unsent made : ℕ) : Type 0 where
   pub unsent_is : unsent ≡ sum_by losses turns
   pub turns_is : made ≡ length turns
 
--- A run of a loop: there are turns that it made, by which it ended.
+-- A run of a loop: there are turns that it made, and by which it ended.
 pub record Ran (kind : Turn → Bool) (tells : Bool) (bound : ℕ) (k k' : Line) (p q : Own) (end : End) : Type 0 where
   pub turns : List Turn
   pub made : Made kind tells turns k k' p q
   pub counts : Counts turns end.dropped end.unsent end.turns
   pub why : Ends bound turns end.why
 
--- A loop that no thread could be had for: it was told to stop before it began, and its end says that memory was
--- refused.
+-- A loop that no thread could be started for: it ran as a loop does, but its end says that memory was refused.
 pub record HadNoThread
     (kind : Turn → Bool) (tells : Bool) (bound : ℕ) (k k' : Line) (p q : Own) (end : End) : Type 0 where
   pub was : Why

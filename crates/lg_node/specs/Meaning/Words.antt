@@ -8,7 +8,7 @@ use Rattle.rand_pcg.specs.Pcg.{pcg32, pcg32_of_seed}
 abbrev pub seeded : ℕ → Lcg
 seeded dice = pcg32_of_seed (pcg32_seed 16 dice)
 
--- these words are the generator's next, in order, and then it is the other
+-- these words are the generator's next ones, in order, and then it is in the other state
 abbrev pub Draws : Lcg → List ℕ → Lcg → Type 0
 Draws g [] h = h ≡ g
 Draws g (word ∷ words) h = (word ≡ (pcg32 g).0) × Draws (pcg32 g).1 words h

@@ -1,11 +1,11 @@
--- What one turn of a loop does, as the code tells it.
+-- What one turn of a loop does, as the code reports it.
 use Rattle.std.specs.Prelude.{◌≡◌, ◌+◌, ◌≤◌, Bool, true, ◌++◌}
 use Rattle.lg_agent.specs.Meaning.Ledger.{Own}
 use Rattle.lg_node.specs.declared.turned.Turned.{Turned}
 use Rattle.lg_node.specs.Meaning.Turns.{Turn, Line, IsTurn, deeds, drops, losses, breaks, stops}
 
--- There is a turn of a kind which led a pass and a link from one state to another. It ends the loop as is told, and
--- what is counted of it is told too.
+-- There is a turn of this kind that led a pass and a link from one state to another. Whether it ends the loop, and
+-- what is counted of it, is as reported.
 pub record Took (kind : Turn → Bool) (tells : Bool) (k k' : Line) (p q : Own) (told_of : Turned) : Type 0 where
   pub turn : Turn
   pub kind_is : kind turn ≡ true

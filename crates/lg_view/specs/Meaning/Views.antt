@@ -1,4 +1,4 @@
--- What contracts see of a writer, and when a list of events has its opening.
+-- What contracts see of a writer, and whether a list of events begins with its opening.
 use Rattle.std.specs.Prelude.{List}
 use Rattle.lg_detector.specs.declared.event.Event.{Event}
 -- the first event is an opening

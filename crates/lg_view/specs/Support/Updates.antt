@@ -12,7 +12,7 @@ abbrev pub waiting_of : Option Addition → List Event
 waiting_of None = []
 waiting_of (Some a) = a.event ∷ []
 
--- the list after an update, which counts where it goes on by one event
+-- the list after an update, which counts only if it goes on by one event
 abbrev pub taken : List Event → Option Addition → List Event
 taken f None = f
 taken f (Some a) = if length f + 1 == length a.events then a.events else f

@@ -1,5 +1,8 @@
 //! What a reader takes out of the published value while it reads it: an answer, and the front that the answer is of.
-//! Each of these enters, takes both, and leaves. Where the value isn't handed out, there is neither.
+//! Each of these functions enters, takes both, and leaves. If the value isn't handed out, there is neither.
+//!
+//! Defined in: `lg_detector/specs/Meaning/Step.antt`.
+//! Tested in: `lg_agent_tests/src/view/looks.rt`.
 ghost use Rattle.std.specs.Prelude.{◌≡◌, ◌≤◌, [], IfSome};
 ghost use Rattle.std.specs.Vec.{vec_capacity};
 ghost use Rattle.lg_rules.specs.Meaning.Claim.{name_of};
@@ -46,7 +49,7 @@ pub(super) fn read_status<P: PairName>(
     }
 }
 
-/// The least deadline, where 0 stands for none.
+/// The least deadline, or 0 if there is none.
 pub(super) fn read_deadline<P: PairName>(
     reader: LookReader<P>,
     _nothing: (),
@@ -63,7 +66,7 @@ pub(super) fn read_deadline<P: PairName>(
     }
 }
 
-/// The records of all members, in a list that has room for them.
+/// The records of all members, in a list with enough capacity for them.
 pub(super) fn read_members<P: PairName>(
     reader: LookReader<P>,
     mut records: Vec<Record>,
@@ -81,7 +84,7 @@ pub(super) fn read_members<P: PairName>(
     }
 }
 
-/// Writes the records of all members into an empty list that has room for them.
+/// Writes the records of all members into an empty list with enough capacity for them.
 fn put_records<P: PairName>(published: &Published<P>, records: &mut Vec<Record>)
     requires { (records.old.items ≡ []) × (256 ≤ vec_capacity records.old) }
     ensures { records.new.items ≡ view_after published.now }
