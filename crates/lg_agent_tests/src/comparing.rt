@@ -1,4 +1,4 @@
-//! Events and replies, compared.
+//! Compares events and replies.
 use lg_detector::{Event, Outgoing, Reply};
 use lg_packet::Packet;
 use lg_timing::Config;
@@ -18,7 +18,7 @@ fn is_same_config(one: &Config, other: &Config) -> bool {
         && one.addr == other.addr
 }
 
-/// Whether two events are one.
+/// Whether two events are equal.
 pub fn is_same_event(one: &Event, other: &Event) -> bool {
     match (one, other) {
         (
@@ -70,7 +70,7 @@ fn is_same_outgoing(one: &Outgoing, other: &Outgoing) -> bool {
     one.to == other.to && is_same_packet(&one.packet, &other.packet)
 }
 
-/// Whether two replies are one.
+/// Whether two replies are equal.
 pub fn is_same_reply(one: &Reply, other: &Reply) -> bool {
     one.fired == other.fired
         && one.sends.len() == other.sends.len()

@@ -1,5 +1,5 @@
-//! Agents of b at 127.0.0.1:7000, which is opened at 0, that are played and closed. A case names what is done between,
-//! and its outcome tells what was seen and how the agent ended.
+//! Agents of b at 127.0.0.1:7000, which is opened at 0. They are played and closed. A case names what is done in
+//! between, and its outcome tells what was seen and how the agent ended.
 ghost use Rattle.std.specs.Prelude.{◌≡◌, ◌<◌, ◌≤◌};
 
 use crate::agent::calls::{Row, Seen, steps};
@@ -27,11 +27,11 @@ pub enum Play<'a> {
     Steps(&'a [Row]),
     /// The last pass runs one loop of a node.
     Loop(Run),
-    /// Two passes run both loops of a node, perhaps with a first receiving that fails.
+    /// Two passes run both loops of a node. The first receiving may fail.
     Both { fails: bool },
     /// Each pass has a task, in a thread of its own.
     Threads(&'a [Task]),
-    /// Calls and looks, of which the passes tell what they leave.
+    /// Calls and looks. Then the passes tell what they leave.
     Leaves(&'a [Row]),
     /// One loop of a node after the other: many datagrams, and then many ticks.
     Stream,
@@ -48,7 +48,7 @@ pub struct Case<'a> {
     pub others: u8,
     /// The port of c. Those of d and e follow.
     pub first_port: u16,
-    /// Whether everything is handed in at the first closing. Else what the first pass left comes with the second.
+    /// Whether everything is handed in at the first closing. If not, what the first pass left comes with the second.
     pub at_once: bool,
     pub play: Play<'a>,
 }
@@ -70,9 +70,9 @@ impl<'a> Case<'a> {
 /// What was seen while an agent was open.
 #[derive(Drop)]
 pub enum Shown {
-    /// The passes weren't had.
+    /// The passes weren't given out.
     Nothing,
-    /// The first step that gave something else than it was to give, and what it gave.
+    /// The first step that gave something else than it should, and what it gave.
     Steps(Option<(usize, Seen)>),
     Loop(LoopSeen),
     Both(BothSeen),
@@ -92,13 +92,13 @@ pub struct Ending {
     pub entries: Option<u64>,
     /// How many of them were cut off.
     pub base: Option<u64>,
-    /// Up to which entry a detector gave the replies of the history too: a fresh one, or the one that the summary of
-    /// the entries cut off resumes.
+    /// Up to which entry a detector gave the same replies as the history. The detector is a fresh one, or one that is
+    /// resumed from the summary of the entries that were cut off.
     pub replayed: Option<u64>,
 }
 
 impl Ending {
-    /// An agent that was closed with so many entries, none of which was cut off, perhaps after a first closing that was
+    /// An agent that was closed with this many entries, none of which was cut off. A first closing may have been
     /// refused.
     pub fn closed(fault: Option<CloseFault>, entries: u64) -> Ending {
         Ending {
@@ -126,13 +126,13 @@ pub struct Left<A: AgentName> {
     pub shown: Shown,
 }
 
-/// The configuration of b with a limit on its history and default numbers, which knows so many of c, d and e, at the
-/// ports from 7003 on.
+/// The configuration of b with this limit on its history and the default numbers. It knows the first of c, d and e,
+/// as many as `others`, at the ports from 7003 on.
 pub fn config(limit: u64, others: u8) -> Config {
     config_from(limit, others, 7003)
 }
 
-/// The same, where c, d and e are at the ports from this one on.
+/// The same, with c, d and e at the ports from this one on.
 fn config_from(limit: u64, others: u8, first_port: u16) -> Config {
     let mut config = Config::new(letter(b'b'), local(7000));
     config.history_limit = limit;
@@ -147,7 +147,7 @@ fn config_from(limit: u64, others: u8, first_port: u16) -> Config {
     config
 }
 
-/// A list with room for what so many passes leave, at the second try where memory was refused at the first.
+/// A list with room for what this many passes leave. If memory is refused, it is asked for once more.
 fn room<A: AgentName>(alloc: Global, places: usize) -> Vec<Spent<A>> {
     match Vec::with_capacity(alloc, places) {
         Ok(list) => list,
@@ -181,7 +181,7 @@ where
     }
 }
 
-/// Plays all passes of an agent, at the second try where memory for them was refused at the first.
+/// Plays all passes of an agent. If memory for them is refused, it is tried once more.
 fn run_at_last<A, R>(
     rt: &R,
     alloc: Global,
@@ -200,7 +200,7 @@ where
     }
 }
 
-/// A detector that is after the entries that were cut off.
+/// A detector after the entries that were cut off.
 fn resumed(alloc: Global, closed: &Closed) -> Option<Detector> {
     match closed.summary() {
         Some(summary) => Detector::resume(alloc, summary).ok(),
@@ -208,7 +208,8 @@ fn resumed(alloc: Global, closed: &Closed) -> Option<Detector> {
     }
 }
 
-/// Up to which entry a detector that is after those that were cut off gives the replies of the history to its events.
+/// Up to which entry a detector gives the replies of the history to its events. The detector begins after the entries
+/// that were cut off.
 fn replayed(alloc: Global, closed: &Closed) -> Option<u64> {
     let mut detector = resumed(alloc, closed)?;
     let mut reply = Reply::default();
@@ -237,7 +238,7 @@ fn told_of(alloc: Global, fault: Option<CloseFault>, closed: &Closed) -> Ending 
     }
 }
 
-/// Closes an agent, a second time with what the first pass left where that was kept back.
+/// Closes an agent. If what the first pass left was kept back, a second closing gets it.
 fn end<A: AgentName, R: Wait>(
     rt: &R,
     alloc: Global,
@@ -332,7 +333,7 @@ where
     play_case::<Brand, R>(rt, alloc, UnnamedBook::new(), places, case)
 }
 
-/// What a case tells, at the second try where the opening was refused memory at the first.
+/// What a case tells. If memory for the opening was refused, it is tried once more.
 pub fn told_at_last<R>(rt: &R, alloc: Global, case: Case<'_>) -> Result<Outcome, Refusal>
 where
     R: Threads + Wait + rt::Clock + Sync,

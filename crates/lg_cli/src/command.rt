@@ -1,4 +1,7 @@
 //! The command line of the program.
+//!
+//! Defined in: `specs/Meaning/Commands.antt`, `lg_commands/specs/Meaning/Timeouts.antt`.
+//! Tested in: `cases/command_line.case`, `cases/timeouts_command.case`, `cases/node_command.case`.
 ghost use Rattle.std.specs.Prelude.{◌≡◌, ◌≤◌, IfOk, map, true, false};
 ghost use Rattle.clap.specs.Kinds.{FailsBy};
 ghost use Rattle.clap.specs.Matches.{found_of};
@@ -27,12 +30,12 @@ pub const MAX_RUN_MS: u64 = 86_400_000;
 /// What a command line asks for.
 #[derive(Clone, Copy, Debug)]
 pub enum Asked<'a> {
-    /// The command `answer`, with the text that is to be the detector's name.
+    /// The command `answer`, with the text that should be the detector's name.
     Answer {
         /// The text, which may be no name.
         name: &'a str,
     },
-    /// The command `order`, with the texts that are to list its names and its words.
+    /// The command `order`, with the texts that should list its names and its words.
     Order {
         /// The text of the names, which may be bad.
         names: &'a str,
@@ -127,7 +130,7 @@ fn sim_command<'a>(alloc: Global) -> Command<'a>
     )
 }
 
-/// The option `--ID N`, a number between two others, which count, with its help.
+/// The option `--ID N`, a number that is at least `least` and at most `most`, with its help.
 fn number_option<'a>(alloc: Global, id: &'a str, least: u64, most: u64, help: &'a str) -> Arg<'a>
     ensures rule { rule_of result ≡ number_rule id.entry.now least most }
     ensures local { result.global ≡ false }
@@ -150,7 +153,7 @@ fn timeouts_command<'a>(alloc: Global) -> Result<Command<'a>, AllocError>
     let alpha = "The factor of the least timeout";
     let beta = "The greatest timeout over the least";
     let interval = "The protocol period, in milliseconds";
-    // Each option is made where it is added, so that none is to be dropped where adding another fails.
+    // Each option is made where it is added, so that none has to be dropped if adding another one fails.
     Command::new(alloc, "timeouts")
         .about("Writes the timeouts of a suspicion, in milliseconds")
         .arg(number_option(alloc, "members", 1, MAX_MEMBERS as u64, members).required(true))?
@@ -195,7 +198,7 @@ fn lg_command<'a>(alloc: Global) -> Result<Command<'a>, AllocError>
         .about("A SWIM failure detector with Lifeguard's extensions")
         .subcommand_required(true)
         .subcommand(answer)?;
-    // Each command is made where it is added, so that few are to be dropped where memory is refused.
+    // Each command is made where it is added, so that few have to be dropped if memory is refused.
     let order = order_command(alloc)?;
     let with_order = with_answer.subcommand(order)?;
     let timeouts = timeouts_command(alloc)?;
@@ -207,11 +210,10 @@ fn lg_command<'a>(alloc: Global) -> Result<Command<'a>, AllocError>
     Ok(lg)
 }
 
-/// What the words of a command line ask for, of which the first is the program's name.
+/// What the words of a command line ask for. The first word is the program's name.
 ///
-/// The numbers of `timeouts` are good, and a node runs for 1 to [`MAX_RUN_MS`] milliseconds. The
-/// error is clap's: memory was refused, or the words ask for help or aren't a command of the
-/// program; its text is for the user.
+/// The numbers of `timeouts` are good, and a node runs for 1 to [`MAX_RUN_MS`] milliseconds. The error is clap's:
+/// memory was refused, or the words ask for help, or they aren't a command of the program. Its text is for the user.
 pub fn read_words<'a, S: AsStr>(alloc: Global, words: &'a [S]) -> Result<Asked<'a>, Error>
     ensures asked { IfOk result (λ found. request_of found ≡ asked (map S.text words.entry.now)) }
     ensures good { IfOk result (λ found. IfTimeouts (request_of found) (λ numbers. are_good numbers ≡ true)) }
@@ -226,10 +228,10 @@ pub fn read_words<'a, S: AsStr>(alloc: Global, words: &'a [S]) -> Result<Asked<'
     }
 }
 
-/// What a command line asks for, where its numbers are good.
+/// What a command line asks for, if its numbers are good.
 ///
-/// The options take no number out of its range, so that none comes this far: this is the proof's
-/// hold on them.
+/// The options take no number out of its range, so a bad number should never come this far. The check is here for the
+/// proof.
 fn checked<'a>(asked: Asked<'a>, lg: &mut Command) -> Result<Asked<'a>, Error>
     ensures same { IfOk result (λ found. request_of found ≡ request_of asked.entry) }
     ensures good { IfOk result (λ found. has_good_numbers (request_of found) ≡ true) }
@@ -278,14 +280,14 @@ fn numbers_in(found: &ArgMatches) -> Numbers
     }
 }
 
-/// The number of an option, or 0 where it has none.
+/// The number of an option, or 0 if it has none.
 fn number_in(found: &ArgMatches, id: &str) -> u64
     ensures { result ≡ number_in (rows_of (found_of found.now)) id.now }
 {
     found.get_one(id).unwrap_or(0)
 }
 
-/// The text of an option, or an empty one where it has none.
+/// The text of an option, or an empty text if it has none.
 fn text_in<'a>(found: &ArgMatches<'a>, id: &str) -> &'a str
     ensures { result.now ≡ text_in (rows_of (found_of found.now)) id.now }
 {

@@ -1,4 +1,7 @@
-//! The program with a machine beside its streams, which the command `node` wants.
+//! The program with its streams, and with the machine that the command `node` needs.
+//!
+//! Defined in: `specs/Meaning/Running.antt`, `specs/Meaning/Commands.antt`, `lg_launch/specs/Meaning/Running.antt`.
+//! Tested in: `cases/node.case`, `cases/node_command.case`.
 ghost use Rattle.std.specs.Prelude.{◌≡◌, ◌≤◌, ◌⊎◌, [], map};
 ghost use Rattle.lg_cli.specs.Meaning.Commands.{asked, line_faults, IfNode};
 ghost use Rattle.lg_commands.specs.Meaning.Running.{FailsBy};
@@ -19,8 +22,8 @@ use std::rt::Files;
 use std::sync::Wait;
 use std::thread::Threads;
 
-/// Runs the program as [`run_words`](crate::program::run_words) does, and `node` as well: that one reads its file, takes
-/// sockets, a clock and threads of the machine `rt`, writes its members, and tells its end, as
+/// Runs the program as [`run_words`](crate::program::run_words) does, and `node` as well. `node` reads its file,
+/// takes sockets, a clock and threads of the machine `rt`, writes its members, and tells its end, as
 /// [`run_file`](lg_launch::run_file) says.
 pub fn run_words_with<M, S, R, W, F>(
     rt: &M,
@@ -36,7 +39,7 @@ where
     R: Read,
     W: Write,
     F: Write,
-    // A command line that is taken runs its command, any other is refused or asks for help.
+    // A command line that is taken runs its command. Any other is refused or asks for help.
     ensures runs { RunsLine
         (streams reader.old (R.remaining reader.old) writer.old (W.contents writer.old) (F.contents faults.old))
         (streams reader.new (R.remaining reader.new) writer.new (W.contents writer.new) (F.contents faults.new))
@@ -55,7 +58,7 @@ where
     }
 }
 
-/// Runs `node` for so many milliseconds.
+/// Runs `node` for `for_ms` milliseconds.
 fn launch<M, W, F>(
     rt: &M,
     alloc: Global,

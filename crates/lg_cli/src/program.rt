@@ -1,4 +1,7 @@
 //! The program over any reader and writers: its commands, its statuses, and what it says of faults.
+//!
+//! Defined in: `specs/Meaning/Running.antt`, `specs/Meaning/Commands.antt`, `specs/Meaning/Faults.antt`.
+//! Tested in: `cases/command_line.case`.
 ghost use Rattle.std.specs.Prelude.{◌≡◌, ◌≢◌, ◌⊎◌, [], map, true};
 ghost use Rattle.std.specs.IoError.{error_kind};
 ghost use Rattle.clap.specs.Values.{kind_of};
@@ -21,20 +24,22 @@ use std::convert::AsStr;
 use std::io;
 use std::io::{ErrorKind as IoErrorKind, Read, Write};
 
-/// Runs the program on the words of a command line, of which the first is the program's name, and
-/// gives its exit status. It runs all commands but `node`.
+/// Runs the program on the words of a command line, and gives its exit status. The first word is the program's name.
+/// All commands but `node` are run.
 ///
-/// `reader`, `writer` and `faults` stand for the standard input, output and error. The statuses
-/// are 0 where all was done, also where help was asked for, which is written; 1 where memory, a
-/// read or a write failed, reported as `lg: memory`, `lg: read` or `lg: write`; 2 where the command
-/// line is refused, reported by a text of the command line's own, or asks for `node`, reported by a
-/// line, with nothing read or written; 3 for bad input: `lg: bad names` where the text of `--name`
-/// is no name, and nothing is then read, or where that of `--names` is no list of 1 to 255 different
-/// names, `lg: bad words` where that of `--words` is no list of words, or a faulty line of the input
-/// of `answer` or `sim`, of which nothing is reported. `order` and `timeouts` read nothing. A line
-/// that `faults` doesn't take is dropped.
+/// `reader`, `writer` and `faults` stand for standard input, output and error. `order` and `timeouts` read nothing. A
+/// line that `faults` doesn't take is dropped. The statuses are:
 ///
-/// What the texts of help and of a refusal are, no clause says: they are the parser's.
+/// - 0 if all was done. This includes help, if it was asked for and written.
+/// - 1 if memory, a read or a write failed. That is reported as `lg: memory`, `lg: read` or `lg: write`.
+/// - 2 if the command line is refused, which is reported by a text of the parser, or if it asks for `node`, which is
+///   reported by a line. Nothing is read or written then.
+/// - 3 for bad input. If the text of `--name` is no name, `lg: bad names` is reported and nothing is read. If the
+///   text of `--names` is no list of 1 to 255 different names, `lg: bad names` is reported. If the text of `--words`
+///   is no list of words, `lg: bad words` is reported. If a line of the input of `answer` or `sim` is faulty, nothing
+///   is reported.
+///
+/// No contract says what the texts of help and of a refusal are: they are the parser's.
 pub fn run_words<S: AsStr, R: Read, W: Write, F: Write>(
     alloc: Global,
     words: &[S],
@@ -42,7 +47,7 @@ pub fn run_words<S: AsStr, R: Read, W: Write, F: Write>(
     writer: &mut W,
     faults: &mut F,
 ) -> u8
-    // A command line that is taken runs its command, any other is refused or asks for help.
+    // A command line that is taken runs its command. Any other is refused or asks for help.
     ensures runs { RunsLine
         (streams reader.old (R.remaining reader.old) writer.old (W.contents writer.old) (F.contents faults.old))
         (streams reader.new (R.remaining reader.new) writer.new (W.contents writer.new) (F.contents faults.new))
@@ -52,8 +57,8 @@ pub fn run_words<S: AsStr, R: Read, W: Write, F: Write>(
         → IfNode (asked line) (λ _ _. LeavesNode (F.contents faults.old) (F.contents faults.new) result) }
     ensures left_unread { IfNode (asked (map S.text words.now)) (λ _ _. reader.new ≡ reader.old) }
 
-    // At any command line nothing is written for a refusal, and a run that fails reports why, and writes
-    // nothing but where it is the writing that fails.
+    // With any command line, a refusal writes nothing. A run that fails reports why, and writes nothing unless it is
+    // the writing that fails.
     ensures unwritten { result ≡ USAGE → writer.new ≡ writer.old }
     ensures failed { result ≡ FAILED
         → FailsBy (F.contents faults.old) (F.contents faults.new) writer.old writer.new }
@@ -64,7 +69,7 @@ pub fn run_words<S: AsStr, R: Read, W: Write, F: Write>(
     }
 }
 
-/// Runs what was asked for, but `node`, as [`run_words`] does.
+/// Runs what was asked for, except `node`, as [`run_words`] does.
 pub(crate) fn run_asked<R: Read, W: Write, F: Write>(
     alloc: Global,
     request: Asked,
@@ -103,8 +108,8 @@ fn leave_node<F: Write>(faults: &mut F) -> u8
 
 /// Reports why a command line isn't run, or writes the help that it asks for, and gives the status.
 ///
-/// The texts of a refusal and of help are the parser's, whose contracts don't say them: no clause says what is reported
-/// with [`USAGE`], or written with 0. `cases/command_line.case` shows that there is something, and where.
+/// The texts of a refusal and of help are the parser's, whose contracts don't say them. So no contract says what is
+/// reported with [`USAGE`], or written with 0. `cases/command_line.case` shows that there is something, and where.
 pub(crate) fn report_refusal<W: Write, F: Write>(
     error: &Error,
     writer: &mut W,
@@ -114,7 +119,7 @@ pub(crate) fn report_refusal<W: Write, F: Write>(
     ensures memory { kind_of error.now ≡ ErrorKind.OutOfMemory → result ≡ FAILED }
     ensures memory_told { kind_of error.now ≡ ErrorKind.OutOfMemory
         → AppendsFront (F.contents faults.old) (F.contents faults.new) (run_fault_text RunFault.Memory) }
-    // Else only help that isn't taken fails.
+    // Otherwise only help fails, if it isn't taken.
     ensures failed { result ≡ FAILED
         → (kind_of error.now ≡ ErrorKind.OutOfMemory) ⊎ (status_of_kind (kind_of error.now) ≡ 0) }
     ensures write_told { result ≡ FAILED → status_of_kind (kind_of error.now) ≡ 0
@@ -141,9 +146,9 @@ pub(crate) fn report_refusal<W: Write, F: Write>(
     0
 }
 
-/// Reports why the words of the command line couldn't be had, and gives the status: memory was
-/// refused, or the words aren't UTF-8, which refuses the command line (this project's choice). A line that `faults`
-/// doesn't take is dropped.
+/// Reports why the words of the command line couldn't be read, and gives the status. Either memory was refused, or
+/// the words aren't UTF-8, which refuses the command line (this project's choice). A line that `faults` doesn't take
+/// is dropped.
 pub fn refuse_words<F: Write>(error: &io::Error, faults: &mut F) -> u8
     ensures memory { error_kind error.now ≡ IoErrorKind.OutOfMemory → result ≡ FAILED }
     ensures memory_told { error_kind error.now ≡ IoErrorKind.OutOfMemory

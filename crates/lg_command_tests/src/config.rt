@@ -1,4 +1,4 @@
-//! What configuration files mean, each value of it. That files are faulty, and how, is in the cases of the program.
+//! What configuration files mean, value by value. The cases of the program show which files are faulty, and how.
 use lg_config::{
     DEFAULT_ADDRESS, DEFAULT_DICE, DEFAULT_PORT, FileFault, MAX_FILE, NodeConfig, ReadFault,
 };
@@ -20,7 +20,7 @@ struct Row {
     seeds: &'static [Known],
 }
 
-/// The numbers of a file that says none.
+/// The numbers of a file that gives none.
 const USUAL: [u64; 10] = [1000, 500, 3, 8, 5, 6, 3, 4, 800, 20_000];
 
 /// A file with all keys.
@@ -42,7 +42,7 @@ history_limit = 7
 seeds = [\"c@127.0.0.1:7002\", \"a@1.2.3.4:5\"]
 ";
 
-/// What is read of some bytes, and once more where memory was refused.
+/// What is read from some bytes. If memory is refused, they are read once more.
 fn read(alloc: Global, bytes: &[u8]) -> Result<NodeConfig, ReadFault> {
     match NodeConfig::read(alloc, bytes) {
         Err(ReadFault::NoMemory) => NodeConfig::read(alloc, bytes),
@@ -74,8 +74,8 @@ fn is_of(node: &NodeConfig, row: &Row) -> bool {
         })
 }
 
-/// Each value of a file with its name alone, of one that writes the defaults, of one with all keys, and of some whose
-/// address or port the program can't have.
+/// Each value of some files: one with only its name, one that writes the defaults, one with all keys, and one whose
+/// address and port the program can't have.
 #[test]
 fn each_value(rt: HostRuntime) {
     let alone = Row {
@@ -119,8 +119,8 @@ fn each_value(rt: HostRuntime) {
     assert!(rt; usual == ("127.0.0.1", 7946, 1, 65_536));
 }
 
-/// What is no text, and what is empty, takes no memory; of another file refused memory is answered and nothing else,
-/// and the next reading goes well.
+/// Bytes that are no text, or that are empty, take no memory. For another file, refused memory is answered and
+/// nothing else, and the next reading goes well.
 #[test]
 fn refused_memory(rt: HostRuntime) {
     let long = [b'\n'; MAX_FILE + 1];

@@ -1,4 +1,4 @@
-//! What is told of a node's end, and runs over writers that fail or whose memory is refused.
+//! What is told of a node's end. Runs over writers that fail, or while memory is refused.
 mod ends;
 mod order;
 mod rooms;

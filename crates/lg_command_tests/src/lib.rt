@@ -1,4 +1,4 @@
-//! Tests of the commands over values and streams in memory: what only such a call can show.
+//! Tests of the commands over values and streams in memory. They show what only such a call can show.
 #![tactic(auto)]
 
 #[cfg(test)]

@@ -3,7 +3,8 @@ use crate::plays::Command;
 use crate::streams::{Interrupts, Streams};
 use std::process::Abort;
 
-/// A command, the most bytes of a read call, which calls are interrupted, and the least calls that are made.
+/// A command, the most bytes of a read call, which calls are interrupted, and the least number of calls that are
+/// made.
 type Row = (Command, usize, Interrupts, usize);
 
 /// Each command gives up after few bytes and calls, and writes nothing.
@@ -40,7 +41,7 @@ fn gives_up_on_endless_readers(rt: HostRuntime) {
     check(&rt, &rows);
 }
 
-/// A reader that is interrupted for ever is given up.
+/// A reader that is always interrupted is given up.
 #[test]
 fn gives_up_on_endless_interruptions(rt: HostRuntime) {
     check(&rt, &[(Command::Answer, 1, Interrupts::Always, 2_097_154)]);

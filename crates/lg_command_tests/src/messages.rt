@@ -208,7 +208,7 @@ const NODES: &[(NodeFault, &str)] = &[
     (NodeFault::Refused(Refusal::NoMemory), "memory was refused"),
 ];
 
-/// The first of these faults whose message is another one.
+/// The place of the first of these faults whose message isn't this one.
 fn first_other<E: Error>(alloc: Global, rows: &[(E, &str)]) -> Option<usize> {
     rows.iter().position(|(fault, want)| {
         let told = format!(in alloc; "{fault}");

@@ -1,4 +1,4 @@
-//! The commands, each with an input and what comes of it where nothing fails.
+//! The commands, each with an input and what comes of it if nothing fails.
 use crate::streams::Streams;
 use lg_commands::{Numbers, answer_named, order_lists, simulate, timeouts_of};
 use lg_text::{RunFault, read_input, report, write_whole};
@@ -7,7 +7,7 @@ use std::alloc::Global;
 /// A command that is run over streams.
 #[derive(Clone, Copy, Debug)]
 pub enum Command {
-    /// An input is read whole, and written.
+    /// Reads an input whole, and writes it.
     Copying,
     /// `sim`.
     Sim,
@@ -32,8 +32,8 @@ pub struct Play {
     pub status: u8,
 }
 
-/// The commands that read: a text with an empty line and a last one without a newline, a script with a faulty line, and
-/// a Ping with its Ack.
+/// The commands that read. Their inputs are a text with an empty line and a last one without a newline, a script with
+/// a faulty line, and a Ping, which has an Ack.
 pub const READING: [Play; 3] = [
     Play {
         command: Command::Copying,
@@ -85,7 +85,7 @@ fn copy(alloc: Global, streams: &mut Streams) -> Result<(), RunFault> {
     write_whole(&mut streams.writer, &input)
 }
 
-/// The status of the copying of an input, which reports its fault as the commands do.
+/// The status of copying an input. A fault is reported as the commands do it.
 fn copying(alloc: Global, streams: &mut Streams) -> u8 {
     match copy(alloc, streams) {
         Ok(()) => 0,
@@ -121,8 +121,8 @@ impl Command {
 }
 
 impl Play {
-    /// Whether a run that ended with a status came out as it does where nothing fails: all was read and written, a byte
-    /// a call, and nothing was reported.
+    /// Whether a run that ended with a status came out as it does if nothing fails: all was read and written, one
+    /// byte a call, and nothing was reported.
     pub fn is_met(&self, status: u8, streams: &Streams) -> bool {
         status == self.status
             && streams.reader.left.is_empty()

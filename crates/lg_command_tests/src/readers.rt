@@ -29,7 +29,7 @@ fn reads_piece_by_piece(rt: HostRuntime) {
     }
 }
 
-/// Where any of the reads fails, the one that finds the end among them, no further one is made, and nothing is written.
+/// If any one read fails, also the one that finds the end, no further read is made, and nothing is written.
 #[test]
 fn fails_where_a_read_fails(rt: HostRuntime) {
     for play in READING {

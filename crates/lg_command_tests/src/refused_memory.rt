@@ -2,8 +2,8 @@
 use crate::plays::{OTHERS, READING};
 use crate::streams::Streams;
 
-/// Each of two runs comes out as it does with memory, or tells that it was refused, with nothing written; at least one
-/// of them comes out well.
+/// Each of two runs comes out as it does with memory, or tells that memory was refused, with nothing written. At
+/// least one of them comes out well.
 #[test]
 fn writes_nothing_where_memory_is_refused(rt: HostRuntime) {
     for play in READING.iter().chain(OTHERS.iter()) {

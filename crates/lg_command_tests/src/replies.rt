@@ -5,7 +5,7 @@ use lg_report::put_reply;
 use lg_rules::{Addr, Claim, MAX_INCARNATION, Name, Status};
 use lg_testing::{ack, at, claim, incarnation, letter, local, name, packet};
 
-/// A reply to a tick, the number of its first packet, and the lines that it is.
+/// A reply to a tick, the number of its first packet, and the lines that it gives.
 #[derive(Debug, Drop)]
 struct Case {
     first: u64,
@@ -33,7 +33,7 @@ fn record(member: u8, port: u16, status: Status, number: u32) -> Claim {
     record
 }
 
-/// A reply that says all that one can, but packets.
+/// A reply that says all that a reply can, except packets.
 fn full() -> Reply {
     let suspect = record(b'b', 7002, Status::Suspect(letter(b'a')), 0);
     let mut reply = changes(TimerId::RoundStart, &[suspect], 600);
@@ -42,7 +42,7 @@ fn full() -> Reply {
     reply
 }
 
-/// A reply with as many packets as one has at most.
+/// A reply with as many packets as it can have.
 fn sending() -> Reply {
     let mut reply = changes(TimerId::RelayEnd(4_294_967_295), &[], 7);
     for number in 0..MAX_SENDS as u32 {
@@ -78,8 +78,8 @@ fn at_the_ends() -> Reply {
     changes(TimerId::Suspicion(letter(b'c')), &records, 9500)
 }
 
-/// Puts a reply behind a text, and gives whether memory was had for it, or nothing where other bytes stand there than
-/// its lines, or any where memory was refused.
+/// Appends a reply to a text. Gives whether memory was allocated for it. Gives None if other bytes than its lines
+/// were appended, or any at all although memory was refused.
 fn is_had(alloc: std::alloc::Global, case: &Case) -> Option<bool> {
     let mut row = ArrayVec::new();
     let mut text = Vec::new(alloc);
@@ -101,7 +101,7 @@ fn is_had(alloc: std::alloc::Global, case: &Case) -> Option<bool> {
     }
 }
 
-/// Each reply is its lines. Memory may be refused once.
+/// Each reply gives its lines. Memory may be refused once.
 #[test]
 fn writes_replies(rt: HostRuntime) {
     let cases = [

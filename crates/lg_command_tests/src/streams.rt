@@ -7,26 +7,26 @@ use std::io::{ErrorKind, Read, Write};
 /// Which calls of a reader are interrupted.
 #[derive(Clone, Copy, Debug)]
 pub enum Interrupts {
-    /// None is.
+    /// No call.
     Never,
-    /// Each second one, from the first on.
+    /// Every second call, from the first on.
     EachSecond,
-    /// Each one is.
+    /// Each call.
     Always,
 }
 
-/// A reader of pieces that counts what is asked of it.
+/// A reader that gives pieces, and counts what is asked of it.
 #[derive(Drop)]
 pub struct Pieces<'a> {
     /// What is left to give.
     pub left: &'a [u8],
-    /// Whether digits `0` follow without an end, in the place of what is left.
+    /// Whether digits `0` follow without an end, in place of what is left.
     pub endless: bool,
     /// The most bytes of one call.
     pub piece: usize,
     /// Which calls are interrupted.
     interrupts: Interrupts,
-    /// The call that fails, counted from 1, or 0 where none does.
+    /// The call that fails, counted from 1, or 0 if none does.
     pub fails_at: usize,
     /// How many calls were made.
     pub calls: usize,
@@ -80,24 +80,24 @@ impl Read for Pieces<'_> {
     }
 }
 
-/// The room of a writer, in bytes, enough for each text of the tests.
+/// The size of a writer in bytes, which is enough for each text of the tests.
 pub const ROOM: usize = 512;
 
-/// A writer that takes a byte a call into room of its own, so that it takes no memory.
+/// A writer that takes one byte a call, into an array of its own, so that it allocates no memory.
 #[derive(Drop)]
 pub struct Room {
-    /// What was written, and zeros behind it.
+    /// What was written, followed by zeros.
     bytes: [u8; ROOM],
     /// How many bytes were written.
     pub len: usize,
-    /// The call that fails, counted from 1, or 0 where none does; a flush is a call too.
+    /// The call that fails, counted from 1, or 0 if none does. A flush is a call too.
     pub fails_at: usize,
     /// How many calls were made.
     pub calls: usize,
 }
 
 impl Room {
-    /// Empty room, of which no call fails.
+    /// An empty writer, whose calls don't fail.
     fn empty() -> Self {
         Room {
             bytes: [0; ROOM],
@@ -139,7 +139,7 @@ impl Write for Room {
     }
 }
 
-/// What stands for the standard input, output and error.
+/// What stands for standard input, output and error.
 #[derive(Drop)]
 pub struct Streams<'a> {
     /// The input.
@@ -151,7 +151,7 @@ pub struct Streams<'a> {
 }
 
 impl<'a> Streams<'a> {
-    /// An input that is given a byte at a time.
+    /// An input that is given one byte at a time.
     pub fn over(input: &'a [u8]) -> Self {
         let reader = Pieces {
             left: input,

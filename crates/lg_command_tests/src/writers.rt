@@ -3,7 +3,7 @@ use crate::plays::{OTHERS, Play, READING};
 use crate::streams::{ROOM, Streams};
 use std::process::Abort;
 
-/// Runs a play with each write call failing in turn, the flush among them.
+/// Runs a play in which each write call fails in turn, and the flush too.
 fn check_failing_writes(rt: &(impl Abort + AllocGlobal), play: &Play) {
     let text = play.text.as_bytes();
     for call in 0..text.len() + 1 {
@@ -18,7 +18,7 @@ fn check_failing_writes(rt: &(impl Abort + AllocGlobal), play: &Play) {
     }
 }
 
-/// A write that fails is told, and none follows.
+/// A write that fails is told, and no other follows.
 #[test]
 fn fails_where_a_write_fails(rt: HostRuntime) {
     for play in READING.iter().chain(OTHERS.iter()) {

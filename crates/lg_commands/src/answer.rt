@@ -1,4 +1,7 @@
 //! The command `answer`: what a detector sends for the packets of an input.
+//!
+//! Defined in: `specs/Meaning/Answering.antt`, `specs/Meaning/Spelled.antt`.
+//! Tested in: `cases/answer.case`.
 ghost use Rattle.std.specs.Prelude.{◌≡◌, ◌+◌, ◌*◌, ◌≤◌, List, []};
 ghost use Rattle.std.specs.Prelude.{◌∷◌, ◌++◌, IfOk, OnOk, length, vec_len};
 ghost use Rattle.std.specs.List.{flat_map};
@@ -19,7 +22,7 @@ use lg_text::{End, MAX_INPUT, cut_line, put_hex};
 use lg_timing::{Config, Moment};
 use std::alloc::Global;
 
-/// Room for the bytes of a packet that is written.
+/// A buffer for the bytes of a packet that is written.
 type Row = ArrayVec<u8, MAX_PACKET>;
 
 /// The address of the machine itself.
@@ -34,8 +37,7 @@ pub struct Answered {
     pub end: End,
 }
 
-/// The opening of a detector of this name with the default configuration, at moment 0 at
-/// 127.0.0.1:7000.
+/// The event that opens a detector of this name with the default configuration, at moment 0 at 127.0.0.1:7000.
 fn open_event(name: &Name) -> Event
     ensures { result ≡ opening name.now }
 {
@@ -45,7 +47,7 @@ fn open_event(name: &Name) -> Event
     }
 }
 
-/// Puts a packet behind a text as a line of lower-case hex.
+/// Appends a packet to a text as a line of lower-case hex.
 fn put_packet(packet: &Packet, row: &mut Row, text: &mut Vec<u8>) -> Result<(), NoMemory>
     ensures { OnOk result (text.new.items ≡ text.old.items ++ sent_text packet.now) }
 {
@@ -54,7 +56,7 @@ fn put_packet(packet: &Packet, row: &mut Row, text: &mut Vec<u8>) -> Result<(), 
     Ok(())
 }
 
-/// Puts packets behind a text, a line each.
+/// Appends packets to a text, a line each.
 fn put_sends(sends: &[Outgoing], row: &mut Row, text: &mut Vec<u8>) -> Result<(), NoMemory>
     ensures { OnOk result (text.new.items ≡ text.old.items ++ flat_map sent_line sends.now) }
 {
@@ -64,7 +66,7 @@ fn put_sends(sends: &[Outgoing], row: &mut Row, text: &mut Vec<u8>) -> Result<()
     Ok(())
 }
 
-/// Puts a fault behind a text, as a line.
+/// Appends a fault to a text, as a line.
 fn put_fault(fault: LineFault, text: &mut Vec<u8>) -> Result<(), NoMemory>
     ensures { OnOk result (text.new.items ≡ text.old.items ++ (fault_text fault ++ newline)) }
 {
@@ -73,10 +75,10 @@ fn put_fault(fault: LineFault, text: &mut Vec<u8>) -> Result<(), NoMemory>
     Ok(())
 }
 
-/// Puts behind a text what a line gives, leads the detector on by the packet that it spells, and
-/// says whether it spells one.
+/// Appends to a text what a line gives. Hands the detector the packet that the line spells, and says whether it
+/// spells one.
 ///
-/// `bytes`, `reply` and `row` are room alone: what they hold is of no use before or after.
+/// `bytes`, `reply` and `row` are scratch buffers; what they hold before or after doesn't matter.
 fn answer_line(
     line: &[u8],
     bytes: &mut [u8],
@@ -100,7 +102,7 @@ fn answer_line(
     }
     match lg_packet::decode(bytes) {
         Ok(packet) => {
-            // A packet is large, so the event is made here, where it needn't be handed on.
+            // A packet is large, so the event is made here, where it needn't be passed on.
             let event = Event::Heard {
                 now: Moment::default(),
                 source: Addr::new(LOCALHOST, 1),
@@ -117,8 +119,7 @@ fn answer_line(
     }
 }
 
-/// A detector of a name that was opened with the default configuration, at moment 0 at
-/// 127.0.0.1:7000.
+/// A detector of this name, which was opened with the default configuration, at moment 0 at 127.0.0.1:7000.
 fn opened(alloc: Global, name: &Name, reply: &mut Reply) -> Result<Detector, NoMemory>
     ensures { IfOk result (λ detector. detector ≡ state_after (opening name.now ∷ [])) }
 {
@@ -127,8 +128,8 @@ fn opened(alloc: Global, name: &Name, reply: &mut Reply) -> Result<Detector, NoM
     Ok(detector)
 }
 
-/// What a run over an input writes: for each line what the detector sends for the packet that the
-/// line spells, or its fault.
+/// What a run over an input writes: for each line, what the detector sends for the packet that the line spells, or
+/// the fault of the line.
 ///
 /// Time and memory are in proportion to the input. The only error is that memory was refused.
 pub fn answer(alloc: Global, name: &Name, input: &[u8]) -> Result<Answered, NoMemory>

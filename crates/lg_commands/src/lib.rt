@@ -1,4 +1,4 @@
-//! The commands of the program but `node`, over any reader and writers: what they write, and their statuses.
+//! The commands of the program except `node`, over any reader and writers: what they write, and their statuses.
 //!
 //! Where to read on:
 //! - what `answer`, `order` and `timeouts` write: `specs/Meaning/Answering.antt`, `Choosing.antt` and `Timeouts.antt`;

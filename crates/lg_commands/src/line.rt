@@ -1,4 +1,7 @@
 //! What is wrong with a line of input.
+//!
+//! Defined in: `specs/Meaning/Spelled.antt`.
+//! Tested in: `cases/answer.case`.
 ghost use Rattle.std.specs.Prelude.{◌≡◌};
 ghost use Rattle.lg_commands.specs.Meaning.Spelled.{fault_text};
 

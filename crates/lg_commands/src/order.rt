@@ -1,4 +1,7 @@
-//! The command `order`: whom words choose one after another of some names.
+//! The command `order`: whom words choose one after another from some names.
+//!
+//! Defined in: `specs/Meaning/Choosing.antt`, `specs/Meaning/Running.antt`, `specs/Meaning/Faults.antt`.
+//! Tested in: `cases/order.case`.
 ghost use Rattle.std.specs.Prelude.{◌≡◌, ◌≢◌, Ok, Err, IfErr, IfOk};
 ghost use Rattle.std.specs.Option.{option_map};
 ghost use Rattle.lg_rules.specs.Meaning.Rows.{name_cmp, is_among};
@@ -17,17 +20,16 @@ use thiserror::Error;
 /// Which list of `order` is bad. The names are judged first.
 #[derive(Clone, Copy, Debug, PartialEq, Eq, Error)]
 pub enum BadList {
-    /// Some part is no name, a name stands twice, or there are more than 255.
+    /// A part is no name, a name stands twice, or there are more than 255 names.
     #[error("the names have to be 1 to {most} different ones between commas", most = MAX_OTHERS)]
     Names,
-    /// The names are good, and some part of the words is no number of 1 to 16 digits up to
-    /// 4,294,967,295.
+    /// The names are good, but a part of the words is no number of 1 to 16 digits up to 4,294,967,295.
     #[error("the words have to be numbers from 0 to {most} between commas", most = u32::MAX)]
     Words,
 }
 
 impl BadList {
-    /// The line of the list, with its newline.
+    /// The line that reports the list, with its newline.
     pub fn text(self) -> &'static str
         ensures { result.now ≡ bad_list_text self }
     {
@@ -44,7 +46,7 @@ pub enum OrderFault {
     /// A list is bad; nothing was written.
     #[error(transparent)]
     Bad(BadList),
-    /// The run failed, by memory or by writing.
+    /// The run failed, because of memory or because of writing.
     #[error(transparent)]
     Run(RunFault),
 }
@@ -100,8 +102,7 @@ fn are_different(names: &[Name]) -> bool
     }
 }
 
-/// The names between the commas of a text, where each part is a name, all are different, and there
-/// are at most 255.
+/// The names between the commas of a text, if each part is a name, all are different, and there are at most 255.
 fn names_in(text: &str) -> Option<ArrayVec<Name, MAX_OTHERS>>
     ensures { option_map (λ names. names.items) result ≡ names_in text.now }
 {
@@ -113,7 +114,7 @@ fn names_in(text: &str) -> Option<ArrayVec<Name, MAX_OTHERS>>
     are_different(names.as_slice()).then_some(names)
 }
 
-/// The word that a text is: 1 to 16 decimal digits, a number of at most 4,294,967,295.
+/// The word that a text spells: 1 to 16 decimal digits, a number of at most 4,294,967,295.
 fn word_of(text: &str) -> Option<u32>
     ensures { result ≡ word_of text.now }
 {
@@ -121,7 +122,7 @@ fn word_of(text: &str) -> Option<u32>
     u32::try_from(number).ok()
 }
 
-/// The words between the commas of a text, where each part is a word; an empty text has none.
+/// The words between the commas of a text, if each part is a word. An empty text has none.
 fn words_in(alloc: Global, text: &str) -> Result<Option<Vec<u32>>, AllocError>
     ensures { IfOk result (λ words. option_map (λ v. v.items) words ≡ words_in text.now) }
 {
@@ -150,18 +151,17 @@ fn name_lines(alloc: Global, names: &[Name]) -> Result<Vec<u8>, AllocError>
     Ok(text)
 }
 
-/// What the command `order` writes for a text of names and a text of words: whom the words choose
-/// one after another of the names (SWIM, section 4.3), a line each.
+/// What the command `order` writes for a text of names and a text of words: whom the words choose one after another
+/// from the names (SWIM, section 4.3), a line each.
 ///
-/// The names stand between commas, 1 to 255 different ones in any order, and so do the words, of 1
-/// to 16 decimal digits each, 0 to 4,294,967,295; an empty text has no words (this project's
-/// choice). Else the fault is [`OrderFault::Bad`]: the names are judged first, and that takes no
-/// memory. The only other fault is that memory was refused. For each number of names time and
-/// memory are in proportion to the words.
+/// The names stand between commas: 1 to 255 different ones, in any order. So do the words, of 1 to 16 decimal digits
+/// each, 0 to 4,294,967,295. An empty text has no words (this project's choice). For any other texts the fault is
+/// [`OrderFault::Bad`]. The names are judged first, and judging them allocates no memory. The only other fault is
+/// that memory was refused. For each number of names, time and memory are in proportion to the words.
 pub fn order(alloc: Global, names: &str, words: &str) -> Result<Vec<u8>, OrderFault>
     ensures text { IfOk result (λ text. order_text names.now words.now ≡ Ok text.items) }
     ensures refused { IfErr result (IsFaultOf (order_text names.now words.now)) }
-    // Bad names are told also where memory is refused.
+    // Bad names are told even if memory is refused.
     ensures names { order_text names.now words.now ≡ Err BadList.Names
         → result ≡ Err (OrderFault.Bad BadList.Names) }
     ensures unwritten { IfErr result (λ fault. fault ≢ OrderFault.Run RunFault.Write) }

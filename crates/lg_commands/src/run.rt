@@ -1,4 +1,7 @@
 //! Runs the commands over a reader and a writer.
+//!
+//! Defined in: `specs/Meaning/Running.antt`, `specs/Meaning/Answering.antt`, `specs/Meaning/Choosing.antt`.
+//! Tested in: `cases/limits.case`, `lg_command_tests/src/readers.rt`, `lg_command_tests/src/writers.rt`.
 ghost use Rattle.std.specs.Prelude.{◌≡◌, ◌≢◌, ◌⊎◌, ◌+◌, ◌≤◌};
 ghost use Rattle.std.specs.Prelude.{◌<◌, true, Err, IfErr, IfOk, IfSome, IsOkAnd, OnOk};
 ghost use Rattle.std.specs.Prelude.{length};
@@ -17,46 +20,44 @@ use lg_text::{End, MAX_INPUT, RunFault, read_input, write_whole};
 use std::alloc::Global;
 use std::io::{Read, Write};
 
-/// Runs the command `answer`: reads all that a reader has left, and writes what a detector of
-/// this name sends for it, and nothing else.
+/// Runs the command `answer`: reads all that a reader has left, and writes what a detector of this name sends for it,
+/// and nothing else.
 ///
-/// The detector is opened with the default configuration, at moment 0 at 127.0.0.1:7000. Each line
-/// of the input is a packet in hex of either case, heard at moment 0 from 127.0.0.1:1; each packet
-/// sent is written as a line of lower-case hex. A packet that is refused gives `fault NUMBER NAME`,
-/// and a line that isn't hex `bad hex`; both go on, and the end is then [`End::Faulty`]. An empty
-/// line is a packet of no bytes (this project's choice).
+/// The detector is opened with the default configuration, at moment 0 at 127.0.0.1:7000. Each line of the input is a
+/// packet in hex of either case, heard at moment 0 from 127.0.0.1:1. Each packet that is sent is written as a line of
+/// lower-case hex. A packet that is refused gives `fault NUMBER NAME`, and a line that isn't hex gives `bad hex`.
+/// After such a line the run goes on, and its end is then [`End::Faulty`]. An empty line is a packet of no bytes
+/// (this project's choice).
 ///
-/// The input has at most 1,048,576 bytes; a longer or endless one is [`RunFault::Read`], as is any
-/// error of the reader but an interruption; [`RunFault::Memory`] comes before that where memory is
-/// refused for what was read so far. The whole text is made before its first byte is written: with
-/// [`RunFault::Read`] or [`RunFault::Memory`] nothing is. [`RunFault::Write`] comes only once the
-/// whole input was read, and doesn't say how much stands written. Time and memory are in proportion
-/// to the input.
+/// The input has at most 1,048,576 bytes. A longer or endless one is [`RunFault::Read`], and so is any error of the
+/// reader but an interruption. If memory is refused for what was read so far, [`RunFault::Memory`] comes first. The
+/// whole text is made before its first byte is written, so with [`RunFault::Read`] or [`RunFault::Memory`] nothing is
+/// written. [`RunFault::Write`] comes only once the whole input was read, and doesn't say how much was written. Time
+/// and memory are in proportion to the input.
 ///
-/// What is said of bytes holds for a reader and a writer that tell their bytes, as those over
-/// memory do.
+/// What is said of bytes holds for a reader and a writer that tell their bytes, as those over memory do.
 pub fn answer_run<R: Read, W: Write>(
     alloc: Global,
     reader: &mut R,
     writer: &mut W,
     name: &Name,
 ) -> Result<End, RunFault>
-    // Where the reader tells its bytes, the answer to them is written, and the end is theirs.
+    // If the reader tells its bytes, the answer to them is written, and the end is that of these bytes.
     ensures text { OnOk result (IfSome (R.remaining reader.old) (λ input.
         Appends (W.contents writer.old) (W.contents writer.new) (answer_text name.now input))) }
     ensures end { IfOk result (λ end. IfSome (R.remaining reader.old) (λ input. end ≡ answer_end input)) }
     ensures few { OnOk result (IfSome (R.remaining reader.old) (λ input. length input ≤ MAX_INPUT)) }
 
-    // At any reader what is written answers what was read, and it was read to its end.
+    // With any reader, what is written answers what was read, and the input was read to its end.
     ensures answers { IfOk result (λ end. AnswersInput (R.remaining reader.old) (R.remaining reader.new)
         (W.contents writer.old) (W.contents writer.new) name.now end) }
     ensures taken { TakesAtMost (MAX_INPUT + 1) (R.remaining reader.old) (R.remaining reader.new) }
 
-    // Nothing is written but where it is the writing that fails, and then the whole input was read.
+    // On an error nothing is written, unless it was the writing that failed; then the whole input was read.
     ensures unwritten { IfErr result (λ fault. fault ≢ RunFault.Write → writer.new ≡ writer.old) }
     ensures whole { IfErr result (λ fault. fault ≡ RunFault.Write
         → ReadsWhole (R.remaining reader.old) (R.remaining reader.new)) }
-    // A byte past the longest input is taken only where the fault is one of reading.
+    // A byte past the longest input is taken only if the fault is one of reading.
     ensures within { IfErr result (λ fault. fault ≢ RunFault.Read
         → TakesAtMost MAX_INPUT (R.remaining reader.old) (R.remaining reader.new)) }
     // So nothing is written for an input that is too long.
@@ -69,12 +70,11 @@ pub fn answer_run<R: Read, W: Write>(
     Ok(answered.end)
 }
 
-/// Runs the command `timeouts`: writes the timeouts of a suspicion for some numbers, and nothing
-/// else.
+/// Runs the command `timeouts`: writes the timeouts of a suspicion for some numbers, and nothing else.
 ///
-/// The lines are `min MS`, `max MS`, and `C MS` for each number C of confirmations from 0 to all that
-/// count, in milliseconds. The whole text is made before its first byte is written: with
-/// [`RunFault::Memory`] nothing is. Time and memory are bounded: the text has at most 8 lines.
+/// The lines are `min MS`, `max MS`, and `C MS` for each number C of confirmations from 0 to as many as count, in
+/// milliseconds. The whole text is made before its first byte is written, so with [`RunFault::Memory`] nothing is
+/// written. Time and memory are bounded: the text has at most 8 lines.
 pub fn timeouts_run<W: Write>(
     alloc: Global,
     writer: &mut W,
@@ -89,16 +89,16 @@ pub fn timeouts_run<W: Write>(
     write_whole(writer, text.as_bytes())
 }
 
-/// Runs the command `order`: writes whom words choose one after another of some names, a line each,
-/// and nothing else.
+/// Runs the command `order`: writes whom words choose one after another from some names, a line each, and nothing
+/// else.
 ///
-/// The names stand between commas, 1 to 255 different ones in any order, and so do the words, of 1
-/// to 16 decimal digits each, 0 to 4,294,967,295; an empty text has no words (this project's
-/// choice). Else the fault is [`OrderFault::Bad`]: the names are judged first, and that takes no
-/// memory. The whole text is made before its first byte is written: nothing is written where a list
-/// is bad or with [`RunFault::Memory`], and [`RunFault::Write`], which comes only where both lists
-/// are good, doesn't say how much stands written. For each number of names time and memory are in
-/// proportion to the words.
+/// The names stand between commas: 1 to 255 different ones, in any order. So do the words, of 1 to 16 decimal digits
+/// each, 0 to 4,294,967,295. An empty text has no words (this project's choice). For any other texts the fault is
+/// [`OrderFault::Bad`]. The names are judged first, and judging them allocates no memory.
+///
+/// The whole text is made before its first byte is written. If a list is bad, or with [`RunFault::Memory`], nothing
+/// is written. [`RunFault::Write`] comes only if both lists are good, and doesn't say how much was written. For each
+/// number of names, time and memory are in proportion to the words.
 pub fn order_run<W: Write>(
     alloc: Global,
     writer: &mut W,

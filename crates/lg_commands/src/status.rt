@@ -1,4 +1,7 @@
 //! Runs a command, reports why it failed, and gives the exit status.
+//!
+//! Defined in: `specs/Meaning/Running.antt`, `specs/Meaning/Choosing.antt`, `lg_rules/specs/Meaning/Name.antt`.
+//! Tested in: `cases/command_line.case`, `cases/order.case`, `cases/timeouts_command.case`.
 ghost use Rattle.std.specs.Prelude.{◌≡◌, ◌≢◌, ◌⊎◌, Err, IfOk, true};
 ghost use Rattle.std.specs.Result.{is_err};
 ghost use Rattle.lg_rules.specs.Meaning.Name.{name_of_text};
@@ -15,7 +18,7 @@ use lg_text::report;
 use std::alloc::Global;
 use std::io::{Read, Write};
 
-/// The status of a run that memory, a read or a write failed.
+/// The status of a run that failed because of memory, a read or a write.
 pub const FAILED: u8 = 1;
 
 /// The status of a command line that is refused.
@@ -24,12 +27,11 @@ pub const USAGE: u8 = 2;
 /// The status of bad input.
 pub const BAD_INPUT: u8 = 3;
 
-/// Runs `answer` for a text that should be a name, as [`answer_run`] does, and gives the status: 0, or
-/// [`BAD_INPUT`] where some line is faulty.
+/// Runs `answer` for a text that should be a name, as [`answer_run`] does. Gives the status: 0, or [`BAD_INPUT`] if
+/// some line is faulty.
 ///
-/// Where the text is no name, `lg: bad names` is reported, nothing is read or written, and the status
-/// is [`BAD_INPUT`]. A run that fails is reported, and its status is [`FAILED`]. A line that `faults`
-/// doesn't take is dropped.
+/// If the text is no name, `lg: bad names` is reported, nothing is read or written, and the status is [`BAD_INPUT`].
+/// A run that fails is reported, and its status is [`FAILED`]. A line that `faults` doesn't take is dropped.
 pub fn answer_named<R: Read, W: Write, F: Write>(
     alloc: Global,
     name: &str,
@@ -65,11 +67,9 @@ pub fn answer_named<R: Read, W: Write, F: Write>(
     }
 }
 
-/// Runs `sim`, as [`lg_sim::run`] does, and gives the status: 0, or [`BAD_INPUT`] where some line is
-/// faulty.
+/// Runs `sim`, as [`lg_sim::run`] does. Gives the status: 0, or [`BAD_INPUT`] if some line is faulty.
 ///
-/// A run that fails is reported, and its status is [`FAILED`]. A line that `faults` doesn't take is
-/// dropped.
+/// A run that fails is reported, and its status is [`FAILED`]. A line that `faults` doesn't take is dropped.
 pub fn simulate<R: Read, W: Write, F: Write>(
     alloc: Global,
     reader: &mut R,
@@ -93,12 +93,12 @@ pub fn simulate<R: Read, W: Write, F: Write>(
     }
 }
 
-/// Runs `order` for texts that should list names and words, as [`order_run`] does, and gives the
-/// status, which is 0 where all was written.
+/// Runs `order` for texts that should list names and words, as [`order_run`] does. Gives the status, which is 0 if
+/// all was written.
 ///
-/// Where a list is bad, `lg: bad names` or `lg: bad words` is reported, nothing is written, and the
-/// status is [`BAD_INPUT`]. A run that fails is reported, and its status is [`FAILED`]. A line that
-/// `faults` doesn't take is dropped.
+/// If a list is bad, `lg: bad names` or `lg: bad words` is reported, nothing is written, and the status is
+/// [`BAD_INPUT`]. A run that fails is reported, and its status is [`FAILED`]. A line that `faults` doesn't take is
+/// dropped.
 pub fn order_lists<W: Write, F: Write>(
     alloc: Global,
     names: &str,
@@ -127,11 +127,9 @@ pub fn order_lists<W: Write, F: Write>(
     }
 }
 
-/// Runs `timeouts` for good numbers, as [`timeouts_run`] does, and gives the status, which is 0 where
-/// all was written.
+/// Runs `timeouts` for good numbers, as [`timeouts_run`] does. Gives the status, which is 0 if all was written.
 ///
-/// A run that fails is reported, and its status is [`FAILED`]. A line that `faults` doesn't take is
-/// dropped.
+/// A run that fails is reported, and its status is [`FAILED`]. A line that `faults` doesn't take is dropped.
 pub fn timeouts_of<W: Write, F: Write>(
     alloc: Global,
     numbers: &Numbers,

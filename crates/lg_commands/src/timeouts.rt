@@ -1,4 +1,7 @@
 //! The command `timeouts`: how long a suspicion lasts among some members.
+//!
+//! Defined in: `specs/Meaning/Timeouts.antt`.
+//! Tested in: `cases/timeouts.case`, `cases/timeouts_command.case`.
 ghost use Rattle.std.specs.Prelude.{◌≡◌, ◌++◌, true, IfOk, OnOk, string_bytes};
 ghost use Rattle.lg_commands.specs.Meaning.Timeouts.{after_lines, are_good, config_of, timeouts_text};
 
@@ -8,19 +11,19 @@ use lg_timing::{
 };
 use std::alloc::{AllocError, Global};
 
-/// The numbers that the timeouts of a suspicion follow from (Lifeguard, arXiv 1707.00788, local
-/// health aware suspicion). The ranges are this project's choice.
+/// The numbers that determine the timeouts of a suspicion (Lifeguard, arXiv 1707.00788, local health aware
+/// suspicion). The ranges are this project's choice.
 #[derive(Clone, Copy, Debug, PartialEq, Eq)]
 pub struct Numbers {
-    /// The members when the suspicion is raised, oneself among them: 1 to [`MAX_MEMBERS`].
+    /// How many members there are when the suspicion is raised, this member among them: 1 to [`MAX_MEMBERS`].
     pub members: u64,
     /// After how many confirmations a suspicion has its least timeout: 0 to [`MAX_CONFIRMATIONS`].
     pub confirmations: u64,
     /// The factor of the least timeout: 1 to [`MAX_FACTOR`].
     pub alpha: u64,
-    /// The greatest timeout over the least: 1 to [`MAX_FACTOR`].
+    /// The greatest timeout divided by the least: 1 to [`MAX_FACTOR`].
     pub beta: u64,
-    /// The interval of a round, in milliseconds: [`MIN_INTERVAL_MS`] to [`MAX_INTERVAL_MS`].
+    /// The interval of a round (SWIM's protocol period), in milliseconds: [`MIN_INTERVAL_MS`] to [`MAX_INTERVAL_MS`].
     pub interval_ms: u64,
 }
 
@@ -50,8 +53,7 @@ fn config_of(numbers: &Numbers) -> Config
     config
 }
 
-/// Puts the timeout after each number of confirmations, from none to all that count, behind a text,
-/// a line each.
+/// Appends to a text the timeout after each number of confirmations, from none to as many as count, a line each.
 fn put_after(timeout: &SuspicionTimeout, text: &mut String) -> Result<(), AllocError>
     ensures { OnOk result (string_bytes text.new ≡ string_bytes text.old ++ after_lines timeout.now) }
 {
@@ -61,12 +63,11 @@ fn put_after(timeout: &SuspicionTimeout, text: &mut String) -> Result<(), AllocE
     Ok(())
 }
 
-/// What the command `timeouts` writes for some numbers: the least and the greatest timeout, then the
-/// timeout after each number of confirmations, from none to all that count, in milliseconds, a line
-/// each.
+/// What the command `timeouts` writes for some numbers: the least and the greatest timeout, then the timeout after
+/// each number of confirmations, from none to as many as count. Each is a line, in milliseconds.
 ///
-/// Among fewer members than two more than the confirmations none counts. The only error is that
-/// memory was refused; the text has at most 8 lines.
+/// If there are fewer members than two more than the confirmations, none counts. The only error is that memory was
+/// refused. The text has at most 8 lines.
 pub fn timeouts(alloc: Global, numbers: &Numbers) -> Result<String, AllocError>
     requires { are_good numbers.now ≡ true }
     ensures { IfOk result (λ text. string_bytes text ≡ timeouts_text numbers.now) }

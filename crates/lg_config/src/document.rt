@@ -1,4 +1,7 @@
 //! Reads the bytes of a file as TOML.
+//!
+//! Defined in: `specs/Meaning/Answer.antt`.
+//! Tested in: `cases/config.case`.
 ghost use Rattle.std.specs.Prelude.{◌≡◌};
 ghost use Rattle.std.specs.Option.{option_map};
 ghost use Rattle.lg_config.specs.Support.Reading.{IsParsed, text_of};
@@ -11,7 +14,7 @@ use toml::Table;
 /// The most bytes of a configuration file: 65,536 (this project's choice).
 pub const MAX_FILE: usize = 65_536;
 
-/// The text that the bytes of a file are, where they are UTF-8 and not too many.
+/// The text that the bytes of a file spell, if they are UTF-8 and not too many.
 fn text_in(bytes: &[u8]) -> Option<&str>
     ensures { option_map (λ text. text.now) result ≡ text_of bytes.now }
 {
@@ -21,10 +24,10 @@ fn text_in(bytes: &[u8]) -> Option<&str>
     str::from_utf8(bytes).ok()
 }
 
-/// The table that the bytes of a file are.
+/// The table that the bytes of a file spell.
 ///
-/// The error is [`FileFault::Syntax`] where they are none, or that memory was refused. The memory taken is that of the
-/// table.
+/// The error is [`FileFault::Syntax`] if they spell none, or that memory was refused. The memory that is allocated is
+/// that of the table.
 pub(crate) fn table_in(alloc: Global, bytes: &[u8]) -> Result<Table, ReadFault>
     ensures { IsParsed bytes.now result }
 {

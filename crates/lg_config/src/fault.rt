@@ -1,4 +1,7 @@
 //! Why a file means no configuration.
+//!
+//! Defined in: `specs/Meaning/Faults.antt`.
+//! Tested in: `lg_command_tests/src/launch/told.rt`, `cases/config.case`.
 ghost use Rattle.std.specs.Prelude.{◌≡◌};
 ghost use Rattle.lg_config.specs.Meaning.Faults.{fault_number};
 ghost use Rattle.lg_config.specs.declared.fault.ReadFault.TheVariants.{File};
@@ -10,8 +13,8 @@ use thiserror::Error;
 /// Why a file means no configuration (this project's choice).
 #[derive(Clone, Copy, Debug, PartialEq, Eq, Error)]
 pub enum FileFault {
-    /// A number is out of its range, or the seeds are too many, share a name or have the own one. Of several such
-    /// faults it is the first in the order of [`ConfigFault`].
+    /// A number is out of its range, or the seeds are too many, share a name or have this member's name. If there are
+    /// several such faults, it is the first in the order of [`ConfigFault`].
     #[error(transparent)]
     Config(ConfigFault),
     /// The file has more than 65,536 bytes, isn't UTF-8 or isn't TOML.

@@ -1,4 +1,7 @@
-//! The keys of a file, and the TOML type of the value of each.
+//! The keys of a file, and the TOML type of each key's value.
+//!
+//! Defined in: `specs/Meaning/Keys.antt`.
+//! Tested in: `cases/config.case`, `cases/config_types.case`.
 ghost use Rattle.std.specs.Prelude.{◌≡◌};
 ghost use Rattle.std.specs.List.{list_all};
 ghost use Rattle.toml.specs.View.{view, items_view, table_view};
@@ -6,7 +9,7 @@ ghost use Rattle.lg_config.specs.Meaning.Keys.{are_right_keys, are_texts, is_of_
 
 use toml::{Table, Value};
 
-/// Of which kind the value of a key is.
+/// The kind of a key's value.
 #[derive(Clone, Copy, Debug, PartialEq, Eq)]
 pub(crate) enum Kind {
     /// A text.
@@ -17,13 +20,13 @@ pub(crate) enum Kind {
     Texts,
 }
 
-/// The key of the member's own name.
+/// The key of this member's name.
 pub(crate) const NAME: &str = "name";
 
-/// The key of whom it knows from the start.
+/// The key of the members that it knows from the start.
 pub(crate) const SEEDS: &str = "seeds";
 
-/// Of which kind the value of a key is; none where the key is unknown.
+/// The kind of a key's value. None if the key is unknown.
 #[tactic(auto, unfolding(crate::specs::Meaning::Keys::kind_of))]
 fn kind_of(key: &str) -> Option<Kind>
     ensures { result ≡ kind_of key.now }
@@ -69,7 +72,7 @@ fn is_of_kind(kind: Option<Kind>, value: &Value) -> bool
     }
 }
 
-/// Whether each key is known and its value of its kind, and the name isn't missing.
+/// Whether each key is known and has a value of its kind, and the name isn't missing.
 pub(crate) fn are_right_keys(table: &Table) -> bool
     ensures { result ≡ are_right_keys (table_view table.now) }
 {

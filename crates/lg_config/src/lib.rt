@@ -1,6 +1,6 @@
 //! The configuration file of a node: the configuration that its bytes mean, or why they mean none.
 //!
-//! [`NodeConfig::read`] reads the bytes of a file, which are TOML. Clauses of other crates cite `IsAnswer` and
+//! [`NodeConfig::read`] reads the bytes of a file, which are TOML. Contracts of other crates cite `IsAnswer` and
 //! `answer_of` (`specs/Meaning/Answer.antt`) and `fault_number` (`Faults.antt`).
 #![tactic(auto)]
 

@@ -1,4 +1,7 @@
-//! Looks values up in the table of a file, whose keys are right.
+//! Looks up values in the table of a file. The table's keys are right.
+//!
+//! Defined in: `specs/Meaning/Settings.antt`.
+//! Tested in: `lg_command_tests/src/config.rt`, `cases/config_probes.case`.
 ghost use Rattle.std.specs.Prelude.{◌≡◌};
 ghost use Rattle.std.specs.Option.{option_map};
 ghost use Rattle.toml.specs.View.{items_view, table_view};
@@ -27,14 +30,14 @@ pub(crate) fn integer_at(table: &Table, key: &str) -> Option<i64>
     }
 }
 
-/// A whole number as a number that isn't negative; for a negative one the greatest, which is out of each range.
+/// Turns an i64 into a u64. A negative number becomes u64::MAX, which no key accepts.
 fn natural(number: i64) -> u64
     ensures { result ≡ natural number }
 {
     u64::try_from(number).unwrap_or(u64::MAX)
 }
 
-/// The number at a key, or what it is by default.
+/// The number at a key, or its default.
 pub(crate) fn number_at(table: &Table, key: &str, default: u64) -> u64
     ensures { result ≡ number_at key.now default (table_view table.now) }
 {
@@ -44,7 +47,7 @@ pub(crate) fn number_at(table: &Table, key: &str, default: u64) -> u64
     }
 }
 
-/// The elements at the key of the seeds; none where it is missing.
+/// The elements of the array at the key of the seeds. There are none if the key is missing.
 pub(crate) fn seeds_at(table: &Table) -> &[Value]
     ensures { items_view result.now ≡ seeds_at (table_view table.now) }
 {

@@ -1,4 +1,7 @@
 //! The configuration of a node.
+//!
+//! Defined in: `specs/Meaning/Answer.antt`, `lg_timing/specs/Meaning/Config.antt`.
+//! Tested in: `cases/config.case`, `lg_command_tests/src/config.rt`.
 ghost use Rattle.std.specs.Prelude.{◌≡◌, IfOk};
 ghost use Rattle.toml.specs.View.{table_view};
 ghost use Rattle.lg_timing.specs.Meaning.Config.{IsChecked};
@@ -18,7 +21,7 @@ use toml::Table;
 pub struct NodeConfig {
     /// The configuration of its member. It passes its check.
     pub config: Config,
-    /// Where the dice start that choose members: 0 to 9,223,372,036,854,775,807.
+    /// The number that the dice start from, 0 to 9,223,372,036,854,775,807. The dice choose members.
     pub dice: u64,
 }
 
@@ -44,11 +47,11 @@ impl NodeConfig {
     ///
     /// The file is TOML. Its keys are `name`, which it must have, `address`, `port`, `dice`, `seeds` and the ten
     /// numbers of [`Config`], by the names of their fields. The error is [`ReadFault::File`] with the first of these:
-    /// [`FileFault::Syntax`], [`FileFault::Key`], [`FileFault::Value`] and [`FileFault::Config`]; or it is
+    /// [`FileFault::Syntax`], [`FileFault::Key`], [`FileFault::Value`] and [`FileFault::Config`]. Or it is
     /// [`ReadFault::NoMemory`], and then nothing is known of the file.
     ///
-    /// The memory taken is that of the table which the file is, and is given back. A file of more than
-    /// [`MAX_FILE`](crate::MAX_FILE) bytes takes none.
+    /// Memory is allocated for the table that the file spells, and is freed again. For a file of more than
+    /// [`MAX_FILE`](crate::MAX_FILE) bytes none is allocated.
     pub fn read(alloc: Global, bytes: &[u8]) -> Result<NodeConfig, ReadFault>
         ensures answer { IsAnswer bytes.now result }
         ensures checked { IfOk result (λ node. IsChecked node.config) }

@@ -1,4 +1,7 @@
 //! Reads the seeds of a file.
+//!
+//! Defined in: `specs/Meaning/Settings.antt`.
+//! Tested in: `cases/config_seeds.case`.
 ghost use Rattle.std.specs.Prelude.{◌≡◌};
 ghost use Rattle.std.specs.Option.{option_map};
 ghost use Rattle.toml.specs.View.{items_view, view};
@@ -10,14 +13,14 @@ use arrayvec::ArrayVec;
 use lg_timing::{MAX_SEEDS, Seed};
 use toml::Value;
 
-/// The seed that a value is.
+/// The seed that a value spells, if it is a text.
 fn seed_of_value(value: &Value) -> Option<Seed>
     ensures { result ≡ seed_of_value (view value.now) }
 {
     seed_in(value.as_str()?.as_bytes())
 }
 
-/// The first 16 of the seeds that some values are; none where one of them, also a later one, isn't of its form.
+/// The first 16 of the seeds that some values spell. None if one of the values, even a later one, is out of its form.
 pub(crate) fn first_seeds(values: &[Value]) -> Option<ArrayVec<Seed, MAX_SEEDS>>
     ensures { option_map (λ seeds. seeds.items) result ≡ first_seeds (items_view values.now) }
 {

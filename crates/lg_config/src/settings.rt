@@ -1,4 +1,7 @@
-//! What the table of a file says, whose keys are right.
+//! What the table of a file says. The table's keys are right.
+//!
+//! Defined in: `specs/Meaning/Settings.antt`.
+//! Tested in: `lg_command_tests/src/config.rt`, `cases/config_forms.case`.
 ghost use Rattle.std.specs.Prelude.{◌≡◌};
 ghost use Rattle.std.specs.Option.{option_map};
 ghost use Rattle.toml.specs.View.{table_view};
@@ -14,16 +17,16 @@ use lg_rules::{Addr, Name};
 use lg_timing::Config;
 use toml::Table;
 
-/// Where a member is reached, if its file doesn't say it (this project's choice).
+/// The address of a member, if its file doesn't give one (this project's choice).
 pub const DEFAULT_ADDRESS: &str = "127.0.0.1";
 
-/// The port at which a member is reached, if its file doesn't say it (this project's choice).
+/// The port of a member, if its file doesn't give one (this project's choice).
 pub const DEFAULT_PORT: u16 = 7946;
 
-/// Where the dice start, if the file doesn't say it (this project's choice).
+/// The number that the dice start from, if the file doesn't give one (this project's choice).
 pub const DEFAULT_DICE: u64 = 1;
 
-/// The member's own name, where it is one.
+/// The member's name. None if the text is no name.
 #[tactic(auto, unfolding(crate::specs::Meaning::Settings::name_in))]
 fn name_at(table: &Table) -> Option<Name>
     ensures { result ≡ name_in (table_view table.now) }
@@ -31,7 +34,7 @@ fn name_at(table: &Table) -> Option<Name>
     name_in(text_at(table, NAME).unwrap_or("").as_bytes())
 }
 
-/// Where the member is reached, where its address and its port are of their form.
+/// The member's address. None if the address or the port of the table is out of its form.
 #[tactic(auto, unfolding(crate::specs::Meaning::Settings::addr_in))]
 fn addr_at(table: &Table) -> Option<Addr>
     ensures { result ≡ addr_in (table_view table.now) }
@@ -42,7 +45,7 @@ fn addr_at(table: &Table) -> Option<Addr>
     Some(Addr { octets, port })
 }
 
-/// Where the dice start, which aren't negative.
+/// The number that the dice start from. None if it is negative.
 #[tactic(auto, unfolding(crate::specs::Meaning::Settings::dice_in))]
 fn dice_at(table: &Table) -> Option<u64>
     ensures { result ≡ dice_in (table_view table.now) }
@@ -53,7 +56,7 @@ fn dice_at(table: &Table) -> Option<u64>
     }
 }
 
-/// A configuration with the numbers of a table, and its own where the table gives none.
+/// A configuration with the numbers that a table gives, and with its own numbers for the keys that the table lacks.
 #[tactic(auto, unfolding(crate::specs::Meaning::Settings::with_numbers))]
 fn with_numbers(table: &Table, usual: Config) -> Config
     ensures { result ≡ with_numbers (table_view table.now) usual }
@@ -73,7 +76,7 @@ fn with_numbers(table: &Table, usual: Config) -> Config
     }
 }
 
-/// All that a table says, with the first 16 seeds alone; none where a value is out of its form.
+/// All that a table says, but only the first 16 seeds. None if a value is out of its form.
 #[tactic(auto, unfolding(crate::specs::Meaning::Settings::settings_of))]
 pub(crate) fn settings_in(table: &Table) -> Option<NodeConfig>
     ensures { result ≡ option_map with_first_seeds (settings_of (table_view table.now)) }

@@ -1,4 +1,7 @@
 //! Reads the texts of a file: names, addresses, ports and seeds.
+//!
+//! Defined in: `specs/Meaning/Texts.antt`.
+//! Tested in: `cases/config_forms.case`, `cases/config_seeds.case`.
 ghost use Rattle.std.specs.Prelude.{◌≡◌, ◌==◌, position};
 ghost use Rattle.lg_config.specs.Meaning.Texts.{address_of, before, behind, member_name_of, octet_of, octets_of};
 ghost use Rattle.lg_config.specs.Meaning.Texts.{port_among, port_of, seed_of};
@@ -7,14 +10,14 @@ use lg_rules::{Addr, Name};
 use lg_text::number_in;
 use lg_timing::{Seed, is_within};
 
-/// The place of the first of these bytes in a text.
+/// The place of the first such byte in a text.
 fn place_of(text: &[u8], byte: u8) -> Option<usize>
     ensures { result ≡ position (λ b. b == byte) text.now }
 {
     text.iter().position(|b| *b == byte)
 }
 
-/// What stands before the first of these bytes, and what stands behind it: nothing where there is none.
+/// What stands before the first such byte, and what stands after it: nothing if there is none.
 #[tactic(auto, unfolding(crate::specs::Meaning::Texts::before, crate::specs::Meaning::Texts::behind))]
 fn cut_at(text: &[u8], byte: u8) -> (&[u8], &[u8])
     ensures first { result.0.now ≡ before byte text.now }
@@ -26,7 +29,7 @@ fn cut_at(text: &[u8], byte: u8) -> (&[u8], &[u8])
     }
 }
 
-/// A number, where it is that of a port, 1 to 65535.
+/// A number, if it is that of a port, 1 to 65535.
 pub(crate) fn port_among(number: u64) -> Option<u16>
     ensures { result ≡ port_among number }
 {
@@ -37,21 +40,21 @@ pub(crate) fn port_among(number: u64) -> Option<u16>
     }
 }
 
-/// The port that a text is.
+/// The port that a text spells.
 fn port_in(text: &[u8]) -> Option<u16>
     ensures { result ≡ port_of text.now }
 {
     port_among(number_in(text)?)
 }
 
-/// The number of an address that a text is, 0 to 255.
+/// The number of an address that a text spells, 0 to 255.
 fn octet_in(text: &[u8]) -> Option<u8>
     ensures { result ≡ octet_of text.now }
 {
     u8::try_from(number_in(text)?).ok()
 }
 
-/// The four numbers of the address that a text is: A.B.C.D. An empty part is no number.
+/// The four numbers of the address that a text spells: A.B.C.D. An empty part is no number.
 #[tactic(auto, unfolding(crate::specs::Meaning::Texts::octets_of))]
 pub(crate) fn octets_in(text: &[u8]) -> Option<[u8; 4]>
     ensures { result ≡ octets_of text.now }
@@ -66,7 +69,7 @@ pub(crate) fn octets_in(text: &[u8]) -> Option<[u8; 4]>
     Some([first, second, third, fourth])
 }
 
-/// The address with its port that a text is: A.B.C.D:PORT.
+/// The address with its port that a text spells: A.B.C.D:PORT.
 #[tactic(auto, unfolding(crate::specs::Meaning::Texts::address_of))]
 fn address_in(text: &[u8]) -> Option<Addr>
     ensures { result ≡ address_of text.now }
@@ -77,14 +80,14 @@ fn address_in(text: &[u8]) -> Option<Addr>
     Some(Addr { octets, port })
 }
 
-/// The name that a text is.
+/// The name that a text spells.
 pub(crate) fn name_in(text: &[u8]) -> Option<Name>
     ensures { result ≡ member_name_of text.now }
 {
     Name::new(text).ok()
 }
 
-/// The seed that a text is: NAME@A.B.C.D:PORT.
+/// The seed that a text spells: NAME@A.B.C.D:PORT.
 #[tactic(auto, unfolding(crate::specs::Meaning::Texts::seed_of))]
 pub(crate) fn seed_in(text: &[u8]) -> Option<Seed>
     ensures { result ≡ seed_of text.now }

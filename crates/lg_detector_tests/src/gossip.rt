@@ -4,8 +4,8 @@ use lg_gossip::{MAX_QUEUED, Queue};
 use lg_rules::Claim;
 use lg_testing::{alive, suspect};
 
-/// A claim by a letter: of `c` that `a` suspects it at 2, by `C` that `b` does, and by `0` and `1` that it is alive at
-/// that number; of others that they are alive at 0.
+/// The claim of a letter. `c` is that `a` suspects `c` at 2, and `C` is that `b` does. `0` and `1` are that `c` is
+/// alive at that number. Any other letter is that its member is alive at 0.
 fn claim_of(byte: u8) -> Claim {
     match byte {
         b'c' => suspect(b'c', 2, b'a'),
@@ -41,22 +41,22 @@ fn has_queued(queue: &Queue, letters: &[u8], sends: &[u32]) -> bool {
     [queue.queued().len(); 2] == [letters.len(), sends.len()]
 }
 
-/// Puts a claim, where there is room.
+/// Puts a claim, if there is room.
 fn put_one(queue: &mut Queue, claim: Claim) {
     if queue.queued().len() < MAX_QUEUED {
         queue.put(claim);
     }
 }
 
-/// Puts claims, where there is room.
+/// Puts claims, if there is room.
 fn put(queue: &mut Queue, letters: &[u8]) {
     for byte in letters {
         put_one(queue, claim_of(*byte));
     }
 }
 
-/// One packet of a play: what is put before it, the record of the member that it goes to, if it goes to one, how many
-/// are live, its claims, and then the queue with the sends.
+/// One packet of a play: what is put before it, the record of the member that it goes to, if there is one, how many
+/// members are live, and its claims. Then the queue with the sends.
 type Turn = (
     &'static [u8],
     Option<u8>,
@@ -66,9 +66,9 @@ type Turn = (
     &'static [u32],
 );
 
-/// The buddy stands first and isn't counted, and the queue's claim about its member is passed over. What is queued
-/// about it may differ from its record, and a record that isn't Suspect is no buddy. Each is sent at most 4 times for a
-/// digit.
+/// The buddy comes first and isn't counted, and the queue's claim about its member is passed over. What is queued
+/// about that member may differ from its record. A record that isn't Suspect is no buddy. Each claim is sent at most
+/// 4 times for a digit.
 const BUDDY: &[Turn] = &[
     (b"cd", Some(b'c'), 9, b"cd", b"cd", &[0, 1]),
     (b"", None, 9, b"cd", b"cd", &[1, 2]),
@@ -79,7 +79,7 @@ const BUDDY: &[Turn] = &[
     (b"", Some(b'0'), 99, b"cd", b"cd", &[3, 6]),
 ];
 
-/// Six claims, those that were sent fewer times first, then by their names; five beside a buddy.
+/// Six claims: those that were sent fewer times come first, then the names decide. Beside a buddy there are five.
 const SIX_WITH_BUDDY: &[Turn] = &[
     (
         b"jeigdhf",
@@ -104,13 +104,13 @@ const SIX: &[Turn] = &[
     (b"", None, 9, b"jdefgh", b"defghij", &[2, 2, 2, 2, 2, 1, 1]),
 ];
 
-/// A claim is put in the place of an older one about its member, with no sends.
+/// A claim replaces an older one about its member, and has no sends.
 const PUT_AGAIN: &[Turn] = &[
     (b"d0", None, 1, b"0d", b"0d", &[1, 1]),
     (b"1", None, 1, b"1d", b"1d", &[1, 2]),
 ];
 
-/// The claims of the packets of some plays, each of which begins with an empty queue.
+/// The claims of the packets of some plays. Each play begins with an empty queue.
 #[test]
 fn fills_packets(rt: HostRuntime) {
     for turns in [BUDDY, SIX_WITH_BUDDY, SIX, PUT_AGAIN] {
@@ -129,7 +129,7 @@ fn fills_packets(rt: HostRuntime) {
     }
 }
 
-/// A claim that was put has no sends; and of two that were put, the names give the order.
+/// A claim that was put has no sends. Of two that were put, the names give the order.
 #[test]
 fn puts_with_no_sends(rt: HostRuntime) {
     let mut queue = Queue::new(4);
@@ -163,7 +163,7 @@ const LIMITS: &[(bool, usize, u32)] = &[
     (true, usize::MAX, 80),
 ];
 
-/// How often a claim is sent among so many members, in a new queue or after what was sent before.
+/// How often a claim is sent among a number of members, in a new queue or after what was sent before.
 #[test]
 fn sends_up_to_the_limit(rt: HostRuntime) {
     let mut queue = Queue::new(4);

@@ -1,4 +1,4 @@
-//! Packets: worked rows, and every front and every one-byte change of some packets against a slow judge.
+//! Packets: worked rows, and every front and every one-byte change of some packets, checked against a slow judge.
 mod judge;
 
 use crate::detector::{Says, packet_of};
@@ -24,21 +24,21 @@ const PING_REQ: &[u8] = b"SL\x01\x02\x01a\x00\x00\x00\x01\x01c\x7f\x00\x00\x01\x
 /// The helper `b` has no Ack for the probe numbered 1.
 const NACK: &[u8] = b"SL\x01\x04\x01b\x00\x00\x00\x01\x00";
 
-/// `a` asks for the first records, and says that it is there itself.
+/// `a` asks for the first records, and says that `a` itself is alive.
 const PULL: &[u8] = b"SL\x01\x05\x01a\x00\x01\
     \x01\x01a\x7f\x00\x00\x01\x1b\x59\x00\x00\x00\x00";
 
-/// `a` asks for the records behind `f`.
+/// `a` asks for the records after `f`.
 const PULL_AFTER: &[u8] = b"SL\x01\x05\x01a\x01f\x01\
     \x01\x01a\x7f\x00\x00\x01\x1b\x59\x00\x00\x00\x00";
 
-/// `b` answers by the records of `a`, `b` and `c`.
+/// `b` answers with the records of `a`, `b` and `c`.
 const PAGE: &[u8] = b"SL\x01\x06\x01b\x03\
     \x01\x01a\x7f\x00\x00\x01\x1b\x59\x00\x00\x00\x00\
     \x01\x01b\x7f\x00\x00\x01\x1b\x5a\x00\x00\x00\x00\
     \x01\x01c\x7f\x00\x00\x01\x1b\x5b\x00\x00\x00\x00";
 
-/// A Ping from `a` for `c`, that says that `c` is there.
+/// A Ping from `a` for `c` that says that `c` is alive.
 const ALIVE: &[u8] = b"SL\x01\x01\x01a\x00\x00\x00\x07\x01c\x01\
     \x01\x01c\x7f\x00\x00\x01\x1b\x5b\x00\x00\x00\x00";
 
@@ -55,7 +55,7 @@ const SUSPECTS: &[u8] = b"SL\x01\x01\x01a\x00\x00\x00\x09\x01c\x02\
 const GREATEST: &[u8] = b"SL\x01\x01\x01a\x00\x00\x00\x01\x01b\x01\
     \x02\x01b\x7f\x00\x00\x01\x1b\x58\x3b\x9a\xca\x00\x01a";
 
-/// The same with an incarnation above it.
+/// The same, with an incarnation above the greatest.
 const ABOVE: &[u8] = b"SL\x01\x01\x01a\x00\x00\x00\x01\x01b\x01\
     \x02\x01b\x7f\x00\x00\x01\x1b\x58\x3b\x9a\xca\x01\x01a";
 
@@ -77,7 +77,7 @@ fn bytes_of(packet: &Packet) -> ArrayVec<u8, MAX_PACKET> {
     out
 }
 
-/// The fault of bytes that are no packet; else whether what is read of them is written as these bytes.
+/// The fault of bytes that are no packet; otherwise whether what is read from them is written as these bytes.
 fn reading(bytes: &[u8]) -> Result<bool, Fault> {
     match decode(bytes) {
         Ok(packet) => Ok(bytes_of(&packet).as_slice() == bytes),
@@ -93,7 +93,7 @@ fn judged(bytes: &[u8]) -> Result<bool, Fault> {
     }
 }
 
-/// Whether the reading of bytes is this, by the decoder and by the slow judge.
+/// Whether both the decoder and the slow judge read bytes like this.
 fn both_are(bytes: &[u8], want: Result<bool, Fault>) -> bool {
     reading(bytes) == want && judged(bytes) == want
 }
@@ -123,12 +123,12 @@ fn fronts_of_packets(rt: HostRuntime) {
     }
 }
 
-/// The same, and one with too great an incarnation.
+/// The same packets, and one with too great an incarnation.
 const CHANGED: &[&[u8]] = &[
     PING, ACK, PING_REQ, NACK, PULL, PULL_AFTER, PAGE, ALIVE, ACK_ALIVE, SUSPECTS, GREATEST, ABOVE,
 ];
 
-/// The decoder and the slow judge agree on every change of one byte of a packet, and on every byte behind it.
+/// The decoder and the slow judge agree on every change of one byte of a packet, and on every byte after it.
 #[test]
 fn changes_of_packets(rt: HostRuntime) {
     for bytes in CHANGED {
@@ -141,7 +141,8 @@ fn changes_of_packets(rt: HostRuntime) {
     }
 }
 
-/// Kinds that are none, and a byte behind a packet: at their place, or behind the packet where that is beyond it.
+/// Bytes that are no kind, and a byte after a packet. Each is put at its place, or after the packet if its place is
+/// past the end.
 const REFUSED_CHANGES: &[(usize, u8, Fault)] = &[
     (3, 0, Fault::Kind),
     (3, 7, Fault::Kind),
@@ -149,7 +150,7 @@ const REFUSED_CHANGES: &[(usize, u8, Fault)] = &[
     (MAX_PACKET, 0, Fault::Trailing),
 ];
 
-/// Some kinds are none, and no byte follows a packet.
+/// Some bytes are no kind, and no byte follows a packet.
 #[test]
 fn another_kind_and_one_byte_more(rt: HostRuntime) {
     for bytes in PACKETS {
@@ -160,8 +161,8 @@ fn another_kind_and_one_byte_more(rt: HostRuntime) {
     }
 }
 
-/// Bytes that are no packet, with their fault. The last three are fronts of the one with too great an incarnation, and
-/// that one itself.
+/// Bytes that are no packet, with their fault. The last three are fronts of the packet with too great an incarnation,
+/// and that packet itself.
 const REFUSED: &[(&[u8], Fault)] = &[
     (b"", Fault::Short),
     (b"S", Fault::Short),
@@ -225,7 +226,7 @@ fn is_read_as(bytes: &[u8], wanted: &Packet) -> bool {
     }
 }
 
-/// Whether a packet is written as bytes, and these are read as the packet.
+/// Whether a packet is written as these bytes, and they are read as the packet.
 fn is_one(bytes: &[u8], wanted: &Packet) -> bool {
     bytes_of(&wanted.copy()).as_slice() == bytes && is_read_as(bytes, wanted)
 }
@@ -273,7 +274,7 @@ fn writes_and_reads_packets(rt: HostRuntime) {
     assert!(rt; is_one(FIRST_ACK, &Packet::default()));
 }
 
-/// Bytes with one more, for which a packet has no room.
+/// Some bytes and one more, for which a packet has no room.
 fn longer(bytes: &[u8]) -> ArrayVec<u8, 544> {
     let mut longer = ArrayVec::new();
     let _ = longer.try_extend_from_slice(bytes);
@@ -281,7 +282,8 @@ fn longer(bytes: &[u8]) -> ArrayVec<u8, 544> {
     longer
 }
 
-/// The longest packet has as many bytes as there is room for, and is read as it was written; with one more it is none.
+/// The longest packet has as many bytes as there is room for, and is read as it was written. With one more it is no
+/// packet.
 #[test]
 fn the_longest_packet(rt: HostRuntime) {
     let wanted = longest();

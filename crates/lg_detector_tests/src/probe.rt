@@ -11,7 +11,7 @@ fn are_named(names: &[Name], members: &[Member]) -> bool {
     names == names_of(members).as_slice()
 }
 
-/// Who is known, the words, and who is chosen by them.
+/// Who is known, the words, and whom they choose.
 const CHOSEN: &[(&[Member], &[u32], &[Member])] = &[
     (&["a", "b"], &[0, 0, 1, 0], &["a", "b", "b", "a"]),
     (&["b", "c", "d"], &[4, 0, 5], &["c", "b", "d"]),
@@ -46,7 +46,7 @@ enum Step {
     Chose(&'static [Member]),
 }
 
-/// Lets a member join, where there is room for it in any case.
+/// Lets a member join, if the counts leave room for it.
 #[tactic(auto, using(lg_probe::proofs::Joining::room_by_counts))]
 fn join(order: &mut Order, name: &Name) {
     if order.names().len() + order.chosen().len() < MAX_OTHERS {
@@ -54,7 +54,7 @@ fn join(order: &mut Order, name: &Name) {
     }
 }
 
-/// An order that these have joined.
+/// An order that these members have joined.
 fn order_of(members: &[Member]) -> Order {
     let mut order = Order::new();
     for member in members {
@@ -63,7 +63,7 @@ fn order_of(members: &[Member]) -> Order {
     order
 }
 
-/// Plays a step. Returns whether it went as it says.
+/// Plays a step. Returns whether it went as the step says.
 fn plays(step: &Step, order: &mut Order) -> bool {
     match *step {
         Step::Joins(member) => {
@@ -80,7 +80,7 @@ fn plays(step: &Step, order: &mut Order) -> bool {
     }
 }
 
-/// Who joins in a round is a candidate at once. Who comes back stays chosen.
+/// A member that joins in the middle of a round is a candidate at once. One that comes back stays chosen.
 const ORDERS: &[(&str, &[Step])] = &[
     (
         "some join",
@@ -129,7 +129,7 @@ fn chooses_among_those_that_join_and_leave(rt: HostRuntime) {
     }
 }
 
-/// Who is known beside b, which is probed; how many helpers are asked, and which by the words 5, 5, 5 and 0.
+/// Who is known, among them b, which is probed; how many helpers are asked; and whom the words 5, 5, 5 and 0 pick.
 const PICKED: &[(&[Member], usize, &[Member])] = &[
     (&["b", "c", "d", "e", "f"], 3, &["d", "f", "e"]),
     (&["b", "c", "d", "e", "f"], 8, &["d", "f", "e", "c"]),
@@ -152,7 +152,7 @@ fn picks_helpers(rt: HostRuntime) {
     }
 }
 
-/// An Ack or a Nack of a member to a round by its number, and whether it counts.
+/// An Ack or a Nack of a member to a round, by its number, and whether it counts.
 #[derive(Clone, Copy)]
 enum Answer {
     /// An Ack.
@@ -163,7 +163,7 @@ enum Answer {
     Asks,
 }
 
-/// Whether an answer counts as is said.
+/// Whether an answer counts as it says.
 fn answers(answer: &Answer, round: &mut Round, helpers: &Helpers) -> bool {
     match *answer {
         Answer::Ack(number, sender, counts) => round.ack(number, &named(sender)) == counts,
@@ -226,7 +226,7 @@ fn a_round_earns_its_mark(rt: HostRuntime) {
     }
 }
 
-/// Opens a relay for port 7000, where there is room and none of its number is open.
+/// Opens a relay for port 7000, if there is room and no relay with its number is open.
 fn open(relays: &mut Relays, number: u32, target: Member) -> bool {
     let is_free = relays.len() < MAX_RELAYS && relays.get(number).is_none();
     if is_free {
@@ -238,19 +238,19 @@ fn open(relays: &mut Relays, number: u32, target: Member) -> bool {
 /// Something that happens to relays, or that is asked of them.
 #[derive(Clone, Copy)]
 enum Relayed {
-    /// A relay by its number, for a target, finds room or not.
+    /// A relay with a number, for a target, finds room or doesn't.
     Opens(u32, Member, bool),
     /// How many are open.
     Counts(usize),
-    /// Whether one of this number is open.
+    /// Whether a relay with this number is open.
     Has(u32, bool),
-    /// An Ack of a member is passed on or not.
+    /// An Ack of a member is passed on, or isn't.
     Acks(u32, Member, bool),
-    /// One that is open is closed, or none is.
+    /// The relay with a number is closed, or there is none.
     Closes(u32, bool),
 }
 
-/// Plays a step. Returns whether it went as it says.
+/// Plays a step. Returns whether it went as the step says.
 fn relays_as(step: &Relayed, relays: &mut Relays) -> bool {
     match *step {
         Relayed::Opens(number, target, opened) => open(relays, number, target) == opened,
@@ -265,7 +265,7 @@ fn relays_as(step: &Relayed, relays: &mut Relays) -> bool {
     }
 }
 
-/// 64 relays are open, and for the 65th there is no room.
+/// 64 relays are open, and there is no room for a 65th.
 const FULL: &[Relayed] = &[
     Relayed::Counts(64),
     Relayed::Has(65, false),

@@ -18,7 +18,7 @@ const HEARD: &[Step<'static>] = &[
     Events(2),
 ];
 
-/// Asks for the table twice. Returns whether it was had; where it wasn't, nothing has changed.
+/// Asks for the table twice. Returns whether it was given. When it isn't given, nothing has changed.
 fn shows_table(rt: &impl Abort, alloc: Global, detector: &Detector) -> bool {
     let mut shown = false;
     for _ in 0..2 {
@@ -34,7 +34,7 @@ fn shows_table(rt: &impl Abort, alloc: Global, detector: &Detector) -> bool {
     shown
 }
 
-/// Of two detectors and two tables of each, one is had where any one allocation is refused.
+/// Two detectors give two tables each. If any one allocation is refused, at least one table is still given.
 #[test]
 fn goes_on_after_refused_memory(rt: HostRuntime) {
     let mut shown = false;

@@ -1,4 +1,4 @@
-//! Names, claims, which claim overrides which, the table of members, and the own number.
+//! Names, claims, which claim overrides which, the table of members, and a member's own incarnation.
 use crate::says::Said::{self, Alive, Failed, Suspect};
 use crate::says::{claim_of, moved};
 use lg_rules::{
@@ -20,7 +20,7 @@ const TEXTS: &[(&[u8], Result<(), NameFault>)] = &[
     (b"a b!", Err(NameFault::BadByte(b' '))),
 ];
 
-/// Whether a text is judged so, and a name has the bytes that it was made of.
+/// Whether a text is judged like this, and a name has the bytes that it was made from.
 fn is_judged(text: &[u8], want: &Result<(), NameFault>) -> bool {
     match Name::new(text) {
         Ok(name) => want.is_ok() && name.as_bytes() == text,
@@ -36,8 +36,8 @@ fn judges_names(rt: HostRuntime) {
     }
 }
 
-/// A name before those that it begins; names in the order of their bytes; an underscore in a name, and no slash; no
-/// incarnation above the greatest; and the next one.
+/// A name comes before those that it begins. Names are in the order of their bytes. A name may have an underscore,
+/// and no slash. No incarnation is above the greatest. After the incarnation 0 comes 1.
 fn facts_of_names() -> [bool; 6] {
     [
         letter(b'a') < name(b"ab"),
@@ -49,8 +49,8 @@ fn facts_of_names() -> [bool; 6] {
     ]
 }
 
-/// The parts of the claim that `a` suspects `c` at 4: the member, its bytes, its port, its status, its incarnation, its
-/// accuser, and the name of the row.
+/// The parts of the claim that `a` suspects `c` at 4: the member, the bytes of its address, its port, its status, its
+/// incarnation, its accuser, and the key of its row.
 fn facts_of_a_claim() -> [bool; 7] {
     let heard = suspect(b'c', 4, b'a');
     [
@@ -70,7 +70,7 @@ fn reads_names_and_claims(rt: HostRuntime) {
     assert_eq!(rt; facts_of_a_claim(), [true; 7]);
 }
 
-/// Hears a claim about another.
+/// Hears a claim about another member.
 fn hear(members: &mut Members, heard: &Claim) -> Option<Heard> {
     if heard.name == members.own() {
         return None;
@@ -78,8 +78,9 @@ fn hear(members: &mut Members, heard: &Claim) -> Option<Heard> {
     Some(members.hear(heard))
 }
 
-/// Whether a claim about `c`, which `d` accuses at 4, overrides that as it is said; whether hearing it does this, and
-/// the one of the two that is wanted stands then; and whether hearing that one again does nothing.
+/// Hears a claim about `c`, which `d` accuses at 4. Returns whether it overrides that accusation exactly if it
+/// should, hearing it does what it should, and the right one of the two stands then. Hearing that one again has to do
+/// nothing.
 fn is_heard_so(heard: &Claim, overrode: bool, hearing: Heard) -> bool {
     let accused = suspect(b'c', 4, b'd');
     let stands = if overrode { *heard } else { accused };
@@ -97,7 +98,7 @@ fn is_heard_so(heard: &Claim, overrode: bool, hearing: Heard) -> bool {
         && [first, second, third] == [Some(Heard::Overrode), Some(hearing), Some(again)]
 }
 
-/// Claims about `c`, which `d` accuses at 4, whether they override that, and what hearing them does.
+/// Claims about `c`, which `d` accuses at 4, whether they override that accusation, and what hearing them does.
 const CLAIMS: &[(Said, bool, Heard)] = &[
     (Alive("c", 4), false, Heard::Ignored),
     (Suspect("c", 4, "e"), false, Heard::Accused),
@@ -115,7 +116,8 @@ fn overrides(rt: HostRuntime) {
     }
 }
 
-/// Hears a claim: whether that does what is wanted, and this is the only record then, with so many live members.
+/// Hears a claim. Returns whether that does what it should, and this is then the only record, with this many live
+/// members.
 fn leaves(
     members: &mut Members,
     heard: &Claim,
@@ -128,14 +130,14 @@ fn leaves(
     found == Some(hearing) && records == [Some(*stands), None] && members.live() == live
 }
 
-/// Claims about `c` from a port, what hearing them does, and how many haven't failed then.
+/// Claims about `c` at a port, what hearing them does, and how many haven't failed then.
 const ADDRESSES: &[(Said, u16, Heard, usize)] = &[
     (Alive("c", 2), 7000, Heard::Overrode, 2),
     (Alive("c", 2), 7001, Heard::Same, 2),
     (Failed("c", 1), 7000, Heard::Overrode, 1),
 ];
 
-/// The record that is there then says the same at port 7000: the first address stands.
+/// The record then says the same at port 7000: the first address stays.
 #[test]
 fn keeps_the_first_address(rt: HostRuntime) {
     let mut members = Members::new(&letter(b'b'));
@@ -149,7 +151,8 @@ fn keeps_the_first_address(rt: HostRuntime) {
     }
 }
 
-/// Of a full table with the names from 45 to 299: 255 others, 256 live; the first and the last; and there is no 44th.
+/// A full table with the names from 45 to 299. It has 255 others, and 256 members are live. 45 is the first and 299
+/// the last, and there is no 44.
 fn facts_of_a_full_table(members: &Members) -> [bool; 5] {
     [
         members.records().len() == MAX_OTHERS,
@@ -160,8 +163,8 @@ fn facts_of_a_full_table(members: &Members) -> [bool; 5] {
     ]
 }
 
-/// The places of an unknown name and of the second one; no room for the unknown one; and a newer claim about the first
-/// one, and its record.
+/// The places of an unknown name and of the second one. There is no room for the unknown one. A newer claim about the
+/// first one is heard, and is its record then.
 fn facts_of_seats_and_room(members: &mut Members) -> [bool; 5] {
     let unknown = numbered(44);
     let newer = claim(numbered(45), Status::Alive, 3);
@@ -194,7 +197,7 @@ fn knows_256_names(rt: HostRuntime) {
 /// The greatest incarnation.
 const GREATEST: u32 = 1_000_000_000;
 
-/// Hears a claim: whether that does what is wanted, the own number is this then, and the flag is so.
+/// Hears a claim. Returns whether that does what it should, and leaves this incarnation and this flag.
 fn becomes(own: &mut Own, heard: &Claim, hearing: OwnHeard, number: u32, ousted: bool) -> bool {
     let found = own.hear(heard);
     let known = Claim {
@@ -209,7 +212,7 @@ fn becomes(own: &mut Own, heard: &Claim, hearing: OwnHeard, number: u32, ousted:
         && [own.record(), known] == [alive(b'b', number); 2]
 }
 
-/// What `b` hears of itself, what that does, its number then, and whether it is ousted.
+/// What `b` hears of itself, what that does, b's incarnation then, and whether b is ousted.
 const OF_ITSELF: &[(Said, OwnHeard, u32, bool)] = &[
     (Suspect("b", 0, "a"), OwnHeard::Refuted, 1, false),
     (Suspect("b", 0, "c"), OwnHeard::Ignored, 1, false),

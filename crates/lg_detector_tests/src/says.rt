@@ -6,7 +6,7 @@ use lg_testing::{claim, local, name, numbered};
 /// A member, by its name.
 pub(crate) type Member = &'static str;
 
-/// A claim or a record, at port 7000 where none is given.
+/// A claim or a record. It is at port 7000 if no port is given.
 #[derive(Clone, Copy)]
 pub(crate) enum Said {
     /// A member is alive, at an incarnation.
@@ -21,9 +21,9 @@ pub(crate) enum Said {
     SuspectAt(Member, u32, Member, u16),
     /// A member has failed, at an incarnation and a port.
     FailedAt(Member, u32, u16),
-    /// The member `m` with three decimal digits is alive at incarnation 0.
+    /// The member whose name is `m` and three decimal digits is alive at incarnation 0.
     Numbered(u32),
-    /// A member is suspected at incarnation 0 by the member `m` with three decimal digits.
+    /// A member is suspected at incarnation 0, by the member whose name is `m` and three decimal digits.
     Accused(Member, u32),
 }
 
@@ -85,7 +85,7 @@ pub(crate) fn claim_of(said: &Said) -> Claim {
 pub(crate) fn claims_of(said: &[Said]) -> ArrayVec<Claim, MAX_CLAIMS> {
     let mut list = ArrayVec::new();
     for one in said {
-        // Built anew of its parts, since the checker doesn't follow a whole claim into a generic call.
+        // Built anew from its parts, since the checker doesn't follow a whole claim into a generic call.
         let Claim {
             name,
             addr,
@@ -113,7 +113,7 @@ pub(crate) fn are_said(claims: &[Claim], said: &[Said]) -> bool {
             .all(|(claim, one)| *claim == claim_of(one))
 }
 
-/// Whether this is what is said, or nothing is.
+/// Whether a claim is the one that is said, or there is none and none is said.
 pub(crate) fn is_said(claim: Option<Claim>, said: &Option<Said>) -> bool {
     match said {
         Some(one) => claim == Some(claim_of(one)),

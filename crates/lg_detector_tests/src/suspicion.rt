@@ -4,7 +4,7 @@ use lg_suspicion::{Suspicion, deadlines_are_by_the_set};
 use lg_testing::{at, letter, numbered};
 use lg_timing::{Config, MAX_LIVE, is_within};
 
-/// A suspicion that `d` raised at 2000 among some members, by the default numbers.
+/// A suspicion that `d` raised at 2000 among some members, with the default numbers.
 fn raised_by_d(live: u64) -> Suspicion {
     let config = Config::new(letter(b'b'), Addr::default());
     if is_within(1, MAX_LIVE, live) {
@@ -21,7 +21,7 @@ const ACCUSED: &[(u64, u64, &[(u8, bool)], u64)] = &[
     (4, 7000, &[(b'e', false), (b'd', false)], 7000),
 ];
 
-/// Whether accusers count as is said.
+/// Whether accusers count as they should.
 fn count_so(suspicion: &mut Suspicion, accusers: &[(u8, bool)]) -> bool {
     let mut met = true;
     for (accuser, counted) in accusers {
@@ -30,7 +30,7 @@ fn count_so(suspicion: &mut Suspicion, accusers: &[(u8, bool)]) -> bool {
     met
 }
 
-/// Who accuses already doesn't count, and among four members nobody confirms.
+/// A member that accuses already doesn't count again, and among four members nobody confirms.
 #[test]
 fn another_accuser_confirms(rt: HostRuntime) {
     deadlines_are_by_the_set();
@@ -44,7 +44,7 @@ fn another_accuser_confirms(rt: HostRuntime) {
     }
 }
 
-/// Of many accusers four count, the first among them.
+/// Of many accusers only four count, and the first is among them.
 #[test]
 fn a_flood_of_accusers(rt: HostRuntime) {
     let mut suspicion = raised_by_d(5);

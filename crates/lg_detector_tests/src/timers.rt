@@ -8,16 +8,16 @@ use crate::detector::timer_of;
 use lg_testing::at;
 use lg_timers::{MAX_TIMERS, TimerId, Timers};
 
-/// A step of a play, with what is wanted of it.
+/// A step of a play, with what it should give.
 #[derive(Clone, Copy)]
 enum Step {
-    /// The timer of the id of this one is cancelled, if it is set.
+    /// The timer with the id of this one is cancelled, if it is set.
     Cancel(Due, bool),
-    /// The first that is due at this moment is taken.
+    /// The first timer that is due at this moment is taken.
     Take(u64, Due),
     /// The first of all.
     Least(Due),
-    /// The first of all is taken, once all are due.
+    /// The first of all is taken, when all are due.
     Fires(Due),
     /// All are cancelled.
     Clear,
@@ -25,7 +25,7 @@ enum Step {
     SetAlone(Due),
 }
 
-/// These timers, each in the place of an earlier one of its id.
+/// These timers. Each replaces an earlier one with its id.
 #[tactic(auto, using(crate::proofs::TimerCounts::one_more))]
 fn all_set(rows: &[Due]) -> Timers
     requires { length rows.now ≤ MAX_TIMERS }
@@ -39,7 +39,7 @@ fn all_set(rows: &[Due]) -> Timers
     timers
 }
 
-/// Cancels the timer of the id of this one. Returns whether it was set.
+/// Cancels the timer with the id of this one. Returns whether it was set.
 fn cancels(timers: &mut Timers, due: &Due) -> bool {
     match timer_of(due) {
         Some(timer) => timers.cancel(&timer.id),
@@ -47,7 +47,7 @@ fn cancels(timers: &mut Timers, due: &Due) -> bool {
     }
 }
 
-/// Cancels all timers, and then sets this one. Returns whether it is one.
+/// Cancels all timers, and then sets this one. Returns whether it is a timer.
 fn sets_alone(timers: &mut Timers, due: &Due) -> bool {
     timers.clear();
     match timer_of(due) {
@@ -59,7 +59,7 @@ fn sets_alone(timers: &mut Timers, due: &Due) -> bool {
     }
 }
 
-/// Makes a step, and answers whether it gave what is wanted.
+/// Makes a step. Returns whether it gave what it should.
 fn gives_what_is_wanted(timers: &mut Timers, step: &Step) -> bool {
     match step {
         Step::Cancel(due, want) => cancels(timers, due) == *want,
@@ -79,8 +79,8 @@ fn gives_what_is_wanted(timers: &mut Timers, step: &Step) -> bool {
 /// A play: its name, the timers that are set before it, and its steps.
 type Play = (&'static str, &'static [Due], &'static [Step]);
 
-/// Ten timers that were set in another order fire by their deadlines, then by their kinds, then by name or number, and
-/// none before its deadline.
+/// Ten timers, set in another order, fire by their deadlines, then by their kinds, then by name or number. None fires
+/// before its deadline.
 const TEN: Play = (
     "the order in which they fire",
     &[
@@ -111,8 +111,8 @@ const TEN: Play = (
     ],
 );
 
-/// One timer of an id is set at most, and it can be cancelled once. A later deadline takes the place of that of its id.
-/// None is left after all are cancelled, and then one can be set.
+/// At most one timer with an id is set, and it can be cancelled once. A timer with a later deadline replaces the one
+/// with its id. After all are cancelled, none is left, and one can be set again.
 const FEW: &[Play] = &[
     (
         "one of an id",
@@ -193,7 +193,8 @@ fn end_of(number: u32) -> Due {
     RelayEnd(u64::from(number.wrapping_mul(7) % 31), number)
 }
 
-/// Whether of 400 timers those fire next that end at this moment and were not cancelled, in the order of their numbers.
+/// Whether, of 400 timers, those fire next that end at this moment and weren't cancelled, in the order of their
+/// numbers.
 fn fire_next(timers: &mut Timers, deadline: u32) -> bool {
     let mut met = true;
     for number in 0..400u32 {
@@ -204,7 +205,7 @@ fn fire_next(timers: &mut Timers, deadline: u32) -> bool {
     met
 }
 
-/// As many timers as there is room for, of which each third is cancelled; the others fire in turn.
+/// As many timers as there is room for. Each third one is cancelled, and the others fire in turn.
 #[test]
 fn four_hundred_timers(rt: HostRuntime) {
     let mut rows = [Nothing; 400];

@@ -1,5 +1,5 @@
-//! Moments, the configuration, the health score, and each function of the timeouts. The values of the tables and of the
-//! timeouts are shown by what the command `timeouts` writes.
+//! Moments, the configuration, the health score, and each function of the timeouts. What the command `timeouts`
+//! writes shows the values of the tables and of the timeouts.
 use arrayvec::ArrayVec;
 use lg_rules::Addr;
 use lg_testing::{at, letter};
@@ -8,8 +8,8 @@ use lg_timing::{
     tables_are_logarithms,
 };
 
-/// A score of at most 8 after seven marks of 1 and one of 2, and after one more, the interval and the timeout at it,
-/// and a score after one mark below 0 and after two more.
+/// A score of at most 8 after seven marks of 1 and one of 2, the same score after one more mark, and the interval and
+/// the timeout at it. Then a score after one mark below 0, and after two more.
 fn scores() -> [u64; 6] {
     let config = Config::new(letter(b'b'), Addr::default());
     let mut high = Score::new(8);
@@ -34,7 +34,7 @@ fn scores() -> [u64; 6] {
     ]
 }
 
-/// The timeout among four members, the last moment, the later of two, and the number of the last fault.
+/// The timeout among four members, the greatest moment, the later of two moments, and the number of the last fault.
 fn milliseconds() -> [u64; 4] {
     let config = Config::new(letter(b'b'), Addr::default());
     [
@@ -45,8 +45,8 @@ fn milliseconds() -> [u64; 4] {
     ]
 }
 
-/// Which of 1, 2, 5 and 6 lie from 2 to 5, whether there is a moment behind the last, and whether the first is earlier
-/// than another.
+/// Which of 1, 2, 5 and 6 lie from 2 to 5, whether there is a moment after the greatest one, and whether the first
+/// moment is earlier than another.
 fn ranges_and_moments() -> [bool; 6] {
     [
         is_within(2, 5, 1),
@@ -58,8 +58,8 @@ fn ranges_and_moments() -> [bool; 6] {
     ]
 }
 
-/// Scores are held between 0 and 8 at every mark; what each function of the timeouts and moments gives once; and what
-/// lies between two numbers, which count, and which moments are there, the earlier ones first.
+/// Scores are held between 0 and 8 at every mark. Each function of the timeouts and of moments gives what it should,
+/// once. Both ends of a range lie in it. No moment is above the greatest, and the first one is earlier than others.
 #[test]
 fn scores_ranges_and_moments(rt: HostRuntime) {
     tables_are_logarithms();
@@ -84,7 +84,7 @@ const RANGES: &[(ConfigFault, u64, u64)] = &[
     (ConfigFault::History, 2, 1_000_000),
 ];
 
-/// The default numbers in the order of their faults, but for a timeout that fits each interval.
+/// The default numbers in the order of their faults, except for a timeout that fits each interval.
 const NUMBERS: [u64; 10] = [1000, 1, 3, 8, 5, 6, 3, 4, 800, 20000];
 
 /// The member `b` with these numbers, in the order of their faults, and seeds of one letter each.
@@ -113,7 +113,7 @@ fn config_of(numbers: &[u64; 10], letters: &[u8]) -> Config {
     }
 }
 
-/// The default numbers, with others for the fields of some faults.
+/// The default numbers, with another number for the fields of some faults.
 fn numbers_with(fields: &[ConfigFault], number: u64) -> [u64; 10] {
     let mut numbers = NUMBERS;
     for field in fields {
@@ -125,7 +125,7 @@ fn numbers_with(fields: &[ConfigFault], number: u64) -> [u64; 10] {
     numbers
 }
 
-/// Whether a number of a field is good, or else has the field's fault.
+/// Whether a number of a field is judged right: it is good, or it has the field's fault.
 fn is_judged(field: ConfigFault, number: u64, is_good: bool) -> bool {
     let want = if is_good { Ok(()) } else { Err(field) };
     config_of(&numbers_with(&[field], number), b"").check() == want
@@ -139,7 +139,7 @@ fn has_edges(field: ConfigFault, least: u64, most: u64) -> bool {
         && is_judged(field, most.wrapping_add(1), false)
 }
 
-/// The edges of each range are good, and what is beyond them isn't. Below 0 stands the greatest number of all. The
+/// The edges of each range are good, and what is beyond them isn't. Below 0 comes the greatest number of all. The
 /// faults are numbered from 1 on.
 #[test]
 fn the_edges_of_each_range(rt: HostRuntime) {
@@ -161,14 +161,14 @@ const SEEDS: &[(&[u8], Result<(), ConfigFault>)] = &[
     (b"0123456789ABCDEF", Ok(())),
 ];
 
-/// Whether `b` with these seeds is judged so, and a copy too.
+/// Whether `b` with these seeds is judged like this, and a copy too.
 fn are_judged(letters: &[u8], want: &Result<(), ConfigFault>) -> bool {
     let config = config_of(&NUMBERS, letters);
     let copy = config.copy();
     config.check() == *want && copy.check() == *want && copy.seeds.len() == letters.len()
 }
 
-/// At most 16 seeds, with other names than the own one and one another; and a copy is as good.
+/// There are at most 16 seeds, whose names differ from b's and from one another. A copy is judged the same.
 #[test]
 fn seeds_have_other_names(rt: HostRuntime) {
     for (letters, want) in SEEDS {
@@ -176,7 +176,7 @@ fn seeds_have_other_names(rt: HostRuntime) {
     }
 }
 
-/// Two fields, and the fault where the numbers of both are out of their ranges.
+/// Two fields, and the fault if the numbers of both are out of their ranges.
 const TWO_FAULTS: &[(&[ConfigFault], ConfigFault)] = &[
     (
         &[ConfigFault::Interval, ConfigFault::Timeout],
@@ -205,7 +205,7 @@ const TWO_FAULTS: &[(&[ConfigFault], ConfigFault)] = &[
     ),
 ];
 
-/// Of two numbers that are out of their ranges and a seed of the own name, the first in the order of the faults.
+/// Two numbers are out of their ranges, and a seed has b's name. The fault is the first in the order of the faults.
 #[test]
 fn the_first_of_two_faults(rt: HostRuntime) {
     for (fields, want) in TWO_FAULTS {

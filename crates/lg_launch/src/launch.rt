@@ -1,4 +1,7 @@
-//! A node is run from its configuration.
+//! Runs a node from its configuration.
+//!
+//! Defined in: `specs/Meaning/Running.antt`, `specs/Meaning/Telling.antt`, `lg_text/specs/Meaning/Running.antt`.
+//! Tested in: `cases/node.case`, `lg_command_tests/src/launch/ends.rt`.
 ghost use Rattle.std.specs.Prelude.{◌≡◌, ◌⊎◌, IfErr};
 ghost use Rattle.lg_text.specs.Meaning.Running.{AppendsFront};
 ghost use Rattle.lg_timing.specs.Meaning.Config.{IsChecked};
@@ -29,7 +32,7 @@ fn tell<F: Write>(told: Told, faults: &mut F) -> u8
     told.status()
 }
 
-/// Writes the table of a node that was run, where one is to be written. The whole text is made before its first byte is
+/// Writes the table of a node that was run, if one is to be written. The whole text is made before its first byte is
 /// written.
 fn write_table<W: Write>(
     alloc: Global,
@@ -46,13 +49,13 @@ fn write_table<W: Write>(
     write_whole(writer, &text)
 }
 
-/// Runs the node of a configuration until a moment, in milliseconds from its start, writes the members that it knows to
-/// `writer`, and gives the exit status; a status other than 0 has a line on `faults`.
+/// Runs the node of a configuration until a moment, in milliseconds from its start. Writes the members that it knows
+/// to `writer`, and gives the exit status. A status other than 0 has a line on `faults`.
 ///
-/// It is [`run_node`](lg_node::run_node), and [`Told::of`] says what is told of it. The members are written where both
-/// loops stopped or the node was ousted, as [`put_table`](lg_report::put_table) does, a line each; in all other cases
-/// nothing is. A line that `faults` doesn't take is dropped. The configuration has to be checked. Beside what the node
-/// takes, memory is taken for the text alone.
+/// The node is run by [`run_node`](lg_node::run_node), and [`Told::of`] says what is told of it. If both loops
+/// stopped or the node was ousted, the members are written as [`put_table`](lg_report::put_table) does, a line each.
+/// In all other cases nothing is written. A line that `faults` doesn't take is dropped. The configuration has to be
+/// checked. Apart from what the node allocates, memory is allocated only for the text.
 ///
 /// What is said of bytes holds for writers that tell their bytes, as those over memory do.
 pub fn run_config<R, W, F>(
@@ -78,8 +81,8 @@ where
 
 /// Runs the node that the bytes of a configuration file mean, as [`run_config`] does.
 ///
-/// Bytes that mean no configuration are told by [`Told::Config`], as [`NodeConfig::read`] answers, and memory that is
-/// refused for them by [`Told::Memory`]; then nothing is written.
+/// Bytes that mean no configuration are told by [`Told::Config`], as [`NodeConfig::read`] answers. Memory that is
+/// refused for them is told by [`Told::Memory`]. In both cases nothing is written.
 pub fn run_bytes<R, W, F>(
     rt: &R,
     alloc: Global,
@@ -102,15 +105,15 @@ where
     }
 }
 
-/// Puts the bytes of a file behind others: all of it, or so many that it is too long.
+/// Appends the bytes of a file to others: all of them, or one more than a configuration may have.
 fn put_file<R: Files>(rt: &R, path: &str, bytes: &mut Vec<u8>) -> io::Result<()> {
     let limit = MAX_FILE as u64 + 1;
     fs::open(rt, path)?.take(limit).read_to_end(bytes)?;
     Ok(())
 }
 
-/// The bytes of a file, at most one more than a configuration may have. A fault is that it can't be read, or that
-/// memory was refused.
+/// The bytes of a file, at most one more than a configuration may have. The fault is that the file can't be read, or
+/// that memory was refused.
 fn file_bytes<R: Files>(rt: &R, alloc: Global, path: &str) -> Result<Vec<u8>, RunFault>
     ensures { IfErr result (λ fault. (fault ≡ RunFault.Memory) ⊎ (fault ≡ RunFault.Read)) }
 {
@@ -122,10 +125,11 @@ fn file_bytes<R: Files>(rt: &R, alloc: Global, path: &str) -> Result<Vec<u8>, Ru
     }
 }
 
-/// Runs the node of a configuration file, as [`run_bytes`] does its bytes.
+/// Runs the node of a configuration file, as [`run_bytes`] does from its bytes.
 ///
-/// At most 65,537 bytes of the file are read. One that can't be read is told by [`Told::Read`], and memory that is
-/// refused for its bytes by [`Told::Memory`]; then nothing is written. What a file has, no clause can say.
+/// At most 65,537 bytes of the file are read. A file that can't be read is told by [`Told::Read`]. Memory that is
+/// refused for its bytes is told by [`Told::Memory`]. In both cases nothing is written. No contract can say what a
+/// file holds.
 pub fn run_file<R, W, F>(
     rt: &R,
     alloc: Global,

@@ -1,8 +1,8 @@
-//! A node of a configuration file: it is run, its members are written, and how it ended is told.
+//! Runs the node of a configuration file, writes its members, and tells how it ended.
 //!
-//! [`run_file`] is the whole; [`run_bytes`] and [`run_config`] begin at the bytes of the file and at the configuration
-//! that they mean. Clauses of other crates cite `RunsFile`, `RunsBytes` and `RunsNode` (`specs/Meaning/Running.antt`),
-//! `status_of` and `line_of` (`Telling.antt`).
+//! [`run_file`] does all of it. [`run_bytes`] begins with the bytes of the file, and [`run_config`] with the
+//! configuration that they mean. Contracts of other crates cite `RunsFile`, `RunsBytes` and `RunsNode`
+//! (`specs/Meaning/Running.antt`), `status_of` and `line_of` (`Telling.antt`).
 #![tactic(auto)]
 
 mod launch;

@@ -1,4 +1,7 @@
 //! What is told of how a node ended.
+//!
+//! Defined in: `specs/Meaning/Telling.antt`, `specs/Meaning/Running.antt`.
+//! Tested in: `lg_command_tests/src/launch/order.rt`.
 ghost use Rattle.std.specs.Prelude.{◌≡◌, unwrap_or, Ok};
 ghost use Rattle.std.specs.Option.{option_map};
 ghost use Rattle.lg_node.specs.declared.ending.Why.TheVariants.{Stopped};
@@ -11,7 +14,7 @@ use lg_node::{NodeEnd, NodeFault, Why};
 use lg_rules::Record;
 use lg_text::RunFault;
 
-/// The first end that isn't [`Why::Stopped`], the receiving loop's before the ticking loop's.
+/// The first end that isn't [`Why::Stopped`]. The receiving loop's end comes before the ticking loop's.
 fn first_end(end: &NodeEnd) -> Why
     ensures { ending Stopped result ≡ ending end.now.received.why end.now.ticked.why }
 {
@@ -21,14 +24,14 @@ fn first_end(end: &NodeEnd) -> Why
     }
 }
 
-/// Whether the table is written after such an end.
+/// Whether the table is to be written after such an end.
 fn wants_table(why: Why) -> bool
     ensures { result ≡ (ending Stopped why).writes }
 {
     matches!(why, Why::Stopped | Why::Ousted)
 }
 
-/// The records of the table that is to be written, if one is.
+/// The records of the table that is to be written, if one is to be.
 pub(crate) fn table_of(ran: &Result<NodeEnd, NodeFault>) -> Option<&[Record]>
     ensures { option_map (λ records. records.now) result ≡ table_of ran.now }
 {
@@ -57,7 +60,7 @@ fn late_fault(end: &NodeEnd, written: Result<(), RunFault>) -> Option<Told>
     }
 }
 
-/// What is told of an end, where nothing went wrong after it.
+/// What is told of an end, if nothing went wrong after it.
 fn end_told(why: Why) -> Told
     ensures { result ≡ (ending Stopped why).told }
 {
@@ -71,13 +74,14 @@ fn end_told(why: Why) -> Told
 }
 
 impl Told {
-    /// What is told of a node that was run, by how its table was written, which counts only where it was to be.
+    /// What is told of a node that was run, given how its table was written. That counts only if the table was to be
+    /// written.
     ///
-    /// The first end that isn't [`Why::Stopped`] is told, the receiving loop's before the ticking loop's. Where there
-    /// is none, or it is [`Why::Ousted`], the table was to be written, and the first of these is told before that: that
-    /// the members were refused, that the writing failed, that the agent wasn't closed. A node that ended before its
-    /// loops is told as [`Told::Link`] where its socket couldn't be bound, as [`Told::Refused`] where the clock
-    /// couldn't be read, and else as its refusal.
+    /// The first end that isn't [`Why::Stopped`] is told, the receiving loop's before the ticking loop's. If there is
+    /// none, or it is [`Why::Ousted`], the table was to be written. Then the first of these is told before the end:
+    /// that the members were refused, that the writing failed, that the agent wasn't closed. A node that ended before
+    /// its loops is told as [`Told::Link`] if its socket couldn't be bound, as [`Told::Refused`] if the clock
+    /// couldn't be read, and otherwise as its refusal.
     pub fn of(ran: &Result<NodeEnd, NodeFault>, written: Result<(), RunFault>) -> Told
         ensures { result ≡ run_told ran.now written }
     {

@@ -1,4 +1,7 @@
 //! What is told of a node's run.
+//!
+//! Defined in: `specs/Meaning/Telling.antt`, `lg_config/specs/Meaning/Faults.antt`.
+//! Tested in: `lg_command_tests/src/launch/told.rt`.
 ghost use Rattle.std.specs.Prelude.{◌≡◌};
 ghost use Rattle.lg_config.specs.Meaning.Faults.{config_fault_number, fault_number};
 ghost use Rattle.lg_launch.specs.Meaning.Telling.{status_of, line_of, config_line, refusal_told, fault_told};
@@ -8,7 +11,7 @@ use lg_config::FileFault;
 use lg_text::RunFault;
 use lg_timing::ConfigFault;
 
-/// What is told of a node's run: an exit status, and a line on the standard error where it isn't 0 (this project's
+/// What is told of a node's run: an exit status, and a line on standard error if the status isn't 0 (this project's
 /// choice).
 #[derive(Clone, Copy, Debug, PartialEq, Eq)]
 pub enum Told {
@@ -30,7 +33,7 @@ pub enum Told {
     Close,
     /// The configuration file means no configuration.
     Config(FileFault),
-    /// Another member said of this one what it can't refute. The table was written.
+    /// Another member said something of this member that it can't refute. The table was written.
     Ousted,
     /// The socket couldn't be bound, or receiving failed.
     Link,

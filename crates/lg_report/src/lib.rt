@@ -1,7 +1,7 @@
 //! Records and the replies of a detector, as lines of text.
 //!
 //! A line ends with a newline byte. The forms are this project's choice; `specs/Meaning/Records.antt` and
-//! `specs/Meaning/Replies.antt` have them all.
+//! `specs/Meaning/Replies.antt` define all of them.
 #![tactic(auto)]
 
 mod records;

@@ -1,4 +1,7 @@
-//! Records as text.
+//! Writes records as text.
+//!
+//! Defined in: `specs/Meaning/Records.antt`.
+//! Tested in: `cases/sim_members.case`, `lg_command_tests/src/replies.rt`.
 ghost use Rattle.std.specs.Prelude.{◌≡◌, ◌++◌, OnErr, OnOk, decimal};
 ghost use Rattle.std.specs.Io.{StartsWith};
 ghost use Rattle.lg_report.specs.Meaning.Records.{accuser_text, addr_text, record_line, record_text};
@@ -8,10 +11,10 @@ use itoa::Buffer;
 use lg_detector::NoMemory;
 use lg_rules::{Addr, Record, Status};
 
-/// Puts bytes behind a text.
+/// Appends bytes to a text.
 ///
-/// This and each private function below and in `replies` leaves what the text had at its front, also when memory is
-/// refused. So [`put_table`] and `put_reply` can cut the text back to it.
+/// This function, and each private function below and in `replies`, leaves the old text as the front of the new one,
+/// even if memory is refused. So [`put_table`] and `put_reply` can cut the text back to it.
 pub(crate) fn put(bytes: &[u8], text: &mut Vec<u8>) -> Result<(), NoMemory>
     ensures put { OnOk result (text.new.items ≡ text.old.items ++ bytes.now) }
     ensures front { StartsWith text.new.items text.old.items }
@@ -20,7 +23,7 @@ pub(crate) fn put(bytes: &[u8], text: &mut Vec<u8>) -> Result<(), NoMemory>
     Ok(())
 }
 
-/// Puts a number in decimal behind a text.
+/// Appends a number in decimal to a text.
 pub(crate) fn put_number(number: u64, text: &mut Vec<u8>) -> Result<(), NoMemory>
     ensures put { OnOk result (text.new.items ≡ text.old.items ++ decimal number) }
     ensures front { StartsWith text.new.items text.old.items }
@@ -30,7 +33,7 @@ pub(crate) fn put_number(number: u64, text: &mut Vec<u8>) -> Result<(), NoMemory
     Ok(())
 }
 
-/// Puts a word and a number in decimal behind a text.
+/// Appends a word and a number in decimal to a text.
 pub(crate) fn put_numbered(word: &str, number: u64, text: &mut Vec<u8>) -> Result<(), NoMemory>
     ensures put { OnOk result (text.new.items ≡ text.old.items ++ (word.now ++ decimal number)) }
     ensures front { StartsWith text.new.items text.old.items }
@@ -40,7 +43,7 @@ pub(crate) fn put_numbered(word: &str, number: u64, text: &mut Vec<u8>) -> Resul
     Ok(())
 }
 
-/// Puts an address, as `A.B.C.D:PORT`, behind a text.
+/// Appends an address, as `A.B.C.D:PORT`, to a text.
 pub(crate) fn put_addr(addr: &Addr, text: &mut Vec<u8>) -> Result<(), NoMemory>
     ensures put { OnOk result (text.new.items ≡ text.old.items ++ addr_text addr.now) }
     ensures front { StartsWith text.new.items text.old.items }
@@ -54,7 +57,7 @@ pub(crate) fn put_addr(addr: &Addr, text: &mut Vec<u8>) -> Result<(), NoMemory>
     Ok(())
 }
 
-/// The word of a status.
+/// The word for a status.
 fn status_word(status: &Status) -> &'static str
     ensures { result.now ≡ status_text status.now }
 {
@@ -65,7 +68,7 @@ fn status_word(status: &Status) -> &'static str
     }
 }
 
-/// Puts the accuser of a suspect behind a text.
+/// Appends the accuser of a suspect to a text.
 fn put_accuser(status: &Status, text: &mut Vec<u8>) -> Result<(), NoMemory>
     ensures put { OnOk result (text.new.items ≡ text.old.items ++ accuser_text status.now) }
     ensures front { StartsWith text.new.items text.old.items }
@@ -77,7 +80,7 @@ fn put_accuser(status: &Status, text: &mut Vec<u8>) -> Result<(), NoMemory>
     Ok(())
 }
 
-/// Puts a record behind a text, without the end of a line.
+/// Appends a record to a text, without a newline.
 pub(crate) fn put_record(claim: &Record, text: &mut Vec<u8>) -> Result<(), NoMemory>
     ensures put { OnOk result (text.new.items ≡ text.old.items ++ record_text claim.now) }
     ensures front { StartsWith text.new.items text.old.items }
@@ -92,7 +95,7 @@ pub(crate) fn put_record(claim: &Record, text: &mut Vec<u8>) -> Result<(), NoMem
     Ok(())
 }
 
-/// Puts a record behind a text as a line.
+/// Appends a record to a text, as a line.
 fn put_record_line(claim: &Record, text: &mut Vec<u8>) -> Result<(), NoMemory>
     ensures put { OnOk result (text.new.items ≡ text.old.items ++ record_line claim.now) }
     ensures front { StartsWith text.new.items text.old.items }
@@ -103,7 +106,7 @@ fn put_record_line(claim: &Record, text: &mut Vec<u8>) -> Result<(), NoMemory>
     Ok(())
 }
 
-/// Puts records behind a text, a line each, in the order in which they are given.
+/// Appends records to a text, a line each, in the order in which they are given.
 #[tactic(auto, unfolding(crate::specs::Meaning::Records::table_text))]
 pub(crate) fn put_records(records: &[Record], text: &mut Vec<u8>) -> Result<(), NoMemory>
     ensures put { OnOk result (text.new.items ≡ text.old.items ++ table_text records.now) }
@@ -115,12 +118,11 @@ pub(crate) fn put_records(records: &[Record], text: &mut Vec<u8>) -> Result<(), 
     Ok(())
 }
 
-/// Puts records behind a text, a line `record NAME STATUS INCARNATION A.B.C.D:PORT` each, in the order in which they
-/// are given.
+/// Appends records to a text in the order given. Each is a line `record NAME STATUS INCARNATION A.B.C.D:PORT`.
 ///
-/// STATUS is `alive`, `suspect` or `failed`; a suspect has ` by ACCUSER` at the end of its line. It takes memory only
-/// where the text has to grow. The only error is that memory was refused; the text is then as it was, though it may
-/// have room for more.
+/// STATUS is `alive`, `suspect` or `failed`; a suspect has ` by ACCUSER` at the end of its line. Memory is allocated
+/// only if the text has to grow. The only error is that memory was refused. The text then holds what it held before,
+/// though it may have room for more.
 pub fn put_table(records: &[Record], text: &mut Vec<u8>) -> Result<(), NoMemory>
     ensures put { OnOk result (text.new.items ≡ text.old.items ++ table_text records.now) }
     ensures refused { OnErr result (text.new.items ≡ text.old.items) }

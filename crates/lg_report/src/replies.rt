@@ -1,4 +1,7 @@
-//! The replies of a detector as text.
+//! Writes the replies of a detector as text.
+//!
+//! Defined in: `specs/Meaning/Replies.antt`.
+//! Tested in: `cases/sim_replies.case`, `lg_command_tests/src/replies.rt`.
 ghost use Rattle.std.specs.Prelude.{◌≡◌, ◌+◌, ◌<◌, ◌^◌, ◌++◌, OnErr, OnOk, length};
 ghost use Rattle.std.specs.Io.{StartsWith};
 ghost use Rattle.lg_report.specs.Meaning.Replies.{answer_line, fired_text, health_text, kind_text, next_text};
@@ -12,10 +15,10 @@ use lg_packet::MAX_PACKET;
 use lg_rules::Incarnation;
 use lg_text::put_hex;
 
-/// Room for the bytes of a packet that is written.
+/// A buffer for the bytes of a packet that is written.
 type Row = ArrayVec<u8, MAX_PACKET>;
 
-/// The kind of a timer.
+/// The word for the kind of a timer.
 fn kind_word(id: &TimerId) -> &'static str
     ensures { result.now ≡ kind_text id.now }
 {
@@ -29,7 +32,7 @@ fn kind_word(id: &TimerId) -> &'static str
     }
 }
 
-/// Puts the member or the relay's number that a timer is about behind a text, where it has one.
+/// Appends to a text the member, or the relay's number, that a timer is about, if it is about one.
 fn put_subject(id: &TimerId, text: &mut Vec<u8>) -> Result<(), NoMemory>
     ensures put { OnOk result (text.new.items ≡ text.old.items ++ subject_text id.now) }
     ensures front { StartsWith text.new.items text.old.items }
@@ -46,7 +49,7 @@ fn put_subject(id: &TimerId, text: &mut Vec<u8>) -> Result<(), NoMemory>
     Ok(())
 }
 
-/// Puts the line of a tick behind a text: the timer that it fired, or that it fired none.
+/// Appends the line of a tick to a text: the timer that it fired, or that it fired none.
 fn put_tick(fired: &Option<Timer>, text: &mut Vec<u8>) -> Result<(), NoMemory>
     ensures put { OnOk result (text.new.items ≡ text.old.items ++ tick_text fired.now) }
     ensures front { StartsWith text.new.items text.old.items }
@@ -62,7 +65,7 @@ fn put_tick(fired: &Option<Timer>, text: &mut Vec<u8>) -> Result<(), NoMemory>
     Ok(())
 }
 
-/// Puts the line of an event that is a tick behind a text. Others have none.
+/// Appends the line of a tick to a text, if the event is one. Other events have no such line.
 fn put_fired(event: &Event, fired: &Option<Timer>, text: &mut Vec<u8>) -> Result<(), NoMemory>
     ensures put { OnOk result (text.new.items ≡ text.old.items ++ fired_text event.now fired.now) }
     ensures front { StartsWith text.new.items text.old.items }
@@ -73,7 +76,7 @@ fn put_fired(event: &Event, fired: &Option<Timer>, text: &mut Vec<u8>) -> Result
     Ok(())
 }
 
-/// Puts what Health answers behind a text.
+/// Appends to a text the answer to Health.
 fn put_health(
     score: u64,
     number: Incarnation,
@@ -89,7 +92,7 @@ fn put_health(
     Ok(())
 }
 
-/// Puts what is answered behind a text.
+/// Appends an answer to a text.
 fn put_told(answer: &Answer, text: &mut Vec<u8>) -> Result<(), NoMemory>
     ensures put { OnOk result (text.new.items ≡ text.old.items ++ told_text answer.now) }
     ensures front { StartsWith text.new.items text.old.items }
@@ -106,7 +109,7 @@ fn put_told(answer: &Answer, text: &mut Vec<u8>) -> Result<(), NoMemory>
     Ok(())
 }
 
-/// Puts the line of an answer behind a text, where there is one.
+/// Appends the line of an answer to a text, if there is one.
 fn put_answer(answer: &Option<Answer>, text: &mut Vec<u8>) -> Result<(), NoMemory>
     ensures put { OnOk result (text.new.items ≡ text.old.items ++ answer_line answer.now) }
     ensures front { StartsWith text.new.items text.old.items }
@@ -119,7 +122,7 @@ fn put_answer(answer: &Option<Answer>, text: &mut Vec<u8>) -> Result<(), NoMemor
     Ok(())
 }
 
-/// Puts the line of a packet that is sent behind a text.
+/// Appends to a text the line of a packet that is sent.
 fn put_send(
     number: u64,
     outgoing: &Outgoing,
@@ -138,7 +141,7 @@ fn put_send(
     Ok(())
 }
 
-/// Puts the lines of the packets that are sent behind a text, numbered on from the first.
+/// Appends to a text the lines of the packets that are sent, numbered from `first` on.
 fn put_sends(
     first: u64,
     sends: &[Outgoing],
@@ -157,7 +160,7 @@ fn put_sends(
     Ok(())
 }
 
-/// Puts the line of the flag `ousted` behind a text, where it is set.
+/// Appends the line of the flag `ousted` to a text, if it is set.
 fn put_ousted(ousted: bool, text: &mut Vec<u8>) -> Result<(), NoMemory>
     ensures put { OnOk result (text.new.items ≡ text.old.items ++ ousted_text ousted) }
     ensures front { StartsWith text.new.items text.old.items }
@@ -168,7 +171,7 @@ fn put_ousted(ousted: bool, text: &mut Vec<u8>) -> Result<(), NoMemory>
     Ok(())
 }
 
-/// Puts the line of the next deadline behind a text.
+/// Appends the line of the next deadline to a text.
 fn put_next(next: u64, text: &mut Vec<u8>) -> Result<(), NoMemory>
     ensures put { OnOk result (text.new.items ≡ text.old.items ++ next_text next) }
     ensures front { StartsWith text.new.items text.old.items }
@@ -178,7 +181,7 @@ fn put_next(next: u64, text: &mut Vec<u8>) -> Result<(), NoMemory>
     Ok(())
 }
 
-/// Puts the lines of a reply to an event behind a text.
+/// Appends to a text the lines of a reply to an event.
 #[tactic(auto, unfolding(crate::specs::Meaning::Replies::reply_text))]
 fn put_lines(
     event: &Event,
@@ -200,19 +203,19 @@ fn put_lines(
     Ok(())
 }
 
-/// Puts what a detector replied to an event behind a text, as lines in this order:
+/// Appends to a text what a detector replied to an event, as lines in this order:
 ///
-/// - for a tick `fired KIND` or `fired KIND ID`, the timer that fired, or `idle` where none did;
-/// - `answer none`, `answer RECORD` or `answer score S number I members N`, where the event was a question;
-/// - `send K A.B.C.D:PORT HEX` for each packet sent, in order: `first` is the number K of the first, and the others
-///   are numbered on, up to [`MAX_SENDS`] of them, which 64 bits must have room for; HEX is the packet in lower-case
-///   hex;
+/// - for a tick `fired KIND` or `fired KIND ID`, which is the timer that fired, or `idle` if none did;
+/// - `answer none`, `answer RECORD` or `answer score S number I members N`, if the event was a question;
+/// - `send K A.B.C.D:PORT HEX` for each packet sent, in order, with the packet in lower-case hex. The numbers K count
+///   on from `first`. There are at most [`MAX_SENDS`], and their numbers must fit in 64 bits;
 /// - `record RECORD` for each record that changed, as [`put_table`](crate::put_table) writes it;
-/// - `ousted` where the flag is set;
+/// - `ousted` if the flag is set;
 /// - `next MOMENT`, always.
 ///
-/// `row` is room alone: what it holds is of no use before or after. It takes memory only where the text has to grow.
-/// The only error is that memory was refused; the text is then as it was, though it may have room for more.
+/// `row` is a scratch buffer; what it holds before or after doesn't matter. Memory is allocated only if the text has
+/// to grow. The only error is that memory was refused. The text then holds what it held before, though it may have
+/// room for more.
 pub fn put_reply(
     event: &Event,
     first: u64,

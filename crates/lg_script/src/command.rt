@@ -34,14 +34,14 @@ pub enum Key {
 /// A command of a script (this project's choice).
 #[derive(Debug, PartialEq, Eq, Drop)]
 pub enum Command {
-    /// A number of the configuration of members that are opened later is set.
+    /// Sets a number in the configuration of the members that are opened later.
     Set {
-        /// Which.
+        /// Which number.
         key: Key,
-        /// To what. Its range is judged where a member is opened.
+        /// Its new value. The range is judged when a member is opened.
         number: u64,
     },
-    /// A member is opened.
+    /// Opens a member.
     Open {
         /// Its name.
         name: Name,
@@ -49,7 +49,7 @@ pub enum Command {
         port: u16,
         /// When.
         now: Moment,
-        /// Whom it knows from the start. That the names differ is judged elsewhere.
+        /// The members that it knows from the start. Whether their names differ is judged elsewhere.
         seeds: ArrayVec<Seed, MAX_SEEDS>,
     },
     /// Time has passed for a member.
@@ -58,17 +58,18 @@ pub enum Command {
         name: Name,
         /// When.
         now: Moment,
-        /// Its random words; those that the line lacks are 0.
+        /// Its random words. Those that the line lacks are 0.
         words: [u32; RANDOM_WORDS],
     },
-    /// A packet is heard by the member at its destination.
+    /// The member at the destination of a packet hears the packet.
     Deliver {
-        /// Its number, from 1 on by the order in which packets were sent. It may be the number of none.
+        /// The number of the packet, from 1 on in the order in which packets were sent. It may be the number of no
+        /// packet.
         packet: u64,
         /// When.
         now: Moment,
     },
-    /// A member is asked for its record of a name.
+    /// Asks a member for its record of a name.
     Ask {
         /// Which member.
         name: Name,
@@ -77,14 +78,14 @@ pub enum Command {
         /// Whose record.
         other: Name,
     },
-    /// A member is asked for its health score, its own number and its number of members.
+    /// Asks a member for its health score, its incarnation and how many members haven't failed.
     Health {
         /// Which member.
         name: Name,
         /// When.
         now: Moment,
     },
-    /// A member is told to send a Pull.
+    /// Tells a member to send a Pull.
     Pull {
         /// Which member.
         name: Name,
@@ -93,7 +94,7 @@ pub enum Command {
         /// To which port at 127.0.0.1, 1 to 65535.
         port: u16,
     },
-    /// The table of a member is shown.
+    /// Shows the table of a member.
     Table {
         /// Which member.
         name: Name,

@@ -1,11 +1,11 @@
 //! The lines of a simulation script: which command a line gives, or why the line is faulty.
 //!
-//! [`command_in`] reads one line into a [`Command`], or answers its [`ScriptFault`]. It knows nothing of the members
-//! that are open: the faults [`ScriptFault::Double`], [`ScriptFault::Full`], [`ScriptFault::Member`] and
-//! [`ScriptFault::Packet`], and [`ScriptFault::Value`] of a configuration that fails its check, are judged by who
-//! keeps the members. [`local`] says where the member of a port is.
+//! [`command_in`] reads one line into a [`Command`], or gives its [`ScriptFault`]. It knows nothing of the members
+//! that are open. So whoever keeps the members judges the faults [`ScriptFault::Double`], [`ScriptFault::Full`],
+//! [`ScriptFault::Member`] and [`ScriptFault::Packet`], and [`ScriptFault::Value`] if a configuration fails its
+//! check. [`local`] gives the address of the member with a port.
 //!
-//! Clauses of other crates cite `command_of` (`specs/Meaning/Lines.antt`), `fault_word` (`Faults.antt`) and `local`
+//! Contracts of other crates cite `command_of` (`specs/Meaning/Lines.antt`), `fault_word` (`Faults.antt`) and `local`
 //! (`Values.antt`).
 #![tactic(auto)]
 

@@ -1,4 +1,7 @@
-//! Reads a line.
+//! Reads a line of a script.
+//!
+//! Defined in: `specs/Meaning/Lines.antt`, `specs/Meaning/Words.antt`.
+//! Tested in: `cases/sim_lines.case`, `cases/sim_faults.case`.
 ghost use Rattle.std.specs.Prelude.{◌≡◌};
 ghost use Rattle.lg_script.specs.Meaning.Lines.{command_of, is_passed_over};
 ghost use Rattle.lg_script.specs.Meaning.Words.{are_words_of, parts_of, verb_in};
@@ -23,22 +26,24 @@ fn verb_in(line: &[u8]) -> Option<Verb>
     verb_of(first_word(line)?)
 }
 
-/// Whether a line's words are parted by single spaces, and are as many as the command takes.
+/// Whether a line's words are separated by single spaces, and are as many as the command takes.
 fn are_words_of(verb: Verb, line: &[u8]) -> bool
     ensures { result ≡ are_words_of verb (parts_of line.now) }
 {
     takes_words(verb, spaces_in(line)) && are_words(line)
 }
 
-/// The command of a line without its newline byte; none where the line is empty or begins with
-/// `#`, which is passed over (this project's choice).
+/// The command of a line without its newline byte. It is None if the line is empty or begins with `#`; such a line is
+/// passed over (this project's choice).
 ///
-/// The words stand between single spaces, and every other byte belongs to a word. The error is the
-/// first of these: [`ScriptFault::Command`] where the first word names no command, sought behind
-/// leading spaces, or there is none; [`ScriptFault::Words`] where a space leads, trails or is
-/// doubled, or the command takes another number of words; [`ScriptFault::Value`] where a word is
-/// out of its form or range, a key is unknown, or there are more than 16 seeds. No memory is
-/// taken. The time is in proportion to the line.
+/// The words stand between single spaces, and every other byte belongs to a word. The error is the first of these:
+///
+/// - [`ScriptFault::Command`] if the first word, which is looked for after leading spaces, names no command, or there
+///   is no word;
+/// - [`ScriptFault::Words`] if a space leads, trails or is doubled, or the command takes another number of words;
+/// - [`ScriptFault::Value`] if a word is out of its form or range, a key is unknown, or there are more than 16 seeds.
+///
+/// No memory is allocated. The time is in proportion to the line.
 #[tactic(auto, unfolding(crate::specs::Meaning::Lines::command_of))]
 pub fn command_in(line: &[u8]) -> Result<Option<Command>, ScriptFault>
     ensures { result ≡ command_of line.now }

@@ -1,5 +1,8 @@
-//! Reads the words behind the name of each command. They are as many as the command takes: an empty word past the
-//! end is no value.
+//! Reads the words after the name of each command. There are as many as the command takes. A word past the end is
+//! read as an empty word, which is no value.
+//!
+//! Defined in: `specs/Meaning/Commands.antt`, `specs/Meaning/Values.antt`, `specs/Meaning/Bounds.antt`.
+//! Tested in: `cases/sim_commands.case`, `cases/sim_lines.case`.
 ghost use Rattle.std.specs.Prelude.{◌≡◌, ◌≤◌, length};
 ghost use Rattle.std.specs.Option.{option_map};
 ghost use Rattle.lg_script.specs.Meaning.Commands.{ask_command, deliver_command, health_command, open_command};
@@ -49,7 +52,7 @@ fn open_in(words: Option<&[u8]>) -> Option<Command>
     })
 }
 
-/// The seeds that words are, at most 16 of them.
+/// The seeds that some words spell, at most 16.
 fn seeds_in(words: Option<&[u8]>) -> Option<ArrayVec<Seed, MAX_SEEDS>>
     ensures { option_map (λ seeds. seeds.items) result ≡ seeds_of (words_left words.entry) }
 {
@@ -81,7 +84,7 @@ fn tick_in(words: Option<&[u8]>) -> Option<Command>
     })
 }
 
-/// The random words that words are, at most 8 of them.
+/// The random words that some words spell, at most 8.
 fn random_words_in(words: Option<&[u8]>) -> Option<ArrayVec<u32, RANDOM_WORDS>>
     ensures { let left = words_left words.entry in
         option_map (λ random. random.items) result ≡ at_most_of random_words random_word_of left }
@@ -169,7 +172,7 @@ fn table_in(words: Option<&[u8]>) -> Option<Command>
     Some(Command::Table { name })
 }
 
-/// The command of this name with these words.
+/// The command with this name and these words.
 pub(crate) fn command_named(verb: Verb, words: Option<&[u8]>) -> Option<Command>
     ensures { result ≡ command_named verb (words_left words.entry) }
 {

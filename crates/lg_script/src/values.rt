@@ -1,4 +1,7 @@
 //! Reads single words.
+//!
+//! Defined in: `specs/Meaning/Values.antt`.
+//! Tested in: `cases/sim_commands.case`, `cases/sim_lines.case`.
 ghost use Rattle.std.specs.Prelude.{◌≡◌};
 ghost use Rattle.lg_script.specs.Meaning.Values.{key_of, local, moment_of, member_name_of};
 ghost use Rattle.lg_script.specs.Meaning.Values.{number_within, port_of, random_word_of, seed_of};
@@ -12,14 +15,14 @@ use lg_timing::{MAX_MOMENT, Moment, Seed, is_within};
 /// The address that all members of a script share: 127.0.0.1 (this project's choice).
 pub const LOCALHOST: [u8; 4] = [127, 0, 0, 1];
 
-/// Where the member of a port is.
+/// The address of the member with a port.
 pub fn local(port: u16) -> Addr
     ensures { result ≡ local port }
 {
     Addr::new(LOCALHOST, port)
 }
 
-/// The number of a word, where it lies between two others, which count.
+/// The number that a word spells, if it is at least `least` and at most `most`.
 fn number_within(word: &[u8], least: u64, most: u64) -> Option<u64>
     ensures { result ≡ number_within least most word.now }
 {
@@ -27,14 +30,14 @@ fn number_within(word: &[u8], least: u64, most: u64) -> Option<u64>
     is_within(least, most, number).then_some(number)
 }
 
-/// The moment that a word is, 0 to 1,000,000,000,000,000.
+/// The moment that a word spells, 0 to 1,000,000,000,000,000.
 pub(crate) fn moment_in(word: &[u8]) -> Option<Moment>
     ensures { result ≡ moment_of word.now }
 {
     Moment::new(number_within(word, 0, MAX_MOMENT)?)
 }
 
-/// The port that a word is, 1 to 65535.
+/// The port that a word spells, 1 to 65535.
 pub(crate) fn port_in(word: &[u8]) -> Option<u16>
     ensures { result ≡ port_of word.now }
 {
@@ -42,7 +45,7 @@ pub(crate) fn port_in(word: &[u8]) -> Option<u16>
     Some(port as u16)
 }
 
-/// The random word of a tick that a word is, 0 to 4,294,967,295.
+/// The random word of a tick that a word spells, 0 to 4,294,967,295.
 pub(crate) fn random_word_in(word: &[u8]) -> Option<u32>
     ensures { result ≡ random_word_of word.now }
 {
@@ -50,14 +53,14 @@ pub(crate) fn random_word_in(word: &[u8]) -> Option<u32>
     Some(number as u32)
 }
 
-/// The name that a word is.
+/// The name that a word spells.
 pub(crate) fn name_in(word: &[u8]) -> Option<Name>
     ensures { result ≡ member_name_of word.now }
 {
     Name::new(word).ok()
 }
 
-/// The seed that a word is: a name, a colon and a port.
+/// The seed that a word spells: a name, a colon and a port.
 pub(crate) fn seed_in(word: &[u8]) -> Option<Seed>
     ensures { result ≡ seed_of word.now }
 {

@@ -1,4 +1,7 @@
 //! The names of the commands.
+//!
+//! Defined in: `specs/Meaning/Words.antt`.
+//! Tested in: `cases/sim_lines.case`.
 ghost use Rattle.std.specs.Prelude.{◌≡◌};
 ghost use Rattle.lg_script.specs.Meaning.Words.{takes_words, verb_of};
 
@@ -49,7 +52,7 @@ pub(crate) fn verb_of(word: &[u8]) -> Option<Verb>
     }
 }
 
-/// Whether the command takes this number of words behind its name.
+/// Whether the command takes this many words after its name.
 pub(crate) fn takes_words(verb: Verb, words: usize) -> bool
     ensures { result ≡ takes_words verb words }
 {

@@ -1,4 +1,7 @@
 //! Cuts a line into its words.
+//!
+//! Defined in: `specs/Meaning/Words.antt`, `specs/Meaning/Commands.antt`.
+//! Tested in: `cases/sim_lines.case`.
 ghost use Rattle.std.specs.Prelude.{◌≡◌, ◌∷◌, count_by, drop, find, position};
 ghost use Rattle.std.specs.List.{before_first, list_all};
 ghost use Rattle.std.specs.Option.{option_map};
@@ -6,14 +9,14 @@ ghost use Rattle.lg_script.specs.Meaning.Commands.{word_at};
 ghost use Rattle.lg_script.specs.Meaning.Words.{is_filled, parts_of};
 ghost use Rattle.lg_script.specs.Support.Cutting.{is_byte, rest_behind, words_left};
 
-/// The place of the first of these bytes in a text.
+/// The place of the first such byte in a text.
 fn place_of(text: &[u8], byte: u8) -> Option<usize>
     ensures { result ≡ position (is_byte byte) text.now }
 {
     text.iter().position(|b| *b == byte)
 }
 
-/// What stands before the first of these bytes, and what stands behind it, if there is one.
+/// What stands before the first such byte, and what stands after it, if there is one.
 pub(crate) fn cut_at(text: &[u8], byte: u8) -> (&[u8], Option<&[u8]>)
     ensures first { result.0.now ≡ before_first (is_byte byte) text.now }
     ensures rest { option_map (λ rest. rest.now) result.1 ≡ rest_behind byte text.now }
@@ -24,14 +27,14 @@ pub(crate) fn cut_at(text: &[u8], byte: u8) -> (&[u8], Option<&[u8]>)
     }
 }
 
-/// The first part of a text, and what is left behind its space.
+/// The first part of a text, and what is left after its space, if there is one.
 pub(crate) fn cut_part(text: &[u8]) -> (&[u8], Option<&[u8]>)
     ensures { parts_of text.now ≡ result.0.now ∷ words_left result.1 }
 {
     cut_at(text, b' ')
 }
 
-/// The first of the words that are left, and those behind it; an empty one where none is left.
+/// The first of the words that are left, and those after it. If none is left, the word is empty.
 pub(crate) fn cut_word<'a>(words: Option<&'a [u8]>) -> (&'a [u8], Option<&'a [u8]>)
     ensures word { result.0.now ≡ word_at (words_left words.entry) 0 }
     ensures rest { words_left result.1 ≡ drop 1 (words_left words.entry) }
@@ -42,7 +45,7 @@ pub(crate) fn cut_word<'a>(words: Option<&'a [u8]>) -> (&'a [u8], Option<&'a [u8
     }
 }
 
-/// The first part of a line that isn't empty.
+/// The first of a line's parts that isn't empty.
 pub(crate) fn first_word(line: &[u8]) -> Option<&[u8]>
     ensures { option_map (λ word. word.now) result ≡ find is_filled (parts_of line.now) }
 {
@@ -50,7 +53,7 @@ pub(crate) fn first_word(line: &[u8]) -> Option<&[u8]>
         .find(|part| !part.is_empty())
 }
 
-/// Whether no part of a line is empty: its words are parted by single spaces.
+/// Whether no part of a line is empty, so that its words are separated by single spaces.
 pub(crate) fn are_words(line: &[u8]) -> bool
     ensures { result ≡ list_all is_filled (parts_of line.now) }
 {
@@ -58,7 +61,7 @@ pub(crate) fn are_words(line: &[u8]) -> bool
         .all(|part| !part.is_empty())
 }
 
-/// How many spaces a line has, one less than it has parts.
+/// How many spaces a line has. It has one more part than spaces.
 pub(crate) fn spaces_in(line: &[u8]) -> usize
     ensures { result ≡ count_by (is_byte 32) line.now }
 {

@@ -1,4 +1,7 @@
 //! A cluster: its members with their detectors, and the packets that they sent.
+//!
+//! Defined in: `specs/Meaning/Members.antt`, `specs/Meaning/Past.antt`, `specs/Meaning/Outcome.antt`.
+//! Tested in: `cases/sim_members.case`, `cases/sim_packets.case`, `cases/sim_faults.case`.
 ghost use Rattle.std.specs.Prelude.{◌≡◌, ◌≢◌, ◌<◌, ◌∷◌};
 ghost use Rattle.std.specs.Prelude.{◌++◌, [], List, IfErr, None, OnOk, Some, false};
 ghost use Rattle.std.specs.Prelude.{slice_get, vec_len};
@@ -47,7 +50,7 @@ impl From<AllocError> for Stop {
 /// A cluster of members, each with its detector.
 #[derive(Drop)]
 pub struct Cluster {
-    /// The numbers for the members that are opened next; name, address and seeds stand for none.
+    /// The numbers for the members that are opened next. The name, address and seeds in it are placeholders.
     settings: Config,
     /// The members, in the order in which they were opened: at most [`MAX_CLUSTER`].
     hosts: Vec<Host>,
@@ -56,7 +59,7 @@ pub struct Cluster {
 }
 
 impl Cluster {
-    /// A cluster without members, and the default settings. It takes no memory.
+    /// A cluster without members, with the default settings. No memory is allocated.
     pub fn new(alloc: Global) -> Cluster
         ensures settings { result.settings ≡ unset }
         ensures hosts { result.hosts.items ≡ [] }
@@ -87,7 +90,7 @@ impl Cluster {
         }
     }
 
-    /// The place of the member of a name.
+    /// The place of the member with a name, if there is one.
     fn place_of(&self, name: &Name) -> Option<usize>
         ensures { result ≡ position (λ host. is_named name.now host.member) self.now.hosts.items }
     {
@@ -96,14 +99,14 @@ impl Cluster {
             .position(|host| host.member.is_named(name))
     }
 
-    /// The place of the member at an address.
+    /// The place of the member at an address, if there is one.
     fn place_at(&self, addr: &Addr) -> Option<usize>
         ensures { result ≡ position (λ host. is_at addr.now host.member) self.now.hosts.items }
     {
         self.hosts.iter().position(|host| host.member.is_at(addr))
     }
 
-    /// An event that isn't an opening happens at the member in a place: its reply is put behind a text.
+    /// Lets an event that isn't an opening happen at the member in a place, and appends its reply to a text.
     fn happen(
         &mut self,
         at: usize,
@@ -124,7 +127,7 @@ impl Cluster {
         Ok(())
     }
 
-    /// An event that isn't an opening happens at the member of a name.
+    /// Lets an event that isn't an opening happen at the member with a name.
     pub fn happen_at(
         &mut self,
         name: &Name,
@@ -152,7 +155,7 @@ impl Cluster {
         Ok(())
     }
 
-    /// The configuration of a member of this name and port, with these seeds and the settings.
+    /// The configuration of a member with this name, port and seeds, and with the settings.
     fn config_of(&self, name: Name, port: u16, seeds: ArrayVec<Seed, MAX_SEEDS>) -> Config
         ensures { result ≡ opening_config name port seeds self.now.settings }
     {
@@ -180,7 +183,7 @@ impl Cluster {
         None
     }
 
-    /// Opens a member with a good configuration.
+    /// Opens a member with a configuration that passes its check.
     fn begin(
         &mut self,
         alloc: Global,
@@ -210,7 +213,7 @@ impl Cluster {
         Ok(())
     }
 
-    /// Opens a member of this name at 127.0.0.1 with this port, with these seeds and the settings.
+    /// Opens a member with this name at this port of 127.0.0.1, with these seeds and the settings.
     pub fn open(
         &mut self,
         alloc: Global,
@@ -243,7 +246,7 @@ impl Cluster {
         Ok(())
     }
 
-    /// Where the packet of a number goes, and what happens there when it is delivered.
+    /// Where the packet with a number goes, and what happens there when it is delivered.
     fn delivery(&self, packet: u64, now: Moment) -> Option<(Addr, Event)>
         ensures { result ≡ delivery_of now (packet_number packet self.now.sent.items) }
     {
@@ -259,7 +262,7 @@ impl Cluster {
         Some((sent.outgoing.to, event))
     }
 
-    /// Delivers the packet of a number to the member at its destination, if there is one.
+    /// Delivers the packet with a number to the member at its destination, if a member is there.
     pub fn deliver(
         &mut self,
         packet: u64,
@@ -290,7 +293,7 @@ impl Cluster {
         Ok(())
     }
 
-    /// Puts the member table of the member of a name behind a text.
+    /// Appends to a text the member table of the member with a name.
     pub fn put_table_of(&self, alloc: Global, name: &Name, text: &mut Vec<u8>) -> Result<(), Stop>
         ensures stops { (members : List OfMember) (past : List Happening)
             → IsCluster self.now.hosts.items self.now.sent.items members past

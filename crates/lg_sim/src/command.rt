@@ -1,4 +1,7 @@
 //! Carries out the commands of a script.
+//!
+//! Defined in: `specs/Meaning/Outcome.antt`.
+//! Tested in: `cases/sim.case`, `cases/sim_commands.case`, `cases/sim_faults.case`.
 ghost use Rattle.std.specs.Prelude.{◌≡◌, ◌≢◌, IfErr, List, OnOk};
 ghost use Rattle.lg_script.specs.declared.command.Command.{Command as Commanded};
 ghost use Rattle.lg_sim.specs.Meaning.Outcome.{command_fault};
@@ -10,10 +13,10 @@ use lg_detector::{Event, Reply};
 use lg_script::{Command, local};
 use std::alloc::Global;
 
-/// Carries out a command, and puts what it gives behind a text.
+/// Carries out a command, and appends what it gives to a text.
 ///
-/// `reply` and `row` are room alone: what they hold is of no use before or after. Where the command is faulty, nothing
-/// has changed.
+/// `reply` and `row` are scratch buffers; what they hold before or after doesn't matter. If the command is faulty,
+/// nothing changes.
 pub fn run_command(
     alloc: Global,
     command: Command,

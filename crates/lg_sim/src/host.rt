@@ -1,4 +1,7 @@
 //! A member of a cluster with its detector, and what it does when something happens.
+//!
+//! Defined in: `specs/Meaning/Members.antt`, `lg_detector/specs/Meaning/Step.antt`.
+//! Tested in: `cases/sim.case`.
 ghost use Rattle.std.specs.Prelude.{◌≡◌, ◌+◌, ◌∷◌, ◌++◌, [], List, IsTrue, OnOk, map, vec_len};
 ghost use Rattle.lg_detector.specs.Meaning.Step.{reply_after};
 ghost use Rattle.lg_detector.specs.Support.Step.{accepts_of, state_after};
@@ -12,15 +15,15 @@ use lg_packet::MAX_PACKET;
 use lg_report::put_reply;
 use lg_rules::{Addr, Name};
 
-/// Room for the bytes of a packet that is written.
+/// A buffer for the bytes of a packet that is written.
 pub type Row = ArrayVec<u8, MAX_PACKET>;
 
 /// A member of the cluster.
 #[derive(Clone, Copy, Debug, PartialEq, Eq)]
 pub struct Member {
-    /// Its name, which no other member has.
+    /// Its name. No other member has it.
     pub name: Name,
-    /// Where it is reached, which is where no other member is.
+    /// Its address. No other member is there.
     pub addr: Addr,
 }
 
@@ -58,7 +61,7 @@ impl Member {
     }
 }
 
-/// Keeps copies of packets that a member at an address sends, behind those sent before.
+/// Copies the packets that a member at an address sends, and appends them to those sent before.
 fn keep_sends(from: Addr, sends: &[Outgoing], sent: &mut Vec<SentPacket>) -> Result<(), NoMemory>
     ensures { OnOk result (sent.new.items ≡ sent.old.items ++ map (sent_from from) sends.now) }
 {
@@ -69,10 +72,10 @@ fn keep_sends(from: Addr, sends: &[Outgoing], sent: &mut Vec<SentPacket>) -> Res
     Ok(())
 }
 
-/// Leads a member's detector on by an event, keeps what it sends behind the packets sent so far, and puts the lines of
-/// its reply behind a text.
+/// Hands an event to a member's detector, appends what it sends to the packets sent so far, and appends the lines of
+/// its reply to a text.
 ///
-/// `reply` and `row` are room alone: what they hold is of no use before or after.
+/// `reply` and `row` are scratch buffers; what they hold before or after doesn't matter.
 pub fn lead(
     host: &mut Host,
     event: &Event,

@@ -1,7 +1,7 @@
 //! A cluster of detectors that runs a script: the members, the packets between them, and what they reply, as text.
 //!
 //! Where to read on:
-//! - what each command does, by the commands before it alone: `specs/Meaning/Past.antt` and `Outcome.antt`;
+//! - what each command does, given nothing but the commands before it: `specs/Meaning/Past.antt` and `Outcome.antt`;
 //! - the text of a script: `specs/Meaning/Text.antt`;
 //! - the lines of a reply: `lg_report`; the commands that lines spell: `lg_script`.
 #![tactic(auto)]

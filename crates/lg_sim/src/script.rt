@@ -1,4 +1,7 @@
 //! Runs the lines of a script, up to the first that is faulty.
+//!
+//! Defined in: `specs/Meaning/Text.antt`.
+//! Tested in: `cases/sim.case`, `cases/sim_faults.case`.
 ghost use Rattle.std.specs.Prelude.{◌≡◌, ◌≢◌, ◌≤◌, ◌++◌, IfErr, IfOk, List, OnOk, length};
 ghost use Rattle.lg_script.specs.declared.command.Command.{Command as Commanded};
 ghost use Rattle.lg_sim.specs.Meaning.Text.{fault_line, line_fault, script_end, script_text};
@@ -23,7 +26,7 @@ pub struct Written {
     pub end: End,
 }
 
-/// Puts the line of a fault behind a text, with the number of the faulty line.
+/// Appends the line of a fault to a text, with the number of the faulty line.
 fn put_fault(number: u64, fault: ScriptFault, text: &mut Vec<u8>) -> Result<(), NoMemory>
     ensures { OnOk result (text.new.items ≡ text.old.items ++ fault_line number fault) }
 {
@@ -36,7 +39,7 @@ fn put_fault(number: u64, fault: ScriptFault, text: &mut Vec<u8>) -> Result<(), 
     Ok(())
 }
 
-/// Runs a line: carries out its command, if it has one, and puts what that gives behind a text.
+/// Runs a line: carries out its command, if it has one, and appends what that gives to a text.
 fn run_line(
     alloc: Global,
     line: &[u8],
@@ -60,8 +63,8 @@ fn run_line(
     }
 }
 
-/// What a script writes: for each line what its command gives after those before it, up to the first faulty line, whose
-/// fault ends the text.
+/// What a script writes: for each line, what its command gives after the commands before it. The first faulty line
+/// ends the text with its fault.
 ///
 /// Time and memory are in proportion to the script and to what it writes. The only error is that memory was refused.
 pub fn run_script(alloc: Global, input: &[u8]) -> Result<Written, NoMemory>

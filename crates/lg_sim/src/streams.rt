@@ -1,4 +1,7 @@
 //! Runs a script over a reader and a writer.
+//!
+//! Defined in: `specs/Meaning/Running.antt`, `specs/Meaning/Text.antt`, `lg_text/specs/Meaning/Running.antt`.
+//! Tested in: `cases/limits.case`, `lg_command_tests/src/readers.rt`, `lg_command_tests/src/writers.rt`.
 ghost use Rattle.std.specs.Prelude.{◌≡◌, ◌≢◌, ◌⊎◌, ◌+◌, ◌≤◌};
 ghost use Rattle.std.specs.Prelude.{◌<◌, Err, IfErr, IfOk, IfSome, OnOk, length};
 ghost use Rattle.std.specs.Io.KnownBytes.{Appends};
@@ -14,20 +17,21 @@ use std::io::{Read, Write};
 /// Runs a script: reads all that a reader has left, and writes what the script gives, and nothing else.
 ///
 /// Each line is a command, `set`, `open`, `tick`, `deliver`, `ask`, `health`, `pull` or `table`, as `lg_script` reads
-/// them, and each command gives lines of text. The members that are opened are at 127.0.0.1, at most [`MAX_CLUSTER`] of
-/// them; what a member sends is numbered from 1 over all members, and is heard only where a command delivers it, which
-/// may be never, again, and in any order. A packet whose destination no member has gives the line `nobody`. A line that
-/// is empty or begins with `#` is passed over, but counted. The first faulty line gives `fault LINE KIND` as the last
-/// line of the text, where lines count from 1 and `lg_script::ScriptFault` has the kinds, and the end is then
-/// [`End::Faulty`] (all this project's choice).
+/// them, and each command gives lines of text. The members that are opened are at 127.0.0.1; there are at most
+/// [`MAX_CLUSTER`]. The packets that members send are numbered from 1 over all members. A packet is heard only if a
+/// command delivers it, which may be never, again, and in any order. If no member is at its destination, it gives the
+/// line `nobody`. A line that is empty or begins with `#` is passed over, but counted. The first faulty line gives
+/// `fault LINE KIND` as the last line of the text; lines count from 1, and `lg_script::ScriptFault` has the kinds.
+/// The end is then [`End::Faulty`] (all this project's choice).
 ///
 /// [`MAX_CLUSTER`]: crate::MAX_CLUSTER
 ///
-/// The input has at most 1,048,576 bytes; a longer or endless one is [`RunFault::Read`], found after at most 1,048,577
-/// bytes and 2,097,154 read calls, as is any error of the reader but an interruption; [`RunFault::Memory`] comes before
-/// that where memory is refused for what was read so far. The whole text is made before its first byte is written: with
-/// [`RunFault::Read`] or [`RunFault::Memory`] nothing is. [`RunFault::Write`] comes only once the whole input was read,
-/// and doesn't say how much stands written. Time and memory are in proportion to the input and the text.
+/// The input has at most 1,048,576 bytes. A longer or endless one is [`RunFault::Read`], found after at most
+/// 1,048,577 bytes and 2,097,154 read calls. Any error of the reader but an interruption is [`RunFault::Read`] too.
+/// If memory is refused for what was read so far, [`RunFault::Memory`] comes first. The whole text is made before its
+/// first byte is written, so with [`RunFault::Read`] or [`RunFault::Memory`] nothing is written. [`RunFault::Write`]
+/// comes only once the whole input was read, and doesn't say how much was written. Time and memory are in proportion
+/// to the input and the text.
 ///
 /// What is said of bytes holds for a reader and a writer that tell their bytes, as those over memory do.
 pub fn run<R: Read, W: Write>(
@@ -35,22 +39,22 @@ pub fn run<R: Read, W: Write>(
     reader: &mut R,
     writer: &mut W,
 ) -> Result<End, RunFault>
-    // Where the reader tells its bytes, the text of the script is written, and the end is its own.
+    // If the reader tells its bytes, the text of their script is written, and the end is that of the script.
     ensures text { OnOk result (IfSome (R.remaining reader.old) (λ input.
         Appends (W.contents writer.old) (W.contents writer.new) (script_text input))) }
     ensures end { IfOk result (λ end. IfSome (R.remaining reader.old) (λ input. end ≡ script_end input)) }
     ensures few { OnOk result (IfSome (R.remaining reader.old) (λ input. length input ≤ MAX_INPUT)) }
 
-    // At any reader what is written is the text of what was read, and it was read to its end.
+    // With any reader, what is written is the text of what was read, and the input was read to its end.
     ensures runs { IfOk result (λ end. RunsInput (R.remaining reader.old) (R.remaining reader.new)
         (W.contents writer.old) (W.contents writer.new) end) }
     ensures taken { TakesAtMost (MAX_INPUT + 1) (R.remaining reader.old) (R.remaining reader.new) }
 
-    // Nothing is written but where it is the writing that fails, and then the whole input was read.
+    // On an error nothing is written, unless it was the writing that failed; then the whole input was read.
     ensures unwritten { IfErr result (λ fault. fault ≢ RunFault.Write → writer.new ≡ writer.old) }
     ensures whole { IfErr result (λ fault. fault ≡ RunFault.Write
         → ReadsWhole (R.remaining reader.old) (R.remaining reader.new)) }
-    // A byte past the longest input is taken only where the fault is one of reading.
+    // A byte past the longest input is taken only if the fault is one of reading.
     ensures within { IfErr result (λ fault. fault ≢ RunFault.Read
         → TakesAtMost MAX_INPUT (R.remaining reader.old) (R.remaining reader.new)) }
     // So nothing is written for an input that is too long.

@@ -2,12 +2,12 @@
 use lg_rules::{Addr, Claim, Incarnation, Name, Status};
 use lg_timing::Moment;
 
-/// A name, or the default name where the text is none.
+/// The name that a text spells, or the default name if it spells none.
 pub fn name(text: &[u8]) -> Name {
     Name::new(text).unwrap_or_default()
 }
 
-/// The name of one letter.
+/// The name that is one letter.
 pub fn letter(byte: u8) -> Name {
     name(&[byte])
 }
@@ -47,17 +47,17 @@ pub fn claim(name: Name, status: Status, number: u32) -> Claim {
     }
 }
 
-/// The claim that the member of a letter is alive.
+/// The claim that the member named by a letter is alive.
 pub fn alive(member: u8, number: u32) -> Claim {
     claim(letter(member), Status::Alive, number)
 }
 
-/// The claim that the member of a letter has failed.
+/// The claim that the member named by a letter has failed.
 pub fn failed(member: u8, number: u32) -> Claim {
     claim(letter(member), Status::Failed, number)
 }
 
-/// The claim that the member of a letter is suspected by the member of another.
+/// The claim that the member named by a letter is suspected by the one named by another.
 pub fn suspect(member: u8, number: u32, accuser: u8) -> Claim {
     claim(letter(member), Status::Suspect(letter(accuser)), number)
 }

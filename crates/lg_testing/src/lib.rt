@@ -1,5 +1,5 @@
-//! Values that the tests of several crates share: names, addresses, moments, claims and packets, by a letter or a
-//! number.
+//! Values that the tests of several crates share: names, addresses, moments, claims and packets, each made from a
+//! letter or a number.
 #![tactic(auto)]
 
 mod claims;

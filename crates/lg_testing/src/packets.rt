@@ -1,4 +1,4 @@
-//! Packets of members of one letter.
+//! Packets of members whose names are one letter.
 use crate::claims::letter;
 use arrayvec::ArrayVec;
 use lg_packet::{Body, Packet};
@@ -15,7 +15,7 @@ pub fn said(claims: &[Claim]) -> ArrayVec<Claim, MAX_CLAIMS> {
     list
 }
 
-/// A packet of the member of a letter, with the first six of some claims.
+/// A packet of the member named by a letter, with the first six of some claims.
 pub fn packet(sender: u8, body: Body, claims: &[Claim]) -> Packet {
     Packet {
         sender: letter(sender),
@@ -24,7 +24,7 @@ pub fn packet(sender: u8, body: Body, claims: &[Claim]) -> Packet {
     }
 }
 
-/// A Ping for the member of a letter.
+/// A Ping for the member named by a letter.
 pub fn ping(number: u32, target: u8) -> Body {
     Body::Ping {
         number,

@@ -1,7 +1,6 @@
 //! How a run over the lines of an input ended.
 
-/// How a run over the lines of an input ended. Its number is the exit status that the end stands for (this project's
-/// choice).
+/// How a run over the lines of an input ended. The number of each variant is its exit status (this project's choice).
 #[derive(Clone, Copy, Debug, PartialEq, Eq)]
 pub enum End {
     /// No line was faulty.

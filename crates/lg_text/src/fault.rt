@@ -1,4 +1,7 @@
 //! Why a run over an input failed.
+//!
+//! Defined in: `specs/Meaning/Faults.antt`.
+//! Tested in: `cases/command_line.case`.
 ghost use Rattle.std.specs.Prelude.{◌≡◌};
 ghost use Rattle.lg_text.specs.Meaning.Faults.{run_fault_text};
 ghost use Rattle.lg_text.specs.declared.fault.RunFault.TheVariants.{Memory};
@@ -22,7 +25,7 @@ pub enum RunFault {
 }
 
 impl RunFault {
-    /// The line of the fault, with its newline.
+    /// The line that reports the fault, with its newline.
     pub fn text(self) -> &'static str
         ensures { result.now ≡ run_fault_text self }
     {

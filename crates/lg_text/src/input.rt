@@ -1,4 +1,7 @@
 //! Reads an input whole, up to a limit.
+//!
+//! Defined in: `specs/Meaning/Running.antt`.
+//! Tested in: `cases/limits.case`, `lg_command_tests/src/readers.rt`, `lg_command_tests/src/limits.rt`.
 ghost use Rattle.std.specs.Prelude.{◌≡◌, ◌+◌, ◌-◌, ◌≤◌, ◌<◌, ◌++◌};
 ghost use Rattle.std.specs.Prelude.{◌⊎◌, IfErr, IfOk, OnOk, Ok, length, vec_len};
 ghost use Rattle.std.specs.Io.KnownBytes.{Consumes, IsAtEnd};
@@ -12,8 +15,8 @@ use std::io::{ErrorKind, Read};
 /// The most bytes of an input: 1,048,576 (this project's choice).
 pub const MAX_INPUT: usize = 1_048_576;
 
-/// The most read calls for an input: two for each byte of one that is a byte too long, so that a
-/// reader that gives a byte at a time may be interrupted before each.
+/// The most read calls for an input: two for each byte of an input that is one byte too long. So a reader that gives
+/// a byte at a time may be interrupted before each byte.
 const MAX_READS: usize = 2 * (MAX_INPUT + 1);
 
 /// The most bytes of one read call.
@@ -28,12 +31,12 @@ enum Progress {
     End,
 }
 
-/// Reads all that a reader has left, at most [`MAX_INPUT`] bytes of it.
+/// Reads all that a reader has left, at most [`MAX_INPUT`] bytes.
 ///
-/// A longer or endless input is [`RunFault::Read`], found after at most `MAX_INPUT + 1` bytes and
-/// `2 * (MAX_INPUT + 1)` read calls. An interrupted call is made again within these calls, and any
-/// other error of the reader is [`RunFault::Read`]. The memory taken is in proportion to the
-/// bytes; where it is refused the fault is [`RunFault::Memory`].
+/// A longer or endless input is [`RunFault::Read`]. It is found after at most `MAX_INPUT + 1` bytes and
+/// `2 * (MAX_INPUT + 1)` read calls. An interrupted call is made again within these calls. Any other error of the
+/// reader is [`RunFault::Read`]. The memory that is allocated is in proportion to the bytes; if it is refused, the
+/// fault is [`RunFault::Memory`].
 pub fn read_input<R: Read>(alloc: Global, reader: &mut R) -> Result<Vec<u8>, RunFault>
     ensures all { IfOk result (λ input. Consumes (R.remaining reader.old) (R.remaining reader.new) input.items) }
     ensures end { OnOk result (IsAtEnd (R.remaining reader.new)) }
@@ -54,7 +57,7 @@ pub fn read_input<R: Read>(alloc: Global, reader: &mut R) -> Result<Vec<u8>, Run
     Err(RunFault::Read)
 }
 
-/// Makes one read call and puts its bytes behind the input, where they are not too many.
+/// Makes one read call, and appends its bytes to the input if the input isn't too long then.
 fn read_more<R: Read>(
     reader: &mut R,
     chunk: &mut [u8],
@@ -88,7 +91,7 @@ fn read_more<R: Read>(
     }
 }
 
-/// Puts what was read behind the input, where it then isn't too long.
+/// Appends what was read to the input, if the input isn't too long then.
 fn keep_read(read: &[u8], input: &mut Vec<u8>) -> Result<(), RunFault>
     requires { vec_len input.old ≤ MAX_INPUT }
     ensures grown { OnOk result (input.new.items ≡ input.old.items ++ read.now) }

@@ -1,5 +1,5 @@
-//! An input that is read whole up to a limit, its lines and its numbers, a text that is written whole, and a line that
-//! is written as far as it is taken.
+//! Reads an input whole, up to a limit, and finds its lines and numbers. Writes a text whole, or a line as far as the
+//! writer takes it.
 #![tactic(auto)]
 
 mod end;

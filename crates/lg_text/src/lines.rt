@@ -1,4 +1,7 @@
 //! Cuts a text into lines.
+//!
+//! Defined in: `specs/Meaning/Lines.antt`.
+//! Tested in: `cases/answer.case`, `cases/limits.case`.
 ghost use Rattle.std.specs.Prelude.{◌≡◌, ◌<◌, ◌≤◌, ◌==◌, ◌∷◌, length, position};
 ghost use Rattle.lg_text.specs.Meaning.Lines.{lines_of};
 
@@ -9,7 +12,7 @@ fn first_newline(text: &[u8]) -> Option<usize>
     text.iter().position(|byte| *byte == b'\n')
 }
 
-/// The first line of a text that isn't empty, without its newline byte, and what follows it.
+/// The first line of a text that has one, without its newline byte, and what follows the line.
 pub fn cut_line(text: &[u8]) -> (&[u8], &[u8])
     requires { 0 < length text.now }
     ensures lines { lines_of text.now ≡ result.0.now ∷ lines_of result.1.now }

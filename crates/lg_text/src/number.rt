@@ -1,4 +1,7 @@
 //! Reads a number of decimal digits.
+//!
+//! Defined in: `specs/Meaning/Numbers.antt`.
+//! Tested in: `cases/sim_commands.case`, `cases/sim_lines.case`.
 ghost use Rattle.std.specs.Prelude.{◌≡◌};
 ghost use Rattle.std.specs.Char.{is_ascii_digit};
 ghost use Rattle.std.specs.List.{list_all};
@@ -9,14 +12,14 @@ use std::str;
 /// The most digits of a number: 16 (this project's choice).
 pub const MAX_DIGITS: usize = 16;
 
-/// Whether a text is decimal digits alone.
+/// Whether a text has nothing but decimal digits.
 fn are_digits(text: &[u8]) -> bool
     ensures { result ≡ list_all is_ascii_digit text.now }
 {
     text.iter().all(|byte| byte.is_ascii_digit())
 }
 
-/// The number that a text is: 1 to [`MAX_DIGITS`] decimal digits and nothing else, of which the first may be zeros.
+/// The number that a text spells: 1 to [`MAX_DIGITS`] decimal digits and nothing else. The first digits may be zeros.
 ///
 /// It is at most 9,999,999,999,999,999. A text with a sign, a blank or more digits is no number.
 pub fn number_in(text: &[u8]) -> Option<u64>

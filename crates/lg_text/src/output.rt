@@ -1,4 +1,7 @@
-//! Writes a text whole, or a line as far as it is taken.
+//! Writes a text whole, or a line as far as the writer takes it.
+//!
+//! Defined in: `specs/Meaning/Running.antt`.
+//! Tested in: `lg_command_tests/src/writers.rt`.
 ghost use Rattle.std.specs.Prelude.{◌≡◌, IfErr, OnErr, OnOk};
 ghost use Rattle.std.specs.Io.KnownBytes.{Appends};
 ghost use Rattle.lg_text.specs.Meaning.Running.{AppendsFront};
@@ -8,9 +11,9 @@ use std::io::{ErrorKind, Write};
 
 /// Writes a text and flushes the writer.
 ///
-/// The only error is [`RunFault::Write`], which comes when a write or the flush fails. The writer then holds a
-/// beginning of the text behind what it held: none of it, a part or all. An interrupted write is made again, and a
-/// write that takes no byte of some is an error. No memory is taken beside what the writer takes.
+/// The only error is [`RunFault::Write`], which comes when a write or the flush fails. What the writer held then has
+/// grown by a beginning of the text: by none of it, a part or all. An interrupted write is made again. A write that
+/// takes none of the bytes handed to it is an error. No memory is allocated apart from what the writer allocates.
 pub fn write_whole<W: Write>(writer: &mut W, text: &[u8]) -> Result<(), RunFault>
     ensures written { OnOk result (Appends (W.contents writer.old) (W.contents writer.new) text.now) }
     ensures partly { OnErr result (AppendsFront (W.contents writer.old) (W.contents writer.new) text.now) }
@@ -23,7 +26,7 @@ pub fn write_whole<W: Write>(writer: &mut W, text: &[u8]) -> Result<(), RunFault
     Ok(())
 }
 
-/// Writes a line, as far as it is taken.
+/// Writes a line, as far as the writer takes it.
 pub fn report<F: Write>(faults: &mut F, line: &str)
     ensures { AppendsFront (F.contents faults.old) (F.contents faults.new) line.now }
 {
@@ -36,7 +39,7 @@ fn write_pieces<W: Write>(writer: &mut W, text: &[u8]) -> Result<(), RunFault>
     ensures partly { AppendsFront (W.contents writer.old) (W.contents writer.new) text.now }
     ensures refused { IfErr result (λ fault. fault ≡ RunFault.Write) }
 {
-    // `write_all` doesn't say what stands written where it fails, so the pieces are written here.
+    // `write_all` doesn't say how much it wrote if it fails, so the pieces are written here.
     let mut rest = text;
     for _ in 0..u64::MAX {
         if rest.is_empty() {

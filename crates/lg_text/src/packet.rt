@@ -1,4 +1,7 @@
-//! Puts a packet behind a text, as hex.
+//! Appends a packet to a text, as hex.
+//!
+//! Defined in: `lg_packet/specs/Meaning/Spelling.antt`.
+//! Tested in: `cases/answer.case`.
 ghost use Rattle.std.specs.Prelude.{◌≡◌, ◌++◌, OnErr, OnOk};
 ghost use Rattle.hex.specs.Hex.{encode_lower};
 ghost use Rattle.lg_packet.specs.Meaning.Spelling.{spelling};
@@ -7,11 +10,11 @@ use arrayvec::ArrayVec;
 use lg_packet::{MAX_PACKET, Packet};
 use std::alloc::AllocError;
 
-/// Puts the bytes of a packet behind a text as lower-case hex, two digits each, without a newline.
+/// Appends the bytes of a packet to a text as lower-case hex, two digits each, without a newline.
 ///
-/// `row` is room alone: what it holds is of no use before or after. The only error is that memory was refused; the
-/// text is then as it was. Time and memory are in proportion to the packet, of at most [`MAX_PACKET`] bytes, but that
-/// the text may have to be moved.
+/// `row` is a scratch buffer; what it holds before or after doesn't matter. The only error is that memory was
+/// refused; the text is then unchanged. Time and memory are in proportion to the packet, which has at most
+/// [`MAX_PACKET`] bytes. Only moving the text, if it has to grow, can take more.
 pub fn put_hex(
     packet: &Packet,
     row: &mut ArrayVec<u8, MAX_PACKET>,

@@ -10,7 +10,7 @@ use std::alloc::Global;
 use std::sync::Wait;
 use std::thread::{Threads, join};
 
-/// A Ping of a for b, numbered 7, that says that c is alive at 127.0.0.1:7003 with the number 0.
+/// A Ping of a for b, numbered 7, that says that c is alive at 127.0.0.1:7003 with the incarnation 0.
 const PING: &[u8] =
     b"SL\x01\x01\x01a\x00\x00\x00\x07\x01b\x01\x01\x01c\x7f\x00\x00\x01\x1b\x5b\x00\x00\x00\x00";
 
@@ -21,7 +21,7 @@ pub enum Heard {
     PingOfC,
     /// One byte, which is no packet.
     OneByte,
-    /// A Ping, by the turn of a thread, that says that one of sixteen members is alive, from time to time at a greater
+    /// The Ping of a thread's turn. It says that one of sixteen members is alive, from time to time at a greater
     /// incarnation.
     Turn(u32),
 }
@@ -31,9 +31,9 @@ pub enum Heard {
 pub enum Call {
     /// A datagram comes from port 7001.
     Datagram(u64, Heard),
-    /// A tick, all of whose words are this one.
+    /// A tick whose words are all this one.
     Tick(u64, u32),
-    /// c is asked for.
+    /// The record of c is asked for.
     Ask(u64),
     Health(u64),
     /// The member at port 7001 is asked for its table.
@@ -44,7 +44,7 @@ pub enum Call {
     Deadline,
     /// How many members there are.
     Members,
-    /// The record of a letter.
+    /// The record of the member named by a letter.
     StatusOf(u8),
 }
 
@@ -74,7 +74,7 @@ pub enum Seen {
     Wrong,
 }
 
-/// The index of a pass, what it does, and what that is to give.
+/// The index of a pass, what it does, and what that should give.
 pub type Row = (usize, Call, Seen);
 
 /// The bytes of the Ping of a turn.
@@ -122,7 +122,7 @@ fn seen_of(answer: Result<Receipt, Refusal>) -> Seen {
     }
 }
 
-/// What gives a number gave.
+/// What a call that gives a number gave.
 fn number_of(answer: Result<u64, Refusal>) -> Seen {
     match answer {
         Ok(number) => Seen::Number(number),
@@ -170,7 +170,7 @@ pub fn step<A: AgentName, R: Wait>(
     }
 }
 
-/// What a second try gave, where the version between the two was the number of the entries before it.
+/// What a second try gave, if the version between the two tries was the number of the entries before it.
 fn unless_changed(between: Seen, again: Seen) -> Seen {
     let unchanged = match &again {
         Seen::Answered(answered) => between == Seen::Number(answered.place),
@@ -179,7 +179,7 @@ fn unless_changed(between: Seen, again: Seen) -> Seen {
     if unchanged { again } else { Seen::Wrong }
 }
 
-/// One call or look, at the second try where memory was refused at the first. Then nothing may have changed.
+/// One call or look. If memory is refused, it is tried once more, and nothing may have changed before that.
 fn step_at_last<A: AgentName, R: Wait>(
     rt: &R,
     alloc: Global,
@@ -194,8 +194,8 @@ fn step_at_last<A: AgentName, R: Wait>(
     unless_changed(between, step(rt, alloc, pass, call))
 }
 
-/// Makes the calls and looks in order, up to the first that gives something else than it is to give. Those of the first
-/// pass are made in this thread, and each of the others in another one, where that can be had.
+/// Makes the calls and looks in order, up to the first that gives something else than it should. Those of the first
+/// pass are made in this thread. Each of the others is made in another thread, if one can be started.
 pub(super) fn first_wrong<A: AgentName + Send + Sync, R: Threads + Wait + Sync>(
     rt: &R,
     alloc: Global,
@@ -219,7 +219,7 @@ pub(super) fn first_wrong<A: AgentName + Send + Sync, R: Threads + Wait + Sync>(
     None
 }
 
-/// Plays the rows, and finishes the passes, the last one first. Each has to have its place.
+/// Plays the rows, and finishes the passes, the last one first. Each pass has to have its place.
 pub fn steps<A: AgentName + Send + Sync, R: Threads + Wait + Sync>(
     rt: &R,
     alloc: Global,

@@ -1,6 +1,6 @@
 //! Whom the rounds of an agent chose, by the history that is left of it. b knows c, d and e. Each word picks one of
-//! those that its round hasn't chosen yet, in the order of names: 4 the second of three, 0 the first of two, and 5 the
-//! one that is left.
+//! those that its round hasn't chosen yet, in the order of names. So 4 picks the second of three, 0 the first of two,
+//! and 5 the one that is left.
 ghost use Rattle.std.specs.Prelude.{◌≡◌};
 
 use crate::playing::config;
@@ -16,9 +16,9 @@ use std::sync::Wait;
 /// What happens to b, with its moment in milliseconds.
 #[derive(Clone, Copy)]
 enum Call {
-    /// A tick, all of whose words are this one.
+    /// A tick whose words are all this one.
     Tick(u64, u32),
-    /// The member of a letter acks the Ping of a number.
+    /// The member named by a letter acks the Ping with a number.
     Ack(u64, u8, u32),
 }
 
@@ -33,7 +33,7 @@ const CALLS: [Call; 7] = [
     Call::Tick(2000, 5),
 ];
 
-/// A number of calls behind which there is no rotation.
+/// A number of calls after which there is no rotation.
 const NEVER: usize = 8;
 
 /// One call.
@@ -53,7 +53,7 @@ fn make<A: AgentName, R: Wait>(
     }
 }
 
-/// All calls, with a rotation behind so many of them.
+/// All calls, with a rotation after `cut` of them.
 fn make_all<A: AgentName, R: Wait>(
     rt: &R,
     alloc: Global,
@@ -72,7 +72,7 @@ fn make_all<A: AgentName, R: Wait>(
     Ok(())
 }
 
-/// What the passes leave, where all went well.
+/// What the passes leave, if all went well.
 fn spent<A: AgentName, R: Wait>(
     rt: &R,
     alloc: Global,
@@ -123,12 +123,12 @@ fn close<A: AgentName, R: Wait>(
     }
 }
 
-/// What is left of an agent with one pass, whose history is rotated behind so many calls.
+/// What is left of an agent with one pass, whose history is rotated after `cut` calls.
 fn told<R: Wait>(rt: &R, alloc: Global, cut: usize) -> Result<Closed, Refusal> {
     close::<Brand, R>(rt, alloc, UnnamedBook::new(), 1, cut)
 }
 
-/// Whether the rounds from one position up to another chose those of these letters.
+/// Whether the rounds from one position up to another chose the members named by these letters.
 fn chose(alloc: Global, closed: &Closed, from: u64, to: u64, letters: &[u8]) -> bool {
     match closed.choices(alloc, from, to) {
         Ok(names) => {
@@ -142,7 +142,7 @@ fn chose(alloc: Global, closed: &Closed, from: u64, to: u64, letters: &[u8]) -> 
     }
 }
 
-/// A name, behind how many calls the history is rotated, the positions, and the letters of those that were chosen.
+/// A name, after how many calls the history is rotated, the positions, and the letters of those that were chosen.
 type Row = (&'static str, usize, u64, u64, &'static [u8]);
 
 const ROWS: [Row; 10] = [
@@ -169,8 +169,8 @@ fn tells_whom_rounds_chose(rt: HostRuntime) {
     }
 }
 
-/// Whether an agent with eight entries has this base and so many entries behind it, each from the first place or the
-/// opening, and a summary for those before the base.
+/// Whether an agent with eight entries has this base and this many entries after it, each from the first place or the
+/// opening. For the entries before the base there has to be a summary.
 fn is_left(closed: &Closed, base: u64, stored: usize) -> bool {
     let made_here = closed
         .history()
@@ -183,7 +183,7 @@ fn is_left(closed: &Closed, base: u64, stored: usize) -> bool {
         && made_here
 }
 
-/// What is left behind a rotation, and without one.
+/// What is left after a rotation, and without one.
 #[test]
 fn keeps_what_follows_a_rotation(rt: HostRuntime) {
     for (cut, base, stored) in [(NEVER, 0, 8), (0, 1, 7), (6, 7, 1), (7, 8, 0)] {

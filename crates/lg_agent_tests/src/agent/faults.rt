@@ -1,5 +1,5 @@
 //! Worked closings, by the definition that the contract of [`Kept::audit`](lg_agent::Kept::audit) names. What passes
-//! leave has the name and the positions of its own agent, so no run shows what the closing says of others.
+//! leave has the name and the positions of their own agent, so no run shows what the closing says of others.
 ghost use Rattle.std.specs.Prelude.{◌≡◌, ◌∷◌, [], ℕ, Some, None};
 ghost use Rattle.lg_timing.specs.declared.config.Config.{Config};
 ghost use Rattle.lg_detector.specs.declared.event.Event.{Event};
@@ -10,8 +10,8 @@ ghost use Rattle.lg_agent.specs.Meaning.Ledger.{Own};
 ghost use Rattle.lg_agent.specs.Meaning.Closing.{close_fault};
 ghost use Rattle.lg_agent.specs.declared.refusal.CloseFault.TheVariants.{Missing, Foreign, Differs};
 
-/// Two passes of the agent b, of which the first made the first and the third call, and the second made the second. In
-/// the last case the opening and the first call are cut off.
+/// Two passes of the agent b. The first made the first and the third call, and the second made the second. In the
+/// last case the opening and the first call are cut off.
 fn worked_faults()
     ensures foreign { (now : ℕ) (config : Config) (e : Event) (r : Reply) → config.name ≡ 98 ∷ []
         → close_fault (record {

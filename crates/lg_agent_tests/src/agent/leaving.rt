@@ -15,18 +15,18 @@ use std::thread::Threads;
 pub struct LeftBy {
     /// How many calls it made.
     made: u64,
-    /// How many of their positions it cut off.
+    /// How many of its positions it cut off.
     gone: u64,
-    /// The sum of those that are left.
+    /// The sum of the positions that are left.
     sum: u64,
     /// How many events it has seen.
     seen: u64,
 }
 
-/// What the passes left, the last one first, where each step gave what it was to.
+/// What the passes left, the last one first, if each step gave what it should.
 pub type Leaving = Option<ArrayVec<LeftBy, 2>>;
 
-/// What a pass left of this member, b.
+/// What a pass of this member, b, left.
 fn left_by<A: AgentName>(spent: &Spent<A>) -> LeftBy {
     if spent.name() != letter(b'b') {
         return LeftBy::default();
@@ -80,7 +80,8 @@ where
     }
 }
 
-/// A pass that made so many calls, cut off so many positions, has some left with this sum, and has seen so many events.
+/// A pass that made this many calls and cut off this many positions. The positions left have this sum, and it has
+/// seen this many events.
 const fn left(made: u64, gone: u64, sum: u64, seen: u64) -> LeftBy {
     LeftBy {
         made,
@@ -95,17 +96,17 @@ fn calls(place: u64) -> Row {
     (0, Call::Health(1), healthy(place, 1, 0))
 }
 
-/// One of the second pass, behind a call of the first.
+/// A call of the second pass, after one of the first.
 fn other_calls() -> Row {
     (1, Call::Health(1), healthy(2, 1, 0))
 }
 
-/// A rotation of a pass, which cuts off so many entries.
+/// A rotation of a pass, which cuts off this many entries.
 fn rotates(who: usize, cut: u64) -> Row {
     (who, Call::Rotate, Seen::Number(cut))
 }
 
-/// A look of the first pass, behind two calls.
+/// A look of the first pass, after two calls.
 fn looks() -> Row {
     (0, Call::Version, Seen::Number(3))
 }
@@ -116,8 +117,8 @@ fn is_refused() -> Row {
     (0, Call::Datagram(1, Heard::OneByte), refused)
 }
 
-/// The first pass makes one call or two, the second one perhaps another, and rotates. A pass cuts its own positions
-/// with its next answered call or its own rotation, and never before.
+/// The first pass makes one call or two. The second may make another one, and rotates. A pass cuts off its own
+/// positions at its next answered call or at its own rotation, and never before.
 #[test]
 fn cuts_its_positions(rt: HostRuntime) {
     let alloc = rt.alloc();

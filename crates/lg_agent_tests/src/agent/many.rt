@@ -1,5 +1,6 @@
-//! Threads that make calls and look at once, and some of which cut entries off. Afterwards a detector that is after
-//! those, a fresh one if there are none, is given the events of the history, and has to give its replies.
+//! Threads that make calls and look at once, and some of which cut entries off. Afterwards a detector is given the
+//! events of the history, and has to give the history's replies. It has heard the entries that were cut off; if there
+//! are none, it is a fresh one.
 use super::calls::{Call, Heard, Seen, step};
 use crate::playing::{Case, Ending, Left, Play, Shown, told};
 use lg_agent::{AgentName, Pass, Refusal, Spent};
@@ -7,8 +8,8 @@ use std::alloc::Global;
 use std::sync::{Mutex, Wait};
 use std::thread::{Threads, scope, scope_env};
 
-/// How often a call is made at most. One that finds the history full is made again behind a rotation, and other threads
-/// may have filled it meanwhile.
+/// How often a call is made at most. One that finds the history full is made again after a rotation, and other
+/// threads may have filled it meanwhile.
 const TRIES: u32 = 10_000;
 
 /// What a thread does when a call finds the history full.
@@ -16,7 +17,7 @@ const TRIES: u32 = 10_000;
 pub enum WhenFull {
     /// It rotates, and makes the call again.
     Rotates,
-    /// It leaves it at that, if these are how many entries the refusal names as the limit.
+    /// It gives the call up, if the refusal names this many entries as the limit.
     GoesOn(u64),
 }
 
@@ -25,15 +26,15 @@ pub enum WhenFull {
 pub struct Task {
     /// How many calls it makes.
     pub calls: u32,
-    /// Behind how many of its calls it rotates, each time.
+    /// After how many of its calls it rotates, each time.
     pub rotates_after: u32,
     pub when_full: WhenFull,
-    /// Whether it looks before and behind each call.
+    /// Whether it looks before and after each call.
     pub looks: bool,
 }
 
 impl Task {
-    /// So many calls between looks, and no rotation.
+    /// This many calls between looks, and no rotation.
     fn new(calls: u32) -> Task {
         Task {
             calls,
@@ -44,7 +45,7 @@ impl Task {
     }
 }
 
-/// One call: a datagram, a tick or a question, by the turn.
+/// The call of a turn: a datagram, a tick or a question.
 fn call_of(turn: u32) -> Call {
     let now = 10 * u64::from(turn);
     match turn % 5 {
@@ -61,9 +62,9 @@ fn call_of(turn: u32) -> Call {
 enum Came {
     /// It was answered, at this place.
     At(u64),
-    /// The history was full, and the thread leaves it at that.
+    /// The history was full, and the thread gives the call up.
     Full,
-    /// Neither, or it stands beside a look that went back.
+    /// Neither, or a look beside it went back.
     Wrong,
 }
 
@@ -78,8 +79,8 @@ fn came_of(call: Seen, when_full: WhenFull) -> Came {
     }
 }
 
-/// Whether the look before a call has seen no more than what came before it, and the look after it the call at least;
-/// beside a call that was refused, whether no look went back.
+/// Whether the look before an answered call has seen no more than came before it, and the look after it has seen the
+/// call at least. For a refused call, whether no look beside it went back.
 fn is_between(before: Seen, came: Came, after: Seen) -> bool {
     match (before, came, after) {
         (Seen::Number(before), Came::At(place), Seen::Number(after)) => {
@@ -128,7 +129,7 @@ fn rotate<A: AgentName, R: Wait>(rt: &R, alloc: Global, pass: &mut Pass<'_, A>, 
     }
 }
 
-/// One call of a thread. A thread that makes room does so as long as the history is full, and makes the call again.
+/// One call of a thread. A thread that rotates does so as long as the history is full, and makes the call again.
 fn make<A: AgentName, R: Wait>(
     rt: &R,
     alloc: Global,
@@ -148,7 +149,7 @@ fn make<A: AgentName, R: Wait>(
     came_of(step(rt, alloc, pass, call), when_full)
 }
 
-/// One call between two looks, of which none may go back. The own record has to be known.
+/// One call between two looks, neither of which may go back. b's own record has to be known.
 fn make_between_looks<A: AgentName, R: Wait>(
     rt: &R,
     alloc: Global,
@@ -204,7 +205,7 @@ struct Done<A: AgentName> {
     tally: Tally,
 }
 
-/// All calls of one thread, and what it leaves, which has to count each that was answered.
+/// All calls of one thread, and what it leaves. That has to count each call that was answered.
 fn work<A: AgentName, R: Wait>(
     rt: &R,
     alloc: Global,
@@ -264,8 +265,8 @@ where
     }
 }
 
-/// Eight threads with the same number of calls, three of which the third ends with no call made, and eight for whose
-/// last 4,001 calls there is no room.
+/// Eight threads with the same number of calls. Three threads, the third of which ends with no call made. Eight
+/// threads for whose last 4,001 calls there is no room.
 #[test]
 fn threads_make_one_history(rt: HostRuntime) {
     let eight = [Task::new(2000); 8];
@@ -287,8 +288,8 @@ fn threads_make_one_history(rt: HostRuntime) {
     }
 }
 
-/// Eight threads, one of which rotates behind each hundred of its calls. The others make some 700 calls meanwhile, for
-/// which there isn't room, so that they rotate too.
+/// Eight threads, one of which rotates after each hundred of its calls. The others make some 700 calls meanwhile.
+/// There isn't room for these, so the others rotate too.
 #[test]
 fn threads_that_rotate(rt: HostRuntime) {
     for looks in [false, true] {

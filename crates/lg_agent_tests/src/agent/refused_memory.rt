@@ -1,10 +1,10 @@
-//! Memory that is refused once: what fails with it has changed nothing, and goes well the next time.
+//! Memory that is refused once: what fails because of it has changed nothing, and goes well the next time.
 use super::rotating::fills_it;
 use super::rows::{case, play_each_call, seen_in};
 use crate::playing::{Outcome, told_at_last};
 
-/// Whether each step gave what it was to, no pass was given out later, and the agent was closed with so many entries,
-/// of which so many were cut off.
+/// Whether each step gave what it should, no pass was given out later, and the agent was closed with this many
+/// entries, of which `base` were cut off.
 fn is_whole(outcome: &Outcome, entries: u64, base: u64) -> bool {
     match seen_in(outcome) {
         Some((None, 0, ending)) => {
@@ -14,7 +14,7 @@ fn is_whole(outcome: &Outcome, entries: u64, base: u64) -> bool {
     }
 }
 
-/// After five calls c is known, and a round has begun; each call has its place, and is then published.
+/// After five calls c is known, and a round has begun. Each call has its place, and is published then.
 #[test]
 fn goes_on_after_refused_memory(rt: HostRuntime) {
     let met = match play_each_call(&rt, rt.alloc()) {
@@ -24,8 +24,8 @@ fn goes_on_after_refused_memory(rt: HostRuntime) {
     assert!(rt; met);
 }
 
-/// A history that is filled and rotated: a rotation that was refused memory has cut nothing off, and the next one cuts
-/// all that there is.
+/// A history that is filled and rotated. A rotation that was refused memory has cut nothing off, and the next one
+/// cuts off all that there is.
 #[test]
 fn rotates_after_refused_memory(rt: HostRuntime) {
     let rows = fills_it();

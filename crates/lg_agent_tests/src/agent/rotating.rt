@@ -1,10 +1,10 @@
-//! Agents with room for three entries, of which entries are cut off.
+//! Agents with room for three entries. Some entries are cut off.
 use super::calls::{Call, Row, Seen};
 use super::rows::{case, healthy, play};
 use crate::playing::Ending;
 use lg_agent::{CloseFault, Refusal};
 
-/// One pass fills the history twice. Its places go on behind those that were cut off, and so do the versions.
+/// One pass fills the history twice. Its places go on after those that were cut off, and so do the versions.
 pub(super) fn fills_it() -> [Row; 7] {
     let full = Seen::Refused(Refusal::HistoryFull(3));
     [
@@ -37,7 +37,7 @@ fn takes_turns() -> [Row; 12] {
     ]
 }
 
-/// What each call gives around rotations, and how many entries there were when the agent is closed, perhaps at the
+/// What each call gives around rotations. Then how many entries there were when the agent was closed, perhaps at the
 /// second try, and how many of them were cut off.
 #[test]
 fn goes_on_after_a_rotation(rt: HostRuntime) {

@@ -11,7 +11,7 @@ use std::rt;
 use std::sync::Wait;
 use std::thread::Threads;
 
-/// The record of c, alive at port 7003 with the number 0.
+/// The record of c, alive at port 7003 with the incarnation 0.
 fn alive_c() -> Record {
     Record {
         name: letter(b'c'),
@@ -21,7 +21,7 @@ fn alive_c() -> Record {
     }
 }
 
-/// The record of b, alive at port 7000 with the number 0.
+/// The record of b, alive at port 7000 with the incarnation 0.
 fn alive_b() -> Record {
     Record {
         name: letter(b'b'),
@@ -42,7 +42,7 @@ fn answered(place: u64, next: u64) -> Answered {
     }
 }
 
-/// One with this many packets.
+/// The same, with this many packets.
 fn sent(place: u64, sends: usize, next: u64) -> Seen {
     let mut seen = answered(place, next);
     seen.sends = sends;
@@ -64,7 +64,7 @@ fn knows_c(place: u64, next: u64) -> Seen {
     Seen::Answered(seen)
 }
 
-/// The score is 0, and the own number, of so many members.
+/// The score and b's incarnation are 0, and there are this many members.
 pub fn healthy(place: u64, members: u64, next: u64) -> Seen {
     let mut seen = answered(place, next);
     seen.answer = Some(Answer::Health {
@@ -75,7 +75,7 @@ pub fn healthy(place: u64, members: u64, next: u64) -> Seen {
     Seen::Answered(seen)
 }
 
-/// The first step that gave something else than it was to, how many passes were given out later, and how the agent
+/// The first step that gave something else than it should, how many passes were given out later, and how the agent
 /// ended.
 pub type SeenIn = (Option<(usize, Seen)>, usize, Ending);
 
@@ -87,7 +87,7 @@ pub fn seen_in(outcome: &Outcome) -> Option<SeenIn> {
     }
 }
 
-/// A case of so many places that knows so many others, with a limit on its history.
+/// A case with this many places, whose agent knows this many others and has this limit on its history.
 pub fn case<'a>(places: usize, others: u8, limit: u64, rows: &'a [Row]) -> Case<'a> {
     let mut case = Case::new(places, Play::Steps(rows));
     case.others = others;
@@ -104,8 +104,8 @@ where
     seen_in(&outcome)
 }
 
-/// Each call of the only pass, after each of which a look shows it, at the second try where the opening was refused
-/// memory at the first. After the calls c is known, and a round has begun.
+/// Each call of the only pass, with a look after it that shows it. If memory for the opening was refused, it is tried
+/// once more. After the calls c is known, and a round has begun.
 pub fn play_each_call<R>(rt: &R, alloc: Global) -> Result<Outcome, Refusal>
 where
     R: Threads + Wait + rt::Clock + Sync,
@@ -129,7 +129,7 @@ where
 /// What each call and look gives, to one pass and to two, and how their agents end.
 #[test]
 fn each_call_and_look(rt: HostRuntime) {
-    // The history has two entries at the most.
+    // The history has at most two entries.
     let full = [
         (0, Call::Health(1), healthy(1, 1, 0)),
         (0, Call::Health(2), Seen::Refused(Refusal::HistoryFull(2))),

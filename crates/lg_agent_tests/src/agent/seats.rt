@@ -10,7 +10,7 @@ use std::alloc::Global;
 use std::marker::Brand;
 use std::sync::Wait;
 
-/// What calls of the seats 0, 2 and 1 of the one place gave, the position or the refusal, and how many entries there
+/// What calls of the seats 0, 2 and 1 of the one place gave, each a position or a refusal, and how many entries there
 /// are then.
 type Seen = ([Result<u64, Refusal>; 3], u64);
 

@@ -1,4 +1,4 @@
-//! Entries that are stored and read back, also where memory is refused once: then a second try succeeds.
+//! Entries that are stored and read back. If memory is refused once, a second try succeeds.
 use super::rows::{Row, all, opening, ping, question};
 use crate::comparing::{is_same_event, is_same_reply};
 use lg_history::{Entry, History};
@@ -12,8 +12,8 @@ fn is_of(entry: &Entry, seat: usize, row: &Row) -> bool {
         && entry.chosen() == row.chosen
 }
 
-/// Prepares the event of a row. Where memory is refused nothing is prepared and no entry is added, and a second try is
-/// made. Returns whether that was so, and one of the two succeeded.
+/// Prepares the event of a row. If memory is refused, nothing is prepared and no entry is added, and a second try is
+/// made. Returns whether that was so and one of the two tries succeeded.
 fn is_prepared(history: &mut History, alloc: Global, seat: usize, row: &Row) -> bool {
     let before = history.len();
     match history.prepare(alloc, seat, &row.event) {
@@ -25,7 +25,7 @@ fn is_prepared(history: &mut History, alloc: Global, seat: usize, row: &Row) -> 
     }
 }
 
-/// Adds the entry of a row, and reads it back. Returns whether it is the last one, and one more.
+/// Adds the entry of a row, and reads it back. Returns whether it is the last entry, and one more than before.
 fn is_added(history: &mut History, alloc: Global, seat: usize, row: &Row) -> bool {
     let count = history.len().checked_add(1);
     let prepared = is_prepared(history, alloc, seat, row);

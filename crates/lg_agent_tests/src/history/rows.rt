@@ -14,7 +14,7 @@ pub(super) struct Row {
     pub(super) chosen: Option<Name>,
 }
 
-/// The reply that says nothing, where this is the least deadline.
+/// The reply that says nothing, with this least deadline.
 fn nothing(next: u64) -> Reply {
     let mut reply = Reply::default();
     reply.next = next;
@@ -156,7 +156,7 @@ fn pull() -> Row {
     }
 }
 
-/// A Ping for b that suspects it beyond refuting: b is ousted.
+/// A Ping for b with a suspicion of b that nothing can refute: b is ousted.
 fn ousting() -> Row {
     let (number, target) = (1, letter(b'b'));
     let mut reply = nothing(0);

@@ -1,4 +1,4 @@
-//! One loop of a node, a hundred turns at most. A run names what it meets, and a row what is seen of it.
+//! One loop of a node, of at most a hundred turns. A run says what the loop meets, and a row what is seen of it.
 use super::clocks::{FixedDice, MemoryClock, Pauses};
 use super::links::{Call, MemoryLink, QUIET, Script};
 use crate::playing::{Case, Left, Outcome, Play, Shown};
@@ -73,9 +73,9 @@ pub struct LoopSeen {
     pub failures: u64,
     /// The pauses of its clock.
     pub pauses: Pauses,
-    /// Whether the others are told to stop.
+    /// Whether the other loops are told to stop.
     pub stop: bool,
-    /// How many calls its pass had answered.
+    /// How many calls of its pass were answered.
     pub answered: usize,
 }
 
@@ -132,16 +132,16 @@ pub fn run_alone<A: AgentName, R: Wait>(
     Left { spents, shown }
 }
 
-/// What the calls of a link are to be.
+/// What the calls of a link should be.
 #[derive(Clone, Copy)]
 pub(super) enum Calls<'a> {
-    /// These, of which a link keeps 16.
+    /// These calls. A link keeps its first 16.
     Are(&'a [Call]),
-    /// Packets alone, of which these were sent and the others not.
+    /// Only packets. Each flag says whether a packet was sent.
     Sent(&'a [bool]),
 }
 
-/// Whether each call sent a packet or not, as these say.
+/// Whether each call handed over a packet, which was sent or not, as these say.
 fn are_sent(calls: &[Call], wanted: &[bool]) -> bool {
     calls.len() == wanted.len()
         && calls.iter().zip(wanted).all(|(call, want)| match call {
@@ -151,7 +151,7 @@ fn are_sent(calls: &[Call], wanted: &[bool]) -> bool {
 }
 
 impl<'a> Calls<'a> {
-    /// Whether these are as they are to be.
+    /// Whether the calls are what they should be.
     fn are(self, calls: &[Call]) -> bool {
         match self {
             Calls::Are(wanted) => calls == wanted,
@@ -160,7 +160,7 @@ impl<'a> Calls<'a> {
     }
 }
 
-/// How a loop is to end, how many receivings and failures of its link there are to be, and how many entries.
+/// How a loop should end, how many receivings and failures of its link there should be, and how many entries.
 #[derive(Clone, Copy)]
 pub(super) struct Want<'a> {
     pub(super) why: Why,
@@ -177,14 +177,14 @@ pub(super) struct Want<'a> {
 }
 
 impl<'a> Want<'a> {
-    /// The same, where so many entries were cut off.
+    /// The same, if this many entries were cut off.
     pub(super) fn behind(self, base: u64) -> Want<'a> {
         let mut want = self;
         want.base = base;
         want
     }
 
-    /// Whether an outcome is as it is to be. Whatever the end, the others are told to stop.
+    /// Whether an outcome is what it should be. Whatever the end, the others are told to stop.
     pub(super) fn is(&self, outcome: &Outcome) -> bool {
         let end = End {
             why: self.why,

@@ -1,4 +1,4 @@
-//! A node over UDP asks its seeds before its loops, of which the ticking one ends at once.
+//! A node over UDP asks its seeds before its loops run. The ticking loop ends at once.
 use lg_agent::{CloseFault, Closed};
 use lg_detector::Event;
 use lg_node::{End, NodeEnd, Why, run_node};
@@ -50,7 +50,7 @@ fn has_come(socket: &UdpSocket) -> bool {
     }
 }
 
-/// Whom the entries behind the opening asked, in order, where they asked two.
+/// Whom the entries after the opening asked, in order, if there are two.
 fn asked(closed: &Result<Closed, CloseFault>) -> Option<(Addr, Addr)> {
     let Ok(closed) = closed else {
         return None;
@@ -71,7 +71,7 @@ fn seen_of(ran: &NodeEnd) -> (End, Option<(Addr, Addr)>) {
     (ran.ticked, asked(&ran.closed))
 }
 
-/// Both seeds are asked, in order, also where a packet isn't sent; the ticking loop counts that one.
+/// Both seeds are asked, in order, even if a packet isn't sent. The ticking loop counts that packet.
 #[test]
 fn each_seed_is_asked(rt: HostRuntime) -> Result<(), Fail> {
     let [first, second] = PORTS;

@@ -1,6 +1,6 @@
-//! Both loops at once, in two threads that wait for each other: neither comes to its end alone. The ticking loop's
-//! first packet waits until the other loop receives, and that receiving waits until the packet is handed over, ten
-//! seconds at most.
+//! Both loops at once, in two threads that wait for each other, so that neither can end by itself. The ticking loop's
+//! first packet waits until the other loop receives. That receiving waits until the packet is handed over. Each waits
+//! ten seconds at most.
 ghost use Rattle.std.specs.Prelude.{◌≡◌, ◌+◌, MatchBool};
 
 use super::clocks::FixedDice;
@@ -22,7 +22,7 @@ use std::{rt, thread};
 /// How many milliseconds one loop waits for the other at most.
 const PATIENCE_MS: u64 = 10_000;
 
-/// How many turns a loop may make. One that has nothing to do lasts a millisecond or more.
+/// How many turns a loop may make. A turn that has nothing to do lasts a millisecond or more.
 const BOUND: u64 = 20_000;
 
 /// What the loops wait for.
@@ -30,7 +30,7 @@ const BOUND: u64 = 20_000;
 struct Meeting {
     /// A packet was handed over.
     sent: AtomicBool,
-    /// A datagram was waited for, after that.
+    /// After that, a datagram was waited for.
     received: AtomicBool,
     /// The loops are to stop.
     stop: AtomicBool,
@@ -47,7 +47,7 @@ struct MeetingLink<'a, R> {
     failures: u64,
 }
 
-/// Waits until a flag is set, or patience ends. Whether it is set.
+/// Waits until a flag is set, or patience ends. Returns whether it is set.
 fn is_met<R: rt::Clock>(rt: &R, flag: &AtomicBool) -> bool {
     for _ in 0..PATIENCE_MS {
         if flag.load(SeqCst) {
@@ -70,7 +70,7 @@ impl<'a, R> MeetingLink<'a, R> {
         }
     }
 
-    /// Counts a failure, where there is a number for it.
+    /// Counts a failure, unless the count is at its greatest.
     fn count(&mut self) -> bool
         ensures { MatchBool result (self.new.failures ≡ self.old.failures + 1)
             (self.new.failures ≡ self.old.failures) }
@@ -82,7 +82,7 @@ impl<'a, R> MeetingLink<'a, R> {
         true
     }
 
-    /// Which receiving it is, from 1.
+    /// Which receiving this is, counted from 1.
     fn next(&mut self) -> u64
         ensures { self.new.failures ≡ self.old.failures }
     {
@@ -100,7 +100,7 @@ impl<'a, R: rt::Clock> Link for MeetingLink<'a, R> {
 
     ghost failed = { λ l. l.failures };
 
-    /// It fails where the other loop doesn't receive.
+    /// Fails if the other loop doesn't receive.
     fn send(&mut self, _to: Addr, _bytes: &[u8]) -> Result<(), LinkFault> {
         self.meeting.sent.store(true, SeqCst);
         if !is_met(self.rt, &self.meeting.received) && self.count() {
@@ -109,7 +109,7 @@ impl<'a, R: rt::Clock> Link for MeetingLink<'a, R> {
         Ok(())
     }
 
-    /// The first one fails where no packet was handed over. With the second the loops are told to stop.
+    /// The first one fails if no packet was handed over. At the second the loops are told to stop.
     fn receive(
         &mut self,
         buffer: &mut [u8; MAX_DATAGRAM],
@@ -132,7 +132,7 @@ impl<'a, R: rt::Clock> Link for MeetingLink<'a, R> {
     }
 }
 
-/// A clock at which it is always 0, with pauses of a millisecond.
+/// A clock at which it is always 0. Its pauses last a millisecond.
 #[derive(Drop)]
 struct StandingClock<'a, R> {
     rt: &'a R,
@@ -204,7 +204,7 @@ where
     Left { spents, shown }
 }
 
-/// An agent that knows c, and runs both loops, perhaps with a first receiving that fails.
+/// An agent that knows c, and runs both loops. The first receiving may fail.
 pub fn both_loops<'a>(fails: bool) -> Case<'a> {
     let mut case = Case::new(2, Play::Both { fails });
     case.others = 1;
@@ -219,8 +219,9 @@ pub fn seen_in(outcome: &Outcome) -> Option<(BothSeen, Ending)> {
     }
 }
 
-/// The Ping of the ticking loop is handed over while the other loop receives. That one answers a Ping, and is told to
-/// stop. Where its receiving fails, after a tick, the ticking loop, which has no other reason to end, is stopped.
+/// The Ping of the ticking loop is handed over while the other loop receives. The receiving loop answers a Ping, and
+/// is told to stop. If its receiving fails, after a tick, the ticking loop, which has no other reason to end, is
+/// stopped.
 #[test]
 fn both_run_at_once(rt: HostRuntime) {
     let rows = [

@@ -5,7 +5,7 @@ use lg_timing::Moment;
 use std::sync::atomic::AtomicU64;
 use std::sync::atomic::Ordering::SeqCst;
 
-/// A clock that goes on by its pauses alone, and tells of them.
+/// A clock that goes on only by its pauses, and tells of them.
 #[derive(Drop)]
 pub(super) struct MemoryClock {
     now: AtomicU64,
@@ -57,7 +57,7 @@ impl Clock for MemoryClock {
     }
 }
 
-/// Dice that give one word always.
+/// Dice that always give the same word.
 #[derive(Drop)]
 pub(super) struct FixedDice {
     pub(super) word: u32,

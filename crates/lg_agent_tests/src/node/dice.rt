@@ -1,4 +1,4 @@
-//! The first words of PCG32 generators, by a program in another language.
+//! The first words of PCG32 generators, as a program in another language gives them.
 use lg_node::{Dice, PcgDice};
 
 /// The first eight words of the generators of 42 and 1.

@@ -11,10 +11,10 @@ use std::sync::atomic::Ordering::SeqCst;
 /// A Ping of a for b, numbered 7.
 pub(super) const PING_7: &[u8; 13] = b"SL\x01\x01\x01a\x00\x00\x00\x07\x01b\x00";
 
-/// One numbered 8.
+/// A Ping numbered 8.
 const PING_8: &[u8; 13] = b"SL\x01\x01\x01a\x00\x00\x00\x08\x01b\x00";
 
-/// One numbered 7, with the claim that b is alive at 127.0.0.1:7000 with the incarnation 1,000,000,000.
+/// A Ping numbered 7, with the claim that b is alive at 127.0.0.1:7000 with the incarnation 1,000,000,000.
 const OUSTING_PING: &[u8; 26] =
     b"SL\x01\x01\x01a\x00\x00\x00\x07\x01b\x01\x01\x01b\x7f\x00\x00\x01\x1b\x58\x3b\x9a\xca\x00";
 
@@ -29,7 +29,7 @@ const PING_OF_C: &[u8; 13] = b"SL\x01\x01\x01b\x00\x00\x00\x01\x01c\x00";
 /// What comes over a link.
 #[derive(Clone, Copy)]
 pub enum Coming {
-    /// No datagram, in time.
+    /// No datagram comes in time.
     Nothing,
     /// A datagram of one byte, which is no packet.
     OneByte,
@@ -42,7 +42,7 @@ pub enum Coming {
 }
 
 impl Coming {
-    /// The bytes of the datagram; of none there are none.
+    /// The bytes of the datagram. If none comes, there are no bytes.
     fn bytes(self) -> &'static [u8] {
         match self {
             Coming::Nothing => b"",
@@ -54,7 +54,7 @@ impl Coming {
     }
 }
 
-/// What some bytes spell, of what is looked for.
+/// What some bytes spell, among the packets that are looked for.
 #[derive(Clone, Copy, PartialEq, Eq)]
 pub enum Spelled {
     Ack7,
@@ -81,11 +81,11 @@ impl Spelled {
 /// One call of a link.
 #[derive(Clone, Copy, PartialEq, Eq)]
 pub enum Call {
-    /// It waited for a datagram, at most so many milliseconds.
+    /// It waited for a datagram, at most this many milliseconds.
     Receive {
         limit_ms: u64,
     },
-    /// A packet was handed over for a port of 127.0.0.1, or for port 0 if it was for another address; it was sent or
+    /// A packet was handed over for a port of 127.0.0.1. The port is 0 if it was for another address. It was sent or
     /// not.
     Send {
         what: Spelled,
@@ -94,7 +94,7 @@ pub enum Call {
     },
 }
 
-/// The port of an address at 127.0.0.1, and 0 of another one.
+/// The port of an address at 127.0.0.1, and 0 for another address.
 fn port_of(to: Addr) -> u16 {
     if to.octets == [127, 0, 0, 1] {
         to.port
@@ -114,19 +114,19 @@ impl Default for Call {
 /// What a link does, call by call.
 #[derive(Clone, Copy)]
 pub struct Script {
-    /// What comes first; after the third nothing does.
+    /// What comes first. After the third nothing comes.
     pub first: Coming,
     pub second: Coming,
     pub third: Coming,
-    /// With which receiving the loop is told to stop, from 1, or 0 where it isn't.
+    /// At which receiving the loop is told to stop, counted from 1, or 0 if it isn't.
     pub stops_at: u64,
-    /// Which call fails, from 1, or 0 where none does.
+    /// Which call fails, counted from 1, or 0 if none does.
     pub fails_at: u64,
     /// The port of 127.0.0.1 to which nothing can be sent, if there is one.
     pub refuses: Option<u16>,
 }
 
-/// A link over which nothing comes, and of which no call fails.
+/// A link over which nothing comes, and whose calls don't fail.
 pub(super) const QUIET: Script = Script {
     first: Coming::Nothing,
     second: Coming::Nothing,
@@ -137,7 +137,7 @@ pub(super) const QUIET: Script = Script {
 };
 
 impl Script {
-    /// What comes with a receiving, from 1.
+    /// What comes at a receiving, counted from 1.
     fn coming(&self, receiving: u64) -> Coming {
         match receiving {
             1 => self.first,
@@ -162,7 +162,7 @@ pub(super) struct MemoryLink<'a> {
 }
 
 impl<'a> MemoryLink<'a> {
-    /// A link that was not called yet.
+    /// A link that wasn't called yet.
     pub(super) fn new(script: Script, stop: &'a AtomicBool) -> MemoryLink<'a> {
         MemoryLink {
             script,
@@ -174,7 +174,7 @@ impl<'a> MemoryLink<'a> {
         }
     }
 
-    /// Counts a call, which may be one that is refused. Whether it fails, which is counted too.
+    /// Counts a call, which may be one that is refused. Returns whether it fails; a failure is counted too.
     fn fails(&mut self, is_refused: bool) -> bool
         ensures { MatchBool result (self.new.failures ≡ self.old.failures + 1)
             (self.new.failures ≡ self.old.failures) }
@@ -188,7 +188,7 @@ impl<'a> MemoryLink<'a> {
         true
     }
 
-    /// Keeps a call, where there is room.
+    /// Keeps a call, if there is room.
     fn keep(&mut self, call: Call)
         ensures { self.new.failures ≡ self.old.failures }
     {
@@ -209,7 +209,7 @@ impl<'a> MemoryLink<'a> {
     }
 }
 
-/// Puts bytes at the front of a buffer. Returns how many.
+/// Copies bytes to the front of a buffer. Returns how many.
 pub(super) fn put(buffer: &mut [u8; MAX_DATAGRAM], bytes: &[u8]) -> usize
     ensures { result ≤ MAX_DATAGRAM }
 {

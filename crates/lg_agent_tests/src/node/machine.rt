@@ -1,10 +1,10 @@
-//! The machine's clock, beside the instants of the machine that it counts by.
+//! The machine's clock, compared with the instants of the machine, by which it counts.
 use lg_node::{Clock, MachineClock};
 use std::time::Instant;
 use std::{io, rt};
 
-/// A moment of a clock that paused for so many milliseconds after it was made, and how many milliseconds passed
-/// meanwhile by an instant that was taken before it was made.
+/// The moment of a clock that paused for `ms` milliseconds after it was made. Then how many milliseconds passed
+/// meanwhile, by an instant that was taken before it was made.
 fn after_pause<R: rt::Clock>(rt: &R, ms: u64) -> io::Result<(u64, u128)> {
     let begun = Instant::now(rt)?;
     let clock = MachineClock::new(rt)?;
@@ -13,8 +13,8 @@ fn after_pause<R: rt::Clock>(rt: &R, ms: u64) -> io::Result<(u64, u128)> {
     Ok((now, begun.elapsed(rt)?.as_millis()))
 }
 
-/// The clock counts from its making, a millisecond each millisecond: a pause lasts as long as it is to, and the clock has
-/// counted it, but no more than has passed.
+/// The clock counts from its making, a millisecond each millisecond. A pause lasts as long as it should. The clock
+/// has counted the pause, but no more than has passed.
 #[test]
 fn counts_milliseconds(rt: HostRuntime) {
     for ms in [0, 1, 60] {

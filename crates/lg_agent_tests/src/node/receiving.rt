@@ -1,4 +1,4 @@
-//! Receiving loops, a hundred turns each at most.
+//! Receiving loops, of at most a hundred turns each.
 use super::alone::{BOUND, Calls, Run, Want};
 use super::clocks::Pauses;
 use super::links::{Call, Coming, QUIET, Script, Spelled};
@@ -17,7 +17,7 @@ const fn ack(what: Spelled, sent: bool) -> Call {
     }
 }
 
-/// A link over which this comes, and which tells the loop to stop with one of its receivings.
+/// A link over which this comes, and which tells the loop to stop at one of its receivings.
 const fn comes(first: Coming, second: Coming, third: Coming, stops_at: u64) -> Script {
     Script {
         first,
@@ -29,14 +29,14 @@ const fn comes(first: Coming, second: Coming, third: Coming, stops_at: u64) -> S
     }
 }
 
-/// Two Pings, with the second of which the loop is told to stop. One call fails, from 1.
+/// Two Pings; at the second the loop is told to stop. One call fails, counted from 1.
 fn two_pings(fails_at: u64) -> Script {
     let mut script = comes(Coming::Ping7, Coming::Ping8, Coming::Nothing, 2);
     script.fails_at = fails_at;
     script
 }
 
-/// A loop that ends after so many turns, each of which receives.
+/// A loop that ends after this many turns, each of which receives.
 fn ended(why: Why, turns: u64, calls: &[Call], entries: u64) -> Want<'_> {
     Want {
         why,
@@ -56,7 +56,7 @@ fn ended(why: Why, turns: u64, calls: &[Call], entries: u64) -> Want<'_> {
     }
 }
 
-/// The same, where one call failed: a receiving, or a packet that wasn't sent.
+/// The same, if one call failed: a receiving, or a packet that wasn't sent.
 fn failed(why: Why, turns: u64, unsent: u64, calls: &[Call], entries: u64) -> Want<'_> {
     let mut want = ended(why, turns, calls, entries);
     want.unsent = unsent;
@@ -69,21 +69,21 @@ fn receiving_loops(rt: HostRuntime) {
     let (stopped, lost) = (Why::Stopped, Why::LinkFailed);
     let (yes_7, no_7) = (ack(Spelled::Ack7, true), ack(Spelled::Ack7, false));
     let (yes_8, no_8) = (ack(Spelled::Ack8, true), ack(Spelled::Ack8, false));
-    // A quiet turn, a datagram that is no packet, and a Ping, with which the loop is told to stop.
+    // A quiet turn, a datagram that is no packet, and a Ping, at which the loop is told to stop.
     let third_ping = comes(Coming::Nothing, Coming::OneByte, Coming::Ping7, 3);
     let answers = [RECEIVE, RECEIVE, RECEIVE, yes_7];
     let mut answered = ended(stopped, 3, &answers, 2);
     answered.dropped = 1;
-    // Each call of the link fails in turn: two receivings, and two Acks between and behind them. The Ack behind one
-    // that wasn't sent is handed over.
+    // Each call of the link fails in turn: two receivings, and the Ack after each. The Ack after one that wasn't sent
+    // is handed over.
     let first = [RECEIVE];
     let second = [RECEIVE, no_7, RECEIVE, yes_8];
     let third = [RECEIVE, yes_7, RECEIVE];
     let fourth = [RECEIVE, yes_7, RECEIVE, no_8];
-    // A claim ousts the member: the packets of the reply that says so are handed over first.
+    // A claim ousts the member. The packets of the reply that says so are handed over first.
     let ousting = comes(Coming::OustingPing, Coming::Ping8, Coming::Nothing, 0);
     let last_ack = [RECEIVE, yes_7];
-    // The history has room for the opening and one Ping: with the second one it is rotated.
+    // The history has room for the opening and one Ping. At the second Ping it is rotated.
     let both = [RECEIVE, yes_7, RECEIVE, yes_8];
     let quiet = [RECEIVE; 16];
     let rows = [

@@ -1,5 +1,5 @@
-//! Memory that is refused once: a loop whose call meets that ends with it, and nothing is lost. Where a thread's is
-//! refused, no loop makes a turn.
+//! Memory that is refused once. A loop whose call meets that ends with it, and nothing is lost. If memory for a
+//! thread is refused, no loop makes a turn.
 use super::alone::Run;
 use super::both::{BothSeen, both_loops, seen_in};
 use super::links::{Call, Coming, Script};
@@ -18,11 +18,11 @@ fn handed(calls: &[Call]) -> usize {
 /// After how many turns a loop of two calls ends.
 #[derive(Clone, Copy)]
 struct Turns {
-    /// Where memory is refused to the first call.
+    /// If memory is refused to the first call.
     first: u64,
-    /// Where it is to the second.
+    /// If it is refused to the second.
     second: u64,
-    /// Where it is to neither.
+    /// If it is refused to neither.
     neither: u64,
     /// How many packets each answered call hands over.
     packets: usize,
@@ -31,15 +31,15 @@ struct Turns {
 }
 
 impl Turns {
-    /// The same, where the history has room for two entries: for the second call these are cut off.
+    /// The same, if the history has room for two entries. These are cut off for the second call.
     fn in_little_room(self) -> Turns {
         let mut turns = self;
         turns.cut = 2;
         turns
     }
 
-    /// Whether so many entries may be cut off once so many calls were answered. A rotation may have been answered whose
-    /// call was refused then.
+    /// Whether this many entries may be cut off after this many calls were answered. A rotation may have been
+    /// answered whose call was refused afterwards.
     fn allow(&self, answered: usize, base: Option<u64>) -> bool {
         match answered {
             0 => base == Some(0),
@@ -49,7 +49,7 @@ impl Turns {
     }
 }
 
-/// Whether the loop ended after these turns, with the call that met the refusal if one did. Each answered call, and no
+/// Whether the loop ended after these turns, at the call that met the refusal if one did. Each answered call, and no
 /// other, is in the pass's list and in the history, and handed its packets over.
 fn is_whole(outcome: &Outcome, want: Turns) -> bool {
     let Shown::Loop(seen) = &outcome.shown else {
@@ -71,8 +71,8 @@ fn is_whole(outcome: &Outcome, want: Turns) -> bool {
         && handed(seen.calls.as_slice()) == packets
 }
 
-/// Two Pings, each of which is answered where its call is; and ticks at 0 and 1000, with 50 pauses between. The history
-/// has room for all, or for two entries.
+/// Two Pings, each of which is answered if its call is. Then ticks at 0 and 1000, with 50 pauses between them. The
+/// history has room for all entries, or for two.
 #[test]
 fn one_loop(rt: HostRuntime) {
     let script = Script {
@@ -115,7 +115,8 @@ fn one_loop(rt: HostRuntime) {
     }
 }
 
-/// Whether a thread was had for the receiving loop, or both loops made no turn: then the agent holds its opening alone.
+/// Whether there was a thread for the receiving loop, or neither loop made a turn. In that case the agent holds only
+/// its opening.
 fn is_still(seen: (BothSeen, Ending)) -> bool {
     let (both, ending) = seen;
     let had_none = both.receiving.why == Why::Refused(Refusal::NoMemory)
@@ -129,8 +130,7 @@ fn is_still(seen: (BothSeen, Ending)) -> bool {
     !had_none || both.ticking == still && ending.entries == Some(1)
 }
 
-/// Both loops, where memory may be refused to the thread of the receiving one: then the ticking one makes no turn
-/// either.
+/// Both loops. Memory may be refused to the thread of the receiving loop; then the ticking loop makes no turn either.
 #[test]
 fn a_thread(rt: HostRuntime) {
     let outcome = told_at_last(&rt, rt.alloc(), both_loops(false));

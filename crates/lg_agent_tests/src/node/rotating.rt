@@ -1,5 +1,5 @@
-//! A node whose history is full again and again goes on as one that has room for all: the same datagrams and ticks give
-//! the same packets, in the same order.
+//! A node whose history is full again and again goes on like one that has room for all entries. The same datagrams
+//! and ticks give the same packets, in the same order.
 use super::clocks::{FixedDice, MemoryClock};
 use super::links::put;
 use crate::agent::calls::ping_of;
@@ -18,7 +18,7 @@ use std::thread::Threads;
 /// How many datagrams come, one a millisecond.
 const DATAGRAMS: u32 = 20_000;
 
-/// How long the ticking loop goes on behind them, in milliseconds.
+/// How long the ticking loop goes on after them, in milliseconds.
 const TICKING_MS: u64 = 60_000;
 
 /// More turns than a loop makes here.
@@ -28,7 +28,7 @@ const BOUND: u64 = 1_000_000;
 #[derive(Clone, Copy, Debug, Default, PartialEq, Eq)]
 struct Sent {
     packets: u64,
-    /// A sum over their ports and bytes, which tells their order too.
+    /// A sum over their ports and bytes, which depends on their order too.
     digest: u64,
 }
 
@@ -50,7 +50,7 @@ impl Sent {
     }
 }
 
-/// A link over which datagrams come, with each of which a millisecond passes. Behind the last one it tells the loop to
+/// A link over which datagrams come. A millisecond passes with each. After the last one the link tells the loop to
 /// stop.
 #[derive(Drop)]
 struct StreamLink<'a> {
@@ -162,8 +162,8 @@ where
     }
 }
 
-/// Whether the receiving loop heard each datagram and answered it with an Ack, the ticking one ended in time, and so
-/// many entries were left at most.
+/// Whether the receiving loop heard each datagram and answered it with an Ack, the ticking loop ended in time, and at
+/// most `limit` entries were left.
 fn is_whole(seen: &StreamSeen, ending: &Ending, limit: u64) -> bool {
     let datagrams = u64::from(DATAGRAMS);
     let [heard, ticks] = seen.made;

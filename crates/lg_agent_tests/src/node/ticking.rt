@@ -1,4 +1,4 @@
-//! Ticking loops, a hundred turns each at most. Each turn ticks, or pauses 20 ms or less.
+//! Ticking loops, of at most a hundred turns each. Each turn ticks, or pauses 20 ms or less.
 use super::alone::{BOUND, Calls, Run, Want};
 use super::clocks::Pauses;
 use super::links::{Call, Spelled};
@@ -12,14 +12,14 @@ const PING_OF_C: Call = Call::Send {
     sent: true,
 };
 
-/// The same where c is at port 0, which the link refuses.
+/// The same, if c is at port 0, which the link refuses.
 const REFUSED_PING_OF_C: Call = Call::Send {
     what: Spelled::PingOfC,
     port: 0,
     sent: false,
 };
 
-/// A loop that ends after so many turns, of which so many pause, for so many milliseconds in all.
+/// A loop that ends after this many turns, of which `count` pause, for `sum` milliseconds in all.
 fn ended(why: Why, turns: u64, count: u64, sum: u64, entries: u64) -> Want<'static> {
     Want {
         why,
@@ -39,14 +39,14 @@ fn ended(why: Why, turns: u64, count: u64, sum: u64, entries: u64) -> Want<'stat
     }
 }
 
-/// The same, where c was pinged.
+/// The same, if c was pinged.
 fn pinged<'a>(want: Want<'a>, calls: &'a [Call]) -> Want<'a> {
     let mut want = want;
     want.calls = Calls::Are(calls);
     want
 }
 
-/// The same, where one of three packets wasn't sent.
+/// The same, if one of three packets wasn't sent.
 fn lost<'a>(want: Want<'a>, sent: &'a [bool]) -> Want<'a> {
     let mut want = want;
     want.unsent = 1;
@@ -55,7 +55,7 @@ fn lost<'a>(want: Want<'a>, sent: &'a [bool]) -> Want<'a> {
     want
 }
 
-/// The same, where the Ping of c was refused.
+/// The same, if the Ping of c was refused.
 fn refused<'a>(want: Want<'a>, calls: &'a [Call]) -> Want<'a> {
     let mut want = pinged(want, calls);
     want.unsent = 1;
@@ -63,7 +63,7 @@ fn refused<'a>(want: Want<'a>, calls: &'a [Call]) -> Want<'a> {
     want
 }
 
-/// A loop that knows so many others, whose link fails at one call, from 1, or none.
+/// A loop that knows this many others. Its link fails at one call, counted from 1, or at none.
 fn knows<'a>(until: u64, others: u8, fails_at: u64) -> Case<'a> {
     let mut run = Run::ticking(until);
     run.script.fails_at = fails_at;
@@ -82,7 +82,7 @@ fn knows_at_port_0<'a>(until: u64) -> Case<'a> {
     case
 }
 
-/// A loop that knows c, from a moment, after a call at 5000.
+/// A loop that knows c. It begins at a moment, after a call at 5000.
 fn goes_back<'a>(now: u64) -> Case<'a> {
     let mut run = Run::ticking(5501);
     run.called_at = Some(5000);
@@ -92,7 +92,7 @@ fn goes_back<'a>(now: u64) -> Case<'a> {
     case
 }
 
-/// A loop whose history has room for the opening and one tick: with the second one it is rotated.
+/// A loop whose history has room for the opening and one tick. At the second tick it is rotated.
 fn short<'a>() -> Case<'a> {
     let mut case = Run::ticking(1010).case();
     case.limit = 2;
@@ -107,10 +107,10 @@ fn ticking_loops(rt: HostRuntime) {
     // A round, and helpers that are due 500 ms later.
     let round = ended(stopped, 28, 26, 520, 3);
     let rows = [
-        // Nobody else is known: there are ticks at 0 and 1000, and pauses between and behind them.
+        // Nobody else is known. There are ticks at 0 and 1000, and pauses between and after them.
         ("alone", knows(1010, 0, 0), ended(stopped, 53, 51, 1020, 3)),
-        // After a call at 5000 the clock goes back. The round starts at 5000 all the same, so that helpers are due at
-        // 5500; the last pause before that is a shorter one where 20 ms don't fit.
+        // After a call at 5000 the clock goes back. The round starts at 5000 all the same, so helpers are due at
+        // 5500. The last pause before that is shorter if 20 ms don't fit.
         (
             "from 4000",
             goes_back(4000),
@@ -127,7 +127,7 @@ fn ticking_loops(rt: HostRuntime) {
             knows_at_port_0(501),
             refused(round, &refused_ping),
         ),
-        // A Ping, and half a second later two requests to helpers, of which one isn't sent: the others are handed over.
+        // A Ping, and half a second later two requests to helpers. One of the three isn't sent, and the others are.
         (
             "1st lost",
             knows(501, 3, 1),
@@ -143,7 +143,7 @@ fn ticking_loops(rt: HostRuntime) {
             knows(501, 3, 3),
             lost(round, &[true, true, false]),
         ),
-        // The moment doesn't come until which it runs.
+        // The moment until which it runs doesn't come.
         (
             "bound",
             knows(1_000_000, 0, 0),

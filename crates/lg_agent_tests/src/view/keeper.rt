@@ -1,4 +1,4 @@
-//! A feed beside a detector that is after the same events: by it the keeper knows which event is accepted.
+//! A feed, and a detector after the same events, from which the keeper knows which event is accepted.
 ghost use Rattle.std.specs.Prelude.{◌≡◌, ◌<◌, ◌++◌, ◌∷◌, ◌^◌, [], length, IfOk, MatchBool};
 
 use left_right::Absorb;
@@ -34,7 +34,7 @@ where
 }
 
 impl<P: PairName> Keeper<P> {
-    /// A pair with so many looks. The only error that is looked for is that memory was refused.
+    /// A pair with this many looks. The only error to be looked for is that memory was refused.
     pub(super) fn new<R: Wait>(
         rt: &R,
         alloc: Global,
@@ -52,7 +52,8 @@ impl<P: PairName> Keeper<P> {
         Ok((Keeper { feed, detector }, looks))
     }
 
-    /// Appends an event and publishes it, where it is accepted. Returns whether it was accepted, and no memory refused.
+    /// Appends an event and publishes it, if it is accepted. Returns whether it was accepted and no memory was
+    /// refused.
     pub(super) fn take<R: Wait>(&mut self, rt: &R, alloc: Global, event: &Event) -> bool
         ensures { MatchBool result (self.new ≡ self.old ++ event.now ∷ []) (self.new ≡ self.old) }
     {

@@ -13,10 +13,10 @@ use lg_view::{Look, PairName};
 use std::alloc::Global;
 use std::sync::Wait;
 
-/// Whether each of the things held that are to hold.
+/// Whether each thing that has to hold held.
 pub(super) type Rows = [bool; 12];
 
-/// What is to hold.
+/// What has to hold.
 const NAMES: [&str; 12] = [
     "a told reader has seen the opening",
     "the first deadline is 0",
@@ -50,7 +50,7 @@ fn opens<P: PairName, R: Wait>(
     keeper.take(rt, alloc, &opening) && keeper.tell(one) && keeper.tell(two)
 }
 
-/// Two looks at b that were told of the opening: before c is heard of, after it, and once a round has begun.
+/// Two looks at b that were told of the opening: before c is heard of, after that, and after a round has begun.
 fn look_on<P: PairName, R: Wait>(
     rt: &R,
     alloc: Global,
@@ -103,7 +103,7 @@ pub(super) fn play_looks<P: PairName, R: Wait>(
     }
 }
 
-/// Two looks answer from what was published last, and nothing once the feed has ended.
+/// Two looks answer from what was published last, and answer nothing once the feed has ended.
 #[test]
 fn looks_read_anew(rt: HostRuntime) {
     let outcome = told(&rt, rt.alloc(), Play::Looks).expect(&rt, "there is memory");

@@ -14,7 +14,7 @@ use std::thread::Threads;
 /// What is done with a pair.
 #[derive(Clone, Copy)]
 pub(super) enum Play {
-    /// Two looks look on while events are published.
+    /// Two looks read while events are published.
     Looks,
     /// Memory is refused once.
     Refused,
@@ -25,15 +25,15 @@ pub(super) enum Play {
 /// What was seen.
 #[derive(Clone, Copy)]
 pub(super) enum Shown {
-    /// What was to hold, and whether it did, unless no look was told of the opening.
+    /// Whether each thing that has to hold held, or None if a look wasn't told of the opening.
     Looks(Option<Rows>),
-    /// Whether all went well, at the second try where memory was refused.
+    /// Whether all went well, at the second try if memory was refused.
     Refused(bool),
     /// How many events were published, and what each reader found.
     Threads(u64, Read, Read),
 }
 
-/// What was seen of a pair, whether a look answered anything after its end, and how many events that look had seen.
+/// What was seen of a pair, whether a look answered nothing after the pair's end, and how many events it had seen.
 #[derive(Clone, Copy)]
 pub(super) struct Outcome {
     pub(super) shown: Shown,

@@ -1,4 +1,4 @@
-//! Memory that is refused once: what fails with it has changed nothing, and goes well the next time.
+//! Memory that is refused once: what fails because of it has changed nothing, and goes well the next time.
 use super::keeper::Keeper;
 use super::opening;
 use super::playing::{Play, Shown, told};
@@ -8,7 +8,7 @@ use lg_view::{Look, MembersFault, PairFault, PairName};
 use std::alloc::Global;
 use std::sync::Wait;
 
-/// Publishes an opening and an event, and looks at the members, each twice if need be. Returns whether all went so.
+/// Publishes an opening and an event, and looks at the members, each twice if need be. Returns whether all went well.
 pub(super) fn goes_on<P: PairName, R: Wait>(
     rt: &R,
     alloc: Global,

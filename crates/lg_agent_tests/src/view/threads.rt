@@ -1,4 +1,4 @@
-//! A writer beside two readers, each in a thread of its own.
+//! A writer and two readers, each in a thread of its own.
 use super::keeper::Keeper;
 use super::opening;
 use super::playing::{Play, Shown, told};
@@ -9,16 +9,16 @@ use std::alloc::Global;
 use std::sync::Wait;
 use std::thread::{Threads, join};
 
-/// How many events the writer publishes behind the opening.
+/// How many events the writer publishes after the opening.
 const EVENTS: u64 = 1000;
 
 /// How often a reader looks at most.
 const MAX_LOOKS: u64 = 20_000_000;
 
-/// The last version that a reader found, and whether one was less than one before.
+/// The last version that a reader found, and whether one was less than an earlier one.
 pub(super) type Read = (u64, bool);
 
-/// Publishes the opening and the events behind it. Returns how many were published.
+/// Publishes the opening and the events after it. Returns how many were published.
 fn write<P: PairName, R: Wait>(rt: &R, alloc: Global, keeper: &mut Keeper<P>) -> u64 {
     let mut published = u64::from(keeper.take(rt, alloc, &opening()));
     for moment in 0..EVENTS {

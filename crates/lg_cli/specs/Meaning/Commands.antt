@@ -33,7 +33,7 @@ answer_app = with_rule (new_app (codes "answer")) (text_rule (codes "name"))
 abbrev pub order_app : App
 order_app = with_rule (with_rule (new_app (codes "order")) (text_rule (codes "names"))) (text_rule (codes "words"))
 
--- an option `--ID N`, a number between two others, which count
+-- an option `--ID N`, a number that is at least `least` and at most `most`
 abbrev pub number_rule : Text → ℕ → ℕ → Rule
 number_rule id least most =
     record (new_rule id) { long = Some id; value_names = 1; parser = Some (Unsigned least most); action = Some Set }
@@ -80,16 +80,16 @@ lg_app =
     let others = with_subcommand (with_subcommand (with_subcommand lg answer_app.top) order_app.top) timeouts_app.top in
     with_subcommand (with_subcommand others sim_app.top) node_app.top
 
--- the text of an option, or an empty one where it has none
+-- the text of an option, or an empty text if it has none
 abbrev pub text_in : List Row → Text → Text
 text_in rows id = unwrap_or (first_of id rows) []
 
--- the number that a text spells, or 0 where it spells none of 64 bits
+-- the number that a text spells, or 0 if it spells no number of 64 bits
 abbrev pub option_number : Text → ℕ
 option_number text =
     if accepts false (Unsigned 0 18446744073709551615) text then digits_value 10 (without_leading_plus text) else 0
 
--- the number of an option, or 0 where it has none
+-- the number of an option, or 0 if it has none
 abbrev pub number_in : List Row → Text → ℕ
 number_in rows id = option_map_or option_number (one_of id rows) 0
 
@@ -128,7 +128,7 @@ request_of_rows met =
     else if is_met (codes "order") met then order (text_in rows (codes "names")) (text_in rows (codes "words"))
     else answer (text_in rows (codes "name"))
 
--- what a command line that is taken asks for
+-- what a command line asks for, if it is taken
 unfoldable pub asked : List Text → Request
 asked words = request_of_rows (subcommand_of lg_app words)
 
@@ -140,11 +140,11 @@ has_good_numbers (timeouts numbers) = are_good numbers
 has_good_numbers sim = true
 has_good_numbers (node file for_ms) = is_within 1 most_run_ms for_ms
 
--- numbers that aren't good are refused
+-- the fault of numbers that aren't good
 abbrev pub request_faults : Request → Kinds
 request_faults request = if has_good_numbers request then [] else ValueValidation ∷ []
 
--- why a command line is refused, or that it asks for help; empty where it is taken
+-- Why a command line is refused, or that it asks for help. It is empty if the line is taken.
 unfoldable pub line_faults : List Text → Kinds
 line_faults words = or_else (fault_of lg_app words) (request_faults (asked words))
 
@@ -156,7 +156,7 @@ IfAnswer (timeouts numbers) P = Unit {0}
 IfAnswer sim P = Unit {0}
 IfAnswer (node file for_ms) P = Unit {0}
 
--- a fact about the two texts of `order`, of its names and of its words
+-- a fact about the two texts of `order`: its names and its words
 abbrev pub IfOrder : Request → (Text → Text → Type 0) → Type 0
 IfOrder (answer text) P = Unit {0}
 IfOrder (order names words) P = P names words
@@ -172,7 +172,7 @@ IfTimeouts (timeouts numbers) P = P numbers
 IfTimeouts sim P = Unit {0}
 IfTimeouts (node file for_ms) P = Unit {0}
 
--- a fact where `sim` is asked for
+-- a fact that holds if `sim` is asked for
 abbrev pub IfSim : Request → Type 0 → Type 0
 IfSim (answer text) P = Unit {0}
 IfSim (order names words) P = Unit {0}
@@ -180,7 +180,7 @@ IfSim (timeouts numbers) P = Unit {0}
 IfSim sim P = P
 IfSim (node file for_ms) P = Unit {0}
 
--- a fact about the path of `node` and for how many milliseconds it runs
+-- a fact about the path of `node` and about how many milliseconds it runs
 abbrev pub IfNode : Request → (Text → ℕ → Type 0) → Type 0
 IfNode (answer text) P = Unit {0}
 IfNode (order names words) P = Unit {0}
@@ -188,13 +188,13 @@ IfNode (timeouts numbers) P = Unit {0}
 IfNode sim P = Unit {0}
 IfNode (node file for_ms) P = P file for_ms
 
--- the status of a command line that isn't run: 0 where it asks for help
+-- the status of a command line that isn't run: 0 if it asks for help
 abbrev pub status_of_kind : ErrorKind → ℕ
 status_of_kind DisplayHelp = 0
 status_of_kind DisplayVersion = 0
 status_of_kind _ = 2
 
--- a status that one of the faults of a command line has
+-- a status that comes from one of the faults of a command line
 pub record RefusesLine (faults : Kinds) (status : ℕ) : Type 0 where
   pub kind : ErrorKind
   pub among : IsAmong kind faults

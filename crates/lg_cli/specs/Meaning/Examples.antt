@@ -103,7 +103,7 @@ listed : asked (codes "lg" ∷ codes "order" ∷ codes "--names" ∷ codes "a,b"
 unfolding asked clap_on_literals
 listed = refl
 
--- lists are judged once the command line is taken
+-- lists are judged after the command line is taken
 any-lists : line_faults (codes "lg" ∷ codes "order" ∷ codes "--words=" ∷ codes "--names=a,a" ∷ []) ≡ []
 unfolding line_faults asked clap_on_literals
 any-lists = refl

@@ -2,10 +2,10 @@
 use Rattle.std.specs.Prelude.{ℕ, List, ◌++◌, codes}
 use Rattle.lg_text.specs.Meaning.Lines.{newline}
 
--- the line of `node` where it can't be run
+-- the line of `node` when it can't be run
 abbrev pub node_text : List ℕ
 node_text = codes "error: the command node isn't run here" ++ newline
 
--- the line of words that aren't UTF-8
+-- the line for words that aren't UTF-8
 abbrev pub foreign_text : List ℕ
 foreign_text = codes "error: the command line isn't UTF-8" ++ newline

@@ -14,8 +14,8 @@ use Rattle.lg_cli.specs.Meaning.Commands.{Request, answer, order, timeouts, sim,
 use Rattle.lg_cli.specs.Meaning.Commands.{asked, line_faults, RefusesLine}
 use Rattle.lg_cli.specs.Meaning.Faults.{node_text}
 
--- The reader and the bytes that it has left, the writer and the bytes that it has taken, and the bytes that were
--- reported. No bytes are known of a stream that doesn't tell them.
+-- A reader and the bytes that it has left, a writer and the bytes that it has taken, and the bytes that were
+-- reported. If a stream doesn't tell its bytes, none are known.
 pub record Streams (R W : Type 0) : Type 0 where
   pub reader : R
   pub left : Option (List ℕ)
@@ -28,8 +28,8 @@ abbrev pub streams :
 streams reader left writer held reported =
     record { reader = reader; left = left; writer = writer; held = held; reported = reported }
 
--- `answer` is run for a text that should be a name. For one that is none nothing is read or written, and the status is
--- 3. Where the run fails, the whole input was read before anything was written.
+-- `answer` is run for a text that should be a name. If it is no name, the status is 3, and nothing is read or
+-- written. If the run fails, the whole input was read before anything was written.
 pub record RunsNamed {R W : Type 0} (before after : Streams R W) (text : Text) (status : ℕ) : Type 0 where
   pub answered : status ≢ 1 → IfOk (name_of_text text)
       (λ name. RunsAnswer before.left after.left before.held after.held before.reported after.reported name status)
@@ -40,7 +40,7 @@ pub record RunsNamed {R W : Type 0} (before after : Streams R W) (text : Text) (
   pub read : status ≡ 1 → (after.writer ≡ before.writer) ⊎ ReadsWhole before.left after.left
   pub run : status ≢ 2
 
--- `order` is run for two texts, of its names and of its words. Nothing is read, and for a bad list nothing is written.
+-- `order` is run for two texts, its names and its words. Nothing is read. If a list is bad, nothing is written.
 pub record RunsLists {R W : Type 0} (before after : Streams R W) (names words : Text) (status : ℕ) : Type 0 where
   pub ordered : status ≢ 1
       → RunsOrder before.held after.held before.reported after.reported (order_text names words) status
@@ -57,7 +57,7 @@ pub record RunsNumbers {R W : Type 0} (before after : Streams R W) (numbers : Nu
   pub failed : status ≡ 1 → FailsBy before.reported after.reported before.writer after.writer
   pub run : status ≢ 2
 
--- `sim` is run. Where the run fails, the whole input was read before anything was written.
+-- `sim` is run. If the run fails, the whole input was read before anything was written.
 pub record RunsScript {R W : Type 0} (before after : Streams R W) (status : ℕ) : Type 0 where
   pub simulated : status ≢ 1
       → RunsSim before.left after.left before.held after.held before.reported after.reported status
@@ -65,7 +65,7 @@ pub record RunsScript {R W : Type 0} (before after : Streams R W) (status : ℕ)
   pub read : status ≡ 1 → (after.writer ≡ before.writer) ⊎ ReadsWhole before.left after.left
   pub run : status ≢ 2
 
--- The command that is asked for is run. Of `node` this says nothing.
+-- The command that is asked for is run. Nothing is said of `node`.
 abbrev pub RunsRequest : {R W : Type 0} → (before after : Streams R W) → Request → ℕ → Type 0
 RunsRequest before after (answer text) status = RunsNamed before after text status
 RunsRequest before after (order names words) status = RunsLists before after names words status
@@ -73,17 +73,17 @@ RunsRequest before after (timeouts numbers) status = RunsNumbers before after nu
 RunsRequest before after sim status = RunsScript before after status
 RunsRequest before after (node file for_ms) status = Unit {0}
 
--- Memory was refused for reading the command line. That is reported, as far as the report is taken; nothing is read or
--- written, and the status is 1.
+-- Memory was refused for reading the command line. That is reported, as far as the report is taken. Nothing is read
+-- or written, and the status is 1.
 pub record LacksMemory {R W : Type 0} (before after : Streams R W) (status : ℕ) : Type 0 where
   pub is : status ≡ 1
   pub told : AppendsFront before.reported after.reported (run_fault_text Memory)
   pub unread : after.reader ≡ before.reader
   pub unwritten : after.writer ≡ before.writer
 
--- A command line that isn't taken is refused by one of its faults, or asks for help, and nothing is read. A refusal
--- writes nothing, and help reports nothing. Only help that isn't taken whole fails, and that is reported, as far as the
--- report is taken.
+-- A command line that isn't taken is refused by one of its faults, or asks for help. Nothing is read. A refusal
+-- writes nothing, and help reports nothing. Only help can fail, if it isn't taken whole; that is reported, as far as
+-- the report is taken.
 pub record LeavesLine {R W : Type 0} (before after : Streams R W) (faults : Kinds) (status : ℕ) : Type 0 where
   pub refused : status ≢ 1 → RefusesLine faults status
   pub unread : after.reader ≡ before.reader
@@ -92,13 +92,13 @@ pub record LeavesLine {R W : Type 0} (before after : Streams R W) (faults : Kind
   pub helped : status ≡ 1 → RefusesLine faults 0
   pub told : status ≡ 1 → AppendsFront before.reported after.reported (run_fault_text Write)
 
--- A command line that is taken runs its command, and any other is left; unless memory was refused for reading it.
+-- A command line that is taken runs its command, and any other is left; or memory was refused for reading it.
 pub record RunsLine {R W : Type 0} (before after : Streams R W) (line : List Text) (status : ℕ) : Type 0 where
   pub taken : line_faults line ≡ [] → RunsRequest before after (asked line) status ⊎ LacksMemory before after status
   pub left : line_faults line ≢ []
       → LeavesLine before after (line_faults line) status ⊎ LacksMemory before after status
 
--- That `node` isn't run is reported, as far as the report is taken, and the status is 2.
+-- `node` isn't run. That is reported, as far as the report is taken, and the status is 2.
 pub record LeavesNode (reported reports : Option (List ℕ)) (status : ℕ) : Type 0 where
   pub is : status ≡ 2
   pub told : AppendsFront reported reports node_text

@@ -1,4 +1,4 @@
-//! Runs of nodes and of files over writers that fail, and under refused memory.
+//! Runs of nodes and of files, over writers that fail and while memory is refused.
 use super::rooms::Room;
 use lg_launch::{run_bytes, run_file};
 use lg_testing::at;
@@ -14,14 +14,14 @@ use std::thread::Threads;
 enum Source {
     /// The bytes of a file.
     Bytes(&'static str),
-    /// The file of a path.
+    /// The file at a path.
     Path(&'static str),
 }
 
 use Source::{Bytes, Path};
 
-/// What is run, the call of the output that fails, counted from 1, or 0, and the status, what is written and what is
-/// told.
+/// What is run; which call of the output fails, counted from 1, or 0 if none does; then the status, what is written
+/// and what is told.
 type Row = (Source, usize, u8, &'static str, &'static str);
 
 /// What came of a run.
@@ -39,7 +39,7 @@ impl Outcome {
     }
 }
 
-/// Runs the node of a source over an output of which this call fails.
+/// Runs the node of a source over an output whose call with this number fails.
 fn run<R>(rt: &R, alloc: Global, source: Source, fails_at: usize) -> Outcome
 where
     R: Wait + Threads + Net + rt::Clock + Files + Sync,
@@ -56,8 +56,8 @@ where
     }
 }
 
-/// A node alone and a seeded one, an output that fails at its first byte, at a later one and at the flush behind the
-/// 33 bytes of the table, and files that can't be read or mean no configuration: no such file, a path that is none, an
+/// A node alone and a seeded one. An output that fails at its first byte, at a later one, and at the flush after the
+/// 33 bytes of the table. Files that can't be read or mean no configuration: no such file, a path that is none, an
 /// empty path, a folder, an empty file and one without an end.
 const ROWS: [Row; 11] = [
     (
@@ -97,7 +97,7 @@ const ROWS: [Row; 11] = [
     (Path("/dev/zero"), 0, 3, "", "lg: config 12\n"),
 ];
 
-/// Each run ends as it is to. Where memory is refused, nothing but that is told, and the next run goes well.
+/// Each run ends as it should. If memory is refused, nothing but that is told, and the next run goes well.
 #[test]
 fn have_their_statuses(rt: HostRuntime) {
     for row in ROWS {

@@ -1,4 +1,4 @@
-//! What is told of a node's end, and before what.
+//! What is told of a node's end, and what is told first.
 ghost use Rattle.lg_timing.specs.Meaning.Config.{IsChecked};
 
 use lg_agent::{CloseFault, Refusal};
@@ -20,8 +20,8 @@ const DONE: Result<(), RunFault> = Ok(());
 
 const UNWRITTEN: Result<(), RunFault> = Err(RunFault::Write);
 
-/// How the receiving and the ticking loop ended, why the members were refused, how their table was written, and what is
-/// told.
+/// How the receiving and the ticking loop ended, why the members were refused, how their table was written, and what
+/// is told.
 type Row = (Why, Why, Option<Refusal>, Result<(), RunFault>, Told);
 
 /// Rows of an agent that was closed: the first end, and what went wrong after it.
@@ -146,7 +146,7 @@ fn config(port: u16) -> Config
     Config::new(name, Addr::new([127, 0, 0, 1], port))
 }
 
-/// The first of some rows that isn't told of the end of a node that is changed to be so.
+/// Changes the end of a node to that of each row. Gives the first row that isn't told of it.
 fn first_untold(alloc: Global, ran: &mut Result<NodeEnd, NodeFault>, rows: &[Row]) -> Option<Row> {
     for row in rows {
         let (received, ticked, members, written, told) = *row;
@@ -165,8 +165,8 @@ fn first_untold(alloc: Global, ran: &mut Result<NodeEnd, NodeFault>, rows: &[Row
     None
 }
 
-/// The first end is told, the receiving loop's before the ticking loop's; where it has a table, before it refused
-/// members, then a failed writing, then a fault of closing.
+/// The first end is told, the receiving loop's before the ticking loop's. If it has a table, refused members are told
+/// before it, then a failed writing, then a fault of closing.
 #[test]
 fn first_of_what_went_wrong(rt: HostRuntime) {
     let mut ran = run_node(&rt, rt.alloc(), &config(17110), 1, at(0));

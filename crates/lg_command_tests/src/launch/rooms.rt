@@ -1,25 +1,25 @@
-//! Writers of fixed size, which take no memory.
+//! Writers of fixed size, which allocate no memory.
 use std::io;
 use std::io::{ErrorKind, Write};
 
-/// The room of a writer, in bytes, enough for each text of the tests.
+/// The size of a writer in bytes, which is enough for each text of the tests.
 const ROOM: usize = 256;
 
-/// A writer that takes a byte a call into room of its own.
+/// A writer that takes one byte a call, into an array of its own.
 #[derive(Drop)]
 pub struct Room {
-    /// What was written, and zeros behind it.
+    /// What was written, followed by zeros.
     bytes: [u8; ROOM],
     /// How many bytes were written.
     len: usize,
-    /// The call that fails, counted from 1, or 0 where none does; a flush is a call too.
+    /// The call that fails, counted from 1, or 0 if none does. A flush is a call too.
     fails_at: usize,
     /// How many calls were made.
     calls: usize,
 }
 
 impl Room {
-    /// Empty room, of which this call fails.
+    /// An empty writer whose call with this number fails.
     pub fn failing(fails_at: usize) -> Self {
         Room {
             bytes: [0; ROOM],
@@ -29,7 +29,7 @@ impl Room {
         }
     }
 
-    /// Whether this was written: no text by no call at all.
+    /// Whether this was written. With an empty text, no call may have been made except up to the one that fails.
     pub fn has(&self, text: &str) -> bool {
         let written = &self.bytes[..self.len.min(ROOM)];
         written == text.as_bytes() && (!text.is_empty() || self.calls <= self.fails_at)

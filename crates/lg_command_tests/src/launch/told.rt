@@ -1,4 +1,4 @@
-//! The status and the line of all that may be told.
+//! The status and the line of everything that may be told.
 use lg_agent::Refusal;
 use lg_config::FileFault;
 use lg_launch::Told;
@@ -7,7 +7,7 @@ use lg_packet::Fault;
 use lg_text::RunFault;
 use lg_timing::ConfigFault;
 
-/// What is told, or of what it is told: a refusal, a fault of a run, or one of a node without loops.
+/// What is told, or what it is told of: a refusal, a fault of a run, or a fault of a node without loops.
 #[derive(Clone, Copy, Debug)]
 enum Of {
     End(Told),
@@ -26,7 +26,7 @@ fn told_of(of: Of) -> Told {
     }
 }
 
-/// Each with its status and its line. No two of what may be told have the same line.
+/// Each with its status and its line. No two things that may be told have the same line.
 const ENDS: [(Of, u8, &str); 24] = [
     (Of::End(Told::Done), 0, ""),
     (Of::End(Told::Memory), 1, "lg: memory\n"),

@@ -1,4 +1,4 @@
--- What the command `answer` writes for an input, by the lists of its lines and of the events before each.
+-- What the command `answer` writes for an input, given its lines and the events before each line.
 use Rattle.std.specs.Prelude.{ℕ, Bool, List, [], ◌∷◌, ◌++◌, Option}
 use Rattle.std.specs.Prelude.{Some, None, Result, Ok, Err, if◌then◌else◌}
 use Rattle.std.specs.List.{flat_map, filter_map, list_any}
@@ -21,7 +21,7 @@ use Rattle.lg_commands.specs.declared.line.LineFault.{LineFault}
 abbrev pub local : ℕ → Addr
 local port = record { octets = 127 ∷ 0 ∷ 0 ∷ 1 ∷ []; port = port }
 
--- the detector is opened with the defaults, at 127.0.0.1:7000
+-- the opening of the detector, with the defaults and at 127.0.0.1:7000
 abbrev pub opening : List ℕ → Event
 opening name = Open 0 (defaults name (local 7000))
 
@@ -29,12 +29,12 @@ opening name = Open 0 (defaults name (local 7000))
 abbrev pub heard : Packet → Event
 heard packet = Heard 0 (local 1) packet
 
--- what a line that spells a packet lets the detector hear
+-- the event of a line that spells a packet: the packet is heard
 abbrev pub event_of : Result Packet LineFault → Option Event
 event_of (Ok packet) = Some (heard packet)
 event_of (Err fault) = None
 
--- the events of some lines: the opening, and what each line that spells a packet lets the detector hear
+-- the events of some lines: the opening, and the event of each line that spells a packet
 unfoldable pub events_of : List ℕ → List (List ℕ) → List Event
 events_of name lines = opening name ∷ filter_map (λ line. event_of (packet_in line)) lines
 
@@ -54,7 +54,7 @@ line_reply earlier (Err fault) = fault_text fault ++ newline
 abbrev pub line_text : List Event → List ℕ → List ℕ
 line_text earlier line = line_reply earlier (packet_in line)
 
--- what lines give, each after the events of those before it
+-- what some lines give, each after the events of the lines before it
 abbrev pub text_from : List ℕ → List (List ℕ) → List (List ℕ) → List ℕ
 text_from name before [] = []
 text_from name before (line ∷ lines) =
@@ -68,6 +68,6 @@ answer_text name input = text_from name [] (lines_of input)
 abbrev pub is_faulty : List ℕ → Bool
 is_faulty line = is_err (packet_in line)
 
--- how the run ends: faulty exactly where some line is
+-- how the run ends: faulty exactly if some line is
 unfoldable pub answer_end : List ℕ → End
 answer_end input = if list_any is_faulty (lines_of input) then Faulty else Done

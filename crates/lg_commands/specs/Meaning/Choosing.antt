@@ -18,32 +18,32 @@ use Rattle.lg_commands.specs.declared.order.BadList.TheVariants.{Names, Words}
 abbrev pub comma_parts : List ℕ → List (List ℕ)
 comma_parts text = slice_split (λ b. b == 44) text
 
--- no name stands twice
+-- whether no name stands twice
 abbrev pub are_different : List (List ℕ) → Bool
 are_different [] = true
 are_different (n ∷ ns) = not (is_among name_cmp n ns) && are_different ns
 
--- at most 255 names, and all different
+-- whether these are names, at most 255, and all different
 abbrev pub are_names : List (List ℕ) → Bool
 are_names parts = nat_le (length parts) most_others && (list_all is_name parts && are_different parts)
 
--- the names that a text lists, unless they are bad
+-- the names that a text lists, or None if they are bad
 unfoldable pub names_in : List ℕ → Option (List (List ℕ))
 names_in text = if are_names (comma_parts text) then Some (comma_parts text) else None
 
--- 1 to 16 decimal digits, a number of at most 4,294,967,295
+-- whether this is a word: 1 to 16 decimal digits, a number of at most 4,294,967,295
 abbrev pub is_word : List ℕ → Bool
 is_word part = is_number part && nat_le (digits_value 10 part) greatest_word
 
--- the parts of a text that lists words: an empty text has none
+-- the parts of a text that lists words; an empty text has none
 abbrev pub word_parts : List ℕ → List (List ℕ)
 word_parts text = if length text == 0 then [] else comma_parts text
 
--- the number of a text that is a word
+-- the number of a text, if it is a word
 abbrev pub word_of : List ℕ → Option ℕ
 word_of part = if is_word part then Some (digits_value 10 part) else None
 
--- the words that a text lists, unless they are bad
+-- the words that a text lists, or None if they are bad
 unfoldable pub words_in : List ℕ → Option (List ℕ)
 words_in text = if list_all is_word (word_parts text) then Some (map (digits_value 10) (word_parts text)) else None
 
@@ -51,7 +51,8 @@ words_in text = if list_all is_word (word_parts text) then Some (map (digits_val
 abbrev pub name_lines : List (List ℕ) → List ℕ
 name_lines names = flat_map (λ name. name ++ newline) names
 
--- whom the words choose one after another of the names, a line each; else the bad list, the names where both are bad
+-- Whom the words choose one after another from the names, a line each. If a list is bad, it is told instead: the
+-- names, if both are bad.
 abbrev pub choices_of : Option (List (List ℕ)) → Option (List ℕ) → Result (List ℕ) BadList
 choices_of None words = Err Names
 choices_of (Some names) None = Err Words

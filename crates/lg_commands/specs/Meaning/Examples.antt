@@ -41,7 +41,7 @@ done : answer_end (ping ++ 10 ∷ []) ≡ Done
 unfolding answer_end packet_in hex_on_literals packet_of packet_at head_at name_at body_at claims_at
 done = refl
 
--- that c is alive at number 0
+-- the claim that c is alive, with the incarnation 0
 c-alive : Claim
 c-alive = record { name = 99 ∷ []; addr = local 7003; status = Alive; incarnation = 0 }
 
@@ -107,7 +107,7 @@ three-to-choose :
 unfolding order_text names_in words_in
 three-to-choose = refl
 
--- in whatever order the names stand
+-- the names may stand in any order
 in-any-order : order_text (codes "d,b,c") (codes "4,0,5") ≡ Ok (lines (codes "c" ∷ codes "b" ∷ codes "d" ∷ []))
 unfolding order_text names_in words_in
 in-any-order = refl
@@ -128,7 +128,7 @@ no-names : order_text [] (codes "0") ≡ Err Names
 unfolding order_text names_in words_in
 no-names = refl
 
--- 256 names, each of two of sixteen letters: one more than a list may have.
+-- 256 names, each of two letters out of sixteen: one name more than a list may have.
 abbrev letters : List ℕ
 letters = codes "abcdefghijklmnop"
 

@@ -1,10 +1,10 @@
--- The lines that tell why a command ends, but for those of memory, reading and writing.
+-- The lines that tell why a command ends, except those of memory, reading and writing.
 use Rattle.std.specs.Prelude.{ℕ, List, ◌++◌, codes}
 use Rattle.lg_text.specs.Meaning.Lines.{newline}
 use Rattle.lg_commands.specs.declared.order.BadList.{BadList}
 use Rattle.lg_commands.specs.declared.order.BadList.TheVariants.{Names, Words}
 
--- the line of a list that is bad
+-- the line that reports a bad list
 abbrev pub bad_list_text : BadList → List ℕ
 bad_list_text Names = codes "lg: bad names" ++ newline
 bad_list_text Words = codes "lg: bad words" ++ newline

@@ -18,8 +18,8 @@ use Rattle.lg_commands.specs.declared.order.OrderFault.{OrderFault}
 use Rattle.lg_commands.specs.declared.order.OrderFault.TheVariants.{Bad, Run}
 use Rattle.lg_commands.specs.declared.timeouts.Numbers.{Numbers}
 
--- A run fails by a fault, which is reported as far as the report is taken.
--- Only a fault of writing leaves anything written.
+-- A run fails by a fault, which is reported, as far as the report is taken. Only a fault of writing leaves anything
+-- written.
 pub record FailsBy {W : Type 0} (reported reports : Option (List ℕ)) (before after : W) : Type 0 where
   pub fault : RunFault
   pub line : AppendsFront reported reports (run_fault_text fault)
@@ -38,7 +38,7 @@ abbrev pub status_of : End → ℕ
 status_of Done = 0
 status_of Faulty = 3
 
--- the same, with the status of its end; nothing is reported
+-- The same, with the status of its end. Nothing is reported.
 pub record RunsAnswer (left rest held holds reported reports : Option (List ℕ)) (name : List ℕ) (status : ℕ)
     : Type 0 where
   pub end : End
@@ -46,7 +46,7 @@ pub record RunsAnswer (left rest held holds reported reports : Option (List ℕ)
   pub silent : Appends reported reports []
   pub answers : AnswersInput left rest held holds name end
 
--- An input that isn't too long is read to its end as a script, and its text is written; nothing is reported.
+-- An input that isn't too long is read to its end and run as a script, and its text is written. Nothing is reported.
 pub record RunsSim (left rest held holds reported reports : Option (List ℕ)) (status : ℕ) : Type 0 where
   pub end : End
   pub is : status ≡ status_of end
@@ -67,7 +67,7 @@ pub record WritesChoices (held holds reported reports : Option (List ℕ)) (text
   pub written : Appends held holds text
   pub silent : Appends reported reports []
 
--- That a list is bad is reported, as far as the report is taken; nothing is written, and the status is 3.
+-- A list is bad. That is reported, as far as the report is taken. Nothing is written, and the status is 3.
 pub record TellsBadList (held holds reported reports : Option (List ℕ)) (list : BadList) (status : ℕ) : Type 0 where
   pub is : status ≡ 3
   pub unwritten : Appends held holds []
@@ -79,7 +79,8 @@ abbrev pub RunsOrder :
 RunsOrder held holds reported reports (Ok text) status = WritesChoices held holds reported reports text status
 RunsOrder held holds reported reports (Err list) status = TellsBadList held holds reported reports list status
 
--- A fault of `order`: the list that is bad, or of memory, or of writing, which comes only where both lists are good.
+-- A fault of `order`: the list that is bad, or a fault of memory, or one of writing. The last comes only if both
+-- lists are good.
 abbrev pub IsFaultOf : Result (List ℕ) BadList → OrderFault → Type 0
 IsFaultOf said (Bad list) = said ≡ Err list
 IsFaultOf said (Run Memory) = ⊤

@@ -12,7 +12,7 @@ use Rattle.lg_rules.specs.Meaning.Bounds.{most_members}
 use Rattle.lg_timing.specs.Meaning.Bounds.{least_interval_ms, most_confirmations, most_factor, most_interval_ms}
 use Rattle.lg_commands.specs.declared.timeouts.Numbers.{Numbers}
 
--- each number is in its range
+-- whether each number is in its range
 abbrev pub are_good : Numbers → Bool
 are_good n =
     let times = is_within 1 most_factor n.beta && is_within least_interval_ms most_interval_ms n.interval_ms in
@@ -40,7 +40,7 @@ ms_line word ms = word ++ (32 ∷ (decimal ms ++ newline))
 abbrev pub after_line : TimeoutRange → ℕ → List ℕ
 after_line r c = ms_line (decimal c) (timeout_of r c)
 
--- the lines from no confirmation to all that count
+-- the lines from no confirmation to as many as count
 abbrev pub after_lines : TimeoutRange → List ℕ
 after_lines r = flat_map (after_line r) (range_with_len 0 (r.confirmations + 1))
 

@@ -9,12 +9,12 @@ use Rattle.lg_text.specs.declared.end.End.{End}
 use Rattle.lg_text.specs.declared.end.End.TheVariants.{Done, Faulty}
 use Rattle.lg_commands.specs.declared.line.LineFault.{LineFault}
 
--- the earlier events, and what a line lets the detector hear
+-- the earlier events, and the event of a line, if it spells a packet
 abbrev pub with_heard : List Event → Result Packet LineFault → List Event
 with_heard earlier (Ok packet) = earlier ++ heard packet ∷ []
 with_heard earlier (Err fault) = earlier
 
--- Packets can be heard.
+-- The detector can hear any packet.
 pub record AcceptsHeard (s : State) : Type 0 where
   pub accepts : (packet : Packet) → IsTrue (accepts_of s (heard packet))
 

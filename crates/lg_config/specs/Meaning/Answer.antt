@@ -1,5 +1,5 @@
--- What reading a configuration file answers. Of several faults the first counts: of the document, of its keys and their
--- types, of a value's form, of the configuration's own check.
+-- What reading a configuration file answers. If there are several faults, the first of these counts: of the document,
+-- of its keys and their types, of the form of a value, of the configuration's own check.
 use Rattle.std.specs.Prelude.{ℕ, Bool, ◌&&◌, nat_le, List, length, Option, Some, None, Result, Ok, Err}
 use Rattle.std.specs.Prelude.{if◌then◌else◌, ◌≡◌, true}
 use Rattle.std.specs.Str.{is_utf8}
@@ -17,29 +17,29 @@ use Rattle.lg_config.specs.Meaning.Bounds.{most_bytes}
 use Rattle.lg_config.specs.Meaning.Keys.{are_right_keys}
 use Rattle.lg_config.specs.Meaning.Settings.{settings_of}
 
--- bytes that are read as TOML: few enough, and UTF-8
+-- whether bytes are read as TOML: they are few enough, and UTF-8
 abbrev pub is_text_file : List ℕ → Bool
 is_text_file bytes = nat_le (length bytes) most_bytes && is_utf8 bytes
 
--- the members of the document that the bytes of a file are, if they are one
+-- the members of the document that the bytes of a file spell, if they spell one
 abbrev pub document_of : List ℕ → Option Members
 document_of bytes = if is_text_file bytes then parse_document bytes else None
 
--- settings, unless their check finds a fault
+-- settings, or the fault that their check finds
 abbrev pub unless_config : NodeConfig → Result (Unit {0}) ConfigFault → Result NodeConfig FileFault
 unless_config node (Ok passed) = Ok node
 unless_config node (Err broken) = Err (fault.Config broken)
 
--- settings that pass their check, unless a value is out of its form
+-- settings, or their fault: a value is out of its form, or their check finds a fault
 abbrev pub unless_value : Option NodeConfig → Result NodeConfig FileFault
 unless_value None = Err fault.Value
 unless_value (Some node) = unless_config node (check_of node.config)
 
--- what a document means, unless its keys are wrong
+-- what a document means, or the fault Key if its keys are wrong
 abbrev pub meaning_of : Members → Result NodeConfig FileFault
 meaning_of members = if are_right_keys members then unless_value (settings_of members) else Err fault.Key
 
--- what a file means, unless it is no document
+-- what a file means, or the fault Syntax if it is no document
 abbrev pub unless_syntax : Option Members → Result NodeConfig FileFault
 unless_syntax None = Err fault.Syntax
 unless_syntax (Some members) = meaning_of members
@@ -48,7 +48,7 @@ unless_syntax (Some members) = meaning_of members
 unfoldable pub answer_of : List ℕ → Result NodeConfig FileFault
 answer_of bytes = unless_syntax (document_of bytes)
 
--- memory is taken for a document alone, and none where there is nothing but blanks and comments
+-- memory is allocated only for bytes that are read as TOML, and only if they aren't all blanks and comments
 abbrev pub TakesMemory : List ℕ → Type 0
 TakesMemory bytes = (is_text_file bytes ≡ true) × ¬ (IsBlank bytes)
 

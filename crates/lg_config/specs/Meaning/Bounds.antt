@@ -1,27 +1,27 @@
--- The least and the greatest numbers of a configuration file, and what stands for a key that it lacks (this project's
--- choice).
+-- The least and the greatest numbers of a configuration file, and the defaults for the keys that it lacks (this
+-- project's choice).
 use Rattle.std.specs.Prelude.{ℕ, ◌^◌, ◌-◌, List, codes}
 
--- the bytes of a file
+-- the most bytes of a file
 abbrev pub most_bytes : ℕ
 most_bytes = 65536
 
--- a port: no member is reached at 0, and 65535 is the last number of 16 bits
+-- a port: no member is reached at 0, and 65535 is the greatest number of 16 bits
 abbrev pub least_port : ℕ
 least_port = 1
 
 abbrev pub most_port : ℕ
 most_port = 65535
 
--- each of the four numbers of an address
+-- the greatest value of each of the four numbers of an address
 abbrev pub most_octet : ℕ
 most_octet = 255
 
--- what stands for a number that is negative, which no key takes: the last number of 64 bits
+-- what stands for a negative number, which no key accepts: the greatest number of 64 bits
 abbrev pub out_of_range : ℕ
 out_of_range = 2 ^ 64 - 1
 
--- by default
+-- the defaults
 abbrev pub default_address : List ℕ
 default_address = codes "127.0.0.1"
 

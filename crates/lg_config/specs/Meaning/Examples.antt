@@ -16,7 +16,7 @@ use Rattle.lg_config.specs.Meaning.Keys.{kind_of}
 use Rattle.lg_config.specs.Meaning.Settings.{addr_in, dice_in, name_in, settings_of, with_numbers}
 use Rattle.lg_config.specs.Meaning.Texts.{before, behind, octets_of, address_of, seed_of}
 
--- what the rows of texts and those of files unfold
+-- what the rows of texts, and those of files, have to unfold
 unfoldable on_texts : ⊤
 unfolding is_utf8 chars before behind octets_of address_of seed_of
 on_texts = tt
@@ -25,7 +25,7 @@ unfoldable on_files : ⊤
 unfolding toml_on_literals on_texts answer_of kind_of settings_of name_in addr_in dice_in with_numbers check_of
 on_files = tt
 
--- a file of the member b with these lines
+-- a file of the member b that also has these lines
 abbrev b-with : List ℕ → List ℕ
 b-with lines = codes "name = \"b\"\n" ++ lines
 
@@ -95,7 +95,7 @@ past-64-bits : answer_of (b-with (codes "port = 9223372036854775808")) ≡ Err f
 unfolding on_files
 past-64-bits = refl
 
--- also in a comment
+-- this holds in a comment too
 not-utf8 : answer_of (b-with (35 ∷ 255 ∷ [])) ≡ Err fault.Syntax
 unfolding on_files
 not-utf8 = refl
@@ -126,12 +126,12 @@ number-in-seeds : answer_of (b-with (codes "seeds = [\"c@127.0.0.1:1\", 1]")) �
 unfolding on_files
 number-in-seeds = refl
 
--- a key is known at the top of a file alone
+-- a key is known only at the top of a file
 key-in-table : answer_of (codes "[b]\nname = \"b\"") ≡ Err fault.Key
 unfolding on_files
 key-in-table = refl
 
--- the port is no fault where a key is unknown
+-- if a key is unknown, the port is no fault
 keys-before-values : answer_of (b-with (codes "port = 0\ncolour = 1")) ≡ Err fault.Key
 unfolding on_files
 keys-before-values = refl
@@ -154,7 +154,7 @@ negative-port : answer_of (b-with (codes "port = -1")) ≡ Err fault.Value
 unfolding on_files
 negative-port = refl
 
--- the port is looked at before the interval
+-- the port is judged before the interval
 values-before-ranges : answer_of (b-with (codes "interval_ms = 5\nport = 0")) ≡ Err fault.Value
 unfolding on_files
 values-before-ranges = refl

@@ -1,4 +1,4 @@
--- The keys of a configuration file, and of which TOML type the value of each is.
+-- The keys of a configuration file, and the TOML type of each key's value.
 use Rattle.std.specs.Prelude.{ℕ, Bool, true, false, ◌&&◌, List, [], ◌∷◌, codes, Option, Some, None, is_some}
 use Rattle.std.specs.Prelude.{if◌then◌else◌}
 use Rattle.std.specs.List.{list_any}
@@ -23,11 +23,11 @@ number_keys =
 abbrev pub texts_key : List ℕ
 texts_key = codes "seeds"
 
--- a key is one of these
+-- whether a key is one of these
 abbrev pub is_among : List (List ℕ) → List ℕ → Bool
 is_among keys key = list_any (λ known. bytes_eq key known) keys
 
--- of which kind the value of a key is; none where the key is unknown
+-- the kind of a key's value; None if the key is unknown
 unfoldable pub kind_of : List ℕ → Option Kind
 kind_of key =
     if is_among text_keys key then Some Text
@@ -41,28 +41,28 @@ is_text value = is_some (as_str value)
 abbrev pub is_whole_number : Data → Bool
 is_whole_number value = is_some (as_integer value)
 
--- each element of an array is a text
+-- whether each element of an array is a text
 abbrev pub are_texts : Items → Bool
 are_texts no_items = true
 are_texts (item value others) = is_text value && are_texts others
 
--- an array, and nothing else, is of texts
+-- whether a value is an array of texts; None stands for a value that is no array
 abbrev pub is_array_of_texts : Option Items → Bool
 is_array_of_texts None = false
 is_array_of_texts (Some items) = are_texts items
 
--- a value is of the kind that its key wants
+-- whether a value is of the kind that its key wants
 abbrev pub is_of_kind : Option Kind → Data → Bool
 is_of_kind None value = false
 is_of_kind (Some Text) value = is_text value
 is_of_kind (Some Number) value = is_whole_number value
 is_of_kind (Some Texts) value = is_array_of_texts (as_array value)
 
--- each key is known, and its value of its kind
+-- whether each key is known, and its value is of its kind
 abbrev pub are_known : Members → Bool
 are_known no_members = true
 are_known (member key value others) = is_of_kind (kind_of key) value && are_known others
 
--- and the name isn't missing
+-- whether that is so, and the name isn't missing
 abbrev pub are_right_keys : Members → Bool
 are_right_keys members = is_some (get_member (codes "name") members) && are_known members

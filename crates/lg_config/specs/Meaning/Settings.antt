@@ -1,4 +1,4 @@
--- The configuration that the members of a document mean; none where a value is out of its form. Their keys are right.
+-- The configuration that the members of a document mean. None if a value is out of its form. The keys are right.
 use Rattle.std.specs.Prelude.{ℕ, ℤ, pos, negsuc, List, [], ◌∷◌, codes, Option, Some, None}
 use Rattle.std.specs.Prelude.{option_and_then, unwrap_or}
 use Rattle.std.specs.Option.{option_map}
@@ -12,27 +12,27 @@ use Rattle.lg_config.specs.Meaning.Bounds.{out_of_range, default_address, defaul
 use Rattle.lg_config.specs.Meaning.Keys.{texts_key}
 use Rattle.lg_config.specs.Meaning.Texts.{◌>>=◌, port_among, octets_of, member_name_of, seed_of}
 
--- the text and the whole number at a key, if there is one
+-- the text at a key, and the whole number at a key, if there is one
 abbrev pub text_at : List ℕ → Members → Option (List ℕ)
 text_at key members = option_and_then as_str (get_member key members)
 
 abbrev pub integer_at : List ℕ → Members → Option ℤ
 integer_at key members = option_and_then as_integer (get_member key members)
 
--- what stands for a whole number where none can be negative
+-- a whole number as one that isn't negative; a negative number becomes one that no key accepts
 abbrev pub natural : ℤ → ℕ
 natural (pos n) = n
 natural (negsuc n) = out_of_range
 
--- the number at a key, or what it is by default
+-- the number at a key, or its default
 abbrev pub number_at : List ℕ → ℕ → Members → ℕ
 number_at key default members = unwrap_or (option_map natural (integer_at key members)) default
 
--- the seed that an element of an array is: that of its text
+-- the seed that an element of an array spells, if it is a text
 abbrev pub seed_of_value : Data → Option Seed
 seed_of_value value = option_and_then seed_of (as_str value)
 
--- the seeds that the elements of an array are, in their order; none where one of them is no seed
+-- the seeds that the elements of an array spell, in their order; None if one of them is no seed
 abbrev pub seeds_of : Items → Option (List Seed)
 seeds_of no_items = Some []
 seeds_of (item value others) = do
@@ -40,31 +40,31 @@ seeds_of (item value others) = do
   seeds ← seeds_of others
   Some (seed ∷ seeds)
 
--- the elements at the key of the seeds, if there are any
+-- the elements of the array at the key of the seeds, if there are any
 abbrev pub seeds_at : Members → Items
 seeds_at members = unwrap_or (option_and_then as_array (get_member texts_key members)) no_items
 
--- the member's own name
+-- this member's name
 unfoldable pub name_in : Members → Option (List ℕ)
 name_in members = member_name_of (unwrap_or (text_at (codes "name") members) [])
 
--- where the member is reached
+-- this member's address
 unfoldable pub addr_in : Members → Option Addr
 addr_in members = do
   octets ← octets_of (unwrap_or (text_at (codes "address") members) default_address)
   port ← port_among (number_at (codes "port") default_port members)
   Some record { octets = octets; port = port }
 
--- a whole number that isn't negative
+-- a whole number, if it isn't negative
 abbrev pub unless_negative : ℤ → Option ℕ
 unless_negative (pos n) = Some n
 unless_negative (negsuc n) = None
 
--- where the dice start
+-- the number that the dice start from
 unfoldable pub dice_in : Members → Option ℕ
 dice_in members = unless_negative (unwrap_or (integer_at (codes "dice") members) (pos default_dice))
 
--- a configuration with the numbers of a document, and its own where the document gives none
+-- a configuration with the numbers that a document gives, and with its own numbers for the keys that are missing
 unfoldable pub with_numbers : Members → Config → Config
 with_numbers members usual =
     record usual {
@@ -84,7 +84,7 @@ with_numbers members usual =
 abbrev pub with_seeds : List Seed → Config → Config
 with_seeds seeds config = record config { seeds = record { items = seeds } }
 
--- all that a document says. It may have too many seeds, or numbers out of their ranges: that is judged later
+-- All that a document says. It may have too many seeds, or numbers out of their ranges; that is judged later.
 unfoldable pub settings_of : Members → Option NodeConfig
 settings_of members = do
   name ← name_in members

@@ -1,4 +1,4 @@
--- What a text of a configuration file says: a name, an address, a port, a seed; none where it is out of its form.
+-- What a text of a configuration file says: a name, an address, a port, a seed. None if it is out of its form.
 use Rattle.std.specs.Prelude.{ℕ, ◌==◌, List, [], ◌∷◌, if◌then◌else◌}
 use Rattle.std.specs.Prelude.{Option, Some, None, option_and_then}
 use Rattle.std.specs.List.{before_first, after_first}
@@ -25,19 +25,19 @@ colon = 58
 abbrev pub at_sign : ℕ
 at_sign = 64
 
--- what stands before the first of these bytes: all of a text that has none
+-- what stands before the first such byte; all of a text that has none
 unfoldable pub before : ℕ → List ℕ → List ℕ
 before byte text = before_first (λ b. b == byte) text
 
--- what stands behind the first of these bytes: nothing where there is none
+-- what stands after the first such byte; nothing if there is none
 unfoldable pub behind : ℕ → List ℕ → List ℕ
 behind byte text = after_first (λ b. b == byte) text
 
--- a number, where it is that of a port
+-- a number, if it is that of a port
 abbrev pub port_among : ℕ → Option ℕ
 port_among number = if is_within least_port most_port number then Some number else None
 
--- the port that a text of 1 to 16 digits is
+-- the port that a text of 1 to 16 digits spells
 abbrev pub port_of : List ℕ → Option ℕ
 port_of text = do
   number ← number_of text
@@ -49,7 +49,7 @@ octet_of text = do
   number ← number_of text
   if is_within 0 most_octet number then Some number else None
 
--- an address, cut at its first three dots: a number stands before each, and the fourth behind the last
+-- an address, cut at its first three dots: a number stands before each, and the fourth number after the last
 unfoldable pub octets_of : List ℕ → Option (List ℕ)
 octets_of text = do
   let second = behind dot text
@@ -70,7 +70,7 @@ address_of text = do
 abbrev pub member_name_of : List ℕ → Option (List ℕ)
 member_name_of text = result_ok (name_of_text text)
 
--- a seed, cut at its first `@`: a name stands before it, and an address with its port behind it
+-- a seed, cut at its first `@`: a name stands before it, and an address with its port after it
 unfoldable pub seed_of : List ℕ → Option Seed
 seed_of text = do
   name ← member_name_of (before at_sign text)

@@ -1,4 +1,4 @@
--- What the functions inside the reading of a file give.
+-- What the parts of reading a file give.
 use Rattle.std.specs.Prelude.{◌≡◌, ℕ, List, Option, Some, None, Result, Ok, Err, take, if◌then◌else◌}
 use Rattle.std.specs.Prelude.{String}
 use Rattle.std.specs.BTreeMap.{BTreeMap}
@@ -16,7 +16,7 @@ use Rattle.lg_config.specs.declared.node.NodeConfig.{NodeConfig}
 use Rattle.lg_config.specs.Meaning.Answer.{is_text_file, document_of, TakesMemory}
 use Rattle.lg_config.specs.Meaning.Settings.{seeds_of, with_seeds}
 
--- the text that bytes are
+-- the text that bytes spell, if they spell one
 abbrev pub text_of : List ℕ → Option (List ℕ)
 text_of bytes = if is_text_file bytes then Some bytes else None
 
@@ -26,13 +26,13 @@ IsParsed bytes (Ok table) = document_of bytes ≡ Some (table_view table)
 IsParsed bytes (Err NoMemory) = TakesMemory bytes
 IsParsed bytes (Err (File found)) = (found ≡ fault.Syntax) × (document_of bytes ≡ None)
 
--- as many seeds as a configuration holds
+-- the first seeds, as many as a configuration holds
 abbrev pub kept : List Seed → List Seed
 kept seeds = take most_seeds seeds
 
 abbrev pub first_seeds : Items → Option (List Seed)
 first_seeds values = option_map kept (seeds_of values)
 
--- a configuration with the first of its seeds
+-- a configuration with only the first of its seeds
 abbrev pub with_first_seeds : NodeConfig → NodeConfig
 with_first_seeds node = record node { config = with_seeds (kept node.config.seeds.items) node.config }

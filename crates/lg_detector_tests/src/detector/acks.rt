@@ -6,7 +6,7 @@ use super::playing::{Case, opened, play, play_on};
 use super::probing::{ASKED, FOUR};
 use crate::says::Said::{Alive, Suspect};
 
-/// What Acks and Nacks do once d, e and f were asked: the score after the round.
+/// What Acks and Nacks do after d, e and f were asked to help: the score after the round.
 const COUNTED: &[Case] = &[
     (
         "nothing",
@@ -158,8 +158,8 @@ const EARLY: &[Case] = &[
     ),
 ];
 
-/// An Ack that counts cancels the asking, and ends neither the round nor the next. One that comes after its round does
-/// nothing.
+/// An Ack that counts cancels the asking of helpers. It ends neither this round nor the next one. An Ack that comes
+/// after its round does nothing.
 const IN_TIME_AND_LATE: &[Case] = &[
     (
         "in time",
@@ -190,7 +190,7 @@ const IN_TIME_AND_LATE: &[Case] = &[
     ),
 ];
 
-/// Two probes failed, and of the third two Acks come: the first alone marks the score.
+/// Two probes failed. Two Acks come for the third, and only the first of them marks the score.
 const TWO_ACKS: Case = (
     "two Acks",
     &[

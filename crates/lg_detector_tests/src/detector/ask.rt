@@ -14,7 +14,7 @@ use lg_detector::{Detector, MAX_MEMBERS};
 use lg_rules::Record;
 use std::alloc::Global;
 
-/// Whose record is asked for, and what it is: of b itself, c, d, the accuser a, and z.
+/// Whose record is asked for, and what it is: that of b itself, of c, of d, of the accuser a, and of z.
 const RECORDS: Case = (
     "five questions",
     &[
@@ -53,7 +53,7 @@ const RECORDS: Case = (
     ],
 );
 
-/// Puts the table into a row and makes one of its own. Returns whether both are these records.
+/// Copies the table into a row, and into a list of its own. Returns whether both are these records.
 fn shows(
     detector: &Detector,
     alloc: Global,
@@ -67,7 +67,7 @@ fn shows(
     }
 }
 
-/// What happens, and who is known then.
+/// What happens, and who is known after it.
 const SHOWN: &[(&str, &[Step<'static>], &[Said])] = &[
     ("nobody", &[], &[]),
     ("b itself", &[Takes(Opens(0, &[]))], &[Alive("b", 0)]),
@@ -88,7 +88,7 @@ fn shows_the_table(rt: HostRuntime) {
     }
 }
 
-/// Of two accusations of one number the first alone is refuted.
+/// If two accusations have the same incarnation, only the first is refuted.
 const REFUTED_ONCE: Case = (
     "two accusations of one number",
     &[
@@ -109,7 +109,8 @@ fn marks_a_refutation_once(rt: HostRuntime) {
     play_blank(&rt, rt.alloc(), &[REFUTED_ONCE]);
 }
 
-/// Claims in one packet, and the score, the own number and the members after it: what marks the score, and what doesn't.
+/// Claims in one packet, and the score, b's incarnation and the number of members after it. They show what marks the
+/// score, and what doesn't.
 const MARKED: &[Case] = &[
     (
         "two refutations",
@@ -207,7 +208,7 @@ const COUNTED: &[Case] = &[
     ),
 ];
 
-/// The greatest score, the refutations, one a packet, the score then, and when the next round starts.
+/// The greatest score, the number of refutations, one a packet, the score then, and when the next round starts.
 const HELD: &[(&str, u64, u32, u64, u64)] = &[
     ("more than 1", 1, 3, 1, 2000),
     ("more than 0", 0, 2, 0, 1000),
@@ -240,7 +241,7 @@ fn holds_the_greatest_score(rt: HostRuntime) {
     }
 }
 
-/// Two timers are due, and asking fires none.
+/// Two timers are due. Asking fires neither.
 const TWO_DUE: Case = (
     "two timers are due",
     &[

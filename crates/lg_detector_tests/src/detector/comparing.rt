@@ -1,8 +1,8 @@
-//! Replies and detectors, compared.
+//! Compares replies and detectors.
 use super::table_of;
 use lg_detector::{Detector, Outgoing, Reply};
 
-/// Whether two packets to be sent are one.
+/// Whether two packets to be sent are equal.
 fn is_same_outgoing(one: &Outgoing, other: &Outgoing) -> bool {
     one.to == other.to
         && one.packet.sender == other.packet.sender
@@ -10,7 +10,7 @@ fn is_same_outgoing(one: &Outgoing, other: &Outgoing) -> bool {
         && one.packet.claims.as_slice() == other.packet.claims.as_slice()
 }
 
-/// Whether two replies are one.
+/// Whether two replies are equal.
 pub(super) fn is_same_reply(one: &Reply, other: &Reply) -> bool {
     one.fired == other.fired
         && one.sends.len() == other.sends.len()
@@ -25,7 +25,7 @@ pub(super) fn is_same_reply(one: &Reply, other: &Reply) -> bool {
         && one.next == other.next
 }
 
-/// Whether two detectors have had as many events, and have the same deadline and table.
+/// Whether two detectors have had the same number of events, and have the same deadline and table.
 pub(super) fn is_same_state(one: &Detector, other: &Detector) -> bool {
     one.events() == other.events()
         && one.next_deadline() == other.next_deadline()

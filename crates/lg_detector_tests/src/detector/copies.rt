@@ -7,8 +7,8 @@ use super::playing::{blank, takes};
 use crate::says::Said::{Alive, Suspect};
 use lg_detector::Reply;
 
-/// An opening, claims, Acks, Pulls, questions, and ticks that fire the start of a round, the asking of helpers, and its
-/// end.
+/// An opening, claims, Acks, Pulls and questions. The ticks fire the start of a round, the asking of helpers, and the
+/// end of the round.
 const HAPPENED: &[Happens<'static>] = &[
     Opens(50, &[]),
     Ping(60, 1, "c", &[Alive("c", 0), Suspect("d", 2, "a")]),
@@ -24,7 +24,8 @@ const HAPPENED: &[Happens<'static>] = &[
     Tick(6000),
 ];
 
-/// Copies of events and of replies, and a second detector to which the copies happen, are as the first ones.
+/// Copies of replies are equal to them. A second detector, to which copies of the events happen, stays equal to the
+/// first.
 #[test]
 fn copies_are_equal(rt: HostRuntime) {
     let mut detector = blank(&rt, rt.alloc());
@@ -42,8 +43,8 @@ fn copies_are_equal(rt: HostRuntime) {
     }
 }
 
-/// A detector that absorbs each event is as one that steps by it, also in its next reply: the suspicion of d, raised at
-/// 60 among three, is still to fire.
+/// A detector that absorbs each event stays equal to one that steps by it, also in its next reply. The suspicion of
+/// d, raised at 60 among three, is still to fire.
 #[test]
 fn absorbs_as_it_steps(rt: HostRuntime) {
     let mut detector = blank(&rt, rt.alloc());

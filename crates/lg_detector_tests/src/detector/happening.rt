@@ -24,10 +24,10 @@ pub(crate) enum Says {
     Page,
 }
 
-/// What an opening sets beside the default numbers.
+/// What an opening sets in addition to the default numbers.
 #[derive(Clone, Copy)]
 pub(crate) enum Setting {
-    /// Another name in the place of b, and its port.
+    /// Another name in place of b, and its port.
     Own(Member, u16),
     /// A seed at a port.
     Seed(Member, u16),
@@ -70,7 +70,7 @@ pub(crate) enum Happens<'a> {
     Pull(u64),
 }
 
-/// A body that is said.
+/// The body of a packet.
 pub(super) fn body_of(says: &Says) -> Body {
     match says {
         Says::Ping(number, member) => Body::Ping {

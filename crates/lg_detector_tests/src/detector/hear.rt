@@ -9,7 +9,7 @@ use super::playing::Step::{
 use super::playing::{Case, opened, play, play_blank, play_on};
 use crate::says::Said::{Accused, Alive, Failed, Suspect, SuspectAt};
 
-/// A Ping for another isn't acked, and an Ack isn't either. What both said is gossiped.
+/// A Ping for another isn't acked, and neither is an Ack. What both said is gossiped.
 const GOSSIP: &[Case] = &[
     (
         "a Ping for another",
@@ -34,7 +34,7 @@ const GOSSIP: &[Case] = &[
     ),
 ];
 
-/// Pings at any moments leave the deadline as it is.
+/// Pings leave the deadline as it is, whatever their moments.
 const OUT_OF_ORDER: Case = (
     "moments out of order",
     &[
@@ -89,7 +89,7 @@ const SIX_CLAIMS: Case = (
     ],
 );
 
-/// Of two accusations of one number the first alone is refuted. Who is ousted stays so.
+/// If two accusations have the same incarnation, only the first is refuted. A member that is ousted stays ousted.
 const REFUTED: &[Case] = &[
     (
         "two accusations of one number",
@@ -113,8 +113,8 @@ const REFUTED: &[Case] = &[
     ),
 ];
 
-/// A claim about b, whose number is 0, in a Ping; its record then, what changes and is sent of it, and whether it is
-/// ousted. By the first four claims b raises its number, and by the others the number stays.
+/// A claim about b, whose incarnation is 0, in a Ping. Then b's record, what of it changes and is sent, and whether b
+/// is ousted. The first four claims raise b's incarnation, and the others don't.
 const OF_ITSELF: &[Case] = &[
     (
         "alive",
@@ -201,8 +201,8 @@ const OF_ITSELF: &[Case] = &[
 /// a, d and e are known.
 const OTHERS: Step<'static> = Hears(0, &[Alive("a", 0), Alive("d", 0), Alive("e", 0)]);
 
-/// c is the fifth member. Of 300 accusers the first four count, and their accusations are sent. The last of these is
-/// sent four times.
+/// c is the fifth member. Of 300 accusers the first four count, and their accusations are sent. The last of these
+/// four is sent four times.
 #[test]
 fn a_flood_of_accusers(rt: HostRuntime) {
     let mut detector = opened(&rt, rt.alloc());
@@ -230,7 +230,8 @@ fn a_flood_of_accusers(rt: HostRuntime) {
     play_on(&rt, &mut detector, "after", &after);
 }
 
-/// An accusation is sent as it was heard; the record stays as the first one made it, and fails at its address.
+/// An accusation is sent as it was heard. The record stays as the first one made it, and fails at the record's
+/// address.
 const TWO_ADDRESSES: Case = (
     "accused at two addresses",
     &[

@@ -23,7 +23,7 @@ const ASKS: Case = (
     ],
 );
 
-/// b answers by a Page with the next records, six at most, after the claims of the Pull were said.
+/// b answers with a Page of the next records, at most six. The claims of the Pull were said before.
 const ANSWERS: &[Case] = &[
     (
         "four members",
@@ -97,7 +97,8 @@ const ANSWERS: &[Case] = &[
     ),
 ];
 
-/// The last of six claims isn't that of the greatest name: b asks for what comes after it. A shorter Page is the last.
+/// The last of six claims isn't the one with the greatest name: b asks for what comes after it. A shorter Page is the
+/// last.
 const PAGES: Case = (
     "pages",
     &[
@@ -163,8 +164,8 @@ const IS_PAGED: Step<'static> = Takes(From(0, "a", 1, Page, &[]));
 
 const IS_PINGED: Step<'static> = Takes(Ping(0, 2, "b", &[]));
 
-/// c is queued once, and may be sent four times among two members: what is asked, answered and heard of a table, five
-/// times, takes nothing of that.
+/// c is queued once, and may be sent four times among two members. Asking for a table, answering and hearing one,
+/// five times, uses up none of these.
 const QUEUED: Case = (
     "c is sent four times",
     &[

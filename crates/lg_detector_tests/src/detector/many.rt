@@ -12,7 +12,7 @@ fn six_below(end: u32) -> [Said; 6] {
     [1, 2, 3, 4, 5, 6].map(|back| Numbered(end.saturating_sub(back)))
 }
 
-/// a finds no room, and the record of c is raised. The four names that came last had no room either.
+/// There is no room for a, and the record of c is raised. There was no room for the four names that came last either.
 const NO_MORE_ROOM: &[Step<'static>] = &[
     Members(MAX_MEMBERS),
     Takes(Ping(0, 3, "b", &[Alive("a", 0), Alive("c", 3)])),
@@ -32,7 +32,7 @@ const NO_MORE_ROOM: &[Step<'static>] = &[
     ),
 ];
 
-/// In a full table a record that is there still changes.
+/// In a full table a record that is there can still change.
 #[test]
 fn changes_where_there_is_room(rt: HostRuntime) {
     let mut detector = opened(&rt, rt.alloc());

@@ -8,7 +8,7 @@ use super::playing::Step::{
 use super::playing::{Case, play_blank};
 use crate::says::Said::{Alive, AliveAt};
 
-/// Nothing comes before the opening, and there is one opening.
+/// Nothing is accepted before the opening, and there is one opening.
 const TWO_OPENINGS: Case = (
     "two openings",
     &[
@@ -48,8 +48,8 @@ const BAD_CONFIGURATIONS: Case = (
     ],
 );
 
-/// An opening changes no record. Seeds aren't gossiped; a claim that overrides a seed's record is, and one that doesn't
-/// isn't.
+/// An opening changes no record. Seeds aren't gossiped. A claim is gossiped if it overrides a seed's record, and
+/// isn't if it doesn't.
 const TWO_SEEDS: Case = (
     "two seeds",
     &[

@@ -1,4 +1,4 @@
-//! Steps played on a detector. A case is a list of steps, all of them plain data, and the one assert stands here alone:
+//! Plays steps on a detector. A case is a list of steps, all of them plain data. All steps share one assert, because
 //! each assert is a branch that the check proves. Its message names the case and the step, counted from 0.
 use super::happening::{Happens, Says, body_of, event_of};
 use super::resuming::resume_each;
@@ -29,16 +29,17 @@ pub(crate) enum Due {
     RelayEnd(u64, u32),
 }
 
-/// Something that happens to a detector, or that is asked after it: of the reply to the last event, or of the detector.
+/// Something that happens to a detector, or that is asked afterwards: of the reply to the last event, or of the
+/// detector.
 #[derive(Clone, Copy)]
 pub(crate) enum Step<'a> {
     /// An event is accepted.
     Takes(Happens<'a>),
-    /// An event isn't accepted, and then it is absorbed all the same.
+    /// An event isn't accepted. It is absorbed all the same.
     Refuses(Happens<'a>),
     /// These claims are heard at a moment, each in a Ping for z of its own.
     Hears(u64, &'a [Said]),
-    /// A tick, with all of its reply: its moment, the timer that fires, the records that change and the next deadline.
+    /// A tick, with its whole reply: its moment, the timer that fires, the records that change and the next deadline.
     Ticks(u64, Due, &'a [Said], u64),
     /// The timer that fired.
     Fired(Due),
@@ -48,11 +49,11 @@ pub(crate) enum Step<'a> {
     Acks(u32, &'a [Said]),
     /// The packet at an index goes to a port, and has this body and these claims.
     Sent(usize, u16, Says, &'a [Said]),
-    /// The first packet is a Ping of the member of a letter, with this number.
+    /// The first packet is a Ping of a member, with this number.
     Pings(u32, Member),
-    /// Whom a start of a round chose.
+    /// The member that the start of a round chose.
     Chose(Option<Member>),
-    /// The claim about the member of a letter that the first packet sends.
+    /// The claim about a member that the first packet sends.
     Tells(Member, Option<Said>),
     /// The records that changed.
     Changed(&'a [Said]),
@@ -70,7 +71,7 @@ pub(crate) enum Step<'a> {
     Next(u64),
     /// The next deadline, by the detector.
     Deadline(Option<u64>),
-    /// The record of the member of a letter.
+    /// The record of a member.
     Known(Member, Option<Said>),
     /// All records.
     Table(&'a [Said]),
@@ -102,7 +103,7 @@ fn is_sent(sent: &Outgoing, port: u16, says: &Says, said: &[Said]) -> bool {
         && are_said(sent.packet.claims.as_slice(), said)
 }
 
-/// Whether the packet at an index is as is said.
+/// Whether the packet at an index is what is said.
 fn sends(reply: &Reply, index: usize, port: u16, says: &Says, said: &[Said]) -> bool {
     match reply.sends.get(index) {
         Some(sent) => is_sent(sent, port, says, said),
@@ -110,7 +111,7 @@ fn sends(reply: &Reply, index: usize, port: u16, says: &Says, said: &[Said]) -> 
     }
 }
 
-/// Whether the first packet is a Ping of the member of a letter, with this number.
+/// Whether the first packet is a Ping of a member, with this number.
 fn pings(reply: &Reply, number: u32, member: Member) -> bool {
     match reply.sends.first() {
         Some(sent) => sent.packet.body == body_of(&Says::Ping(number, member)),
@@ -136,7 +137,7 @@ pub(crate) fn table_of(detector: &Detector) -> ArrayVec<Record, MAX_MEMBERS> {
     row
 }
 
-/// Whether an event is accepted. If so, its reply is written, and if not, it is absorbed all the same.
+/// Whether an event is accepted. If it is, its reply is written. If it isn't, it is absorbed all the same.
 pub(super) fn takes(detector: &mut Detector, event: &Event, reply: &mut Reply) -> bool {
     let accepted = detector.accepts(event);
     if accepted {
@@ -158,7 +159,7 @@ fn hears(detector: &mut Detector, now: u64, said: &[Said]) -> bool {
     accepted
 }
 
-/// Whether a tick's reply is wholly as is said.
+/// Whether the whole reply to a tick is what is said.
 fn has_ticked(detector: &Detector, reply: &Reply, due: &Due, changed: &[Said], next: u64) -> bool {
     reply.fired == timer_of(due)
         && are_said(reply.changed.as_slice(), changed)
@@ -169,7 +170,7 @@ fn has_ticked(detector: &Detector, reply: &Reply, due: &Due, changed: &[Said], n
         && !reply.ousted
 }
 
-/// Whether the last reply is as is asked.
+/// Whether the last reply is what a step says.
 fn is_replied(step: &Step<'_>, reply: &Reply) -> bool {
     match step {
         Step::Fired(due) => reply.fired == timer_of(due),
@@ -199,7 +200,7 @@ fn is_replied(step: &Step<'_>, reply: &Reply) -> bool {
     }
 }
 
-/// Plays a step. Returns whether it went as it says.
+/// Plays a step. Returns whether it went as the step says.
 fn plays(step: &Step<'_>, detector: &mut Detector, reply: &mut Reply) -> bool {
     match step {
         Step::Takes(happens) => takes(detector, &event_of(happens), reply),
@@ -242,14 +243,14 @@ pub(super) fn opened(rt: &impl Abort, alloc: Global) -> Detector {
 /// A case: its name, and its steps.
 pub(super) type Case = (&'static str, &'static [Step<'static>]);
 
-/// Plays each case on a detector of its own that nothing has happened to.
+/// Plays each case on its own detector, to which nothing has happened.
 pub(super) fn play_blank(rt: &impl Abort, alloc: Global, cases: &[Case]) {
     for (case, steps) in cases {
         play_on(rt, &mut blank(rt, alloc), case, steps);
     }
 }
 
-/// Plays each case on a b of its own, opened at 0, and then resumes such a b at each of its places.
+/// Plays each case on its own b, opened at 0. Then resumes such a b at each place of the case.
 pub(super) fn play(rt: &impl Abort, alloc: Global, cases: &[Case]) {
     for (case, steps) in cases {
         play_on(rt, &mut opened(rt, alloc), case, steps);

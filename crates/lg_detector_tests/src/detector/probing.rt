@@ -26,7 +26,7 @@ pub(super) const ASKED: &[Step<'static>] = &[
     Sends(3),
 ];
 
-/// c, which is suspected by d, is probed. Nobody can help, and once c has failed, nobody is left to be chosen.
+/// c, which d suspects, is probed. Nobody can help. Once c has failed, nobody is left to be chosen.
 const A_SUSPECT: &[Case] = &[
     (
         "c is suspected at 2000",
@@ -62,7 +62,7 @@ const A_SUSPECT: &[Case] = &[
     ),
 ];
 
-/// b suspects a member that doesn't ack, and pings it with that record next.
+/// b suspects a member that doesn't ack. Its next Ping to that member takes this record with it.
 const NO_ACK: Case = (
     "c",
     &[
@@ -83,8 +83,8 @@ const NO_ACK: Case = (
     ],
 );
 
-/// Each word picks one of the helpers that are left, in the order of names: f, d and then e. Of two others d, which is
-/// suspected, helps; e, which has failed, doesn't.
+/// Each word picks one of the helpers that are left, in the order of names: f, d and then e. Of two others, the
+/// suspected d helps, and the failed e doesn't.
 const HELPERS: &[Case] = &[
     (
         "three helpers",
@@ -132,7 +132,8 @@ const HELPERS: &[Case] = &[
     ),
 ];
 
-/// By its configuration b asks no helpers, and a round counts from the greatest moment that was handed in.
+/// In the first case b is configured to ask no helpers. In the second, a round counts from the greatest moment that
+/// was handed in.
 const OPENED_OTHERWISE: &[Case] = &[
     (
         "no helper is asked",
@@ -182,8 +183,8 @@ const I: Said = Alive("i", 0);
 
 const J: Said = Alive("j", 0);
 
-/// Each packet of a reply takes those claims that were sent least, by the packets before it too. A Ping goes to the
-/// address of the record.
+/// Each packet of a reply takes the claims that were sent least often, counting the packets before it too. A Ping
+/// goes to the address of the record.
 const FILLED: &[Case] = &[
     (
         "eight claims",
@@ -209,8 +210,8 @@ const FILLED: &[Case] = &[
     ),
 ];
 
-/// The timers of a round stand as they were set at its start, whatever becomes of the score meanwhile: the two
-/// refutations and the probe that failed make 3. The greatest score stays what it is, where a probe fails and a helper
+/// The timers of a round stay as they were set at its start, whatever becomes of the score meanwhile. The two
+/// refutations and the probe that failed make it 3. The greatest score stays what it is if a probe fails and a helper
 /// sends no Nack.
 const SCORES: &[Case] = &[
     (
@@ -266,8 +267,8 @@ const SCORES: &[Case] = &[
     ),
 ];
 
-/// A target that has failed meanwhile: its Ack counts, and where none comes, the round marks and nobody is suspected.
-/// A helper that has failed meanwhile: its Ack counts.
+/// A target that has failed meanwhile: its Ack counts. If no Ack comes, the round marks the score and nobody is
+/// suspected. A helper that has failed meanwhile: its Ack counts.
 const TARGET_FAILED: &[Case] = &[
     (
         "an Ack",

@@ -8,7 +8,7 @@ use super::playing::Step::{self, Chose, Fired, Next, Pings, Sends, Sent, Takes};
 use super::playing::{Case, opened, play, play_on};
 use crate::says::Said::{Alive, Suspect};
 
-/// The Ping is sent for a: nobody is chosen by it. An Ack after the Nack is passed on all the same.
+/// The Ping is sent for a, so it chooses nobody. An Ack after the Nack is still passed on.
 const NACKED: Case = (
     "a relay and its Nack",
     &[
@@ -31,7 +31,8 @@ const NACKED: Case = (
     ],
 );
 
-/// Another than the target, and another number, do nothing; nor does the target once the relay has ended.
+/// An Ack of another member than the target, or of another number, does nothing. Nor does one of the target once the
+/// relay has ended.
 const ENDED: Case = (
     "no Ack",
     &[
@@ -52,7 +53,7 @@ const ENDED: Case = (
     ],
 );
 
-/// An Ack in time cancels both timers of the relay, from whatever port it comes. A second one isn't passed on.
+/// An Ack in time cancels both timers of the relay, whatever port it comes from. A second one isn't passed on.
 const ACKED: Case = (
     "an Ack in time",
     &[
@@ -104,7 +105,7 @@ const NUMBERED: Case = (
     ],
 );
 
-/// A request for b itself is acked at once, and the claims of a request are said before its target is pinged, so its
+/// A request for b itself is acked at once. The claims of a request are said before its target is pinged, so the
 /// target's record goes with the Ping.
 const REQUESTS: &[Case] = &[
     (
@@ -137,7 +138,7 @@ const FULL: &[Step<'static>] = &[
     Sent(0, 7003, Says::Ping(65, "c"), &[]),
 ];
 
-/// One request heard twice opens two relays; 64 are open at most. One that is refused takes no number.
+/// One request heard twice opens two relays. At most 64 are open. A request that is refused takes no number.
 #[test]
 fn refuses_beyond_64(rt: HostRuntime) {
     let mut detector = opened(&rt, rt.alloc());
@@ -151,7 +152,7 @@ fn refuses_beyond_64(rt: HostRuntime) {
     play_on(&rt, &mut detector, "64 relays", FULL);
 }
 
-/// A relay is opened at the latest moment that was handed in, where that of its request is earlier. Its target's Ack is
+/// A relay is opened at the latest moment that was handed in, if its request's moment is earlier. Its target's Ack is
 /// passed on at any moment.
 const OUT_OF_ORDER: Case = (
     "moments out of order",

@@ -1,6 +1,6 @@
-//! Detectors that go on from a summary. Wherever among the events of a play the summary is taken, the detector that is
-//! resumed from it replies from there on as the one that all the events happened to. So does each play of a b that is
-//! opened at 0.
+//! Detectors that go on from a summary. The summary is taken at any place among the events of a play. From there on,
+//! the detector that is resumed from it replies like the one that all the events happened to. Each play of a b that
+//! is opened at 0 is resumed in this way.
 mod scripts;
 
 use super::comparing::{is_same_reply, is_same_state};
@@ -15,8 +15,8 @@ use scripts::SCRIPTS;
 use std::alloc::Global;
 use std::process::Abort;
 
-/// Accusers of c come one after another, and each brings the deadline nearer. c is told of, each time by another Ack,
-/// and a claim about it may be sent four times among two members.
+/// In the first play, accusers of c come one after another, and each brings the deadline nearer. In the second, Acks
+/// tell of c, and a claim about it may be sent four times among two members.
 const ONE_AFTER_ANOTHER: &[Case] = &[
     (
         "four accusers",
@@ -51,7 +51,7 @@ const ONE_AFTER_ANOTHER: &[Case] = &[
     ),
 ];
 
-/// What happens in a step. What is heard in several Pings comes in one here.
+/// What happens in a step. The claims that a step hears in several Pings come in one here.
 fn happens_in<'a>(step: &Step<'a>) -> Option<Happens<'a>> {
     match step {
         Takes(happens) => Some(*happens),
@@ -85,7 +85,7 @@ fn before(
     detector
 }
 
-/// Whether two detectors reply to an event alike, and are alike after it.
+/// Whether two detectors give the same reply to an event, and are equal after it.
 fn take_alike(one: &mut Detector, other: &mut Detector, event: &Event) -> bool {
     let (mut reply, mut again) = (Reply::default(), Reply::default());
     let accepted = takes(one, event, &mut reply);
@@ -94,7 +94,7 @@ fn take_alike(one: &mut Detector, other: &mut Detector, event: &Event) -> bool {
         && is_same_state(one, other)
 }
 
-/// Whether two detectors go on alike from a place in the steps on.
+/// Whether two detectors go on the same way from a place in the steps on.
 fn go_alike(one: &mut Detector, other: &mut Detector, steps: &[Step<'_>], place: usize) -> bool {
     let mut alike = is_same_state(one, other);
     for step in steps.iter().skip(place) {
@@ -105,8 +105,8 @@ fn go_alike(one: &mut Detector, other: &mut Detector, steps: &[Step<'_>], place:
     alike
 }
 
-/// Resumes a detector at a place in the steps, and takes a summary of that as well. Both summaries are resumed once
-/// more when the detectors that they are of have gone on. Returns whether each of the three goes on as the detector
+/// Resumes a detector at a place in the steps, and takes a summary of the resumed one as well. Both summaries are
+/// resumed once more after their detectors have gone on. Returns whether each of the three goes on like the detector
 /// that all events happened to.
 fn goes_on(
     rt: &impl Abort,
@@ -157,7 +157,7 @@ const PROBED: &[Step<'static>] = &[
     Next(500),
 ];
 
-/// What comes of it.
+/// What follows from that.
 const NOT_ACKED: &[Step<'static>] = &[
     Ticks(500, Direct(500), &[], 1000),
     Ticks(1000, RoundEnd(1000), &[Suspect("c", 0, "b")], 1000),
@@ -166,7 +166,7 @@ const NOT_ACKED: &[Step<'static>] = &[
     Next(2000),
 ];
 
-/// A detector that is resumed from a summary of this one. What is refused once is asked for again.
+/// A detector that is resumed from a summary of this one. If memory is refused once, it is asked for again.
 fn resumed_from(alloc: Global, whole: &Detector) -> Result<Detector, NoMemory> {
     let summary = match whole.summary(alloc) {
         Ok(summary) => summary,
@@ -178,7 +178,7 @@ fn resumed_from(alloc: Global, whole: &Detector) -> Result<Detector, NoMemory> {
     }
 }
 
-/// Where memory is refused to a summary or to a resumed detector, the detector and the summary are as they were.
+/// If memory is refused to a summary or to a resumed detector, the detector and the summary stay as they were.
 #[test]
 fn resumes_after_refused_memory(rt: HostRuntime) {
     let mut shown = false;

@@ -20,7 +20,7 @@ const IDLE: Case = (
     ],
 );
 
-/// One timer fires a tick.
+/// A tick fires one timer.
 const THREE_DUE: Case = (
     "three timers are due",
     &[
@@ -34,8 +34,8 @@ const THREE_DUE: Case = (
     ],
 );
 
-/// The end of a round fires before suspicions, these before the start of a round, and among them a name before those
-/// that it begins. Two helpers sent no Nack, so the score is 2 at the start.
+/// The end of a round fires before suspicions, and these before the start of a round. Among suspicions, a name fires
+/// before the names that it begins. Two helpers sent no Nack, so the score is 2 at the start.
 const FIVE_AT_ONCE: Case = (
     "five timers at 5000",
     &[
@@ -89,7 +89,7 @@ fn counts_from_the_greatest_moment(rt: HostRuntime) {
     play_blank(&rt, rt.alloc(), &[OUT_OF_ORDER]);
 }
 
-/// The score is taken when a round starts. The round that runs stays as it is.
+/// A round takes the score at its start. A round that runs already stays as it is.
 const SCALED: Case = (
     "two refutations",
     &[
@@ -122,8 +122,8 @@ const BY_Z: Said = Suspect("c", 0, "z");
 /// A tick after the deadline of each suspicion.
 const LATE: Step<'static> = Takes(Tick(40_000));
 
-/// What is said at 2000, each claim in a Ping of its own, and the deadline of c's suspicion, which no score scales. Once
-/// the first round-start has fired, it is the next deadline.
+/// What is said at 2000, each claim in a Ping of its own, and the deadline of c's suspicion, which no score scales.
+/// After the first start of a round has fired, this is the next deadline.
 const ACCUSED: &[Case] = &[
     ("d", &[OTHERS, Hears(2000, &[BY_D]), LATE, Next(32_000)]),
     (
@@ -193,8 +193,9 @@ const BY_TWO: Step<'static> = Takes(Ping(
     &[Suspect("c", 1, "d"), Suspect("c", 1, "e")],
 ));
 
-/// What is said at 3000 of c, which d and e suspected at 2000 among five, and the suspicion's deadline then. Once the
-/// first round-start has fired, it is the next deadline; 40,500, when helpers are asked, where there is no suspicion.
+/// What is said at 3000 of c, which d and e suspected at 2000 among five, and the suspicion's deadline then. After
+/// the first start of a round has fired, this is the next deadline. If there is no suspicion, the next one is 40,500,
+/// when helpers are asked.
 const THEN_SAID: &[Case] = &[
     (
         "nothing",
@@ -318,7 +319,7 @@ const THEN_SAID: &[Case] = &[
     ),
 ];
 
-/// No tick fires a suspicion that was ended by a claim: the next deadline is that of the round.
+/// No tick fires a suspicion that a claim ended: the next deadline is that of the round.
 const ENDED: &[Case] = &[
     (
         "alive",

@@ -55,13 +55,14 @@ const RECORDS: Case = (
     ],
 );
 
-/// What a suspicion did by which it was raised, with this deadline.
+/// What a claim did that raised a suspicion with this deadline.
 const RAISED_TO_32000: Applied = Applied {
     deadline: Deadline::Stands(32_000),
     ..CHANGED
 };
 
-/// Alive at the number clears no suspicion. The second accuser moves the deadline, among two none does.
+/// Alive at the record's incarnation clears no suspicion. A second accuser moves the deadline; among two members none
+/// does.
 const SUSPICIONS: &[Case] = &[
     (
         "alive at the number",
@@ -161,7 +162,7 @@ const PLACES: Case = (
     ],
 );
 
-/// A suspicion of oneself is refuted once, and what nothing refutes ousts.
+/// A suspicion of b itself is refuted once. What nothing can refute ousts b.
 const OF_ITSELF: &[Case] = &[
     (
         "two accusations of one number",
@@ -207,7 +208,7 @@ const OF_ITSELF: &[Case] = &[
     ),
 ];
 
-/// 256 names are known: another finds no room, and the record of c is still raised.
+/// 256 names are known. There is no room for another, and the record of c is still raised.
 const FULL: &[Step] = &[
     Live(MAX_MEMBERS),
     Known("m254", None),

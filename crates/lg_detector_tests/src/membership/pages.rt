@@ -1,10 +1,10 @@
-//! The table by pages.
+//! The table, page by page.
 use super::playing::Step::{Opens, Page, Says, Seeds};
 use super::playing::{Case, play};
 use crate::says::Said::{Alive, Failed, Suspect};
 
-/// d, whose group has a, b, c, e, f, h and i beside it; b is suspected, and f failed. The pages hold the whole table.
-/// The name before a page need not be known, and where the own record is the first of a page, it isn't on the next.
+/// d's group also has a, b, c, e, f, h and i; b is suspected, and f failed. The pages hold the whole table. The name
+/// before a page need not be known. If d's own record is the first of a page, it isn't on the next one.
 const EIGHT: Case = (
     "eight members",
     &[
@@ -51,7 +51,7 @@ const EIGHT: Case = (
     ],
 );
 
-/// A page of oneself alone, and pages of nobody.
+/// A page with only the member itself, and pages with nobody.
 const FEW: &[Case] = &[
     ("oneself", &[Opens("b"), Page(None, &[Alive("b", 0)])]),
     ("nobody", &[Page(None, &[]), Page(Some("A"), &[])]),

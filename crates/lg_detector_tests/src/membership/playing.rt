@@ -1,5 +1,5 @@
-//! Steps played on a membership. A case is a list of steps, all of them plain data, and the one assert stands here
-//! alone: each assert is a branch that the check proves. Its message names the case and the step, counted from 0.
+//! Plays steps on a membership. A case is a list of steps, all of them plain data. All steps share one assert,
+//! because each assert is a branch that the check proves. Its message names the case and the step, counted from 0.
 use crate::says::{Member, Said, are_said, claim_of, is_said, named, names_of};
 use arrayvec::ArrayVec;
 use lg_membership::{Applied, Deadline, MAX_MEMBERS, Membership, Origin, Presence};
@@ -15,10 +15,10 @@ pub(super) enum Step {
     Opens(Member),
     /// These are said as seeds.
     Seeds(&'static [Said]),
-    /// The group says a claim at a moment, and this is what it does.
+    /// The group says a claim at a moment. This is what the claim does.
     Hears(u64, Said, Applied),
-    /// The group says a claim at a moment, and this becomes of its member's place, and of the count of those that
-    /// haven't failed.
+    /// The group says a claim at a moment. This is what becomes of its member's presence, and how many members
+    /// haven't failed then.
     Places(u64, Said, Presence, usize),
     /// The group says a claim at a moment.
     Says(u64, Said),
@@ -26,17 +26,17 @@ pub(super) enum Step {
     Sends(&'static [Said]),
     /// The claims of the next packet, a Ping to a member.
     Pings(Member, &'static [Said]),
-    /// How many haven't failed.
+    /// How many members haven't failed.
     Live(usize),
-    /// The own number.
+    /// This member's incarnation.
     Number(u32),
     /// Whether it is ousted.
     Ousted(bool),
-    /// The own name.
+    /// This member's name.
     Own(Member),
-    /// The own record.
+    /// This member's record.
     OwnRecord(Said),
-    /// The digits' factor of its configuration, or that there is none.
+    /// The `lambda` of its configuration, or that it has none.
     Lambda(Option<u64>),
     /// The record of a member.
     Known(Member, Option<Said>),
@@ -46,11 +46,11 @@ pub(super) enum Step {
     Members(usize),
     /// The records of some members.
     Records(&'static [Member], &'static [Said]),
-    /// The page behind a name, or the first.
+    /// The page after a name, or the first page.
     Page(Option<Member>, &'static [Said]),
 }
 
-/// What a claim did by which nothing changed.
+/// What a claim did that changed nothing.
 pub(super) const NOTHING: Applied = Applied {
     changed: false,
     refuted: false,
@@ -58,7 +58,7 @@ pub(super) const NOTHING: Applied = Applied {
     presence: Presence::Stays,
 };
 
-/// What a claim did by which a record changed, or one's own number.
+/// What a claim did that changed a record, or this member's incarnation.
 pub(super) const CHANGED: Applied = Applied {
     changed: true,
     refuted: false,
@@ -66,7 +66,7 @@ pub(super) const CHANGED: Applied = Applied {
     presence: Presence::Stays,
 };
 
-/// What a claim did by which a member joined those that haven't failed.
+/// What a claim did that let a member join those that haven't failed.
 pub(super) const JOINED: Applied = Applied {
     changed: true,
     refuted: false,
@@ -96,7 +96,7 @@ pub(super) fn say(membership: &mut Membership, now: u64, said: &Said) -> Applied
     membership.apply(at(now), Origin::Group, &claim_of(said))
 }
 
-/// The claims of the next packet, a Ping to this member or no Ping.
+/// The claims of the next packet, which is a Ping to this member, or no Ping.
 fn filled(membership: &mut Membership, target: Option<&Name>) -> ArrayVec<Claim, MAX_CLAIMS> {
     let mut claims = ArrayVec::new();
     membership.fill_into(target, &mut claims);
@@ -110,7 +110,7 @@ fn table_of(membership: &Membership) -> ArrayVec<Record, MAX_MEMBERS> {
     table
 }
 
-/// The page behind a name, in a row that held another record before.
+/// The page after a name, in a row that held another record before.
 fn page_of(membership: &Membership, after: Option<&Name>) -> ArrayVec<Record, MAX_CLAIMS> {
     let mut row = said(&[failed(b'z', 9)]);
     membership.put_page(after, &mut row);
@@ -124,7 +124,7 @@ fn records_of(membership: &Membership, members: &[Member]) -> ArrayVec<Record, M
     row
 }
 
-/// Plays a step that changes the membership. Returns whether it went as it says.
+/// Plays a step that changes the membership. Returns whether it went as the step says.
 fn plays(step: &Step, membership: &mut Membership) -> bool {
     match *step {
         Step::Opens(member) => open(membership, member),
@@ -148,7 +148,7 @@ fn plays(step: &Step, membership: &mut Membership) -> bool {
     }
 }
 
-/// Whether the membership is as is asked.
+/// Whether the membership is what a step says.
 fn is_met(step: &Step, membership: &Membership) -> bool {
     match *step {
         Step::Live(count) => membership.live() == count,
@@ -184,7 +184,7 @@ pub(super) fn play_on(rt: &impl Abort, membership: &mut Membership, case: &str, 
 /// A case: its name, and its steps.
 pub(super) type Case = (&'static str, &'static [Step]);
 
-/// Plays each case on a membership of its own that nothing has happened to.
+/// Plays each case on its own membership, to which nothing has happened.
 pub(super) fn play(rt: &impl Abort, cases: &[Case]) {
     for (case, steps) in cases {
         play_on(rt, &mut Membership::blank(), case, steps);

@@ -1,10 +1,10 @@
-//! What packets take with them.
+//! The claims that packets take with them.
 use super::playing::Step::{Hears, Known, Live, Opens, Pings, Says, Seeds, Sends};
 use super::playing::{Case, NOTHING, play};
 use crate::says::Said::{Alive, Numbered, Suspect};
 
 /// A seed is known and not queued. A claim is sent four times for each digit of the number of members. An accuser is
-/// queued where it counts.
+/// queued if it counts.
 const QUEUED: &[Case] = &[
     (
         "a seed",
@@ -61,8 +61,8 @@ const QUEUED: &[Case] = &[
     ),
 ];
 
-/// A Ping to a suspected member begins with its record, of which only the claim on d counts as sent by it. That record
-/// is the one that is known, and not what is queued.
+/// A Ping to a suspected member begins with that member's record, and only its claim about d counts as sent. The
+/// record is the one that is known, and not what is queued.
 const BUDDIES: &[Case] = &[
     (
         "c is suspected, and d is alive",

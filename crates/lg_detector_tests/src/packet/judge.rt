@@ -1,11 +1,12 @@
 //! A slow judge of bytes, written from the table of the format: which bytes are due, and what each of them brings.
 use lg_packet::Fault;
 
-/// What is due behind a part of a packet.
+/// What is due after a part of a packet.
 ///
-/// `due` has a letter for each byte: `S` and `L` of the magic, `V` the version, `K` the kind, `N` the length of a name,
-/// `P` such a length or 0 where there is no name, `C` the count of claims, `i` each of the first three bytes of an
-/// incarnation and `I` its last, and `*` any byte. Before them come the bytes of a name, and behind them the claims.
+/// `due` has a letter for each byte. `S` and `L` are the magic, `V` is the version and `K` the kind. `N` is the
+/// length of a name, and `P` such a length or 0 if there is no name. `C` is the count of claims. `i` is each of the
+/// first three bytes of an incarnation, and `I` its last. `*` is any byte. The bytes of a name come before these, and
+/// the claims after them.
 #[derive(Clone, Copy)]
 struct Place {
     due: &'static [u8],
@@ -23,7 +24,7 @@ const START: Place = Place {
     number: 0,
 };
 
-/// What a packet has behind its kind.
+/// What a packet has after its kind.
 fn rest_of_packet(kind: u8) -> &'static [u8] {
     match kind {
         1 => b"N****NC",
@@ -34,7 +35,7 @@ fn rest_of_packet(kind: u8) -> &'static [u8] {
     }
 }
 
-/// What a claim has behind its kind.
+/// What a claim has after its kind.
 fn rest_of_claim(kind: u8) -> &'static [u8] {
     match kind {
         2 => b"N******iiiIN",
@@ -47,8 +48,8 @@ fn with_byte(number: u64, byte: u8) -> u64 {
     number.wrapping_mul(256).wrapping_add(u64::from(byte))
 }
 
-/// Whether a byte may stand at a letter, and the fault where it may not: `n` is a byte of a name, and `A` the kind of
-/// a claim.
+/// Whether a byte may stand at a letter, and the fault if it may not. Here `n` is a byte of a name, and `A` the kind
+/// of a claim.
 fn judged(letter: u8, byte: u8, number: u64) -> (bool, Fault) {
     match letter {
         b'S' => (byte == 0x53, Fault::Magic),
@@ -68,7 +69,7 @@ fn judged(letter: u8, byte: u8, number: u64) -> (bool, Fault) {
     }
 }
 
-/// What is due behind a byte that stands at a letter.
+/// What is due after a byte that stands at a letter.
 fn behind(place: Place, letter: u8, byte: u8) -> Place {
     match letter {
         b'K' => Place {
@@ -101,7 +102,7 @@ fn behind(place: Place, letter: u8, byte: u8) -> Place {
     }
 }
 
-/// The letter of the next byte, and what is due behind it; no letter where nothing is due.
+/// The letter of the next byte, and what is due after it. There is no letter if nothing is due.
 fn next(place: Place) -> (Option<u8>, Place) {
     if place.name_bytes != 0 {
         return (Some(b'n'), place);

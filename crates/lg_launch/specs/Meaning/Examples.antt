@@ -20,7 +20,7 @@ use Rattle.lg_launch.specs.declared.told.Told.TheVariants as told
 use Rattle.lg_launch.specs.Meaning.Running.{table_of}
 use Rattle.lg_launch.specs.Meaning.Telling.{ending, line_of, run_told, status_of}
 
--- what is seen of two ends after which nothing went wrong: the status, the line, and whether the members are written
+-- what is seen of two ends, if nothing went wrong after them: status, line, and whether the members are written
 record Seen : Type 0 where
   status : ℕ
   line : List ℕ
@@ -70,7 +70,7 @@ no_view ticked = refl
 turns_made : (ticked : Why) → seen ReadBound ticked ≡ row 1 (codes "lg: turns\n") false
 turns_made ticked = refl
 
--- an end of the ticking loop counts as one of the receiving loop does, if that was stopped
+-- if the receiving loop was stopped, an end of the ticking loop counts as one of the receiving loop does
 either_loop : (end : Why) → ending Stopped end ≡ ending end Stopped
 either_loop Stopped = refl
 either_loop Ousted = refl
@@ -81,7 +81,7 @@ either_loop ReadBound = refl
 abbrev Members : Type 0
 Members = Vec Claim Global
 
--- a node whose loops ended so, with these members and this closing
+-- a node whose loops ended like this, with these members and this closing
 abbrev left : NodeEnd → Why → Why → Result Members Refusal → Result Left CloseFault → NodeEnd
 left e received ticked members closed =
     record e {
@@ -91,7 +91,7 @@ left e received ticked members closed =
       closed = closed;
     }
 
--- Where the node was ousted and its members were refused, that is told, and no table is written.
+-- If the node was ousted and its members were refused, the refusal is told, and no table is written.
 refused_members :
     (e : NodeEnd) (closed : Result Left CloseFault) (written : Result (Unit {0}) RunFault)
     → run_told (Ok (left e Ousted (Refused (refusal.HistoryFull 2)) (Err refusal.NoMemory) closed)) written
@@ -103,8 +103,8 @@ no_table :
     → table_of (Ok (left e Ousted Stopped (Err refusal.NoView) closed)) ≡ None
 no_table e closed = refl
 
--- else its members are the table; why that wasn't written is told before a closing that was refused, that before the
--- ousting
+-- Otherwise its members are the table. Why that wasn't written is told before a closing that was refused, and that
+-- before the ousting.
 the_table :
     (e : NodeEnd) (records : Members) (closed : Result Left CloseFault)
     → table_of (Ok (left e Stopped Ousted (Ok records) closed)) ≡ Some records.items
@@ -125,7 +125,7 @@ nothing_else :
     → run_told (Ok (left e Stopped Ousted (Ok records) (Ok whole))) (Ok tt) ≡ told.Ousted
 nothing_else e records whole = refl
 
--- Where the link failed, no table is written, and nothing else is told.
+-- If the link failed, no table is written, and nothing else is told.
 link_without_table :
     (e : NodeEnd) (members : Result Members Refusal) (closed : Result Left CloseFault)
     → table_of (Ok (left e Stopped LinkFailed members closed)) ≡ None
@@ -137,7 +137,7 @@ link_alone :
     → run_told (Ok (left e Stopped LinkFailed members closed)) written ≡ told.Link
 link_alone e members closed written = refl
 
--- before the loops
+-- ends before the loops
 no_socket : (written : Result (Unit {0}) RunFault) → run_told (Err node.Socket) written ≡ told.Link
 no_socket written = refl
 
@@ -148,7 +148,7 @@ refused_opening :
     (written : Result (Unit {0}) RunFault) → run_told (Err (node.Refused refusal.NoMemory)) written ≡ told.Memory
 refused_opening written = refl
 
--- a file with a value that is none
+-- a file with a value that is out of its form
 faulty_file : line_of (told.Config Value) ≡ codes "lg: config 14\n"
 unfolding digits
 faulty_file = refl

@@ -1,4 +1,4 @@
--- How a node of a configuration is run: what is told of its end, and what is written.
+-- How the node of a configuration is run: what is told of its end, and what is written.
 use Rattle.std.specs.Prelude.{◌≡◌, ⊤, ◌⊎◌, ℕ, false, List, if◌then◌else◌}
 use Rattle.std.specs.Prelude.{Option, Some, None, Result, Ok, Err, MatchResult}
 use Rattle.std.specs.Option.{option_map}
@@ -22,14 +22,14 @@ use Rattle.lg_launch.specs.declared.told.Told.{Told}
 use Rattle.lg_launch.specs.declared.told.Told.TheVariants.{Config, Memory, Read}
 use Rattle.lg_launch.specs.Meaning.Telling.{ending, line_of, run_told, status_of}
 
--- the records of the table that is to be written, if one is
+-- the records of the table that is to be written, if one is to be
 abbrev pub table_of : Result NodeEnd NodeFault → Option (List Claim)
 table_of (Err fault) = None
 table_of (Ok e) =
     if (ending e.received.why e.ticked.why).writes then option_map (λ v. v.items) (result_ok e.members) else None
 
--- A table is written, if there is one: the whole text, unless writing failed, which doesn't say how much of it. Nothing
--- is, where memory for the text was refused.
+-- A table is written whole, if there is one. If the writing failed, nothing says how much was written. If memory for
+-- the text was refused, nothing was written.
 abbrev pub Writes :
     {W : Type 0} → (before after : W) (held holds : Option (List ℕ)) → Option (List Claim)
     → Result (Unit {0}) RunFault → Type 0
@@ -39,14 +39,14 @@ Writes before after held holds (Some records) (Err fault.Memory) = after ≡ bef
 Writes before after held holds (Some records) (Err fault.Read) = ⊥
 Writes before after held holds (Some records) (Err fault.Write) = ⊤
 
--- the node of a configuration ran until a moment, over links that tell their failures alone, with at most this many
--- turns a loop
+-- The node of a configuration ran until a moment. Its links tell nothing but their failures. Each loop makes at most
+-- 1,000,000,000 turns.
 abbrev pub HasRun : NodeConfig → ℕ → NodeEnd → Type 0
 HasRun n until e = (hears : Line) × (hears' : Line) × (sends : Line) × (sends' : Line)
     × IsRun DrawsEight (seeded n.dice) false 1000000000 n.config until hears hears' sends sends' e
 
--- The node of a configuration ran, or ended before its loops. Its table was written, if it was to be, and what is told
--- of it was reported, as far as the report was taken.
+-- The node of a configuration ran, or ended before its loops. Its table was written, if it was to be. What is told of
+-- it was reported, as far as the report was taken.
 pub record RunsNode
     {W : Type 0} (before after : W) (held holds reported reports : Option (List ℕ)) (n : NodeConfig)
     (until status : ℕ)
@@ -65,7 +65,7 @@ pub record TellsAlone
   pub line : AppendsFront reported reports (line_of told)
   pub is : status ≡ status_of told
 
--- A configuration that was read is run; why none was read is told.
+-- A configuration that was read is run. If none was read, the reason is told.
 abbrev pub RunsAnswer :
     {W : Type 0} → (before after : W) (held holds reported reports : Option (List ℕ))
     → Result NodeConfig ReadFault → (until status : ℕ) → Type 0
@@ -76,7 +76,7 @@ RunsAnswer before after held holds reported reports (Err NoMemory) until status 
 RunsAnswer before after held holds reported reports (Err (File fault)) until status =
     TellsAlone before after reported reports (Config fault) status
 
--- The bytes of a file are read as a configuration, and that is run.
+-- The bytes of a file are read as a configuration, and the configuration is run.
 pub record RunsBytes
     {W : Type 0} (before after : W) (held holds reported reports : Option (List ℕ)) (bytes : List ℕ)
     (until status : ℕ)
@@ -85,7 +85,7 @@ pub record RunsBytes
   pub read : IsAnswer bytes answer
   pub runs : RunsAnswer before after held holds reported reports answer until status
 
--- A file gives some bytes, and these are run; or it can't be read, or memory is refused for it, and that is told.
+-- A file gives some bytes, and these are run. Or it can't be read, or memory is refused for it, and that is told.
 abbrev pub RunsFile :
     {W : Type 0} → (before after : W) (held holds reported reports : Option (List ℕ)) (until status : ℕ)
     → Type 0

@@ -1,4 +1,4 @@
--- What the program says of a node's run: a status, and a line where something went wrong.
+-- What the program says of a node's run: a status, and a line if something went wrong.
 use Rattle.std.specs.Prelude.{ℕ, List, [], ◌++◌, codes, decimal, Bool, true, false, if◌then◌else◌}
 use Rattle.std.specs.Prelude.{Result, Ok, Err}
 use Rattle.lg_text.specs.Meaning.Lines.{newline}
@@ -38,7 +38,7 @@ said words = codes "lg: " ++ words ++ newline
 abbrev pub config_line : ℕ → List ℕ
 config_line number = said (codes "config " ++ decimal number)
 
--- the line on the standard error
+-- the line on standard error
 abbrev pub line_of : Told → List ℕ
 line_of Done = []
 line_of Memory = said (codes "memory")
@@ -66,7 +66,7 @@ fault_told fault.Memory = Memory
 fault_told fault.Read = Read
 fault_told fault.Write = Write
 
--- what the ends of the two loops bring: what is told of them, and whether the members are to be written
+-- what the ends of the two loops lead to: what is told of them, and whether the members are to be written
 pub record Ending : Type 0 where
   pub told : Told
   pub writes : Bool
@@ -77,7 +77,7 @@ with_members told = record { told = told; writes = true }
 abbrev pub without_members : Told → Ending
 without_members told = record { told = told; writes = false }
 
--- The table of the ends, the receiving loop's and then the ticking loop's: the first that isn't Stopped counts.
+-- The table of the two ends, the receiving loop's and then the ticking loop's. The first that isn't Stopped counts.
 abbrev pub ending : Why → Why → Ending
 -- both were stopped: status 0, no line; the members are written
 ending why.Stopped why.Stopped = with_members Done
@@ -94,8 +94,8 @@ ending why.Stopped (why.Refused refusal) = without_members (refusal_told refusal
 ending why.ReadBound ticked = without_members Turns
 ending why.Stopped why.ReadBound = without_members Turns
 
--- The table of what is told where the members are to be written: by the members, the writing of their table, the
--- closing of the agent, and what the ends bring.
+-- The table of what is told if the members are to be written. It goes by the members, the writing of their table, the
+-- closing of the agent, and what the ends lead to.
 abbrev pub finished : {M C F : Type 0} → Result M Refusal → Result (Unit {0}) RunFault → Result C F → Told → Told
 -- the members were refused: that refusal
 finished (Err refusal) written closed told = refusal_told refusal
@@ -103,10 +103,10 @@ finished (Err refusal) written closed told = refusal_told refusal
 finished (Ok members) (Err fault) closed told = fault_told fault
 -- it was written, and the agent wasn't closed: status 1, `lg: close`
 finished (Ok members) (Ok done) (Err fault) told = Close
--- nothing went wrong: what the ends bring
+-- nothing went wrong: what the ends lead to
 finished (Ok members) (Ok done) (Ok whole) told = told
 
--- what is told of a node that was run, by how its table was written
+-- what is told of a node that was run, given how its table was written
 abbrev pub run_told : Result NodeEnd NodeFault → Result (Unit {0}) RunFault → Told
 -- its socket couldn't be bound: status 5, `lg: link`
 run_told (Err node.Socket) written = Link
@@ -114,7 +114,7 @@ run_told (Err node.Socket) written = Link
 run_told (Err node.Clock) written = Refused
 -- it was refused before its loops: status 1, `lg: memory`, `lg: history` or `lg: refused`
 run_told (Err (node.Refused refusal)) written = refusal_told refusal
--- it ran its loops: the two tables
+-- it ran its loops: what the two tables above say
 run_told (Ok e) written =
     let ends = ending e.received.why e.ticked.why in
     if ends.writes then finished e.members written e.closed ends.told else ends.told

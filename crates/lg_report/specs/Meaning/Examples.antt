@@ -1,5 +1,5 @@
--- Worked replies of a at 127.0.0.1:7001 and of b at 127.0.0.1:7002: a probe and its ack; a suspicion, the buddy and the
--- refutation; a relay and its nack. Then those of further kinds.
+-- Worked replies of a at 127.0.0.1:7001 and of b at 127.0.0.1:7002. First a probe and its ack; then a suspicion, the
+-- buddy and the refutation; then a relay and its nack; then replies of further kinds.
 use Rattle.std.specs.Prelude.{◌≡◌, ℕ, true, List, [], ◌∷◌, ◌++◌, Some, None, codes, refl}
 use Rattle.std.specs.Fmt.{digits}
 use Rattle.std.specs.List.{flat_map}
@@ -22,7 +22,7 @@ use Rattle.lg_text.specs.Meaning.Lines.{newline}
 use Rattle.lg_report.specs.Meaning.Records.{table_text}
 use Rattle.lg_report.specs.Meaning.Replies.{reply_text}
 
--- What a worked reply unfolds to be computed.
+-- What has to be unfolded to compute a worked reply.
 unfoldable pub by_computing : Unit {0}
 unfolding digits hex_on_literals spelling table_text reply_text
 by_computing = tt
@@ -31,11 +31,11 @@ by_computing = tt
 abbrev lines : List (List ℕ) → List ℕ
 lines texts = flat_map (λ line. line ++ newline) texts
 
--- a claim about the member of a letter, at a port
+-- a claim about the member whose name is a letter, at a port
 abbrev claimed : ℕ → ℕ → Status → ℕ → Claim
 claimed letter port status i = record { name = letter ∷ []; addr = at port; status = status; incarnation = i }
 
--- what the member of a letter sends to a port
+-- what the member whose name is a letter sends to a port
 abbrev sent : ℕ → ℕ → Body → List Claim → Outgoing
 sent sender port body claims =
     record { to = at port; packet = record { sender = sender ∷ []; body = body; claims = record { items = claims } } }
@@ -156,7 +156,7 @@ knows_a_suspect : reply_text (Ask 5 (b ∷ [])) 1
 unfolding by_computing
 knows_a_suspect = refl
 
--- packets are numbered on from the first of the event
+-- the packets of an event are numbered one after another
 asks_two_helpers : reply_text (ticks 500) 9
     (record (fires Direct 1000)
     { sends = record { items = sent a 7002 (Nack 1) [] ∷ sent a 7003 (Nack 2) [] ∷ [] } })
@@ -167,7 +167,7 @@ asks_two_helpers : reply_text (ticks 500) 9
 unfolding by_computing
 asks_two_helpers = refl
 
--- all that a reply can say, in its order
+-- all that a reply can say, in order
 says_all : reply_text (ticks 500) 1
     (record (sends (sent a 7002 (Ack 1) []) 600) {
       fired = Some (timer_of 0 RoundStart);

@@ -10,7 +10,7 @@ use Rattle.lg_text.specs.Meaning.Lines.{newline}
 abbrev pub blank : List ℕ
 blank = 32 ∷ []
 
--- numbers in decimal with dots between them
+-- numbers in decimal, with dots between them
 abbrev pub dotted : List ℕ → List ℕ
 dotted [] = []
 dotted (n ∷ ns) = decimal n ++ flat_map (λ m. codes "." ++ decimal m) ns
@@ -24,13 +24,13 @@ status_text Alive = codes "alive"
 status_text (Suspect accuser) = codes "suspect"
 status_text Failed = codes "failed"
 
--- who accuses a suspect
+-- the accuser of a suspect
 abbrev pub accuser_text : Status → List ℕ
 accuser_text Alive = []
 accuser_text (Suspect accuser) = codes " by " ++ accuser
 accuser_text Failed = []
 
--- NAME STATUS INCARNATION A.B.C.D:PORT, and by ACCUSER behind where it is suspect
+-- NAME STATUS INCARNATION A.B.C.D:PORT, and ` by ACCUSER` at the end if the member is suspected
 abbrev pub record_text : Claim → List ℕ
 record_text c =
     c.name ++ blank ++ status_text c.status ++ blank ++ decimal c.incarnation ++ blank ++ addr_text c.addr

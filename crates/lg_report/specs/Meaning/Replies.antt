@@ -17,7 +17,7 @@ use Rattle.lg_detector.specs.declared.reply.Reply.{Reply}
 use Rattle.lg_text.specs.Meaning.Lines.{newline}
 use Rattle.lg_report.specs.Meaning.Records.{addr_text, blank, record_text, table_text}
 
--- the kind of a timer
+-- the word for the kind of a timer
 abbrev pub kind_text : TimerId → List ℕ
 kind_text RoundEnd = codes "round-end"
 kind_text (Suspicion member) = codes "suspicion"
@@ -26,7 +26,7 @@ kind_text (RelayNack relay) = codes "relay-nack"
 kind_text (RelayEnd relay) = codes "relay-end"
 kind_text RoundStart = codes "round-start"
 
--- the member or the number of the relay that a timer is about, where it has one
+-- the member, or the number of the relay, that a timer is about, if it is about one
 abbrev pub subject_text : TimerId → List ℕ
 subject_text RoundEnd = []
 subject_text (Suspicion member) = blank ++ member
@@ -35,12 +35,12 @@ subject_text (RelayNack relay) = blank ++ decimal relay
 subject_text (RelayEnd relay) = blank ++ decimal relay
 subject_text RoundStart = []
 
--- the timer that a tick fired, or that it fired none
+-- the line of a tick: the timer that it fired, or that it fired none
 abbrev pub tick_text : Option Timer → List ℕ
 tick_text None = codes "idle" ++ newline
 tick_text (Some timer) = codes "fired " ++ kind_text timer.id ++ subject_text timer.id ++ newline
 
--- other events fire nothing, and have no such line
+-- the line of a tick; other events fire nothing, and have no such line
 abbrev pub fired_text : Event → Option Timer → List ℕ
 fired_text (Open now config) fired = []
 fired_text (Tick now words) fired = tick_text fired
@@ -49,7 +49,7 @@ fired_text (Ask now name) fired = []
 fired_text (Health now) fired = []
 fired_text (Pull now peer) fired = []
 
--- the score, the own number, and how many members haven't failed
+-- the health score, this member's incarnation, and how many members haven't failed
 abbrev pub health_text : ℕ → ℕ → ℕ → List ℕ
 health_text score number members =
     codes "score " ++ decimal score ++ codes " number " ++ decimal number ++ codes " members " ++ decimal members
@@ -60,7 +60,7 @@ told_text (OfStatus None) = codes "none"
 told_text (OfStatus (Some c)) = record_text c
 told_text (OfHealth score number members) = health_text score number members
 
--- an answer, where there is one
+-- the line of an answer, if there is one
 abbrev pub answer_line : Option Answer → List ℕ
 answer_line None = []
 answer_line (Some answer) = codes "answer " ++ told_text answer ++ newline
@@ -69,24 +69,24 @@ answer_line (Some answer) = codes "answer " ++ told_text answer ++ newline
 abbrev pub packet_text : Packet → List ℕ
 packet_text packet = encode_lower (spelling packet)
 
--- packet number k, which is sent: where it goes, and its bytes
+-- the line of packet number k, which is sent: where it goes, and its bytes
 abbrev pub send_line : ℕ → Outgoing → List ℕ
 send_line k s = codes "send " ++ decimal k ++ blank ++ addr_text s.to ++ blank ++ packet_text s.packet ++ newline
 
--- packets that are sent, numbered on from k
+-- the lines of packets that are sent, numbered from k on
 abbrev pub sends_text : ℕ → List Outgoing → List ℕ
 sends_text k [] = []
 sends_text k (s ∷ ss) = send_line k s ++ sends_text (k + 1) ss
 
--- whether the member is ousted
+-- the line `ousted`, if the member is ousted
 abbrev pub ousted_text : Bool → List ℕ
 ousted_text ousted = if ousted then codes "ousted" ++ newline else []
 
--- the next deadline
+-- the line of the next deadline
 abbrev pub next_text : ℕ → List ℕ
 next_text next = codes "next " ++ decimal next ++ newline
 
--- the lines of the reply to an event, whose first packet has the number k
+-- The lines of the reply to an event. The first packet that is sent has the number k.
 unfoldable pub reply_text : Event → ℕ → Reply → List ℕ
 reply_text event k reply =
     fired_text event reply.fired ++ answer_line reply.answer ++ sends_text k reply.sends.items

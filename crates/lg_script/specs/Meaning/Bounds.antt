@@ -1,15 +1,15 @@
 -- The least and the greatest numbers of a script (this project's choice).
 use Rattle.std.specs.Prelude.{ℕ}
 
--- the last moment, in milliseconds
+-- the greatest moment, in milliseconds
 abbrev pub greatest_moment : ℕ
 greatest_moment = 1000000000000000
 
--- the last number of 16 bits
+-- the greatest port, which is the greatest number of 16 bits
 abbrev pub greatest_port : ℕ
 greatest_port = 65535
 
--- the random words of a tick: how many there are, and the greatest, the last number of 32 bits
+-- how many random words a tick has, and the greatest random word, which is the greatest number of 32 bits
 abbrev pub random_words : ℕ
 random_words = 8
 

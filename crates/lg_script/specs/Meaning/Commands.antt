@@ -1,4 +1,4 @@
--- What the words behind the name of a command say; none where one of them is out of its form or range.
+-- What the words after the name of a command say. It is None if one of them is out of its form or range.
 use Rattle.std.specs.Prelude.{ℕ, List, [], Option, Some, slice_index_or, drop}
 use Rattle.lg_text.specs.Meaning.Numbers.{number_of}
 use Rattle.lg_script.specs.Meaning.Values.{◌>>=◌, moment_of, port_of, member_name_of, key_of}
@@ -8,7 +8,7 @@ use Rattle.lg_script.specs.declared.command.Command.TheVariants.{Set, Open, Tick
 use Rattle.lg_script.specs.declared.verb.Verb.{Verb}
 use Rattle.lg_script.specs.declared.verb.Verb.TheVariants as verb
 
--- the word at a place, counted from 0; nothing past the end, which no value is
+-- the word at a place, counted from 0; past the end an empty word, which is no value
 abbrev pub word_at : List (List ℕ) → ℕ → List ℕ
 word_at words place = slice_index_or words place []
 
@@ -72,7 +72,7 @@ table_command words = do
   name ← member_name_of (word_at words 0)
   Some (Table name)
 
--- the command of this name with these words
+-- the command with this name and these words
 abbrev pub command_named : Verb → List (List ℕ) → Option Command
 command_named verb.Set words = set_command words
 command_named verb.Open words = open_command words

@@ -63,7 +63,7 @@ delivers : command_of (codes "deliver 12 500") ≡ gives (Deliver 12 500)
 unfolding command_of verb_of deliver_command
 delivers = refl
 
--- whether the number was sent is judged elsewhere
+-- whether a packet of this number was sent is judged elsewhere
 delivers-none : command_of (codes "deliver 0 0") ≡ gives (Deliver 0 0)
 unfolding command_of verb_of deliver_command
 delivers-none = refl
@@ -94,7 +94,7 @@ comment : command_of (codes "#x") ≡ Ok None
 unfolding command_of
 comment = refl
 
--- in a comment anything goes
+-- a comment may have any bytes
 comment-of-bytes : command_of (35 ∷ 0 ∷ 255 ∷ 9 ∷ 13 ∷ []) ≡ Ok None
 unfolding command_of
 comment-of-bytes = refl
@@ -121,7 +121,7 @@ tab-in-name-of-command : command_of (codes "tick" ++ 9 ∷ codes "a 0") ≡ Err 
 unfolding command_of verb_of
 tab-in-name-of-command = refl
 
--- ---- another number of words, or spaces that don't part two words
+-- ---- another number of words, or spaces that don't separate two words
 
 leading-space : command_of (codes " tick a 0") ≡ Err fault.Words
 unfolding command_of verb_of
@@ -151,12 +151,12 @@ open-without-moment : command_of (codes "open a 7001") ≡ Err fault.Words
 unfolding command_of verb_of
 open-without-moment = refl
 
--- a bad number is no matter where the words are too few
+-- a bad number doesn't matter if the words are too few
 words-before-values : command_of (codes "deliver x") ≡ Err fault.Words
 unfolding command_of verb_of
 words-before-values = refl
 
--- ---- a word out of its form or range
+-- ---- a word that is out of its form or range
 
 digits-17 : command_of (codes "deliver 00000000000000001 0") ≡ Err fault.Value
 unfolding command_of verb_of deliver_command
@@ -190,7 +190,7 @@ seed-with-two-colons : command_of (codes "open a 7001 0 b:1:2") ≡ Err fault.Va
 unfolding command_of verb_of open_command
 seed-with-two-colons = refl
 
--- some seeds, one like the others
+-- some seeds, all alike
 abbrev seeds : ℕ → List ℕ
 seeds count = flat_map (λ seed. seed) (replicate count (codes " b:1"))
 
@@ -201,7 +201,7 @@ seeds-17 = refl
 b-at-1 : Seed
 b-at-1 = record { name = 98 ∷ []; addr = local 1 }
 
--- that their names differ is judged elsewhere
+-- whether their names differ is judged elsewhere
 seeds-16 : command_of (codes "open a 7001 0" ++ seeds 16)
     ≡ gives (Open (97 ∷ []) 7001 0 record { items = replicate 16 b-at-1 })
 unfolding command_of verb_of open_command b-at-1

@@ -1,4 +1,4 @@
--- The words for the faults of a line.
+-- The words that report the faults of a line.
 use Rattle.std.specs.Prelude.{ℕ, List, codes}
 use Rattle.lg_script.specs.declared.fault.ScriptFault.{ScriptFault}
 use Rattle.lg_script.specs.declared.fault.ScriptFault.TheVariants.{Command, Words, Value, Double, Full, Member, Packet}

@@ -22,7 +22,7 @@ infixl 10 ◌>>=◌
 abbrev pub ◌>>=◌ : {A B : Type 0} → Option A → (A → Option B) → Option B
 found >>= f = option_and_then f found
 
--- the number of a word that is one, where it lies between two others, which count
+-- the number that a word spells, if it is at least `least` and at most `most`
 abbrev pub number_within : ℕ → ℕ → List ℕ → Option ℕ
 number_within least most word = do
   number ← number_of word
@@ -41,22 +41,22 @@ random_word_of word = number_within 0 greatest_random_word word
 abbrev pub member_name_of : List ℕ → Option (List ℕ)
 member_name_of word = if is_name word then Some word else None
 
--- where the member of a port is: all members are at 127.0.0.1
+-- the address of the member with a port: all members are at 127.0.0.1
 abbrev pub local : ℕ → Addr
 local port = record { octets = 127 ∷ 0 ∷ 0 ∷ 1 ∷ []; port = port }
 
--- a byte `:`
+-- whether a byte is `:`
 abbrev pub is_colon : ℕ → Bool
 is_colon b = b == 58
 
--- a seed is cut at its first colon: a name stands before it, and a port behind it
+-- a seed, cut at the first colon: a name stands before it, and a port after it
 abbrev pub seed_of : List ℕ → Option Seed
 seed_of word = do
   name ← member_name_of (before_first is_colon word)
   port ← port_of (after_first is_colon word)
   Some record { name = name; addr = local port }
 
--- each of some words, as it is read; none where one of them can't be
+-- the values of some words; None if one of them can't be read
 abbrev pub each_of : {A : Type 0} → (List ℕ → Option A) → List (List ℕ) → Option (List A)
 each_of read [] = Some []
 each_of read (word ∷ words) = do
@@ -64,7 +64,7 @@ each_of read (word ∷ words) = do
   values ← each_of read words
   Some (value ∷ values)
 
--- each of some words, unless they are too many
+-- the values of some words; None also if there are more than `most` words
 abbrev pub at_most_of : {A : Type 0} → ℕ → (List ℕ → Option A) → List (List ℕ) → Option (List A)
 at_most_of most read words = if nat_le (length words) most then each_of read words else None
 
@@ -75,7 +75,7 @@ with_missing numbers = numbers ++ replicate (random_words - length numbers) 0
 abbrev pub random_words_of : List (List ℕ) → Option (List ℕ)
 random_words_of words = option_map with_missing (at_most_of random_words random_word_of words)
 
--- at most sixteen seeds
+-- the seeds that some words spell, at most sixteen
 abbrev pub seeds_of : List (List ℕ) → Option (List Seed)
 seeds_of words = at_most_of most_seeds seed_of words
 

@@ -11,11 +11,11 @@ use Rattle.lg_script.specs.declared.verb.Verb.TheVariants.{Set, Open, Tick, Deli
 abbrev pub parts_of : List ℕ → List (List ℕ)
 parts_of line = slice_split (λ b. b == 32) line
 
--- a part that is a word: it isn't empty
+-- whether a part is a word: it isn't empty
 abbrev pub is_filled : List ℕ → Bool
 is_filled part = not (length part == 0)
 
--- which of the commands a word names
+-- the command that a word names, if it names one
 unfoldable pub verb_of : List ℕ → Option Verb
 verb_of word =
     if bytes_eq word (codes "set") then Some Set
@@ -32,7 +32,7 @@ verb_of word =
 abbrev pub verb_in : List (List ℕ) → Option Verb
 verb_in parts = option_and_then verb_of (find is_filled parts)
 
--- how many words may follow the name of a command; `open` takes any number of seeds
+-- whether a command takes this many words after its name; `open` takes any number of seeds
 abbrev pub takes_words : Verb → ℕ → Bool
 takes_words Set words = words == 2
 takes_words Open words = nat_le 3 words
@@ -43,6 +43,6 @@ takes_words Health words = words == 2
 takes_words Pull words = words == 3
 takes_words Table words = words == 1
 
--- the parts of a line are words, parted by single spaces, and as many as the command takes
+-- whether the parts of a line are words, separated by single spaces, and as many as the command takes
 abbrev pub are_words_of : Verb → List (List ℕ) → Bool
 are_words_of verb parts = takes_words verb (length parts - 1) && list_all is_filled parts

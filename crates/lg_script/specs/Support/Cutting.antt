@@ -4,16 +4,16 @@ use Rattle.std.specs.List.{after_first, position_or_len}
 use Rattle.std.specs.Borrow.{Bor}
 use Rattle.lg_script.specs.Meaning.Words.{parts_of}
 
--- a byte is this one
+-- whether a byte is this one
 abbrev pub is_byte : ℕ → ℕ → Bool
 is_byte byte b = b == byte
 
--- what stands behind the first of these bytes, if there is one
+-- what stands after the first such byte, if there is one
 abbrev pub rest_behind : ℕ → List ℕ → Option (List ℕ)
 rest_behind byte text =
     if nat_lt (position_or_len (is_byte byte) text) (length text) then Some (after_first (is_byte byte) text) else None
 
--- the parts of the rest of a line, if there is one
+-- the parts of the rest of a line, if there is a rest
 abbrev pub words_left : Option (Bor (List ℕ)) → List (List ℕ)
 words_left None = []
 words_left (Some rest) = parts_of rest.now

@@ -27,7 +27,7 @@ use Rattle.lg_sim.specs.Meaning.Text.{script_end, script_text}
 use Rattle.lg_sim.specs.declared.host.Member.{Member}
 use Rattle.lg_sim.specs.declared.host.SentPacket.{SentPacket}
 
--- the names of three members, of which a is at port 7001 and b at 7002
+-- the names of three members; a is at port 7001 and b at 7002
 abbrev a : List ℕ
 a = 97 ∷ []
 
@@ -57,7 +57,7 @@ open-b = Open b 7002 0 no-seeds
 latest-counts : settings (Set Beta 5 ∷ Set Alpha 4 ∷ Set Beta 3 ∷ []) ≡ record unset { alpha = 4; beta = 5 }
 latest-counts = refl
 
--- a setting is for the members that are opened later
+-- a setting counts for the members that are opened later
 set-between : happenings (open-b ∷ Set Beta 5 ∷ open-a ∷ [])
     ≡ record { member = member-b; event = event.Open 0 (opening_config b 7002 no-seeds (record unset { beta = 5 })) }
     ∷ record { member = member-a; event = event.Open 0 (opening_config a 7001 no-seeds unset) } ∷ []

@@ -25,14 +25,14 @@ use Rattle.lg_detector.specs.declared.reply.Outgoing.{Outgoing}
 use Rattle.lg_sim.specs.declared.host.Member.{Member}
 use Rattle.lg_sim.specs.declared.host.SentPacket.{SentPacket}
 
--- a member has this name; it is at this address
+-- whether a member has this name, and whether it is at this address
 abbrev pub is_named : List ℕ → Member → Bool
 is_named name member = pointwise nat_eq member.name name
 
 abbrev pub is_at : Addr → Member → Bool
 is_at addr member = pointwise nat_eq member.addr.octets addr.octets && member.addr.port == addr.port
 
--- the member of this name, or at this address, among some
+-- among some members, the one with this name, and the one at this address
 abbrev pub member_named : List ℕ → List Member → Option Member
 member_named name members = find (is_named name) members
 
@@ -44,7 +44,7 @@ pub record Happening : Type 0 where
   pub member : Member
   pub event : Event
 
--- the events of the member of this name, the earliest first
+-- the events of the member with this name, the earliest first
 abbrev pub events_of : List ℕ → List Happening → List Event
 events_of name [] = []
 events_of name (h ∷ past) = events_of name past ++ (if is_named name h.member then h.event ∷ [] else [])
@@ -53,12 +53,12 @@ events_of name (h ∷ past) = events_of name past ++ (if is_named name h.member 
 abbrev pub sent_from : Addr → Outgoing → SentPacket
 sent_from addr outgoing = record { from = addr; outgoing = outgoing }
 
--- the packets that the last happening sent, after those before it
+-- the packets that a happening sent, after the earlier ones
 abbrev pub sent_by : Happening → List Happening → List SentPacket
 sent_by h past =
     map (sent_from h.member.addr) (reply_after (events_of h.member.name past) h.event).sends.items
 
--- all packets that were sent, over all members, in the order in which they were sent
+-- all packets that were sent, by all members, in the order in which they were sent
 abbrev pub sent : List Happening → List SentPacket
 sent [] = []
 sent (h ∷ past) = sent past ++ sent_by h past

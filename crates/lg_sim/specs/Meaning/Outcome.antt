@@ -32,31 +32,31 @@ use Rattle.lg_sim.specs.Meaning.Members.{Happening, events_of, member_at, member
 use Rattle.lg_sim.specs.Meaning.Past.{happening_of, happenings, opened, opening_config, settings}
 use Rattle.lg_sim.specs.declared.host.Member.{Member}
 
--- at most 16 members are opened (this project's choice)
+-- at most 16 members can be opened (this project's choice)
 abbrev pub most_opened : ℕ
 most_opened = 16
 
--- a member of this name or at this address is open
+-- whether a member of this name or at this address is open
 abbrev pub is_taken : Config → List Member → Bool
 is_taken config members =
     is_some (member_named config.name members) || is_some (member_at config.addr members)
 
--- why a member can't be opened with a configuration: the first of these, if there is one
+-- why a member can't be opened with a configuration: the first of three faults that applies, if one does
 abbrev pub opening_fault : Config → List Member → Option ScriptFault
 opening_fault config members =
     if is_err (check_of config) then Some fault.Value
     else (if is_taken config members then Some fault.Double
     else (if nat_le most_opened (length members) then Some fault.Full else None))
 
--- a command for a name that isn't open
+-- the fault of a command for a name that isn't open
 abbrev pub naming_fault : List ℕ → List Member → Option ScriptFault
 naming_fault name members = if is_some (member_named name members) then None else Some fault.Member
 
--- a delivery of a packet that was never sent
+-- the fault of a delivery of a packet that was never sent
 abbrev pub packet_fault : ℕ → List Happening → Option ScriptFault
 packet_fault k past = if is_some (packet_number k (sent past)) then None else Some fault.Packet
 
--- why a command can't be carried out after the earlier ones
+-- why a command can't be carried out after the earlier ones, if it can't
 abbrev pub command_fault : Command → List Command → Option ScriptFault
 command_fault (Set key number) before = None
 command_fault (Open name port now seeds) before =
@@ -68,13 +68,14 @@ command_fault (Health name now) before = naming_fault name (opened before)
 command_fault (Pull name now port) before = naming_fault name (opened before)
 command_fault (Table name) before = naming_fault name (opened before)
 
--- the lines of what happened: the reply of the member, whose packets are numbered on from those sent before
+-- The lines of what happened: the reply of the member. The numbers of its packets go on from those of the packets
+-- sent before.
 abbrev pub happening_text : Option Happening → List Happening → List ℕ
 happening_text None past = codes "nobody" ++ newline
 happening_text (Some h) past =
     reply_text h.event (length (sent past) + 1) (reply_after (events_of h.member.name past) h.event)
 
--- what a command writes that can be carried out after the earlier ones
+-- what a command writes, if it can be carried out after the earlier ones
 abbrev pub text_of : Command → List Command → List ℕ
 text_of (Set key number) before = []
 text_of (Table name) before = table_text (view_after (events_of name (happenings before)))

@@ -29,7 +29,7 @@ use Rattle.lg_sim.specs.Meaning.Members.{Happening, member_at, member_named, pac
 use Rattle.lg_sim.specs.declared.host.Member.{Member}
 use Rattle.lg_sim.specs.declared.host.SentPacket.{SentPacket}
 
--- a configuration with another number
+-- a configuration with one number changed
 abbrev pub with_number : Key → ℕ → Config → Config
 with_number IntervalMs n c = record c { interval_ms = n }
 with_number TimeoutMs n c = record c { timeout_ms = n }
@@ -42,7 +42,7 @@ with_number Lambda n c = record c { lambda = n }
 with_number NackThousandths n c = record c { nack_thousandths = n }
 with_number HistoryLimit n c = record c { history_limit = n }
 
--- The defaults; their name and address stand for none.
+-- The defaults. Their name and address are placeholders.
 abbrev pub unset : Config
 unset = defaults (97 ∷ []) (record { octets = 0 ∷ 0 ∷ 0 ∷ 0 ∷ []; port = 0 })
 
@@ -65,11 +65,11 @@ opened [] = []
 opened (Open name port now seeds ∷ before) = opened before ++ new_member name port ∷ []
 opened (_ ∷ before) = opened before
 
--- an event happens at the member of this name
+-- an event happens at the member with this name, if there is one
 abbrev pub at_named : List ℕ → Event → List Member → Option Happening
 at_named name e members = option_map (λ m. record { member = m; event = e }) (member_named name members)
 
--- a packet is heard by the member at its destination, from the address of its sender
+-- A packet is heard from the address of its sender. The member at its destination hears it, if there is one.
 abbrev pub heard : ℕ → SentPacket → Event
 heard now packet = event.Heard now packet.from packet.outgoing.packet
 

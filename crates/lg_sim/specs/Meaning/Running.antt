@@ -5,7 +5,7 @@ use Rattle.lg_text.specs.Meaning.Ranges.{most_input}
 use Rattle.lg_text.specs.declared.end.End.{End}
 use Rattle.lg_sim.specs.Meaning.Text.{script_end, script_text}
 
--- An input that isn't too long is read to its end as a script, and its text is written.
+-- An input that isn't too long is read to its end and run as a script, and the script's text is written.
 pub record RunsInput (left rest held holds : Option (List ℕ)) (end : End) : Type 0 where
   pub input : List ℕ
   pub few : length input ≤ most_input

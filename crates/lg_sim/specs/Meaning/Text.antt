@@ -10,7 +10,8 @@ use Rattle.lg_script.specs.declared.command.Command.{Command}
 use Rattle.lg_script.specs.declared.fault.ScriptFault.{ScriptFault}
 use Rattle.lg_sim.specs.Meaning.Outcome.{command_fault, text_of}
 
--- Why a line is faulty after the earlier commands: by its form, or by its command. A line without a command isn't.
+-- Why a line is faulty after the earlier commands: because of its form, or because of its command. A line without a
+-- command isn't faulty.
 abbrev pub fault_said : Result (Option Command) ScriptFault → List Command → Option ScriptFault
 fault_said (Ok None) before = None
 fault_said (Ok (Some command)) before = command_fault command before
@@ -28,7 +29,7 @@ text_said (Err fault) before = []
 abbrev pub line_text : List ℕ → List Command → List ℕ
 line_text line before = text_said (command_of line) before
 
--- the commands so far, with that of a line
+-- the commands so far, with the command of a line, if it has one
 abbrev pub with_said : Result (Option Command) ScriptFault → List Command → List Command
 with_said (Ok None) before = before
 with_said (Ok (Some command)) before = command ∷ before
@@ -37,13 +38,13 @@ with_said (Err fault) before = before
 abbrev pub with_line : List ℕ → List Command → List Command
 with_line line before = with_said (command_of line) before
 
--- the line of a fault: the number of the faulty line, and the word of its fault
+-- the line that reports a fault: the number of the faulty line, and the word for its fault
 abbrev pub fault_line : ℕ → ScriptFault → List ℕ
 fault_line number fault =
     codes "fault " ++ decimal number ++ codes " " ++ fault_word fault ++ newline
 
--- What lines give after the earlier commands, where the first of them has this number: each what it writes after those
--- before it, up to the first faulty one, whose fault is the last line.
+-- What some lines write after the earlier commands; the first of them has the number `number`. Each writes its text
+-- after those before it, up to the first faulty one. The fault of that one is the last line of the text.
 abbrev pub text_from : ℕ → List Command → List (List ℕ) → List ℕ
 text_from number before [] = []
 text_from number before (line ∷ lines) =
@@ -64,6 +65,6 @@ end_from before (line ∷ lines) =
 unfoldable pub script_text : List ℕ → List ℕ
 script_text input = text_from 1 [] (lines_of input)
 
--- how the run of a script ends: faulty exactly where some line is, after those before it
+-- how the run of a script ends: faulty exactly if some line is faulty after those before it
 unfoldable pub script_end : List ℕ → End
 script_end input = end_from [] (lines_of input)

@@ -1,4 +1,4 @@
--- A cluster after some commands, and how a command leads it on.
+-- A cluster after some commands, and what one more command does to it.
 use Rattle.std.specs.Prelude.{
   ◌≡◌,
   ⊤,
@@ -49,11 +49,11 @@ use Rattle.lg_sim.specs.declared.host.Host.{Host}
 use Rattle.lg_sim.specs.declared.host.Member.{Member}
 use Rattle.lg_sim.specs.declared.host.SentPacket.{SentPacket}
 
--- a member with its detector after what happened
+-- a member, with its detector after what happened
 abbrev pub host_after : List Happening → Member → Host
 host_after past m = record { member = m; detector = state_after (events_of m.name past) }
 
--- no two members have one name
+-- whether no two members have the same name
 abbrev pub have_distinct_names : List Member → Bool
 have_distinct_names [] = true
 have_distinct_names (m ∷ ms) = not (list_any (is_named m.name) ms) && have_distinct_names ms
@@ -62,7 +62,7 @@ abbrev pub is_begun : List Event → Bool
 is_begun [] = false
 is_begun (e ∷ es) = true
 
--- The hosts and the packets sent are those of some members after what happened at them. A name has events exactly where
+-- The hosts and the packets sent are those of some members after what happened at them. A name has events exactly if
 -- a member of that name is open.
 pub record IsCluster (hosts : List Host) (packets : List SentPacket) (members : List Member) (past : List Happening)
     : Type 0 where
@@ -76,26 +76,26 @@ pub record IsAfter (cluster : Cluster) (before : List Command) : Type 0 where
   pub settings_are : cluster.settings ≡ settings before
   pub is : IsCluster cluster.hosts.items cluster.sent.items (opened before) (happenings before)
 
--- A cluster is after commands that are few enough that each detector accepts one more event.
+-- A cluster is after some commands, so few that each detector accepts one more event.
 pub record IsReached (cluster : Cluster) : Type 0 where
   pub before : List Command
   pub few : length before < most_events
   pub after : IsAfter cluster before
 
--- A cluster is led on by what a command makes happen, if that is anything, and its lines are put behind a text.
+-- What a command makes happen, if anything, happened in a cluster, and its lines were appended to a text.
 pub record LedOn (old new : Cluster) (text longer : List ℕ) (members : List Member) (past : List Happening)
     (happening : Option Happening) : Type 0 where
   pub after : IsCluster new.hosts.items new.sent.items members (cons_option happening past)
   pub settings_stay : new.settings ≡ old.settings
   pub writes : longer ≡ text ++ happening_text happening past
 
--- A command stops at its fault, or where memory is refused.
+-- A command stops at its fault, or when memory is refused.
 abbrev pub StopsAt : Result (Unit {0}) Stop → Option ScriptFault → Type 0
 StopsAt (Ok done) fault = fault ≡ None
 StopsAt (Err (Faulty found)) fault = fault ≡ Some found
 StopsAt (Err NoMemory) fault = ⊤
 
--- why a member can't be opened, by the hosts
+-- why a member can't be opened, found from the hosts
 abbrev pub fault_in : Config → List Host → Option ScriptFault
 fault_in config hosts =
     if is_err (check_of config) then Some fault.Value
@@ -107,12 +107,12 @@ fault_in config hosts =
 abbrev pub delivery_of : ℕ → Option SentPacket → Option (Addr × Event)
 delivery_of now packet = option_map (λ p. (p.outgoing.to, heard now p)) packet
 
--- A command was carried out after some others: the cluster is after it too, and what it gives is put behind a text.
+-- A command was carried out after some others: the cluster is after it too, and what it gives was appended to a text.
 pub record Ran (cluster : Cluster) (text longer : List ℕ) (before : List Command) (command : Command) : Type 0 where
   pub after : IsAfter cluster (command ∷ before)
   pub writes : longer ≡ text ++ text_of command before
 
--- The same of a line, which may have no command.
+-- The same for a line, which may have no command.
 pub record RanLine (cluster : Cluster) (text longer : List ℕ) (before : List Command) (line : List ℕ) : Type 0 where
   pub after : IsAfter cluster (with_line line before)
   pub writes : longer ≡ text ++ line_text line before

@@ -1,4 +1,4 @@
--- The lines of the faults of a run.
+-- The lines that report the faults of a run.
 use Rattle.std.specs.Prelude.{ℕ, List, ◌++◌, codes}
 use Rattle.lg_text.specs.Meaning.Lines.{newline}
 use Rattle.lg_text.specs.declared.fault.RunFault.{RunFault}

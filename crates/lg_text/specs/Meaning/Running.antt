@@ -1,9 +1,9 @@
--- What a run takes of a reader, and what it leaves at a writer.
+-- What a run takes from a reader, and what it leaves in a writer.
 use Rattle.std.specs.Prelude.{◌≡◌, ℕ, ◌≤◌, List, ◌++◌, length, Option}
 use Rattle.std.specs.Io.KnownBytes.{Appends, Consumes, IsAtEnd}
 use Rattle.lg_text.specs.Meaning.Ranges.{most_input}
 
--- Known bytes lose no more than this many of their first.
+-- If a reader tells its bytes, it loses at most `limit` of them, from the front.
 pub record TakesAtMost (limit : ℕ) (old new : Option (List ℕ)) : Type 0 where
   pub bytes : List ℕ
   pub few : length bytes ≤ limit
@@ -16,7 +16,7 @@ pub record ReadsWhole (left rest : Option (List ℕ)) : Type 0 where
   pub read : Consumes left rest input
   pub whole : IsAtEnd rest
 
--- Known bytes grow by a beginning of a text, which may be none of it or all.
+-- If a writer tells its bytes, they grow by a beginning of a text: by none of it, a part or all.
 pub record AppendsFront (held holds : Option (List ℕ)) (text : List ℕ) : Type 0 where
   pub front : List ℕ
   pub rest : List ℕ
