@@ -62,7 +62,7 @@ beyond_within o i me h few = elim (cases_Bool (ltb i 1000000000)) [
 changed_within : (s : Status) (i : ℕ) (me : Oneself) → me.number ≤ 1000000000 → (changed_by (own_hearing_at s i me.number) i me).number ≤ 1000000000
 changed_within Alive i me few = elim (cases_Bool (ltb me.number i)) [ inl t ↦ rw t (beyond_within Raised i me (λ j. refl) few) | inr f ↦ rw f few ]
 changed_within (Suspect a) i me few = elim (cases_Bool (leb me.number i)) [ inl t ↦ rw t (beyond_within Refuted i me (λ j. refl) few) | inr f ↦ rw f few ]
-changed_within Failed i me few = few
+changed_within Failed i me few = elim (cases_Bool (leb me.number i)) [ inl t ↦ rw t (beyond_within Raised i me (λ j. refl) few) | inr f ↦ rw f few ]
 
 heard_within : (me : Oneself) (c : Claim) → me.number ≤ 1000000000 → (own_heard me c).number ≤ 1000000000
 heard_within me c few = elim (cases_Bool (is_same name_cmp c.name me.name)) [ inl t ↦ rw t (changed_within c.status c.incarnation me few) | inr f ↦ rw f few ]

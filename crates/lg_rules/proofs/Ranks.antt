@@ -1,10 +1,15 @@
 -- The claims about one member are ranked by which overrides which.
-use Rattle.std.proofs.Common.{◌≡◌, ℕ, true, false, arith}
+use Rattle.std.proofs.Common.{◌≡◌, ℕ, ◌<◌, true, false, refl, arith}
+use Rattle.std.proofs.lemmas.Bool.{lt-ltb}
 use Rattle.std.proofs.lemmas.Bool.Decides.{nat_tests}
 use Rattle.lg_rules.specs.declared.claim.Status.{Status}
 use Rattle.lg_rules.specs.declared.claim.Status.TheVariants.{Alive, Suspect, Failed}
 use Rattle.lg_rules.specs.Meaning.Beats.{overrides, beats_of}
 use Rattle.lg_rules.proofs.PastLaws.{IsRanked}
+
+-- a greater number overrides, whatever the statuses are
+pub greater_overrides : (s t : Status) (i j : ℕ) → j < i → overrides s i t j ≡ true
+greater_overrides s t i j l = rw (lt-ltb j i l) refl
 
 not_itself : (s : Status) (i : ℕ) → overrides s i s i ≡ false
 not_itself Alive i = grind (arith, nat_tests)

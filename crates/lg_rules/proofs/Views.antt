@@ -18,6 +18,7 @@ use Rattle.lg_rules.specs.Support.Standing.{Standing, standing_of, view, hear_cl
 use Rattle.lg_rules.proofs.Cases.{Missing, Holding, held}
 use Rattle.lg_rules.proofs.KeyOrder.{names_order, same_key, other_key, cases_key}
 use Rattle.lg_rules.proofs.OwnLaws.{own-same, own-other, own_of_name, own_hearing-same, own_hearing-other}
+use Rattle.lg_rules.proofs.Ranks.{greater_overrides}
 use Rattle.lg_rules.proofs.Roster.{is_known, rises-roster}
 use Rattle.lg_rules.proofs.RowLaws.{row_at-put, rises-rows, length_put_row-le}
 use Rattle.lg_rules.proofs.RowsFound.{rises-put_row}
@@ -116,7 +117,10 @@ rises (Suspect a) i me t = elim (cases_Bool (leb me.number i)) [
   | inl l ↦ rw l (beyond_rises Refuted i me (λ j. refl) (leb-true me.number i l) (sym (ap is_rise (ap (λ b. cond b (beyond i Refuted) Ignored) l)) ∙ t))
   | inr f ↦ absurd (false≢true (sym (ap is_rise (ap (λ b. cond b (beyond i Refuted) Ignored) f)) ∙ t))
 ]
-rises Failed i me t = absurd (false≢true t)
+rises Failed i me t = elim (cases_Bool (leb me.number i)) [
+  | inl l ↦ rw l (beyond_rises Raised i me (λ j. refl) (leb-true me.number i l) (sym (ap is_rise (ap (λ b. cond b (beyond i Raised) Ignored) l)) ∙ t))
+  | inr f ↦ absurd (false≢true (sym (ap is_rise (ap (λ b. cond b (beyond i Raised) Ignored) f)) ∙ t))
+]
 
 rises_heard : (me : Oneself) (c : Claim) → is_rise (own_hearing me c) ≡ true → me.number < (own_heard me c).number
 rises_heard me c t = elim (cases_key names_order c.name me.name) [
@@ -138,7 +142,7 @@ view_hearing_own name addr c past e =
             changes = test ∙ t;
             r = own_record (own_heard me c);
             row = row_at-own name addr (c ∷ past) c.name (sym e) ∙ ap (λ o. Some (own_record o)) is;
-            follows = subst (Follows (own_record (own_heard me c))) (sym before) (lt-ltb me.number (own_heard me c).number more);
+            follows = subst (Follows (own_record (own_heard me c))) (sym before) (greater_overrides Alive Alive (own_heard me c).number me.number more);
             others = λ m d. (let other : name ≢ m = λ s. d (e ∙ s) in row_at-others name addr (c ∷ past) m other ∙ ap (row_at name_cmp name_of m) table ∙ sym (row_at-others name addr past m other));
           })
       | inr f ↦ (

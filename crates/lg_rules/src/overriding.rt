@@ -3,29 +3,36 @@
 //! Defined in: `specs/Meaning/Beats.antt`.
 //! Tested in: `lg_detector_tests/src/rules.rt`.
 ghost use Rattle.std.specs.Prelude.{◌≡◌};
-ghost use Rattle.lg_rules.specs.Meaning.Beats.{beats_of};
+ghost use Rattle.lg_rules.specs.Meaning.Beats.{beats_of, is_later};
 
 use crate::claim::{Claim, Record, Status};
 
-/// Whether a claim overrides the current record of its member (SWIM, section 4.2, whose Confirm is called Failed
-/// here). Both have to be about one member.
+/// Whether a status is later than another, in the order Alive, Suspect, Failed.
+fn is_later(heard: Status, standing: Status) -> bool
+    ensures { result ≡ is_later heard standing }
+{
+    matches!(
+        (heard, standing),
+        (Status::Suspect(_) | Status::Failed, Status::Alive) | (Status::Failed, Status::Suspect(_))
+    )
+}
+
+/// Whether a claim overrides the current record of its member. Both have to be about one member.
 ///
 /// | Claim | overrides |
 /// |---|---|
-/// | Alive(i) | Alive(j) and Suspect(j) if i > j |
-/// | Suspect(i) | Suspect(j) if i > j, and Alive(j) if i >= j |
-/// | Failed(i) | Alive(j) and Suspect(j), for every j |
+/// | Alive(i) | Alive(j), Suspect(j) and Failed(j) if i > j |
+/// | Suspect(i) | Suspect(j) and Failed(j) if i > j, and Alive(j) if i >= j |
+/// | Failed(i) | Failed(j) if i > j, and Alive(j) and Suspect(j) if i >= j |
 ///
-/// Nothing else overrides: Failed is final.
+/// So a claim overrides if its incarnation is greater, or if the two are equal and its status is later in the order
+/// Alive, Suspect, Failed. Nothing else overrides. Between Alive and Suspect this is the rule of SWIM (section 4.2).
+/// SWIM's Confirm is called Failed here. Unlike Confirm it compares by its incarnation, so that a member that was taken
+/// to have failed can come back (this project's choice).
 pub fn beats(claim: &Claim, current: &Record) -> bool
     ensures { result ≡ beats_of claim.now current.now }
 {
     let heard = claim.incarnation.number();
     let standing = current.incarnation.number();
-    match (claim.status, current.status) {
-        (_, Status::Failed) => false,
-        (Status::Failed, _) => true,
-        (Status::Suspect(_), Status::Alive) => heard >= standing,
-        (Status::Suspect(_), Status::Suspect(_)) | (Status::Alive, _) => heard > standing,
-    }
+    heard > standing || (heard == standing && is_later(claim.status, current.status))
 }

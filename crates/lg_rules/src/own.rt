@@ -19,11 +19,11 @@ pub enum OwnHeard {
     /// The claim suspected this member at its incarnation or a greater one. It is refuted: this member's incarnation
     /// is now one more than the claim's.
     Refuted,
-    /// The claim said that this member is alive at a greater incarnation than its own. This member's incarnation is
-    /// now one more than the claim's.
+    /// The claim said that this member is alive at a greater incarnation than its own, or that it failed at its
+    /// incarnation or a greater one. This member's incarnation is now one more than the claim's.
     Raised,
-    /// The claim said that this member failed, or its incarnation is the greatest one, so that this member can't
-    /// refute it with a greater one. The flag `ousted` is set.
+    /// The claim would refute or raise, but its incarnation is the greatest one, so that this member can't have a
+    /// greater one. The flag `ousted` is set.
     Ousted,
     /// The claim doesn't override this member's own record, or is about another member. Nothing changed.
     Ignored,
@@ -124,9 +124,9 @@ impl Own {
     /// | Claim | Effect |
     /// |---|---|
     /// | Suspect(i), n <= i < 1,000,000,000 | Refuted: n becomes i + 1 |
+    /// | Failed(i), n <= i < 1,000,000,000 | Raised: n becomes i + 1 |
     /// | Alive(i), n < i < 1,000,000,000 | Raised: n becomes i + 1 |
-    /// | the same two, but i = 1,000,000,000 | Ousted: n stays |
-    /// | Failed(i), every i | Ousted: n stays |
+    /// | the same three, but i = 1,000,000,000 | Ousted: n stays |
     /// | any other, and any about another member | Ignored |
     pub fn hear(&mut self, claim: &Claim) -> OwnHeard
         ensures hearing { result ≡ own_hearing self.old claim.now }
@@ -153,9 +153,9 @@ impl Own {
     {
         let hearing = match status {
             Status::Suspect(_) if incarnation.number() >= self.number.number() => OwnHeard::Refuted,
+            Status::Failed if incarnation.number() >= self.number.number() => OwnHeard::Raised,
             Status::Alive if incarnation.number() > self.number.number() => OwnHeard::Raised,
-            Status::Failed => return self.oust(),
-            Status::Alive | Status::Suspect(_) => return OwnHeard::Ignored,
+            Status::Alive | Status::Suspect(_) | Status::Failed => return OwnHeard::Ignored,
         };
         match incarnation.successor() {
             Some(number) => {

@@ -224,14 +224,24 @@ a_refutation_raises_the_number : oneself_after (opening 0 ∷ accused_twice ∷ 
 unfolding by_computing
 a_refutation_raises_the_number = refl
 
--- b is claimed to have failed, or is suspected beyond refuting: its incarnation stays, no record changes, and no
--- claim is sent.
+-- b is claimed to have failed: its incarnation rises, and its score stays.
+a_claim_that_b_failed_raises_it :
+    reply_after (opening 0 ∷ []) (pings 0 1 b (failed b 0 ∷ []))
+    ≡ record (nothing 0) {
+      sends = record { items = acks 1 (alive b 1 ∷ []) };
+      changed = record { items = alive b 1 ∷ [] };
+    }
+unfolding by_computing
+a_claim_that_b_failed_raises_it = refl
+
+-- b is claimed to have failed, or is suspected, at the greatest incarnation: its own incarnation stays, no record
+-- changes, and no claim is sent.
 abbrev ousted : Reply
 ousted = record (nothing 0) { sends = record { items = acks 1 [] }; ousted = true }
 
-a_claim_that_b_failed_ousts_it : reply_after (opening 0 ∷ []) (pings 0 1 b (failed b 0 ∷ [])) ≡ ousted
+failed_beyond_coming_back : reply_after (opening 0 ∷ []) (pings 0 1 b (failed b 1000000000 ∷ [])) ≡ ousted
 unfolding by_computing
-a_claim_that_b_failed_ousts_it = refl
+failed_beyond_coming_back = refl
 
 beyond_refuting : reply_after (opening 0 ∷ []) (pings 0 1 b (suspect b 1000000000 a ∷ [])) ≡ ousted
 unfolding by_computing

@@ -124,8 +124,8 @@ four_live : live (says 2000 (on c Failed 0) ∷ others) ≡ 4
 unfolding table_of record_of roster
 four_live = refl
 
--- a joins the others that haven't failed, and stays among them while it is suspected. When it fails it leaves them,
--- for good.
+-- a joins the others that haven't failed, and stays among them while it is suspected. When it fails it leaves them. It
+-- joins them again when it is alive at a greater incarnation.
 abbrev begun : Log
 begun = opened ∷ []
 
@@ -142,9 +142,16 @@ a_is_live : live_others suspected_a ≡ (a ∷ []) ∷ []
 unfolding table_of record_of roster
 a_is_live = refl
 
-none_is_live : live_others (says 8000 (on a Alive 1) ∷ failed_a) ≡ []
+abbrev back_a : Log
+back_a = says 8000 (on a Alive 1) ∷ failed_a
+
+none_is_live : live_others (says 8000 (on a Alive 0) ∷ failed_a) ≡ []
 unfolding table_of record_of roster
 none_is_live = refl
+
+a_is_live_again : live_others back_a ≡ (a ∷ []) ∷ []
+unfolding table_of record_of roster
+a_is_live_again = refl
 
 abbrev presence_of_a : Log → Log → Presence
 presence_of_a before after = presence_of (is_live before (a ∷ [])) (is_live after (a ∷ []))
@@ -161,6 +168,10 @@ a_leaves : presence_of_a suspected_a failed_a ≡ Leaves
 unfolding table_of record_of roster
 a_leaves = refl
 
+a_joins_again : presence_of_a failed_a back_a ≡ Joins
+unfolding table_of record_of roster
+a_joins_again = refl
+
 -- b is suspected by a and then by c, both at 0. It refutes that once.
 abbrev refuted : Log
 refuted = says 0 (on b (accused_by c) 0) ∷ says 0 (on b (accused_by a) 0) ∷ opened ∷ []
@@ -172,6 +183,19 @@ own_number = refl
 refutation_is_queued : queue refuted ≡ record { lambda = 4; rows = record { claim = on b Alive 1; sends = 0 } ∷ [] }
 unfolding own_of table_of record_of roster takes put_by queued queue_rows suspicions
 refutation_is_queued = refl
+
+-- Two claims say that b failed at 0. b raises its incarnation once, and that is queued.
+abbrev raised_by_failing : Log
+raised_by_failing = says 0 (on b Failed 0) ∷ says 0 (on b Failed 0) ∷ opened ∷ []
+
+number_after_failing : own raised_by_failing ≡ record { name = b ∷ []; addr = here; number = 1; ousted = false }
+unfolding own_of
+number_after_failing = refl
+
+raised_number_is_queued :
+    queue raised_by_failing ≡ record { lambda = 4; rows = record { claim = on b Alive 1; sends = 0 } ∷ [] }
+unfolding own_of table_of record_of roster takes put_by queued queue_rows suspicions
+raised_number_is_queued = refl
 
 -- A seed is known, but isn't queued. A claim that overrides it is queued.
 abbrev seeded : Log

@@ -1,24 +1,25 @@
--- Which claim about a member overrides which (SWIM, section 4.2). SWIM's Confirm is called Failed here.
-use Rattle.std.specs.Prelude.{ℕ, Bool, true, false, nat_lt, nat_le}
+-- Which claim about a member overrides which. Between Alive and Suspect this is the rule of SWIM (section 4.2). SWIM's
+-- Confirm is called Failed here. Unlike Confirm it compares by its incarnation, so that a member that was taken to have
+-- failed can come back (this project's choice).
+use Rattle.std.specs.Prelude.{ℕ, Bool, true, false, ◌||◌, ◌&&◌, ◌==◌, nat_lt}
 use Rattle.lg_rules.specs.declared.claim.Claim.{Claim}
 use Rattle.lg_rules.specs.declared.claim.Status.{Status}
 use Rattle.lg_rules.specs.declared.claim.Status.TheVariants.{Alive, Suspect, Failed}
 
--- A status with incarnation i overrides one with incarnation j:
---     Alive      Alive and Suspect if i > j
---     Suspect    Suspect if i > j, and Alive if i >= j
---     Failed     Alive and Suspect, whatever i and j are
--- and nothing overrides Failed.
+-- whether the first status is later than the second, in the order Alive, Suspect, Failed
+abbrev pub is_later : Status → Status → Bool
+is_later Alive t = false
+is_later (Suspect a) Alive = true
+is_later (Suspect a) (Suspect b) = false
+is_later (Suspect a) Failed = false
+is_later Failed Alive = true
+is_later Failed (Suspect b) = true
+is_later Failed Failed = false
+
+-- A status with incarnation i overrides one with incarnation j if i is greater, or if they are equal and the status is
+-- later.
 abbrev pub overrides : Status → ℕ → Status → ℕ → Bool
-overrides Alive i Alive j = nat_lt j i
-overrides Alive i (Suspect b) j = nat_lt j i
-overrides Alive i Failed j = false
-overrides (Suspect a) i Alive j = nat_le j i
-overrides (Suspect a) i (Suspect b) j = nat_lt j i
-overrides (Suspect a) i Failed j = false
-overrides Failed i Alive j = true
-overrides Failed i (Suspect b) j = true
-overrides Failed i Failed j = false
+overrides s i t j = nat_lt j i || (i == j && is_later s t)
 
 -- whether a claim overrides the record of its member
 abbrev pub beats_of : Claim → Claim → Bool

@@ -49,19 +49,28 @@ suspect_at_the_number = refl
 pub suspected_already : beats_of (on c (accused_by e) 4) (on c (accused_by d) 4) ≡ false
 suspected_already = refl
 
-pub failed_below_it : beats_of (on c Failed 0) (on c Alive 4) ≡ true
+pub failed_below_it : beats_of (on c Failed 3) (on c Alive 4) ≡ false
 failed_below_it = refl
 
-pub failed_is_final : beats_of (on c Alive 9) (on c Failed 0) ≡ false
-failed_is_final = refl
+pub failed_at_the_number : beats_of (on c Failed 4) (on c (accused_by d) 4) ≡ true
+failed_at_the_number = refl
 
--- What b hears, the latest first. c is suspected twice at 4, and refutes that at 5. d is alive at 3, fails, and is
--- then said to be alive at 7. b itself is suspected.
+pub alive_at_the_number_of_failed : beats_of (on c Alive 4) (on c Failed 4) ≡ false
+alive_at_the_number_of_failed = refl
+
+pub comes_back : beats_of (on c Alive 5) (on c Failed 4) ≡ true
+comes_back = refl
+
+pub suspected_above_failed : beats_of (on c (accused_by d) 5) (on c Failed 4) ≡ true
+suspected_above_failed = refl
+
+-- What b hears, the latest first. c is suspected twice at 4, and refutes that at 5. d is alive at 3, fails there, and
+-- comes back at 7. b itself is suspected.
 pub standing_claims :
     table_of (b ∷ [])
     (on c Alive 5 ∷ on c Alive 4 ∷ on b (accused_by d) 0 ∷ on c (accused_by e) 4 ∷ on d Alive 7
-    ∷ on d Failed 0 ∷ on c (accused_by a) 4 ∷ on d Alive 3 ∷ on c Alive 4 ∷ on a Alive 0 ∷ [])
-    ≡ on a Alive 0 ∷ on c Alive 5 ∷ on d Failed 0 ∷ []
+    ∷ on d Failed 3 ∷ on c (accused_by a) 4 ∷ on d Alive 3 ∷ on c Alive 4 ∷ on a Alive 0 ∷ [])
+    ≡ on a Alive 0 ∷ on c Alive 5 ∷ on d Alive 7 ∷ []
 unfolding table_of record_of roster
 standing_claims = refl
 
@@ -108,9 +117,17 @@ pub refuted_by_the_greatest : own_of (b ∷ []) b_at (on b (accused_by a) 999999
 unfolding own_of
 refuted_by_the_greatest = refl
 
-pub given_up : own_of (b ∷ []) b_at (on b (accused_by a) 0 ∷ on b Failed 0 ∷ []) ≡ b_is 1 true
+pub comes_back_itself : own_of (b ∷ []) b_at (on b Failed 0 ∷ []) ≡ b_is 1 false
 unfolding own_of
-given_up = refl
+comes_back_itself = refl
+
+pub failed_below_the_own_number : own_of (b ∷ []) b_at (on b Failed 0 ∷ on b Failed 0 ∷ []) ≡ b_is 1 false
+unfolding own_of
+failed_below_the_own_number = refl
+
+pub failed_beyond_coming_back : own_of (b ∷ []) b_at (on b Failed 1000000000 ∷ []) ≡ b_is 0 true
+unfolding own_of
+failed_beyond_coming_back = refl
 
 pub about_another : own_hearing (b_is 0 false) (on c Failed 0) ≡ Unheeded
 about_another = refl

@@ -20,16 +20,16 @@ pub record Oneself : Type 0 where
 
 -- What a claim about this member does, by its status, its incarnation i and this member's incarnation (number):
 --     Suspect    if i >= number: this member refutes it and is at i + 1 from now on (SWIM, section 4.2)
+--     Failed     if i >= number: this member is at i + 1 from now on (this project's choice)
 --     Alive      if i > number: this member is at i + 1 from now on (this project's choice)
---     Failed     this member is ousted (this project's choice)
--- If i is the greatest incarnation, the first two oust this member. Nothing else does anything.
+-- If i is the greatest incarnation, these three oust this member. Nothing else does anything.
 abbrev pub beyond : ℕ → OwnHeard → OwnHeard
 beyond i hearing = if nat_lt i greatest_incarnation then hearing else Ousted
 
 abbrev pub own_hearing_at : Status → ℕ → ℕ → OwnHeard
 own_hearing_at Alive i number = if nat_lt number i then beyond i Raised else Ignored
 own_hearing_at (Suspect accuser) i number = if nat_le number i then beyond i Refuted else Ignored
-own_hearing_at Failed i number = Ousted
+own_hearing_at Failed i number = if nat_le number i then beyond i Raised else Ignored
 
 -- What any claim does. A claim about another member does nothing.
 abbrev pub own_hearing : Oneself → Claim → OwnHeard
