@@ -13,6 +13,10 @@ pub map-itself : (ns : List (List ℕ)) → map (λ n. n) ns ≡ ns
 map-itself [] = refl
 map-itself (n ∷ ns) = ap (λ ms. n ∷ ms) (map-itself ns)
 
+-- names in rising order are rows in the order of their names
+pub names_rise : (ns : List (List ℕ)) → Rises name_cmp ns → Rises name_cmp (map (λ n. n) ns)
+names_rise ns r = subst (Rises name_cmp) (sym (map-itself ns)) r
+
 -- a name whose row is found is among the names, and one whose row isn't, is not
 pub among_found : (n x : List ℕ) (ns : List (List ℕ)) → row_at name_cmp (λ m. m) n ns ≡ Some x → is_among name_cmp n ns ≡ true
 among_found n x [] e = absurd cc
@@ -44,7 +48,7 @@ among_all (x ∷ xs) ys h =
 pub names_few : (xs ys : List (List ℕ)) → Rises name_cmp xs → ((k : List ℕ) → is_among name_cmp k xs ≡ true → is_among name_cmp k ys ≡ true) → length xs ≤ length ys
 names_few xs ys r h =
     let all = among_all xs ys h in
-    let few : length (filter (λ x. is_among name_cmp x ys) xs) ≤ length ys = few_among names_order (λ m. m) ys xs (subst (Rises name_cmp) (sym (map-itself xs)) r) in
+    let few : length (filter (λ x. is_among name_cmp x ys) xs) ≤ length ys = few_among names_order (λ m. m) ys xs (names_rise xs r) in
     omega (arith, few, ap length all)
 
 -- what is among two lists together

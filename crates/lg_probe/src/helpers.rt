@@ -10,10 +10,9 @@ ghost use Rattle.lg_rules.specs.Meaning.Rows.{name_cmp, Rises};
 ghost use Rattle.lg_probe.specs.Meaning.Order.{OrderFact, candidate, names_after, order_after, without};
 ghost use Rattle.lg_probe.specs.Support.Helpers.{left_at, AreTaken};
 
-use crate::names::seat_of;
 use crate::order::Order;
 use arrayvec::ArrayVec;
-use lg_rules::{MAX_OTHERS, Name};
+use lg_rules::{MAX_OTHERS, Name, seat_of};
 use std::marker::Model;
 
 /// The most helpers of a probe: 8 (this project's choice).

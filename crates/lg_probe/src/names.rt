@@ -1,41 +1,14 @@
-//! Rows of names: finding a name, putting one in, and taking one out.
+//! Rows of names: whether a name is among them, putting one in, and taking one out.
 //!
 //! Defined in: `lg_rules/specs/Meaning/Rows.antt`, `specs/Meaning/Order.antt`.
 //! Tested in: `lg_detector_tests/src/probe.rt`.
-ghost use Rattle.std.specs.Prelude.{◌≡◌, ◌+◌, ◌≤◌, ◌<◌, false, ◌++◌, length, MatchResult};
-ghost use Rattle.std.specs.List.{prefix_len};
-ghost use Rattle.std.specs.Ordering.{is_lt};
+ghost use Rattle.std.specs.Prelude.{◌≡◌, ◌+◌, ◌≤◌, ◌<◌, false, ◌++◌, length};
 ghost use Rattle.arrayvec.specs.ArrayVec.{array_vec_len};
 ghost use Rattle.lg_rules.specs.Meaning.Rows.{name_cmp, is_among, put_key, Rises};
-ghost use Rattle.lg_rules.specs.Support.Places.{HasRow, LacksRow};
 ghost use Rattle.lg_probe.specs.Meaning.Order.{without};
 
 use arrayvec::ArrayVec;
-use lg_rules::{MAX_OTHERS, Name};
-
-/// How many names are lesser. Found by binary search.
-fn place_of(names: &[Name], name: &Name) -> usize
-    requires { Rises name_cmp names.now }
-    ensures { result ≡ prefix_len (λ m. is_lt (name_cmp m name.now)) names.now }
-{
-    names.partition_point(|other| other.cmp(name).is_lt())
-}
-
-/// `Ok` with the index of a name among names in rising order, or else `Err` with the index at which it would be
-/// inserted.
-pub(crate) fn seat_of(names: &[Name], name: &Name) -> Result<usize, usize>
-    requires { Rises name_cmp names.now }
-    ensures { let has = HasRow name_cmp (λ m. m) name.now names.now in
-        let lacks = LacksRow name_cmp (λ m. m) name.now names.now in
-        MatchResult result has lacks }
-{
-    let at = place_of(names, name);
-    if at < names.len() {
-        if names[at] == *name { Ok(at) } else { Err(at) }
-    } else {
-        Err(at)
-    }
-}
+use lg_rules::{MAX_OTHERS, Name, put_row, seat_of};
 
 /// Whether a name is among names in rising order.
 pub(crate) fn is_among(names: &[Name], name: &Name) -> bool
@@ -54,10 +27,7 @@ pub(crate) fn put(names: &mut ArrayVec<Name, MAX_OTHERS>, name: &Name)
     requires room { is_among name_cmp name.now names.old.items ≡ false → array_vec_len names.old < MAX_OTHERS }
     ensures { names.new.items ≡ put_key name_cmp name.now names.old.items }
 {
-    match seat_of(names.as_slice(), name) {
-        Ok(_) => {}
-        Err(at) => names.insert(at, *name),
-    }
+    put_row(names, *name);
 }
 
 /// Takes a name out of names in rising order, if it is among them.

@@ -21,6 +21,15 @@ pub trait Keyed {
         ensures { result ≡ key_of self.now };
 }
 
+/// A name is a row whose name is itself.
+impl Keyed for Name {
+    ghost key_of = { λ n. n };
+
+    fn key(&self) -> Name {
+        *self
+    }
+}
+
 /// How many rows have a lesser name. Found by binary search.
 fn place_of<T: Keyed>(rows: &[T], name: &Name) -> usize
     requires { Rises name_cmp (map T.key_of rows.now) }
