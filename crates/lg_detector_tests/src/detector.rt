@@ -1,6 +1,7 @@
 //! Worked events of the detector b at 127.0.0.1:7000, which hears from port 1.
 mod acks;
 mod ask;
+mod comeback;
 mod comparing;
 mod copies;
 mod happening;

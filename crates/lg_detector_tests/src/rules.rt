@@ -78,41 +78,60 @@ fn hear(members: &mut Members, heard: &Claim) -> Option<Heard> {
     Some(members.hear(heard))
 }
 
-/// Hears a claim about `c`, which `d` accuses at 4. Returns whether it overrides that accusation exactly if it
+/// Hears a claim about `c`, of which another is the record. Returns whether it overrides that record exactly if it
 /// should, hearing it does what it should, and the right one of the two stands then. Hearing that one again has to do
 /// nothing.
-fn is_heard_so(heard: &Claim, overrode: bool, hearing: Heard) -> bool {
-    let accused = suspect(b'c', 4, b'd');
-    let stands = if overrode { *heard } else { accused };
+fn is_heard_so(before: &Claim, heard: &Claim, overrode: bool, hearing: Heard) -> bool {
+    let stands = if overrode { *heard } else { *before };
     let again = match stands.accuser() {
         Some(_) => Heard::Accused,
         None => Heard::Same,
     };
     let mut members = Members::new(&letter(b'b'));
-    let first = hear(&mut members, &accused);
+    let first = hear(&mut members, before);
     let second = hear(&mut members, heard);
     let record = members.get(&letter(b'c')).copied();
     let third = hear(&mut members, &stands);
-    beats(heard, &accused) == overrode
+    beats(heard, before) == overrode
         && record == Some(stands)
         && [first, second, third] == [Some(Heard::Overrode), Some(hearing), Some(again)]
 }
 
-/// Claims about `c`, which `d` accuses at 4, whether they override that accusation, and what hearing them does.
-const CLAIMS: &[(Said, bool, Heard)] = &[
-    (Alive("c", 4), false, Heard::Ignored),
-    (Suspect("c", 4, "e"), false, Heard::Accused),
-    (Suspect("c", 3, "d"), false, Heard::Ignored),
-    (Alive("c", 5), true, Heard::Overrode),
-    (Suspect("c", 5, "e"), true, Heard::Overrode),
-    (Failed("c", 0), true, Heard::Overrode),
+/// `d` accuses `c` at 4.
+const SUSPECTED: Said = Suspect("c", 4, "d");
+
+/// A record of `c`, a claim about `c`, whether it overrides that record, and what hearing it does.
+const CLAIMS: &[(Said, Said, bool, Heard)] = &[
+    (Alive("c", 4), Suspect("c", 3, "e"), false, Heard::Ignored),
+    (Alive("c", 4), Failed("c", 3), false, Heard::Ignored),
+    (Alive("c", 4), Alive("c", 4), false, Heard::Same),
+    (Alive("c", 4), Suspect("c", 4, "e"), true, Heard::Overrode),
+    (Alive("c", 4), Failed("c", 4), true, Heard::Overrode),
+    (SUSPECTED, Alive("c", 4), false, Heard::Ignored),
+    (SUSPECTED, Suspect("c", 4, "e"), false, Heard::Accused),
+    (SUSPECTED, Suspect("c", 3, "d"), false, Heard::Ignored),
+    (SUSPECTED, Failed("c", 3), false, Heard::Ignored),
+    (SUSPECTED, Failed("c", 4), true, Heard::Overrode),
+    (SUSPECTED, Alive("c", 5), true, Heard::Overrode),
+    (SUSPECTED, Suspect("c", 5, "e"), true, Heard::Overrode),
+    (SUSPECTED, Failed("c", 5), true, Heard::Overrode),
+    (Failed("c", 4), Alive("c", 4), false, Heard::Ignored),
+    (Failed("c", 4), Suspect("c", 4, "d"), false, Heard::Ignored),
+    (Failed("c", 4), Failed("c", 3), false, Heard::Ignored),
+    (Failed("c", 4), Failed("c", 4), false, Heard::Same),
+    (Failed("c", 4), Alive("c", 5), true, Heard::Overrode),
+    (Failed("c", 4), Suspect("c", 5, "d"), true, Heard::Overrode),
+    (Failed("c", 4), Failed("c", 5), true, Heard::Overrode),
 ];
 
 #[test]
 fn overrides(rt: HostRuntime) {
-    for (said, overrode, hearing) in CLAIMS {
-        let heard = claim_of(said);
-        assert!(rt; is_heard_so(&heard, *overrode, *hearing), "{heard:?}");
+    for (record, said, overrode, hearing) in CLAIMS {
+        let (before, heard) = (claim_of(record), claim_of(said));
+        assert!(rt;
+            is_heard_so(&before, &heard, *overrode, *hearing),
+            "{before:?}, {heard:?}"
+        );
     }
 }
 
@@ -134,10 +153,12 @@ fn leaves(
 const ADDRESSES: &[(Said, u16, Heard, usize)] = &[
     (Alive("c", 2), 7000, Heard::Overrode, 2),
     (Alive("c", 2), 7001, Heard::Same, 2),
-    (Failed("c", 1), 7000, Heard::Overrode, 1),
+    (Failed("c", 2), 7000, Heard::Overrode, 1),
+    (Alive("c", 3), 7000, Heard::Overrode, 2),
+    (Alive("c", 3), 7001, Heard::Same, 2),
 ];
 
-/// The record then says the same at port 7000: the first address stays.
+/// The record then says the same at port 7000: the first address of an incarnation stays.
 #[test]
 fn keeps_the_first_address(rt: HostRuntime) {
     let mut members = Members::new(&letter(b'b'));
@@ -219,8 +240,17 @@ const OF_ITSELF: &[(Said, OwnHeard, u32, bool)] = &[
     (Alive("b", 1), OwnHeard::Ignored, 1, false),
     (Alive("b", 3), OwnHeard::Raised, 4, false),
     (Suspect("b", 3, "a"), OwnHeard::Ignored, 4, false),
-    (Failed("b", 0), OwnHeard::Ousted, 4, true),
-    (Suspect("b", GREATEST, "a"), OwnHeard::Ousted, 4, true),
+    (Failed("b", 3), OwnHeard::Ignored, 4, false),
+    (Failed("b", 4), OwnHeard::Raised, 5, false),
+    (Failed("b", 7), OwnHeard::Raised, 8, false),
+    (Failed("b", GREATEST), OwnHeard::Ousted, 8, true),
+    (Suspect("b", GREATEST, "a"), OwnHeard::Ousted, 8, true),
+    (
+        Failed("b", 999_999_998),
+        OwnHeard::Raised,
+        999_999_999,
+        true,
+    ),
     (
         Suspect("b", 999_999_999, "a"),
         OwnHeard::Refuted,
@@ -228,6 +258,7 @@ const OF_ITSELF: &[(Said, OwnHeard, u32, bool)] = &[
         true,
     ),
     (Alive("b", GREATEST), OwnHeard::Ignored, GREATEST, true),
+    (Failed("b", GREATEST), OwnHeard::Ousted, GREATEST, true),
     (
         Suspect("b", GREATEST, "a"),
         OwnHeard::Ousted,

@@ -149,6 +149,22 @@ const MARKED: &[Case] = &[
         &[
             Takes(Ping(0, 1, "c", &[Failed("b", 0)])),
             Takes(Health(0)),
+            AnswersHealth(0, 1, 1),
+        ],
+    ),
+    (
+        "oneself as suspected, and then as failed",
+        &[
+            Takes(Ping(0, 1, "c", &[Suspect("b", 0, "a"), Failed("b", 1)])),
+            Takes(Health(0)),
+            AnswersHealth(1, 2, 1),
+        ],
+    ),
+    (
+        "oneself as failed, beyond raising",
+        &[
+            Takes(Ping(0, 1, "c", &[Failed("b", 1_000_000_000)])),
+            Takes(Health(0)),
             AnswersHealth(0, 0, 1),
         ],
     ),
@@ -189,6 +205,14 @@ const COUNTED: &[Case] = &[
         ],
     ),
     (
+        "one that failed and came back",
+        &[
+            Takes(Ping(0, 1, "c", &[Failed("d", 0), Alive("d", 1)])),
+            Takes(Health(0)),
+            AnswersHealth(0, 0, 2),
+        ],
+    ),
+    (
         "all kinds",
         &[
             Takes(Ping(
@@ -199,7 +223,7 @@ const COUNTED: &[Case] = &[
                     Alive("a", 0),
                     Failed("d", 0),
                     Suspect("c", 0, "b"),
-                    Alive("d", 1),
+                    Alive("d", 0),
                 ],
             )),
             Takes(Health(0)),

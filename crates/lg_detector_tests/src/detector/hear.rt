@@ -104,7 +104,7 @@ const REFUTED: &[Case] = &[
     (
         "failed, then suspected",
         &[
-            Takes(Ping(0, 1, "b", &[Failed("b", 0)])),
+            Takes(Ping(0, 1, "b", &[Failed("b", 1_000_000_000)])),
             Ousted(true),
             Takes(Ping(0, 2, "b", &[Suspect("b", 5, "a")])),
             Ousted(true),
@@ -114,7 +114,7 @@ const REFUTED: &[Case] = &[
 ];
 
 /// A claim about b, whose incarnation is 0, in a Ping. Then b's record, what of it changes and is sent, and whether b
-/// is ousted. The first four claims raise b's incarnation, and the others don't.
+/// is ousted. The first seven claims raise b's incarnation, and the others don't.
 const OF_ITSELF: &[Case] = &[
     (
         "alive",
@@ -157,6 +157,36 @@ const OF_ITSELF: &[Case] = &[
         ],
     ),
     (
+        "failed",
+        &[
+            Takes(Ping(0, 3, "b", &[Failed("b", 0)])),
+            Known("b", Some(Alive("b", 1))),
+            Changed(&[Alive("b", 1)]),
+            Ousted(false),
+            Acks(3, &[Alive("b", 1)]),
+        ],
+    ),
+    (
+        "failed at a greater number",
+        &[
+            Takes(Ping(0, 1, "b", &[Failed("b", 7)])),
+            Known("b", Some(Alive("b", 8))),
+            Changed(&[Alive("b", 8)]),
+            Ousted(false),
+            Acks(1, &[Alive("b", 8)]),
+        ],
+    ),
+    (
+        "failed at the last but one",
+        &[
+            Takes(Ping(0, 1, "b", &[Failed("b", 999_999_999)])),
+            Known("b", Some(Alive("b", 1_000_000_000))),
+            Changed(&[Alive("b", 1_000_000_000)]),
+            Ousted(false),
+            Acks(1, &[Alive("b", 1_000_000_000)]),
+        ],
+    ),
+    (
         "alive at its number",
         &[
             Takes(Ping(0, 1, "b", &[Alive("b", 0)])),
@@ -187,9 +217,9 @@ const OF_ITSELF: &[Case] = &[
         ],
     ),
     (
-        "failed",
+        "failed at it",
         &[
-            Takes(Ping(0, 1, "b", &[Failed("b", 0)])),
+            Takes(Ping(0, 1, "b", &[Failed("b", 1_000_000_000)])),
             Known("b", Some(Alive("b", 0))),
             Changed(&[]),
             Ousted(true),

@@ -341,6 +341,53 @@ const IN_TURN: Case = (
     ],
 );
 
+/// A member that was chosen, failed and came back stays chosen in its round. A target that failed and came back
+/// during its probe, and sends no Ack, is suspected at its new incarnation.
+const COMES_BACK: &[Case] = &[
+    (
+        "c, d, and then c",
+        &[
+            Takes(Ping(0, 1, "z", &[Alive("c", 0), Alive("d", 0)])),
+            Takes(First(0)),
+            Pings(1, "c"),
+            Takes(Ack(10, "c", 1)),
+            Takes(Ping(20, 2, "z", &[Failed("c", 0)])),
+            Takes(Ping(30, 3, "z", &[Alive("c", 1)])),
+            Takes(First(1000)),
+            Takes(First(1000)),
+            Pings(2, "d"),
+            Takes(Ack(1010, "d", 2)),
+            Takes(First(2000)),
+            Takes(First(2000)),
+            Pings(3, "c"),
+        ],
+    ),
+    (
+        "a target that sends no Ack",
+        &[
+            Takes(Ping(0, 1, "z", &[Alive("c", 0)])),
+            Takes(First(0)),
+            Takes(Ping(100, 2, "z", &[Failed("c", 0)])),
+            Takes(Ping(200, 3, "z", &[Alive("c", 1)])),
+            Ticks(500, Direct(500), &[], 1000),
+            Ticks(1000, RoundEnd(1000), &[Suspect("c", 1, "b")], 1000),
+        ],
+    ),
+    (
+        "nobody, and then c",
+        &[
+            Takes(Ping(0, 1, "z", &[Failed("c", 0)])),
+            Takes(First(0)),
+            Fired(RoundStart(0)),
+            Chose(None),
+            Next(1000),
+            Takes(Ping(500, 2, "z", &[Alive("c", 1)])),
+            Takes(First(1000)),
+            Pings(1, "c"),
+        ],
+    ),
+];
+
 /// Each case of rounds on a b that is open.
 const PLAYED: &[&[Case]] = &[
     A_SUSPECT,
@@ -350,6 +397,7 @@ const PLAYED: &[&[Case]] = &[
     SCORES,
     TARGET_FAILED,
     &[IN_TURN],
+    COMES_BACK,
 ];
 
 #[test]

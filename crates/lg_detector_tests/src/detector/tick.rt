@@ -294,11 +294,23 @@ const THEN_SAID: &[Case] = &[
         ],
     ),
     (
-        "failed",
+        "failed at a lesser number",
         &[
             OTHERS,
             BY_TWO,
             Takes(Ping(3000, 1, "z", &[Failed("c", 0)])),
+            LATE,
+            Next(19_500),
+            LATE,
+            Fired(Suspicion(19_500, "c")),
+        ],
+    ),
+    (
+        "failed",
+        &[
+            OTHERS,
+            BY_TWO,
+            Takes(Ping(3000, 1, "z", &[Failed("c", 1)])),
             LATE,
             Next(40_500),
             LATE,
@@ -306,15 +318,27 @@ const THEN_SAID: &[Case] = &[
         ],
     ),
     (
-        "failed, and suspected",
+        "failed, and suspected at the same number",
         &[
             OTHERS,
             BY_TWO,
-            Takes(Ping(3000, 1, "z", &[Failed("c", 0), Suspect("c", 2, "d")])),
+            Takes(Ping(3000, 1, "z", &[Failed("c", 1), Suspect("c", 1, "a")])),
             LATE,
             Next(40_500),
             LATE,
             Fired(Nothing),
+        ],
+    ),
+    (
+        "failed, and suspected at a greater number",
+        &[
+            OTHERS,
+            BY_TWO,
+            Takes(Ping(3000, 1, "z", &[Failed("c", 1), Suspect("c", 2, "d")])),
+            LATE,
+            Next(33_000),
+            LATE,
+            Fired(Suspicion(33_000, "c")),
         ],
     ),
 ];

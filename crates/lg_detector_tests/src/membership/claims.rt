@@ -26,7 +26,7 @@ const OPENINGS: &[Case] = &[
             Opens("b"),
             Seeds(&[Alive("a", 0), Alive("c", 0), Alive("d", 0), Alive("e", 0)]),
             Says(0, Suspect("b", 4, "a")),
-            Says(0, Failed("b", 0)),
+            Says(0, Failed("b", 1_000_000_000)),
             Number(5),
             Ousted(true),
             Opens("b"),
@@ -107,7 +107,7 @@ const SUSPICIONS: &[Case] = &[
                     ..CHANGED
                 },
             ),
-            Hears(2800, Suspect("c", 9, "a"), NOTHING),
+            Hears(2800, Suspect("c", 0, "a"), NOTHING),
             Hears(
                 3000,
                 Suspect("d", 1, "a"),
@@ -125,6 +125,23 @@ const SUSPICIONS: &[Case] = &[
                 },
             ),
             Live(4),
+            Hears(
+                5000,
+                Suspect("c", 1, "a"),
+                Applied {
+                    deadline: Deadline::Stands(35_000),
+                    ..JOINED
+                },
+            ),
+            Hears(
+                5500,
+                Alive("c", 2),
+                Applied {
+                    deadline: Deadline::Ends,
+                    ..CHANGED
+                },
+            ),
+            Live(5),
         ],
     ),
     (
@@ -145,7 +162,7 @@ const SUSPICIONS: &[Case] = &[
     ),
 ];
 
-/// A member joins those that haven't failed, and leaves them.
+/// A member joins those that haven't failed, and leaves them. At a greater incarnation it joins them again.
 const PLACES: Case = (
     "joining and leaving",
     &[
@@ -154,15 +171,22 @@ const PLACES: Case = (
         Places(2000, Suspect("a", 0, "c"), Presence::Stays, 2),
         Places(2000, Suspect("c", 3, "a"), Presence::Joins, 3),
         Places(2000, Failed("a", 0), Presence::Leaves, 2),
-        Places(2000, Alive("a", 9), Presence::Stays, 2),
-        Places(2000, Failed("d", 0), Presence::Stays, 2),
-        Places(2000, Alive("d", 1), Presence::Stays, 2),
-        Places(2000, Suspect("b", 0, "c"), Presence::Stays, 2),
-        Places(2000, Failed("b", 0), Presence::Stays, 2),
+        Places(2000, Alive("a", 0), Presence::Stays, 2),
+        Places(2000, Suspect("a", 0, "c"), Presence::Stays, 2),
+        Places(2000, Alive("a", 9), Presence::Joins, 3),
+        Places(2000, Failed("a", 8), Presence::Stays, 3),
+        Places(2000, Failed("a", 9), Presence::Leaves, 2),
+        Places(2000, Failed("a", 10), Presence::Stays, 2),
+        Places(2000, Suspect("a", 11, "c"), Presence::Joins, 3),
+        Places(2000, Failed("d", 0), Presence::Stays, 3),
+        Places(2000, Alive("d", 1), Presence::Joins, 4),
+        Places(2000, Suspect("b", 0, "c"), Presence::Stays, 4),
+        Places(2000, Failed("b", 1), Presence::Stays, 4),
     ],
 );
 
-/// A suspicion of b itself is refuted once. What nothing can refute ousts b.
+/// A suspicion of b itself is refuted once. If b hears that it failed, it raises its incarnation, and that is no
+/// refutation. What nothing can refute ousts b.
 const OF_ITSELF: &[Case] = &[
     (
         "two accusations of one number",
@@ -188,7 +212,19 @@ const OF_ITSELF: &[Case] = &[
         "failed",
         &[
             Opens("b"),
+            Hears(0, Failed("b", 7), CHANGED),
             Hears(0, Failed("b", 7), NOTHING),
+            Ousted(false),
+            Number(8),
+            Sends(&[Alive("b", 8)]),
+            Live(1),
+        ],
+    ),
+    (
+        "failed at the last number",
+        &[
+            Opens("b"),
+            Hears(0, Failed("b", 1_000_000_000), NOTHING),
             Ousted(true),
             Number(0),
             Sends(&[]),
