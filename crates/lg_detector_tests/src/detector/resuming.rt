@@ -1,6 +1,7 @@
 //! Detectors that go on from a summary. The summary is taken at any place among the events of a play. From there on,
 //! the detector that is resumed from it replies like the one that all the events happened to. Each play of a b that
 //! is opened at 0 is resumed in this way.
+mod comebacks;
 mod scripts;
 
 use super::comparing::{is_same_reply, is_same_state};
@@ -10,6 +11,7 @@ use super::playing::Due::{Direct, RoundEnd, Suspicion};
 use super::playing::Step::{self, Acks, Changed, Fired, Hears, Next, Refuses, Sent, Takes, Ticks};
 use super::playing::{Case, blank, play, play_blank, play_on, takes};
 use crate::says::Said::{Alive, Failed, Suspect};
+use comebacks::COMEBACKS;
 use lg_detector::{Detector, Event, NoMemory, Reply};
 use scripts::SCRIPTS;
 use std::alloc::Global;
@@ -145,8 +147,10 @@ fn goes_on_as_accusers_and_acks_come(rt: HostRuntime) {
 
 #[test]
 fn goes_on_in_each_script(rt: HostRuntime) {
-    play_blank(&rt, rt.alloc(), SCRIPTS);
-    resume_each(&rt, rt.alloc(), &None, SCRIPTS);
+    for cases in [SCRIPTS, COMEBACKS] {
+        play_blank(&rt, rt.alloc(), cases);
+        resume_each(&rt, rt.alloc(), &None, cases);
+    }
 }
 
 /// c is probed, and acks nothing.

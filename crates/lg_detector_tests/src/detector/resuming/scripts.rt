@@ -1,6 +1,6 @@
-//! What happens to members of the worked scripts: of all in `examples`, and of some in `cases/sim.case`,
-//! `sim_packets.case` and `sim_replies.case`. All is as in the script, with two exceptions. A claim of an incarnation
-//! above 0 is about port 7000, and the member that is pulled is at port 7002.
+//! What happens to members of the worked scripts: of all in `examples` but `comeback.sim`, and of some in
+//! `cases/sim.case`, `sim_packets.case` and `sim_replies.case`. All is as in the script, with two exceptions. A claim
+//! of an incarnation above 0 is about port 7000, and the member that is pulled is at port 7002.
 use crate::detector::happening::Happens::{Ask, First, From, Health, Opens, Pull, TickBy};
 use crate::detector::happening::Says::{self, Nack, Page, PullAfter, PullFirst, Request};
 use crate::detector::happening::Setting::{Alpha, Indirect, Own, Seed, Timeout};
