@@ -1,16 +1,17 @@
 -- What settings mean, by those with the first of their seeds.
-use Rattle.std.proofs.Common.{◌≡◌, ℕ, ◌<◌, ◌≤◌, Bool, true, false, List, [], ◌∷◌, ◌++◌, length, take, leb, Option, Some, None, option_and_then, option_map, Result, Ok, Err, refl, ap, sym, ◌∙◌, arith}
+use Rattle.std.proofs.Common.{◌≡◌, ℕ, ◌<◌, ◌≤◌, Bool, true, false, List, [], ◌∷◌, length, leb, Option, Some, None, option_and_then, option_map, Result, Ok, Err, refl, ap, sym, ◌∙◌, arith}
 use Rattle.std.proofs.lemmas.Bool.{leb-false, leb-true}
 use Rattle.std.proofs.lemmas.Bool.Decides.{nat_tests}
 use Rattle.std.proofs.lemmas.List.{take_all}
 use Rattle.std.proofs.lemmas.Option.{same_Some}
 use Rattle.lg_rules.specs.declared.addr.Addr.{Addr}
 use Rattle.lg_timing.specs.Meaning.Bounds.{most_seeds}
-use Rattle.lg_timing.specs.Meaning.Config.{are_good_seeds, check_of, defaults, first_broken, rules_of, unless_broken}
+use Rattle.lg_timing.specs.Meaning.Config.{are_good_seeds, check_of, defaults, fault_of, first_broken}
 use Rattle.lg_timing.specs.declared.config.Config.{Config}
 use Rattle.lg_timing.specs.declared.config.ConfigFault.{ConfigFault}
 use Rattle.lg_timing.specs.declared.config.ConfigFault.TheVariants.{Seeds}
 use Rattle.lg_timing.specs.declared.config.Seed.{Seed}
+use Rattle.lg_timing.specs.declared.keys.Key.{Key}
 use Rattle.toml.specs.Data.{Members}
 use Rattle.toml.specs.View.{items_view}
 use Rattle.toml.specs.declared.value.Value.{Value}
@@ -22,29 +23,23 @@ use Rattle.lg_config.specs.Meaning.Settings.{addr_in, dice_in, name_in, seeds_at
 use Rattle.lg_config.specs.Support.Reading.{kept, with_first_seeds}
 use Rattle.lg_config.proofs.SeedLaws.{seeds-counted}
 
--- ---- the check, where the last rule is broken
+-- ---- the check, if the seeds aren't good
 
 abbrev or_seeds : Result (Unit {0}) ConfigFault → Result (Unit {0}) ConfigFault
 or_seeds (Ok passed) = Err Seeds
 or_seeds (Err broken) = Err broken
 
-last-broken : (rules : List (Bool × ConfigFault)) (good : Bool)
-    → unless_broken (first_broken (rules ++ (false, Seeds) ∷ [])) ≡ or_seeds (unless_broken (first_broken (rules ++ (good, Seeds) ∷ [])))
-last-broken [] true = refl
-last-broken [] false = refl
-last-broken (rule ∷ rules) good = step rule.0 refl (last-broken rules good)
-  where
-    step : (holds : Bool) → rule.0 ≡ holds → unless_broken (first_broken (rules ++ (false, Seeds) ∷ [])) ≡ or_seeds (unless_broken (first_broken (rules ++ (good, Seeds) ∷ [])))
-        → unless_broken (first_broken (rule ∷ rules ++ (false, Seeds) ∷ [])) ≡ or_seeds (unless_broken (first_broken (rule ∷ rules ++ (good, Seeds) ∷ [])))
-    step true e rest = rw e rest
-    step false e rest = rw e refl
+last-broken : (broken : Option Key) (good : Bool) → fault_of broken false ≡ or_seeds (fault_of broken good)
+last-broken None true = refl
+last-broken None false = refl
+last-broken (Some key) good = refl
 
 -- too many seeds are the last fault
 many-seeds : (c : Config) (seeds : List Seed) → most_seeds < length seeds → check_of (with_seeds seeds c) ≡ or_seeds (check_of (with_seeds (kept seeds) c))
 unfolding check_of
 many-seeds c seeds many =
     let past : leb (length seeds) most_seeds ≡ false = grind (arith, nat_tests) in
-    rw past (last-broken (take 10 (rules_of c)) (are_good_seeds c.name (kept seeds)))
+    rw past (last-broken (first_broken c) (are_good_seeds c.name (kept seeds)))
 
 -- ---- the seeds that settings have
 

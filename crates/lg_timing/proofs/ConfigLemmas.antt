@@ -1,21 +1,38 @@
 -- What holds of a checked configuration.
-use Rattle.std.proofs.Common.{◌≡◌, ℕ, ◌-◌, ◌≤◌, Bool, true, false, not, leb, List, [], ◌∷◌, length, Ok, Err, refl, arith}
+use Rattle.std.proofs.Common.{◌≡◌, ℕ, ◌-◌, ◌≤◌, ◌<◌, Bool, true, false, not, leb, List, [], ◌∷◌, length, get_or, Option, Some, None, Ok, refl, find, arith}
 use Rattle.std.specs.List.{list_all}
 use Rattle.std.proofs.lemmas.Bool.{leb-true}
+use Rattle.std.proofs.lemmas.List.Folds.{list_all_at}
 use Rattle.lg_rules.proofs.Tests.{both}
 use Rattle.lg_timing.specs.declared.config.Config.{Config}
-use Rattle.lg_timing.specs.declared.config.ConfigFault.{ConfigFault}
-use Rattle.lg_timing.specs.Meaning.Config.{is_within, is_seed, rules_of, first_broken, unless_broken, check_of, IsChecked}
+use Rattle.lg_timing.specs.Meaning.Config.{is_within, is_seed, are_good_seeds, first_broken, fault_of, check_of, IsChecked}
+use Rattle.lg_timing.specs.Meaning.Keys.{is_in_range, keys}
+use Rattle.lg_timing.specs.declared.keys.Key.{Key}
+use Rattle.lg_timing.specs.declared.keys.Key.TheVariants.{IntervalMs}
 use Rattle.lg_timing.specs.Support.Ranges.{HasRanges}
 
--- where no rule is broken, each holds
-pub all_hold : (rules : List (Bool × ConfigFault)) → unless_broken (first_broken rules) ≡ Ok tt → list_all (λ rule. rule.0) rules ≡ true
-all_hold [] e = refl
-all_hold (rule ∷ rules) e = step rule.0 refl (all_hold rules)
+-- if none of some keys is out of its range, each is in its range
+none_broken : (c : Config) (ks : List Key) → find (λ key. not (is_in_range c key)) ks ≡ None → list_all (is_in_range c) ks ≡ true
+none_broken c [] e = refl
+none_broken c (key ∷ ks) e = step (is_in_range c key) refl (none_broken c ks)
   where
-    step : (held : Bool) → rule.0 ≡ held → (unless_broken (first_broken rules) ≡ Ok tt → list_all (λ r. r.0) rules ≡ true) → list_all (λ r. r.0) (rule ∷ rules) ≡ true
+    step : (held : Bool) → is_in_range c key ≡ held → (find (λ k. not (is_in_range c k)) ks ≡ None → list_all (is_in_range c) ks ≡ true) → list_all (is_in_range c) (key ∷ ks) ≡ true
     step true k rest = rw k (rest (rw k at e))
-    step false k rest = let bad : Err rule.1 ≡ Ok tt = rw k at e in absurd cc
+    step false k rest = let bad : Some key ≡ None = rw k at e in absurd cc
+
+-- if each of some keys is in its range, so is the one in a place
+in_place : (c : Config) (ks : List Key) (i : ℕ) → i < length ks → list_all (is_in_range c) ks ≡ true → is_in_range c (get_or ks i IntervalMs) ≡ true
+in_place c ks i within h = step (is_in_range c (get_or ks i IntervalMs)) refl
+  where
+    step : (held : Bool) → is_in_range c (get_or ks i IntervalMs) ≡ held → is_in_range c (get_or ks i IntervalMs) ≡ true
+    step true k = k
+    step false k = let bad : list_all (is_in_range c) ks ≡ false = list_all_at (is_in_range c) ks i IntervalMs within k in absurd cc
+
+-- a fault is none only if no key is out of its range, and the seeds are good
+no_fault : (broken : Option Key) (good : Bool) → fault_of broken good ≡ Ok tt → (broken ≡ None) × (good ≡ true)
+no_fault None true e = (refl, refl)
+no_fault None false e = absurd cc
+no_fault (Some key) good e = absurd cc
 
 -- a number within two others
 pub record IsBetween (least most n : ℕ) : Type 0 where
@@ -34,38 +51,30 @@ not_true false e = refl
 pub ranges : (c : Config) → IsChecked c → HasRanges c
 unfolding check_of
 ranges c e =
-    let r1 = both _ _ (all_hold (rules_of c) e) in
-    let r2 = both _ _ r1.1 in
-    let r3 = both _ _ r2.1 in
-    let r4 = both _ _ r3.1 in
-    let r5 = both _ _ r4.1 in
-    let r6 = both _ _ r5.1 in
-    let r7 = both _ _ r6.1 in
-    let r8 = both _ _ r7.1 in
-    let r9 = both _ _ r8.1 in
-    let r10 = both _ _ r9.1 in
-    let r11 = both _ _ r10.1 in
-    let seeds = both _ _ r11.0 in
+    let whole = no_fault (first_broken c) (are_good_seeds c.name c.seeds.items) e in
+    let all = none_broken c keys whole.0 in
+    let at = λ (i : ℕ) (within : i < length keys). in_place c keys i within all in
+    let interval = is_between 10 60000 c.interval_ms (at 0 (omega arith)) in
+    let timeout = is_between 1 (c.interval_ms - 1) c.timeout_ms (at 1 (omega arith)) in
+    let alpha = is_between 1 20 c.alpha (at 4 (omega arith)) in
+    let beta = is_between 1 20 c.beta (at 5 (omega arith)) in
+    let lambda = is_between 1 10 c.lambda (at 7 (omega arith)) in
+    let nack = is_between 1 999 c.nack_thousandths (at 8 (omega arith)) in
+    let history = is_between 2 1000000 c.history_limit (at 9 (omega arith)) in
+    let seeds = both _ _ whole.1 in
     let names = both _ _ seeds.1 in
-    let interval = is_between 10 60000 c.interval_ms r1.0 in
-    let timeout = is_between 1 (c.interval_ms - 1) c.timeout_ms r2.0 in
-    let alpha = is_between 1 20 c.alpha r5.0 in
-    let beta = is_between 1 20 c.beta r6.0 in
-    let lambda = is_between 1 10 c.lambda r8.0 in
-    let nack = is_between 1 999 c.nack_thousandths r9.0 in
-    let history = is_between 2 1000000 c.history_limit r10.0 in
     record {
       interval_least = interval.low;
       interval_most = interval.high;
       timeout_least = timeout.low;
       timeout_below = omega arith;
-      indirect_most = leb-true c.indirect 8 r3.0;
-      max_score_most = leb-true c.max_score 20 r4.0;
+      indirect_most = (is_between 0 8 c.indirect (at 2 (omega arith))).high;
+      max_score_most = (is_between 0 20 c.max_score (at 3 (omega arith))).high;
       alpha_least = alpha.low;
       alpha_most = alpha.high;
       beta_least = beta.low;
       beta_most = beta.high;
-      confirmations_most = leb-true c.confirmations 5 r7.0;
+      confirmations_most = (is_between 0 5 c.confirmations (at 6 (omega arith))).high;
       lambda_least = lambda.low;
       lambda_most = lambda.high;
       nack_least = nack.low;

@@ -2,6 +2,7 @@
 pub mod Bounds
 pub mod Config
 pub mod Examples
+pub mod Keys
 pub mod Score
 pub mod Tables
 pub mod TimeoutRange

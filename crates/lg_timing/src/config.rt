@@ -1,11 +1,11 @@
 //! The configuration of a member, and its check.
 //!
-//! Defined in: `specs/Meaning/Config.antt`.
+//! Defined in: `specs/Meaning/Config.antt`, `specs/Meaning/Keys.antt`.
 //! Tested in: `lg_detector_tests/src/timing.rt`.
 ghost use Rattle.std.specs.Prelude.{◌≡◌};
 ghost use Rattle.lg_timing.specs.Meaning.Config.{is_within, is_seed, have_distinct_names, are_good_seeds};
-ghost use Rattle.lg_timing.specs.Meaning.Config.{first_broken};
 
+use crate::keys::{KEYS, Key};
 use arrayvec::ArrayVec;
 use lg_rules::{Addr, MAX_LAMBDA, Name};
 use thiserror::Error;
@@ -159,15 +159,10 @@ fn are_good_seeds(own: &Name, seeds: &[Seed]) -> bool
     seeds.len() <= MAX_SEEDS && have_distinct_names(seeds) && !is_seed(own, seeds)
 }
 
-/// The first rule that is broken, if there is one.
-fn first_broken(rules: &[(bool, ConfigFault)]) -> Option<(bool, ConfigFault)>
-    ensures { result ≡ first_broken rules.now }
-{
-    rules.iter().copied().find(|rule| !rule.0)
-}
-
 impl Config {
+    ghost use Rattle.std.specs.Prelude.{find, not};
     ghost use Rattle.lg_timing.specs.Meaning.Config.{defaults, check_of, IsChecked};
+    ghost use Rattle.lg_timing.specs.Meaning.Keys.{greatest, is_in_range, number_of_key, with_number};
 
     /// Makes the configuration of a member with the default numbers and no seeds. It passes its check.
     #[tactic(auto, unfolding(crate::specs::Meaning::Config::check_of))]
@@ -176,16 +171,16 @@ impl Config {
         ensures checked { IsChecked result }
     {
         Config {
-            interval_ms: 1000,
-            timeout_ms: 500,
-            indirect: 3,
-            max_score: 8,
-            alpha: 5,
-            beta: 6,
-            confirmations: 3,
-            lambda: 4,
-            nack_thousandths: 800,
-            history_limit: 20000,
+            interval_ms: Key::IntervalMs.row().default,
+            timeout_ms: Key::TimeoutMs.row().default,
+            indirect: Key::Indirect.row().default,
+            max_score: Key::MaxScore.row().default,
+            alpha: Key::Alpha.row().default,
+            beta: Key::Beta.row().default,
+            confirmations: Key::Confirmations.row().default,
+            lambda: Key::Lambda.row().default,
+            nack_thousandths: Key::NackThousandths.row().default,
+            history_limit: Key::HistoryLimit.row().default,
             seeds: ArrayVec::new(),
             name,
             addr,
@@ -201,47 +196,78 @@ impl Config {
         Config { seeds, ..*self }
     }
 
-    /// Checks that each field is in its range. The error is the fault of the first field that isn't, in the order of
-    /// [`ConfigFault`].
+    /// The number of a key.
+    pub fn number(&self, key: Key) -> u64
+        ensures { result ≡ number_of_key key self.now }
+    {
+        match key {
+            Key::IntervalMs => self.interval_ms,
+            Key::TimeoutMs => self.timeout_ms,
+            Key::Indirect => self.indirect,
+            Key::MaxScore => self.max_score,
+            Key::Alpha => self.alpha,
+            Key::Beta => self.beta,
+            Key::Confirmations => self.confirmations,
+            Key::Lambda => self.lambda,
+            Key::NackThousandths => self.nack_thousandths,
+            Key::HistoryLimit => self.history_limit,
+        }
+    }
+
+    /// Sets the number of a key. The number may be out of its range, which a check finds.
+    pub fn set(&mut self, key: Key, number: u64)
+        ensures { self.new ≡ with_number key number self.old }
+    {
+        match key {
+            Key::IntervalMs => self.interval_ms = number,
+            Key::TimeoutMs => self.timeout_ms = number,
+            Key::Indirect => self.indirect = number,
+            Key::MaxScore => self.max_score = number,
+            Key::Alpha => self.alpha = number,
+            Key::Beta => self.beta = number,
+            Key::Confirmations => self.confirmations = number,
+            Key::Lambda => self.lambda = number,
+            Key::NackThousandths => self.nack_thousandths = number,
+            Key::HistoryLimit => self.history_limit = number,
+        }
+    }
+
+    /// The greatest number of a key in this configuration: `interval_ms - 1` for the timeout.
+    fn greatest(&self, key: Key) -> u64
+        ensures { result ≡ greatest self.now key }
+    {
+        match key {
+            Key::TimeoutMs => self.interval_ms.saturating_sub(1),
+            _ => key.row().most,
+        }
+    }
+
+    /// Whether the number of a key is in its range.
+    fn is_in_range(&self, key: Key) -> bool
+        ensures { result ≡ is_in_range self.now key }
+    {
+        is_within(key.row().least, self.greatest(key), self.number(key))
+    }
+
+    /// The first of some keys whose number is out of its range, if there is one.
+    fn first_broken(&self, keys: &[Key]) -> Option<Key>
+        ensures { result ≡ find (λ key. not (is_in_range self.now key)) keys.now }
+    {
+        keys.iter().copied().find(|key| !self.is_in_range(*key))
+    }
+
+    /// Checks that the number of each key is in its range, and then that the seeds are good. The error is the first
+    /// fault, in the order of [`KEYS`]. That of the seeds is the last.
     #[tactic(auto, unfolding(crate::specs::Meaning::Config::check_of))]
     pub fn check(&self) -> Result<(), ConfigFault>
         ensures { result ≡ check_of self.now }
     {
-        let rules = [
-            (
-                is_within(MIN_INTERVAL_MS, MAX_INTERVAL_MS, self.interval_ms),
-                ConfigFault::Interval,
-            ),
-            (
-                is_within(1, self.interval_ms.saturating_sub(1), self.timeout_ms),
-                ConfigFault::Timeout,
-            ),
-            (self.indirect <= MAX_INDIRECT, ConfigFault::Indirect),
-            (self.max_score <= MAX_SCORE, ConfigFault::MaxScore),
-            (is_within(1, MAX_FACTOR, self.alpha), ConfigFault::Alpha),
-            (is_within(1, MAX_FACTOR, self.beta), ConfigFault::Beta),
-            (
-                self.confirmations <= MAX_CONFIRMATIONS,
-                ConfigFault::Confirmations,
-            ),
-            (is_within(1, MAX_LAMBDA, self.lambda), ConfigFault::Lambda),
-            (
-                is_within(
-                    MIN_NACK_THOUSANDTHS,
-                    MAX_NACK_THOUSANDTHS,
-                    self.nack_thousandths,
-                ),
-                ConfigFault::Nack,
-            ),
-            (
-                is_within(MIN_HISTORY_LIMIT, MAX_HISTORY_LIMIT, self.history_limit),
-                ConfigFault::History,
-            ),
-            (are_good_seeds(&self.name, &self.seeds), ConfigFault::Seeds),
-        ];
-        match first_broken(&rules) {
-            Some((_, fault)) => Err(fault),
-            None => Ok(()),
+        if let Some(key) = self.first_broken(&KEYS) {
+            return Err(key.row().fault);
         }
+        if !are_good_seeds(&self.name, &self.seeds) {
+            return Err(ConfigFault::Seeds);
+        }
+        Ok(())
     }
 }

@@ -2,6 +2,7 @@
 #![tactic(auto)]
 
 mod config;
+mod keys;
 mod moment;
 mod score;
 mod tables;
@@ -12,6 +13,7 @@ pub use config::{
     MAX_INTERVAL_MS, MAX_NACK_THOUSANDTHS, MAX_SCORE, MAX_SEEDS, MIN_HISTORY_LIMIT,
     MIN_INTERVAL_MS, MIN_NACK_THOUSANDTHS, Seed, is_within,
 };
+pub use keys::{KEYS, Key, KeyRow};
 pub use lg_rules::MAX_LAMBDA;
 pub use moment::{MAX_MOMENT, Moment};
 pub use score::{MAX_SCALED_MS, Score};

@@ -3,9 +3,9 @@
 use Rattle.std.specs.Prelude.{
   ◌≡◌,
   ℕ,
-  ◌-◌,
   Bool,
   true,
+  false,
   ◌&&◌,
   not,
   nat_le,
@@ -28,56 +28,32 @@ use Rattle.lg_rules.specs.declared.addr.Addr.{Addr}
 use Rattle.lg_timing.specs.declared.config.Seed.{Seed}
 use Rattle.lg_timing.specs.declared.config.Config.{Config}
 use Rattle.lg_timing.specs.declared.config.ConfigFault.{ConfigFault}
-use Rattle.lg_timing.specs.declared.config.ConfigFault.TheVariants.{
-  Interval,
-  Timeout,
-  Indirect,
-  MaxScore,
-  Alpha,
-  Beta,
-  Confirmations,
-  Lambda,
-  Nack,
-  History,
-  Seeds,
-}
-use Rattle.lg_timing.specs.Meaning.Bounds.{
-  least_interval_ms,
-  most_interval_ms,
-  most_indirect,
-  most_score,
-  most_factor,
-  most_confirmations,
-  most_lambda,
-  least_nack_thousandths,
-  most_nack_thousandths,
-  least_history_limit,
-  most_history_limit,
-  most_seeds,
-}
+use Rattle.lg_timing.specs.declared.config.ConfigFault.TheVariants.{Seeds}
+use Rattle.lg_timing.specs.declared.keys.Key.{Key}
+use Rattle.lg_timing.specs.declared.keys.Key.TheVariants.{IntervalMs, TimeoutMs, Indirect, MaxScore, Alpha}
+use Rattle.lg_timing.specs.declared.keys.Key.TheVariants.{Beta, Confirmations, Lambda, NackThousandths, HistoryLimit}
+use Rattle.lg_timing.specs.Meaning.Bounds.{most_seeds}
+use Rattle.lg_timing.specs.Meaning.Keys.{is_in_range, keys, row_of}
+pub use Rattle.lg_timing.specs.Meaning.Keys.{is_within}
 
 -- the default configuration of a member, which knows no other member from the start
 abbrev pub defaults : List ℕ → Addr → Config
 defaults name addr =
     record {
-      interval_ms = 1000;
-      timeout_ms = 500;
-      indirect = 3;
-      max_score = 8;
-      alpha = 5;
-      beta = 6;
-      confirmations = 3;
-      lambda = 4;
-      nack_thousandths = 800;
-      history_limit = 20000;
+      interval_ms = (row_of IntervalMs).default;
+      timeout_ms = (row_of TimeoutMs).default;
+      indirect = (row_of Indirect).default;
+      max_score = (row_of MaxScore).default;
+      alpha = (row_of Alpha).default;
+      beta = (row_of Beta).default;
+      confirmations = (row_of Confirmations).default;
+      lambda = (row_of Lambda).default;
+      nack_thousandths = (row_of NackThousandths).default;
+      history_limit = (row_of HistoryLimit).default;
       seeds = record { items = [] };
       name = name;
       addr = addr;
     }
-
--- whether a number is at least one number and at most another
-abbrev pub is_within : ℕ → ℕ → ℕ → Bool
-is_within least most n = nat_le least n && nat_le n most
 
 -- whether a seed has this name
 abbrev pub has_name : List ℕ → Seed → Bool
@@ -96,34 +72,19 @@ have_distinct_names (seed ∷ seeds) = not (is_seed seed.name seeds) && have_dis
 abbrev pub are_good_seeds : List ℕ → List Seed → Bool
 are_good_seeds own seeds = nat_le (length seeds) most_seeds && (have_distinct_names seeds && not (is_seed own seeds))
 
--- each field in turn: whether it is in its range, and the fault if it isn't
-abbrev pub rules_of : Config → List (Bool × ConfigFault)
-rules_of c =
-    (is_within least_interval_ms most_interval_ms c.interval_ms, Interval)
-    ∷ (is_within 1 (c.interval_ms - 1) c.timeout_ms, Timeout)
-    ∷ (nat_le c.indirect most_indirect, Indirect)
-    ∷ (nat_le c.max_score most_score, MaxScore)
-    ∷ (is_within 1 most_factor c.alpha, Alpha)
-    ∷ (is_within 1 most_factor c.beta, Beta)
-    ∷ (nat_le c.confirmations most_confirmations, Confirmations)
-    ∷ (is_within 1 most_lambda c.lambda, Lambda)
-    ∷ (is_within least_nack_thousandths most_nack_thousandths c.nack_thousandths, Nack)
-    ∷ (is_within least_history_limit most_history_limit c.history_limit, History)
-    ∷ (are_good_seeds c.name c.seeds.items, Seeds)
-    ∷ []
+-- the first key whose number is out of its range, if there is one
+abbrev pub first_broken : Config → Option Key
+first_broken c = find (λ key. not (is_in_range c key)) keys
 
--- the first rule that is broken, if there is one
-abbrev pub first_broken : List (Bool × ConfigFault) → Option (Bool × ConfigFault)
-first_broken rules = find (λ rule. not rule.0) rules
-
--- the fault of the broken rule, or Ok if there is none
-abbrev pub unless_broken : Option (Bool × ConfigFault) → Result (Unit {0}) ConfigFault
-unless_broken None = Ok tt
-unless_broken (Some rule) = Err rule.1
+-- what a check returns for that key, and for whether the seeds are good: the fault of the key, or else that of the seeds
+abbrev pub fault_of : Option Key → Bool → Result (Unit {0}) ConfigFault
+fault_of (Some key) good = Err (row_of key).fault
+fault_of None false = Err Seeds
+fault_of None true = Ok tt
 
 -- what checking a configuration returns
 unfoldable pub check_of : Config → Result (Unit {0}) ConfigFault
-check_of c = unless_broken (first_broken (rules_of c))
+check_of c = fault_of (first_broken c) (are_good_seeds c.name c.seeds.items)
 
 -- a configuration that passes its check
 abbrev pub IsChecked : Config → Type 0

@@ -1,0 +1,97 @@
+-- The keys of a configuration's numbers: their names, ranges, defaults and faults (this project's choice).
+use Rattle.std.specs.Prelude.{ℕ, ◌-◌, Bool, ◌&&◌, nat_le, List, [], ◌∷◌, codes, Option, find}
+use Rattle.std.specs.Str.{bytes_eq}
+use Rattle.lg_timing.specs.declared.config.Config.{Config}
+use Rattle.lg_timing.specs.declared.config.ConfigFault.{ConfigFault}
+use Rattle.lg_timing.specs.declared.config.ConfigFault.TheVariants as fault
+use Rattle.lg_timing.specs.declared.keys.Key.{Key}
+use Rattle.lg_timing.specs.declared.keys.Key.TheVariants.{IntervalMs, TimeoutMs, Indirect, MaxScore, Alpha}
+use Rattle.lg_timing.specs.declared.keys.Key.TheVariants.{Beta, Confirmations, Lambda, NackThousandths, HistoryLimit}
+use Rattle.lg_timing.specs.declared.keys.KeyRow.{KeyRow}
+use Rattle.lg_timing.specs.Meaning.Bounds.{least_interval_ms, most_interval_ms, most_confirmations, most_factor}
+
+-- whether a number is at least one number and at most another
+abbrev pub is_within : ℕ → ℕ → ℕ → Bool
+is_within least most n = nat_le least n && nat_le n most
+
+-- the keys, in the order in which a check judges their numbers
+abbrev pub keys : List Key
+keys =
+    IntervalMs ∷ TimeoutMs ∷ Indirect ∷ MaxScore ∷ Alpha
+    ∷ Beta ∷ Confirmations ∷ Lambda ∷ NackThousandths ∷ HistoryLimit ∷ []
+
+-- a key's name
+abbrev pub key_name : Key → List ℕ
+key_name IntervalMs = codes "interval_ms"
+key_name TimeoutMs = codes "timeout_ms"
+key_name Indirect = codes "indirect"
+key_name MaxScore = codes "max_score"
+key_name Alpha = codes "alpha"
+key_name Beta = codes "beta"
+key_name Confirmations = codes "confirmations"
+key_name Lambda = codes "lambda"
+key_name NackThousandths = codes "nack_thousandths"
+key_name HistoryLimit = codes "history_limit"
+
+-- a least and a greatest number, a default, and the fault of a number out of its range
+abbrev pub row : ℕ → ℕ → ℕ → ConfigFault → KeyRow
+row least most usual broken = record { least = least; most = most; default = usual; fault = broken }
+
+-- a key's row
+abbrev pub row_of : Key → KeyRow
+row_of IntervalMs = row least_interval_ms most_interval_ms 1000 fault.Interval
+row_of TimeoutMs = row 1 (most_interval_ms - 1) 500 fault.Timeout
+row_of Indirect = row 0 8 3 fault.Indirect
+row_of MaxScore = row 0 20 8 fault.MaxScore
+row_of Alpha = row 1 most_factor 5 fault.Alpha
+row_of Beta = row 1 most_factor 6 fault.Beta
+row_of Confirmations = row 0 most_confirmations 3 fault.Confirmations
+row_of Lambda = row 1 10 4 fault.Lambda
+row_of NackThousandths = row 1 999 800 fault.Nack
+row_of HistoryLimit = row 2 1000000 20000 fault.History
+
+-- the number of a key
+abbrev pub number_of_key : Key → Config → ℕ
+number_of_key IntervalMs c = c.interval_ms
+number_of_key TimeoutMs c = c.timeout_ms
+number_of_key Indirect c = c.indirect
+number_of_key MaxScore c = c.max_score
+number_of_key Alpha c = c.alpha
+number_of_key Beta c = c.beta
+number_of_key Confirmations c = c.confirmations
+number_of_key Lambda c = c.lambda
+number_of_key NackThousandths c = c.nack_thousandths
+number_of_key HistoryLimit c = c.history_limit
+
+-- a configuration with the number of one key changed
+abbrev pub with_number : Key → ℕ → Config → Config
+with_number IntervalMs n c = record c { interval_ms = n }
+with_number TimeoutMs n c = record c { timeout_ms = n }
+with_number Indirect n c = record c { indirect = n }
+with_number MaxScore n c = record c { max_score = n }
+with_number Alpha n c = record c { alpha = n }
+with_number Beta n c = record c { beta = n }
+with_number Confirmations n c = record c { confirmations = n }
+with_number Lambda n c = record c { lambda = n }
+with_number NackThousandths n c = record c { nack_thousandths = n }
+with_number HistoryLimit n c = record c { history_limit = n }
+
+-- whether a number is in a key's range, whatever the other numbers are
+abbrev pub is_allowed : Key → ℕ → Bool
+is_allowed key n = is_within (row_of key).least (row_of key).most n
+
+-- the greatest number of a key in a configuration: a timeout is shorter than the interval
+abbrev pub greatest : Config → Key → ℕ
+greatest c TimeoutMs = c.interval_ms - 1
+greatest c key = (row_of key).most
+
+-- whether the number of a key is in its range
+abbrev pub is_in_range : Config → Key → Bool
+is_in_range c key = is_within (row_of key).least (greatest c key) (number_of_key key c)
+
+-- the key with a name, if there is one
+abbrev pub has_key_name : List ℕ → Key → Bool
+has_key_name word key = bytes_eq word (key_name key)
+
+abbrev pub key_named : List ℕ → Option Key
+key_named word = find (has_key_name word) keys
