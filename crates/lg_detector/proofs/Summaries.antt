@@ -1,5 +1,5 @@
 -- A summary of a list of events leads on as the list does.
-use Rattle.std.proofs.Common.{◌≡◌, ℕ, ◌+◌, ◌≤◌, Bool, true, false, ◌&&◌, ◌||◌, not, List, [], ◌∷◌, ◌++◌, length, refl, ap, sym, ◌∙◌, arith, append_assoc, append-nil, length-append}
+use Rattle.std.proofs.Common.{◌≡◌, ◌+◌, Bool, true, false, ◌&&◌, ◌||◌, not, List, [], ◌∷◌, ◌++◌, length, refl, ap, sym, ◌∙◌, arith, append_assoc, append-nil, length-append}
 use Rattle.std.specs.Prelude.{nat_le}
 use Rattle.std.specs.List.{list_any}
 use Rattle.std.proofs.lemmas.Bool.Decides.{nat_tests}
@@ -7,7 +7,7 @@ use Rattle.std.proofs.lemmas.List.Folds.{list_any-append}
 use Rattle.lg_detector.specs.declared.event.Event.{Event}
 use Rattle.lg_detector.specs.Meaning.Step.{is_open, opens_well, is_accepted, most_events, reply_after}
 use Rattle.lg_detector.specs.Support.State.{State}
-use Rattle.lg_detector.specs.Support.Step.{state_after, accepts_of, step, reply}
+use Rattle.lg_detector.specs.Support.Step.{state_after, accepts_of, reply}
 use Rattle.lg_detector.specs.Support.Summary.{IsSummary, led_on, answer_from}
 use Rattle.lg_detector.proofs.Accepting.{accepts-after}
 use Rattle.lg_detector.proofs.StepLaws.{step-after, reply-of}

@@ -1,5 +1,5 @@
 -- How what is left of a legal history begins, grows and is cut again.
-use Rattle.std.proofs.Common.{◌≡◌, ℕ, zero, suc, ◌+◌, ◌<◌, ◌≤◌, ◌==◌, Bool, true, false, cond, List, [], ◌∷◌, ◌++◌, length, All, get_or, zero-add, ◌≢◌, ◌⊎◌, ⊎_elim, inl, inr, refl, ap, sym, ◌∙◌, subst, arith, append_assoc, append-nil, length-append, IsTrue}
+use Rattle.std.proofs.Common.{◌≡◌, ℕ, zero, suc, ◌+◌, ◌<◌, ◌≤◌, ◌==◌, Bool, true, false, cond, List, [], ◌∷◌, ◌++◌, length, All, get_or, zero-add, ◌≢◌, ◌⊎◌, ⊎_elim, inl, inr, refl, ap, sym, ◌∙◌, subst, arith, append_assoc, append-nil, length-append}
 use Rattle.std.specs.Prelude.{nat_lt}
 use Rattle.std.specs.List.{count_by, sum_by}
 use Rattle.std.proofs.lemmas.Bool.{eq-eqb, ne_eqb}
@@ -18,7 +18,7 @@ use Rattle.lg_detector.proofs.StepLaws.{step-after, reply-of}
 use Rattle.lg_detector.proofs.Summaries.{accepted_front}
 use Rattle.lg_history.specs.Meaning.History.{Entry, entry, events, Answered, IsSeat, Seated, IsLegal}
 use Rattle.lg_history.specs.Meaning.Rest.{made_by, of_seat, IsRest, AnsweredFrom, AreCut}
-use Rattle.lg_history.proofs.Legal.{events-append, length-events, may_follow, grown}
+use Rattle.lg_history.proofs.Legal.{length-events, grown}
 
 pub events-join : (g h : List Entry) → events (g ++ h) ≡ events g ++ events h
 events-join [] h = refl

@@ -1,5 +1,4 @@
-use Rattle.std.proofs.Common.{List, ap, ◌∙◌}
-use Rattle.lg_detector.specs.declared.event.Event.{Event}
+use Rattle.std.proofs.Common.{ap, ◌∙◌}
 use Rattle.lg_detector.specs.Support.State.{State}
 use Rattle.lg_detector.specs.Support.Summary.{led_on}
 use Rattle.lg_detector.proofs.Summaries.{led_on-after, answer_from-after}
