@@ -42,7 +42,7 @@ use Rattle.lg_detector.specs.Meaning.Apply.{apply_all}
 use Rattle.lg_detector.specs.Meaning.Send.{packets}
 use Rattle.lg_detector.specs.Meaning.Tick.{found, ping_to, messages, claims_said, expire, expire_sends}
 use Rattle.lg_detector.specs.Meaning.Step.{step, log_of, reply, reply_after}
-use Rattle.lg_detector.specs.Meaning.Choice.{first_pinged, choice_by, choice, targets_after}
+use Rattle.lg_detector.specs.Meaning.Choice.{first_body, pinged, choice_by, choice, targets_after}
 use Rattle.lg_detector.proofs.Leaving.{IsLeft, left-open, left-hear, left-fire}
 use Rattle.lg_detector.proofs.Deadlines.{configuration, configuration_left, configuration-expire, was_opened, opened-first, is_timed}
 
@@ -80,7 +80,7 @@ row_of_chosen words log m opened is =
     row_in_view (group.config g) (group.own g) (group.table g) m opened (row_in_table g m candidate.named)
 
 -- So the Ping that is sent goes to whom is chosen.
-pinged_is : (o : Option (List ℕ)) (k : ℕ) (rows : List Claim) (log : Log) → ((m : List ℕ) → o ≡ Some m → HasRow m rows) → first_pinged (packets (ping_to k rows o) log) ≡ o
+pinged_is : (o : Option (List ℕ)) (k : ℕ) (rows : List Claim) (log : Log) → ((m : List ℕ) → o ≡ Some m → HasRow m rows) → pinged (first_body (packets (ping_to k rows o) log)) ≡ o
 pinged_is None k rows log has = refl
 pinged_is (Some m) k rows log has = let row = has m refl in rw row.is (ap Some row.named)
 
@@ -200,7 +200,7 @@ nothing_gained names = sym (append-nil names)
 
 gained-by : (id : TimerId) (words : List ℕ) (log sent : Log) → (is_of_round id ≡ true → was_opened log ≡ true)
     → cond (is_round_start id) (all_targets log ++ option_to_list (chosen words (log ++ []))) (all_targets log)
-    ≡ all_targets log ++ option_to_list (cond (is_round_start id) (first_pinged (packets (messages id words log) sent)) None)
+    ≡ all_targets log ++ option_to_list (cond (is_round_start id) (pinged (first_body (packets (messages id words log) sent))) None)
 gained-by RoundEnd words log sent opened = nothing_gained (all_targets log)
 gained-by (Suspicion m) words log sent opened = nothing_gained (all_targets log)
 gained-by Direct words log sent opened = nothing_gained (all_targets log)
@@ -213,7 +213,7 @@ gained-by RoundStart words log sent opened =
     ap (λ o. all_targets log ++ option_to_list o) (there ∙ sym is)
 
 gained-expire : (o : Option Timer) (words : List ℕ) (log : Log) → ((timer : Timer) → o ≡ Some timer → is_of_round timer.id ≡ true → was_opened log ≡ true)
-    → all_targets (expire o words log) ≡ all_targets log ++ option_to_list (choice_by o (expire_sends o words log))
+    → all_targets (expire o words log) ≡ all_targets log ++ option_to_list (choice_by o (first_body (expire_sends o words log)))
 gained-expire None words log opened = nothing_gained (all_targets log)
 gained-expire (Some timer) words log opened =
     left-fire all_targets targets_left timer words log

@@ -22,5 +22,5 @@ pub use detector::{
 pub use event::Event;
 pub use lg_rules::MAX_MEMBERS;
 pub use lg_timers::{Timer, TimerId};
-pub use reply::{Answer, MAX_CHANGED, MAX_SENDS, Outgoing, Reply};
+pub use reply::{Answer, MAX_CHANGED, MAX_SENDS, Outgoing, Reply, choice_by};
 pub use summary::{Summary, summaries_lead_on};

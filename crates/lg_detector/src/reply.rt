@@ -2,13 +2,12 @@
 //!
 //! Defined in: `specs/Meaning/Choice.antt`, `specs/Meaning/Step.antt`.
 //! Tested in: `lg_detector_tests/src/detector/probing.rt`.
-ghost use Rattle.std.specs.Prelude.{◌≡◌, ◌<◌, ◌≤◌, ◌++◌, List, length, [], ◌∷◌, None};
+ghost use Rattle.std.specs.Prelude.{◌≡◌, ◌<◌, ◌≤◌, ◌++◌, List, length, [], ◌∷◌, None, option_copied};
 ghost use Rattle.std.specs.Option.{option_to_list};
 ghost use Rattle.arrayvec.specs.ArrayVec.{array_vec_len};
 ghost use Rattle.lg_detector.specs.declared.event.Event.{Event as Happened};
-ghost use Rattle.lg_detector.specs.Meaning.Probing.{is_round_start};
 ghost use Rattle.lg_detector.specs.Meaning.Step.{reply_after};
-ghost use Rattle.lg_detector.specs.Meaning.Choice.{choice, choice_by, first_pinged, targets_after};
+ghost use Rattle.lg_detector.specs.Meaning.Choice.{choice, choice_by, first_body, targets_after};
 
 use arrayvec::ArrayVec;
 use lg_packet::{Body, Packet};
@@ -139,29 +138,20 @@ fn copy_records(records: &[Record]) -> ArrayVec<Record, MAX_CHANGED>
     copies
 }
 
-/// The target of the first of some packets, if that is a Ping.
-fn first_pinged(sends: &[Outgoing]) -> Option<Name>
-    ensures { result ≡ first_pinged sends.now }
+/// The body of the first of some packets, if there are any.
+fn first_body(sends: &[Outgoing]) -> Option<&Body>
+    ensures { option_copied result ≡ first_body sends.now }
 {
-    match &sends.first()?.packet.body {
-        Body::Ping { target, .. } => Some(*target),
-        _ => None,
-    }
+    Some(&sends.first()?.packet.body)
 }
 
-/// Whether a timer starts a round.
-fn is_round_start(timer: &Timer) -> bool
-    ensures { result ≡ is_round_start timer.now.id }
+/// Whom the start of a round chose, by the timer that fired and the body of the first packet that was sent: the
+/// target of its Ping. None if no start of a round fired, or if it sent no Ping.
+pub fn choice_by(fired: Option<Timer>, first: Option<&Body>) -> Option<Name>
+    ensures { result ≡ choice_by fired (option_copied first.entry) }
 {
-    matches!(timer.id, TimerId::RoundStart)
-}
-
-/// Whom the start of a round chose, by the timer that fired and the packets that it sent.
-fn choice_by(fired: &Option<Timer>, sends: &[Outgoing]) -> Option<Name>
-    ensures { result ≡ choice_by fired.now sends.now }
-{
-    match fired {
-        Some(timer) if is_round_start(timer) => first_pinged(sends),
+    match (fired?.id, first?) {
+        (TimerId::RoundStart, Body::Ping { target, .. }) => Some(*target),
         _ => None,
     }
 }
@@ -175,7 +165,7 @@ impl Reply {
         ensures gained { (f : List Happened) (e : Happened) → self.now ≡ reply_after f e
             → targets_after (f ++ e ∷ []) ≡ targets_after f ++ option_to_list result }
     {
-        choice_by(&self.fired, self.sends.as_slice())
+        choice_by(self.fired, first_body(self.sends.as_slice()))
     }
 
     /// Clears the timer, the packets, the changed records and the answer.

@@ -1,9 +1,7 @@
 //! Packets, in as much memory as their claims need.
 //!
-//! Defined in: `lg_detector/specs/Meaning/Choice.antt`.
 //! Tested in: `lg_agent_tests/src/history/refused_memory.rt`.
 ghost use Rattle.std.specs.Prelude.{◌≡◌, IfOk};
-ghost use Rattle.lg_detector.specs.Meaning.Choice.{pinged};
 
 use arrayvec::ArrayVec;
 use lg_detector::{NoMemory, Outgoing};
@@ -43,16 +41,6 @@ impl StoredPacket {
             body: packet.body,
             claims,
         })
-    }
-
-    /// Its target, if it is a Ping.
-    fn pinged(&self) -> Option<Name>
-        ensures { result ≡ pinged self.now.body }
-    {
-        match &self.body {
-            Body::Ping { target, .. } => Some(*target),
-            _ => None,
-        }
     }
 
     /// The packet.
@@ -97,11 +85,11 @@ impl StoredOutgoing {
         })
     }
 
-    /// The target of the packet, if it is a Ping.
-    pub(crate) fn pinged(&self) -> Option<Name>
-        ensures { result ≡ pinged self.now.packet.body }
+    /// The body of the packet.
+    pub(crate) fn body(&self) -> &Body
+        ensures { result.now ≡ self.now.packet.body }
     {
-        self.packet.pinged()
+        &self.packet.body
     }
 
     /// The packet, and where it goes.

@@ -2,14 +2,14 @@
 //!
 //! Defined in: `lg_detector/specs/Meaning/Choice.antt`, `specs/Support/Stored.antt`.
 //! Tested in: `lg_agent_tests/src/history/refused_memory.rt`.
-ghost use Rattle.std.specs.Prelude.{◌≡◌, ◌≤◌, length, option_map, IfOk};
+ghost use Rattle.std.specs.Prelude.{◌≡◌, ◌≤◌, length, option_copied, option_map, IfOk};
 ghost use Rattle.lg_detector.specs.declared.reply.TheConstants.{MAX_SENDS};
-ghost use Rattle.lg_detector.specs.Meaning.Probing.{is_round_start};
-ghost use Rattle.lg_detector.specs.Meaning.Choice.{choice, first_pinged};
+ghost use Rattle.lg_detector.specs.Meaning.Choice.{choice, first_body};
 
 use crate::packet::StoredOutgoing;
 use arrayvec::ArrayVec;
-use lg_detector::{Answer, MAX_SENDS, NoMemory, Outgoing, Reply, Timer, TimerId};
+use lg_detector::{Answer, MAX_SENDS, NoMemory, Outgoing, Reply, Timer, choice_by};
+use lg_packet::Body;
 use lg_rules::{Name, Record};
 use std::alloc::Global;
 use std::marker::Model;
@@ -64,18 +64,11 @@ fn timer_in(stored: &Option<Box<Timer>>) -> Option<Timer>
     }
 }
 
-/// Whether a timer starts a round.
-fn is_round_start(timer: &Timer) -> bool
-    ensures { result ≡ is_round_start timer.now.id }
+/// The body of the first of some packets, if there are any.
+fn first_body(sends: &[StoredOutgoing]) -> Option<&Body>
+    ensures { option_copied result ≡ first_body sends.now }
 {
-    matches!(timer.id, TimerId::RoundStart)
-}
-
-/// The target of the first of some packets, if that is a Ping.
-fn first_pinged(sends: &[StoredOutgoing]) -> Option<Name>
-    ensures { result ≡ first_pinged sends.now }
-{
-    sends.first()?.pinged()
+    Some(sends.first()?.body())
 }
 
 /// Stores an answer, if there is one.
@@ -145,10 +138,7 @@ impl ExactReply {
     fn chosen(&self) -> Option<Name>
         ensures { result ≡ choice self.now }
     {
-        match timer_in(&self.fired) {
-            Some(timer) if is_round_start(&timer) => first_pinged(self.sends.as_slice()),
-            _ => None,
-        }
+        choice_by(timer_in(&self.fired), first_body(self.sends.as_slice()))
     }
 
     /// The reply.

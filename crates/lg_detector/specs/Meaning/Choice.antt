@@ -11,23 +11,25 @@ use Rattle.lg_detector.specs.Meaning.Probing.{is_round_start}
 use Rattle.lg_detector.specs.Meaning.Window.{targets}
 use Rattle.lg_detector.specs.Meaning.Step.{log_of}
 
--- the target of a packet if it is a Ping, and that of the first of some packets
-abbrev pub pinged : Body → Option (List ℕ)
-pinged (Ping number target) = Some target
+-- the body of the first of some packets, if there are any
+abbrev pub first_body : List Outgoing → Option Body
+first_body [] = None
+first_body (sent ∷ rest) = Some sent.packet.body
+
+-- the target of a body, if it is that of a Ping
+abbrev pub pinged : Option Body → Option (List ℕ)
+pinged (Some (Ping number target)) = Some target
 pinged _ = None
 
-abbrev pub first_pinged : List Outgoing → Option (List ℕ)
-first_pinged [] = None
-first_pinged (sent ∷ rest) = pinged sent.packet.body
+-- By the timer that fired and the body of the first packet that was sent: if a start of a round fired, the target of
+-- its Ping, if it sent one. A Ping that is sent for another member doesn't count, since nothing fired then.
+abbrev pub choice_by : Option Timer → Option Body → Option (List ℕ)
+choice_by None first = None
+choice_by (Some timer) first = if is_round_start timer.id then pinged first else None
 
--- By a reply: if a start of a round fired, the target of its Ping, if it sent one. A Ping that is sent for another
--- member doesn't count, since nothing fired then.
-abbrev pub choice_by : Option Timer → List Outgoing → Option (List ℕ)
-choice_by None sends = None
-choice_by (Some timer) sends = if is_round_start timer.id then first_pinged sends else None
-
+-- by a reply
 abbrev pub choice : Reply → Option (List ℕ)
-choice reply = choice_by reply.fired reply.sends.items
+choice reply = choice_by reply.fired (first_body reply.sends.items)
 
 -- by a list of events, the earliest first: the targets that its starts of rounds chose, in the order in which they did
 abbrev pub targets_after : List Event → List (List ℕ)
