@@ -1,4 +1,5 @@
-//! Runs a node from its configuration.
+//! Runs a node from its configuration file: reads the file, checks what it means, runs the node, writes its members,
+//! and tells how it ended. The functions stand in this order.
 //!
 //! Defined in: `specs/Meaning/Running.antt`, `specs/Meaning/Telling.antt`, `lg_text/specs/Meaning/Running.antt`.
 //! Tested in: `cases/node.case`, `lg_command_tests/src/launch/ends.rt`.
@@ -23,30 +24,76 @@ use std::sync::Wait;
 use std::thread::Threads;
 use std::{fs, io, rt};
 
-/// Reports what is told, and gives its status.
-fn tell<F: Write>(told: Told, faults: &mut F) -> u8
-    ensures line { AppendsFront (F.contents faults.old) (F.contents faults.new) (line_of told) }
-    ensures status { result ≡ status_of told }
+/// Runs the node of a configuration file, as [`run_bytes`] does from its bytes.
+///
+/// At most 65,537 bytes of the file are read. A file that can't be read is told by [`Told::Read`]. Memory that is
+/// refused for its bytes is told by [`Told::Memory`]. In both cases nothing is written. No contract can say what a
+/// file holds.
+pub fn run_file<R, W, F>(
+    rt: &R,
+    alloc: Global,
+    path: &str,
+    until: Moment,
+    writer: &mut W,
+    faults: &mut F,
+) -> u8
+where
+    R: Wait + Threads + Net + rt::Clock + Files + Sync,
+    W: Write,
+    F: Write,
+    ensures { RunsFile writer.old writer.new (W.contents writer.old) (W.contents writer.new)
+        (F.contents faults.old) (F.contents faults.new) until result }
 {
-    report(faults, told.line());
-    told.status()
+    match file_bytes(rt, alloc, path) {
+        Ok(bytes) => run_bytes(rt, alloc, &bytes, until, writer, faults),
+        Err(fault) => tell(Told::from(fault), faults),
+    }
 }
 
-/// Writes the table of a node that was run, if one is to be written. The whole text is made before its first byte is
-/// written.
-fn write_table<W: Write>(
-    alloc: Global,
-    ran: &Result<NodeEnd, NodeFault>,
-    writer: &mut W,
-) -> Result<(), RunFault>
-    ensures { Writes writer.old writer.new (W.contents writer.old) (W.contents writer.new) (table_of ran.now) result }
+/// The bytes of a file, at most one more than a configuration may have. The fault is that the file can't be read, or
+/// that memory was refused.
+fn file_bytes<R: Files>(rt: &R, alloc: Global, path: &str) -> Result<Vec<u8>, RunFault>
+    ensures { IfErr result (λ fault. (fault ≡ RunFault.Memory) ⊎ (fault ≡ RunFault.Read)) }
 {
-    let Some(records) = table_of(ran) else {
-        return Ok(());
-    };
-    let mut text = Vec::new(alloc);
-    put_table(records, &mut text)?;
-    write_whole(writer, &text)
+    let mut bytes = Vec::new(alloc);
+    match put_file(rt, path, &mut bytes) {
+        Ok(()) => Ok(bytes),
+        Err(error) if error.kind() == ErrorKind::OutOfMemory => Err(RunFault::Memory),
+        Err(_) => Err(RunFault::Read),
+    }
+}
+
+/// Appends the bytes of a file to others: all of them, or one more than a configuration may have.
+fn put_file<R: Files>(rt: &R, path: &str, bytes: &mut Vec<u8>) -> io::Result<()> {
+    let limit = MAX_FILE as u64 + 1;
+    fs::open(rt, path)?.take(limit).read_to_end(bytes)?;
+    Ok(())
+}
+
+/// Runs the node that the bytes of a configuration file mean, as [`run_config`] does.
+///
+/// Bytes that mean no configuration are told by [`Told::Config`], as [`NodeConfig::read`] answers. Memory that is
+/// refused for them is told by [`Told::Memory`]. In both cases nothing is written.
+pub fn run_bytes<R, W, F>(
+    rt: &R,
+    alloc: Global,
+    bytes: &[u8],
+    until: Moment,
+    writer: &mut W,
+    faults: &mut F,
+) -> u8
+where
+    R: Wait + Threads + Net + rt::Clock + Sync,
+    W: Write,
+    F: Write,
+    ensures { RunsBytes writer.old writer.new (W.contents writer.old) (W.contents writer.new)
+        (F.contents faults.old) (F.contents faults.new) bytes.now until result }
+{
+    match NodeConfig::read(alloc, bytes) {
+        Ok(node) => run_config(rt, alloc, &node, until, writer, faults),
+        Err(ReadFault::NoMemory) => tell(Told::Memory, faults),
+        Err(ReadFault::File(fault)) => tell(Told::Config(fault), faults),
+    }
 }
 
 /// Runs the node of a configuration until a moment, in milliseconds from its start. Writes the members that it knows
@@ -79,74 +126,28 @@ where
     tell(Told::of(&ran, written), faults)
 }
 
-/// Runs the node that the bytes of a configuration file mean, as [`run_config`] does.
-///
-/// Bytes that mean no configuration are told by [`Told::Config`], as [`NodeConfig::read`] answers. Memory that is
-/// refused for them is told by [`Told::Memory`]. In both cases nothing is written.
-pub fn run_bytes<R, W, F>(
-    rt: &R,
+/// Writes the table of a node that was run, if one is to be written. The whole text is made before its first byte is
+/// written.
+fn write_table<W: Write>(
     alloc: Global,
-    bytes: &[u8],
-    until: Moment,
+    ran: &Result<NodeEnd, NodeFault>,
     writer: &mut W,
-    faults: &mut F,
-) -> u8
-where
-    R: Wait + Threads + Net + rt::Clock + Sync,
-    W: Write,
-    F: Write,
-    ensures { RunsBytes writer.old writer.new (W.contents writer.old) (W.contents writer.new)
-        (F.contents faults.old) (F.contents faults.new) bytes.now until result }
+) -> Result<(), RunFault>
+    ensures { Writes writer.old writer.new (W.contents writer.old) (W.contents writer.new) (table_of ran.now) result }
 {
-    match NodeConfig::read(alloc, bytes) {
-        Ok(node) => run_config(rt, alloc, &node, until, writer, faults),
-        Err(ReadFault::NoMemory) => tell(Told::Memory, faults),
-        Err(ReadFault::File(fault)) => tell(Told::Config(fault), faults),
-    }
+    let Some(records) = table_of(ran) else {
+        return Ok(());
+    };
+    let mut text = Vec::new(alloc);
+    put_table(records, &mut text)?;
+    write_whole(writer, &text)
 }
 
-/// Appends the bytes of a file to others: all of them, or one more than a configuration may have.
-fn put_file<R: Files>(rt: &R, path: &str, bytes: &mut Vec<u8>) -> io::Result<()> {
-    let limit = MAX_FILE as u64 + 1;
-    fs::open(rt, path)?.take(limit).read_to_end(bytes)?;
-    Ok(())
-}
-
-/// The bytes of a file, at most one more than a configuration may have. The fault is that the file can't be read, or
-/// that memory was refused.
-fn file_bytes<R: Files>(rt: &R, alloc: Global, path: &str) -> Result<Vec<u8>, RunFault>
-    ensures { IfErr result (λ fault. (fault ≡ RunFault.Memory) ⊎ (fault ≡ RunFault.Read)) }
+/// Reports what is told, and gives its status.
+fn tell<F: Write>(told: Told, faults: &mut F) -> u8
+    ensures line { AppendsFront (F.contents faults.old) (F.contents faults.new) (line_of told) }
+    ensures status { result ≡ status_of told }
 {
-    let mut bytes = Vec::new(alloc);
-    match put_file(rt, path, &mut bytes) {
-        Ok(()) => Ok(bytes),
-        Err(error) if error.kind() == ErrorKind::OutOfMemory => Err(RunFault::Memory),
-        Err(_) => Err(RunFault::Read),
-    }
-}
-
-/// Runs the node of a configuration file, as [`run_bytes`] does from its bytes.
-///
-/// At most 65,537 bytes of the file are read. A file that can't be read is told by [`Told::Read`]. Memory that is
-/// refused for its bytes is told by [`Told::Memory`]. In both cases nothing is written. No contract can say what a
-/// file holds.
-pub fn run_file<R, W, F>(
-    rt: &R,
-    alloc: Global,
-    path: &str,
-    until: Moment,
-    writer: &mut W,
-    faults: &mut F,
-) -> u8
-where
-    R: Wait + Threads + Net + rt::Clock + Files + Sync,
-    W: Write,
-    F: Write,
-    ensures { RunsFile writer.old writer.new (W.contents writer.old) (W.contents writer.new)
-        (F.contents faults.old) (F.contents faults.new) until result }
-{
-    match file_bytes(rt, alloc, path) {
-        Ok(bytes) => run_bytes(rt, alloc, &bytes, until, writer, faults),
-        Err(fault) => tell(Told::from(fault), faults),
-    }
+    report(faults, told.line());
+    told.status()
 }

@@ -14,23 +14,6 @@ use lg_node::{NodeEnd, NodeFault, Why};
 use lg_rules::Record;
 use lg_text::RunFault;
 
-/// The first end that isn't [`Why::Stopped`]. The receiving loop's end comes before the ticking loop's.
-fn first_end(end: &NodeEnd) -> Why
-    ensures { ending Stopped result ≡ ending end.now.received.why end.now.ticked.why }
-{
-    match end.received.why {
-        Why::Stopped => end.ticked.why,
-        why => why,
-    }
-}
-
-/// Whether the table is to be written after such an end.
-fn wants_table(why: Why) -> bool
-    ensures { result ≡ (ending Stopped why).writes }
-{
-    matches!(why, Why::Stopped | Why::Ousted)
-}
-
 /// The records of the table that is to be written, if one is to be.
 pub(crate) fn table_of(ran: &Result<NodeEnd, NodeFault>) -> Option<&[Record]>
     ensures { option_map (λ records. records.now) result ≡ table_of ran.now }
@@ -44,32 +27,6 @@ pub(crate) fn table_of(ran: &Result<NodeEnd, NodeFault>) -> Option<&[Record]>
     match &end.members {
         Ok(records) => Some(records.as_slice()),
         Err(_) => None,
-    }
-}
-
-/// What went wrong after the loops, if anything did: the members were refused, their table wasn't written, or the agent
-/// wasn't closed.
-fn late_fault(end: &NodeEnd, written: Result<(), RunFault>) -> Option<Told>
-    ensures { (told : OneTold) → unwrap_or result told ≡ finished end.now.members written end.now.closed told }
-{
-    match (&end.members, written, &end.closed) {
-        (Err(refusal), _, _) => Some(Told::from(*refusal)),
-        (Ok(_), Err(fault), _) => Some(Told::from(fault)),
-        (Ok(_), Ok(()), Err(_)) => Some(Told::Close),
-        (Ok(_), Ok(()), Ok(_)) => None,
-    }
-}
-
-/// What is told of an end, if nothing went wrong after it.
-fn end_told(why: Why) -> Told
-    ensures { result ≡ (ending Stopped why).told }
-{
-    match why {
-        Why::Stopped => Told::Done,
-        Why::Ousted => Told::Ousted,
-        Why::LinkFailed => Told::Link,
-        Why::Refused(refusal) => Told::from(refusal),
-        Why::ReadBound => Told::Turns,
     }
 }
 
@@ -103,4 +60,47 @@ fn node_told(end: &NodeEnd, written: Result<(), RunFault>) -> Told
         return end_told(why);
     }
     late_fault(end, written).unwrap_or(end_told(why))
+}
+
+/// The first end that isn't [`Why::Stopped`]. The receiving loop's end comes before the ticking loop's.
+fn first_end(end: &NodeEnd) -> Why
+    ensures { ending Stopped result ≡ ending end.now.received.why end.now.ticked.why }
+{
+    match end.received.why {
+        Why::Stopped => end.ticked.why,
+        why => why,
+    }
+}
+
+/// Whether the table is to be written after such an end.
+fn wants_table(why: Why) -> bool
+    ensures { result ≡ (ending Stopped why).writes }
+{
+    matches!(why, Why::Stopped | Why::Ousted)
+}
+
+/// What went wrong after the loops, if anything did: the members were refused, their table wasn't written, or the agent
+/// wasn't closed.
+fn late_fault(end: &NodeEnd, written: Result<(), RunFault>) -> Option<Told>
+    ensures { (told : OneTold) → unwrap_or result told ≡ finished end.now.members written end.now.closed told }
+{
+    match (&end.members, written, &end.closed) {
+        (Err(refusal), _, _) => Some(Told::from(*refusal)),
+        (Ok(_), Err(fault), _) => Some(Told::from(fault)),
+        (Ok(_), Ok(()), Err(_)) => Some(Told::Close),
+        (Ok(_), Ok(()), Ok(_)) => None,
+    }
+}
+
+/// What is told of an end, if nothing went wrong after it.
+fn end_told(why: Why) -> Told
+    ensures { result ≡ (ending Stopped why).told }
+{
+    match why {
+        Why::Stopped => Told::Done,
+        Why::Ousted => Told::Ousted,
+        Why::LinkFailed => Told::Link,
+        Why::Refused(refusal) => Told::from(refusal),
+        Why::ReadBound => Told::Turns,
+    }
 }
