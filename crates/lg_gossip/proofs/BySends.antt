@@ -101,7 +101,7 @@ pub by_sends-last : (q : Queued) (rows : List Queued) → AreBefore q rows → b
 by_sends-last q [] b = refl
 by_sends-last q (x ∷ xs) b = ap (put_by_sends x) (by_sends-last q xs b.1) ∙ both-put q x (by_sends xs) b.0
 
--- the rows before a place have lesser names than the row there
+-- the rows before an index have lesser names than the row there
 pub above_at : (n : List ℕ) (k : ℕ) (d : Queued) (rows : List Queued) → k < length rows → AreAbove name_cmp n (map queued_name rows) → name_cmp n (queued_name (get_or rows k d)) ≡ Less
 above_at n k d [] l a = absurd (omega arith)
 above_at n zero d (x ∷ xs) l a = a.0

@@ -60,52 +60,52 @@ insert_behind q [] = refl
 insert_behind q (r ∷ rs) = ap (λ ys. r ∷ ys) (insert_behind q rs)
 
 module _ (buddy : Option Claim) (limit room k : ℕ) (q : Queued) (rows : List Queued) (l : k < length rows) (read : q ≡ get_or rows k q) (o : AreInOrder rows) where
-  abbrev here : (t : TakenRow) → t.place ≡ k → t.sends ≡ q.sends → IsRowOf rows t
+  abbrev here : (t : TakenRow) → t.index ≡ k → t.sends ≡ q.sends → IsRowOf rows t
   here t p s = record { row = q; stands = subst (λ n. slice_get rows n ≡ Some q) (sym p) (slice_get_read rows (length rows) k q refl l read); sends = s }
 
   still_full : (t : TakenRow) (bound : ℕ) (first : List TakenRow) → t.sends ≤ bound → IsFull room bound first
       → IsFull room bound (take room (insert first (prefix_len (λ r. nat_le r.sends t.sends) first) t))
   still_full t bound first b f =
-      let place = prefix_len (λ r. nat_le r.sends t.sends) first in
+      let index = prefix_len (λ r. nat_le r.sends t.sends) first in
       record {
-        whole = omega (arith, f.whole, length-take room (insert first place t), length-insert first place t (prefix-most t.sends first));
-        each = all-take (λ x. x.sends ≤ bound) room (insert first place t) (all-insert (λ x. x.sends ≤ bound) place t first b f.each);
+        whole = omega (arith, f.whole, length-take room (insert first index t), length-insert first index t (prefix-most t.sends first));
+        each = all-take (λ x. x.sends ≤ bound) room (insert first index t) (all-insert (λ x. x.sends ≤ bound) index t first b f.each);
       }
 
   now_full : (t : TakenRow) (first : List TakenRow) → room ≤ prefix_len (λ r. nat_le r.sends t.sends) first → length first ≤ room
       → IsFull room t.sends (take room (insert first (prefix_len (λ r. nat_le r.sends t.sends) first) t))
   now_full t first b few =
-      let place = prefix_len (λ r. nat_le r.sends t.sends) first in
+      let index = prefix_len (λ r. nat_le r.sends t.sends) first in
       record {
-        whole = omega (arith, b, prefix-most t.sends first, length-take room (insert first place t), length-insert first place t (prefix-most t.sends first));
-        each = all-take (λ x. x.sends ≤ t.sends) room (insert first place t)
-            (all-insert (λ x. x.sends ≤ t.sends) place t first (omega arith) (each-prefix t.sends first (omega (arith, few, b))));
+        whole = omega (arith, b, prefix-most t.sends first, length-take room (insert first index t), length-insert first index t (prefix-most t.sends first));
+        each = all-take (λ x. x.sends ≤ t.sends) room (insert first index t)
+            (all-insert (λ x. x.sends ≤ t.sends) index t first (omega arith) (each-prefix t.sends first (omega (arith, few, b))));
       }
 
-  pub chooses : (t : TakenRow) (bound : ℕ) (first : List TakenRow) → t.place ≡ k → t.sends ≡ q.sends → q.sends < bound → is_beside buddy q ≡ true → 0 < room
+  pub chooses : (t : TakenRow) (bound : ℕ) (first : List TakenRow) → t.index ≡ k → t.sends ≡ q.sends → q.sends < bound → is_beside buddy q ≡ true → 0 < room
       → IsChosen buddy limit room rows k bound first
-      → let place = prefix_len (λ r. nat_le r.sends t.sends) first in
-      IsChosen buddy limit room rows (k + 1) (if nat_lt place room then bound else t.sends) (take room (insert first place t))
+      → let index = prefix_len (λ r. nat_le r.sends t.sends) first in
+      IsChosen buddy limit room rows (k + 1) (if nat_lt index room then bound else t.sends) (take room (insert first index t))
   chooses t bound first p s below beside some h =
-      let place = prefix_len (λ r. nat_le r.sends t.sends) first in
+      let index = prefix_len (λ r. nat_le r.sends t.sends) first in
       let one = here t p s in
-      let all = all-insert (IsRowOf rows) place t first one h.places in
+      let all = all-insert (IsRowOf rows) index t first one h.places in
       let within : q.sends < limit = omega (arith, below, h.most) in
       let may : may_go buddy limit q ≡ true = rw (lt-ltb q.sends limit within, beside) refl in
-      let same_place : place ≡ prefix_len (λ r. nat_le r.sends q.sends) (rows_at rows first) = ap (λ n. prefix_len (λ r. nat_le r.sends n) first) s ∙ sym (prefix-at rows q.sends first h.places) in
+      let same_index : index ≡ prefix_len (λ r. nat_le r.sends q.sends) (rows_at rows first) = ap (λ n. prefix_len (λ r. nat_le r.sends n) first) s ∙ sym (prefix-at rows q.sends first h.places) in
       record {
-        places = all-take (IsRowOf rows) room (insert first place t) all;
-        chosen = take-at rows room (insert first place t) all
-            ∙ ap (take room) (insert-at rows place t first one h.places ∙ ap (λ n. insert (rows_at rows first) n q) same_place)
+        places = all-take (IsRowOf rows) room (insert first index t) all;
+        chosen = take-at rows room (insert first index t) all
+            ∙ ap (take room) (insert-at rows index t first one h.places ∙ ap (λ n. insert (rows_at rows first) n q) same_index)
             ∙ goes_in (may_go buddy limit) room k q rows l read o (rows_at rows first) may h.chosen;
-        few = omega (arith, length-take room (insert first place t));
-        most = elim (cases_lt place room) [
-          | inl a ↦ rw (lt-ltb place room a) h.most
-          | inr b ↦ rw (le-ltb place room b) (omega (arith, s, within))
+        few = omega (arith, length-take room (insert first index t));
+        most = elim (cases_lt index room) [
+          | inl a ↦ rw (lt-ltb index room a) h.most
+          | inr b ↦ rw (le-ltb index room b) (omega (arith, s, within))
         ];
-        full = elim (cases_lt place room) [
-          | inl a ↦ rw (lt-ltb place room a) (λ low. still_full t bound first (omega (arith, s, below)) (h.full low))
-          | inr b ↦ rw (le-ltb place room b) (λ low. now_full t first b h.few)
+        full = elim (cases_lt index room) [
+          | inl a ↦ rw (lt-ltb index room a) (λ low. still_full t bound first (omega (arith, s, below)) (h.full low))
+          | inr b ↦ rw (le-ltb index room b) (λ low. now_full t first b h.few)
         ];
       }
 

@@ -39,20 +39,20 @@ at-others : (taken : List Claim) (c : Claim) (rows : List Queued) → AreAbove n
 at-others taken c [] a = refl
 at-others taken c (q ∷ qs) a = rw (at-other taken c q (other_key names_order c.name (queued_name q) (less_apart names_order c.name (queued_name q) a.0)), at-others taken c qs a.1) refl
 
--- So a packet that takes one more row is counted at its place.
-pub count-more : (taken : List Claim) (place : ℕ) (q : Queued) (rows : List Queued) → place < length rows → q ≡ get_or rows place q → AreInOrder rows
-    → set (map (sent_once taken) rows) place record { claim = q.claim; sends = q.sends + 1 } ≡ map (sent_once (taken ++ queued_claim q ∷ [])) rows
-count-more taken place q [] l r o = absurd (omega arith)
+-- So a packet that takes one more row is counted at its index.
+pub count-more : (taken : List Claim) (index : ℕ) (q : Queued) (rows : List Queued) → index < length rows → q ≡ get_or rows index q → AreInOrder rows
+    → set (map (sent_once taken) rows) index record { claim = q.claim; sends = q.sends + 1 } ≡ map (sent_once (taken ++ queued_claim q ∷ [])) rows
+count-more taken index q [] l r o = absurd (omega arith)
 count-more taken zero q (x ∷ xs) l r o =
     let more : sent_once (taken ++ q.claim ∷ []) q ≡ record { claim = q.claim; sends = q.sends + 1 } = rw (counted taken q.claim (queued_name q) (same_key names_order (queued_name q) (queued_name q) refl)) refl in
     let head : ◌≡◌ {A = Queued} record { claim = q.claim; sends = q.sends + 1 } (sent_once (taken ++ q.claim ∷ []) x) = sym more ∙ ap (sent_once (taken ++ q.claim ∷ [])) r in
     let rest = sym (at-others taken q.claim xs (subst (λ y. AreAbove name_cmp (queued_name y) (map queued_name xs)) (sym r) o.0)) in
     λ i. head i ∷ rest i
-count-more taken (suc place) q (x ∷ xs) l r o =
-    let less : name_cmp (queued_name x) (queued_name q) ≡ Less = subst (λ y. name_cmp (queued_name x) (queued_name y) ≡ Less) (sym r) (above_at (queued_name x) place q xs (omega arith) o.0) in
+count-more taken (suc index) q (x ∷ xs) l r o =
+    let less : name_cmp (queued_name x) (queued_name q) ≡ Less = subst (λ y. name_cmp (queued_name x) (queued_name y) ≡ Less) (sym r) (above_at (queued_name x) index q xs (omega arith) o.0) in
     let other : is_same name_cmp q.claim.name (queued_name x) ≡ false = same_back names_order (queued_name q) (queued_name x) ∙ other_key names_order (queued_name x) (queued_name q) (less_apart names_order (queued_name x) (queued_name q) less) in
     let head = sym (at-other taken q.claim x other) in
-    let rest = count-more taken place q xs (omega arith) r o.1 in
+    let rest = count-more taken index q xs (omega arith) r o.1 in
     λ i. head i ∷ rest i
 
 -- a packet that takes nothing is counted nowhere
@@ -63,28 +63,28 @@ count-none (q ∷ qs) = ap (λ rs. q ∷ rs) (count-none qs)
 -- a row that is taken was sent no more often than any
 pub sent-most : (most : ℕ) (rows : List Queued) (t : TakenRow) → AllByRecursion (λ r. r.sends ≤ most) rows → IsRowOf rows t → t.sends ≤ most
 sent-most most rows t few one =
-    let there = holds_at (λ r. r.sends ≤ most) t.place one.row rows (slice_get_within rows t.place one.row one.stands) few in
-    omega (arith, one.sends, ap (λ r. r.sends) (get_or_from_slice_get rows t.place one.row one.row one.stands), there)
+    let there = holds_at (λ r. r.sends ≤ most) t.index one.row rows (slice_get_within rows t.index one.row one.stands) few in
+    omega (arith, one.sends, ap (λ r. r.sends) (get_or_from_slice_get rows t.index one.row one.row one.stands), there)
 
 pub count-next : (rows now : List Queued) (k : ℕ) (d : TakenRow) (e : Queued) (ts : List TakenRow) → k < length ts → AllByRecursion (IsRowOf rows) ts → AreInOrder rows
     → now ≡ map (sent_once (map queued_claim (rows_at rows (take k ts)))) rows
-    → set now (get_or ts k d).place record { claim = (get_or now (get_or ts k d).place e).claim; sends = (get_or ts k d).sends + 1 }
+    → set now (get_or ts k d).index record { claim = (get_or now (get_or ts k d).index e).claim; sends = (get_or ts k d).sends + 1 }
     ≡ map (sent_once (map queued_claim (rows_at rows (take (k + 1) ts)))) rows
 count-next rows now k d e ts l a o is =
     let t = get_or ts k d in
     let one = holds_at (IsRowOf rows) k d ts l a in
     let taken = map queued_claim (rows_at rows (take k ts)) in
-    let within = slice_get_within rows t.place one.row one.stands in
-    let there : get_or now t.place e ≡ sent_once taken one.row = ap (λ rs. get_or rs t.place e) is
-    ∙ get_or_from_slice_get (map (sent_once taken) rows) t.place (sent_once taken one.row) e (slice_get-map (sent_once taken) rows t.place ∙ ap (option_map (sent_once taken)) one.stands) in
-    let row : ◌≡◌ {A = Queued} record { claim = (get_or now t.place e).claim; sends = t.sends + 1 } record { claim = one.row.claim; sends = one.row.sends + 1 } =
+    let within = slice_get_within rows t.index one.row one.stands in
+    let there : get_or now t.index e ≡ sent_once taken one.row = ap (λ rs. get_or rs t.index e) is
+    ∙ get_or_from_slice_get (map (sent_once taken) rows) t.index (sent_once taken one.row) e (slice_get-map (sent_once taken) rows t.index ∙ ap (option_map (sent_once taken)) one.stands) in
+    let row : ◌≡◌ {A = Queued} record { claim = (get_or now t.index e).claim; sends = t.sends + 1 } record { claim = one.row.claim; sends = one.row.sends + 1 } =
     λ i. record { claim = (there i).claim; sends = one.sends i + 1 } in
-    let read : one.row ≡ get_or rows t.place one.row = sym (get_or_from_slice_get rows t.place one.row one.row one.stands) in
+    let read : one.row ≡ get_or rows t.index one.row = sym (get_or_from_slice_get rows t.index one.row one.row one.stands) in
     let more : taken ++ queued_claim one.row ∷ [] ≡ map queued_claim (rows_at rows (take (k + 1) ts)) =
     ap (λ r. taken ++ queued_claim r ∷ []) read ∙ claims-more rows [] taken k d one.row ts l a refl in
-    ap (λ r. set now t.place r) row
-    ∙ ap (λ rs. set rs t.place record { claim = one.row.claim; sends = one.row.sends + 1 }) is
-    ∙ count-more taken t.place one.row rows within read o
+    ap (λ r. set now t.index r) row
+    ∙ ap (λ rs. set rs t.index record { claim = one.row.claim; sends = one.row.sends + 1 }) is
+    ∙ count-more taken t.index one.row rows within read o
     ∙ ap (λ cs. map (sent_once cs) rows) more
 
 -- what is written over a whole row of places is all that is there

@@ -6,7 +6,7 @@ use Rattle.std.proofs.lemmas.Bool.{cases_Bool}
 use Rattle.lg_gossip.specs.declared.queued.Queued.{Queued}
 use Rattle.lg_gossip.specs.Meaning.Queue.{is_sooner, put_by_sends, by_sends}
 
--- What holds of each of some rows holds of the one at a place,
+-- What holds of each of some rows holds of the one at an index,
 pub holds_at : {A : Type 0} (P : A → Type 0) (k : ℕ) (d : A) (rows : List A) → k < length rows → AllByRecursion P rows → P (get_or rows k d)
 holds_at P k d [] l w = absurd (omega arith)
 holds_at P zero d (q ∷ qs) l w = w.0
@@ -38,7 +38,7 @@ all-take P zero rows a = tt
 all-take P (suc k) [] a = tt
 all-take P (suc k) (x ∷ xs) a = (a.0, all-take P k xs a.1)
 
--- of these and one more at a place
+-- of these and one more at an index
 pub all-insert : {A : Type 0} (P : A → Type 0) (k : ℕ) (x : A) (rows : List A) → P x → AllByRecursion P rows → AllByRecursion P (insert rows k x)
 all-insert P zero x rows h a = (h, a)
 all-insert P (suc k) x [] h a = (h, tt)

@@ -29,7 +29,7 @@ module _ (rows : List Queued) where
   take-at (suc k) [] a = refl
   take-at (suc k) (t ∷ ts) a = rw a.0.stands (ap (λ rs. a.0.row ∷ rs) (take-at k ts a.1))
 
-  -- one more place shows one more row
+  -- one more index shows one more row
   pub insert-at : (k : ℕ) (t : TakenRow) (ts : List TakenRow) (one : IsRowOf rows t) → AllByRecursion (IsRowOf rows) ts
       → rows_at rows (insert ts k t) ≡ insert (rows_at rows ts) k one.row
   insert-at zero t ts one a = rw one.stands refl
@@ -38,30 +38,30 @@ module _ (rows : List Queued) where
 
   -- the next of some places
   pub next-at : (k : ℕ) (d : TakenRow) (e : Queued) (ts : List TakenRow) → k < length ts → AllByRecursion (IsRowOf rows) ts
-      → rows_at rows (take (suc k) ts) ≡ rows_at rows (take k ts) ++ get_or rows (get_or ts k d).place e ∷ []
+      → rows_at rows (take (suc k) ts) ≡ rows_at rows (take k ts) ++ get_or rows (get_or ts k d).index e ∷ []
   next-at k d e [] l a = absurd (omega arith)
-  next-at zero d e (t ∷ ts) l a = rw (a.0.stands, get_or_from_slice_get rows t.place a.0.row e a.0.stands) refl
+  next-at zero d e (t ∷ ts) l a = rw (a.0.stands, get_or_from_slice_get rows t.index a.0.row e a.0.stands) refl
   next-at (suc k) d e (t ∷ ts) l a = rw a.0.stands (ap (λ rs. a.0.row ∷ rs) (next-at k d e ts (omega arith) a.1))
 
   -- and its claim
   pub claims-more : (before claims : List Claim) (k : ℕ) (d : TakenRow) (e : Queued) (ts : List TakenRow) → k < length ts → AllByRecursion (IsRowOf rows) ts
       → claims ≡ before ++ map queued_claim (rows_at rows (take k ts))
-      → claims ++ (get_or rows (get_or ts k d).place e).claim ∷ [] ≡ before ++ map queued_claim (rows_at rows (take (k + 1) ts))
+      → claims ++ (get_or rows (get_or ts k d).index e).claim ∷ [] ≡ before ++ map queued_claim (rows_at rows (take (k + 1) ts))
   claims-more before claims k d e ts l a is =
       let next : k + 1 ≡ suc k = omega arith in
-      let row = get_or rows (get_or ts k d).place e in
+      let row = get_or rows (get_or ts k d).index e in
       let more = ap (map queued_claim) (ap (λ n. rows_at rows (take n ts)) next ∙ next-at k d e ts l a) ∙ map-append queued_claim (rows_at rows (take k ts)) (row ∷ []) in
       ap (λ cs. cs ++ row.claim ∷ []) is ∙ append_assoc before (map queued_claim (rows_at rows (take k ts))) (row.claim ∷ []) ∙ ap (λ cs. before ++ cs) (sym more)
 
-  -- a place is within the rows
-  pub within-at : (k : ℕ) (d : TakenRow) (ts : List TakenRow) → k < length ts → AllByRecursion (IsRowOf rows) ts → (get_or ts k d).place < length rows
+  -- an index is within the rows
+  pub within-at : (k : ℕ) (d : TakenRow) (ts : List TakenRow) → k < length ts → AllByRecursion (IsRowOf rows) ts → (get_or ts k d).index < length rows
   within-at k d ts l a =
       let one = holds_at (IsRowOf rows) k d ts l a in
-      slice_get_within rows (get_or ts k d).place one.row one.stands
+      slice_get_within rows (get_or ts k d).index one.row one.stands
 
--- Of the first so many, one more at a place among them shows the first so many of all with it.
-pub take-insert : (few place : ℕ) (t : TakenRow) (ts : List TakenRow) → place ≤ few → take (suc few) (insert ts place t) ≡ insert (take few ts) place t
+-- Of the first so many, one more at an index among them shows the first so many of all with it.
+pub take-insert : (few index : ℕ) (t : TakenRow) (ts : List TakenRow) → index ≤ few → take (suc few) (insert ts index t) ≡ insert (take few ts) index t
 take-insert few zero t ts l = refl
-take-insert zero (suc place) t ts l = absurd (omega arith)
-take-insert (suc few) (suc place) t [] l = refl
-take-insert (suc few) (suc place) t (x ∷ xs) l = ap (λ ys. x ∷ ys) (take-insert few place t xs (omega arith))
+take-insert zero (suc index) t ts l = absurd (omega arith)
+take-insert (suc few) (suc index) t [] l = refl
+take-insert (suc few) (suc index) t (x ∷ xs) l = ap (λ ys. x ∷ ys) (take-insert few index t xs (omega arith))

@@ -17,13 +17,13 @@ use crate::limit::MAX_TIMES_SENT;
 use crate::queue::MAX_QUEUED;
 use crate::queued::Queued;
 use arrayvec::ArrayVec;
-use lg_rules::{Claim, MAX_CLAIMS, Record, Status, seat_of};
+use lg_rules::{Claim, MAX_CLAIMS, Record, Status, index_of};
 
 /// A row that a packet takes.
 #[derive(Clone, Copy, Default)]
 pub(crate) struct TakenRow {
     /// Its index among the rows of the queue, from 0.
-    place: usize,
+    index: usize,
     /// How often it was sent before.
     sends: u32,
 }
@@ -51,14 +51,14 @@ fn room_beside(buddy: &Option<Claim>) -> usize
 }
 
 /// The index of the row about the buddy's member, or the number of rows if there is no such row.
-fn place_of_buddy(rows: &[Queued], buddy: &Option<Claim>) -> usize
+fn index_of_buddy(rows: &[Queued], buddy: &Option<Claim>) -> usize
     requires { AreInOrder rows.now }
     ensures { (k : ℕ) (d : Row) → k < length rows.now
         → is_beside buddy.now (slice_index_or rows.now k d) ≡ not (nat_eq k result) }
 {
     match buddy {
-        Some(buddy) => match seat_of(rows, &buddy.name) {
-            Ok(place) => place,
+        Some(buddy) => match index_of(rows, &buddy.name) {
+            Ok(index) => index,
             Err(_) => rows.len(),
         },
         None => rows.len(),
@@ -66,8 +66,8 @@ fn place_of_buddy(rows: &[Queued], buddy: &Option<Claim>) -> usize
 }
 
 /// How many rows there are before the first that was sent more than `sends` times.
-fn place_after(rows: &[TakenRow], sends: u32) -> usize
-    ensures place { result ≡ prefix_len (λ r. nat_le r.sends sends) rows.now }
+fn index_after(rows: &[TakenRow], sends: u32) -> usize
+    ensures index { result ≡ prefix_len (λ r. nat_le r.sends sends) rows.now }
     ensures within { result ≤ length rows.now }
 {
     rows.iter().take_while(|row| row.sends <= sends).count()
@@ -87,15 +87,15 @@ fn take_row(
     requires some { 0 < room }
     requires most { room ≤ MAX_CLAIMS }
     requires fits { array_vec_len first.old ≤ room }
-    ensures bound { let place = prefix_len (λ r. nat_le r.sends row.sends) first.old.items in
-        result ≡ if nat_lt place room then bound else row.sends }
-    ensures rows { let place = prefix_len (λ r. nat_le r.sends row.sends) first.old.items in
-        first.new.items ≡ take room (insert first.old.items place row) }
+    ensures bound { let index = prefix_len (λ r. nat_le r.sends row.sends) first.old.items in
+        result ≡ if nat_lt index room then bound else row.sends }
+    ensures rows { let index = prefix_len (λ r. nat_le r.sends row.sends) first.old.items in
+        first.new.items ≡ take room (insert first.old.items index row) }
 {
-    let place = place_after(first.as_slice(), row.sends);
-    if place < room {
+    let index = index_after(first.as_slice(), row.sends);
+    if index < room {
         first.truncate(room - 1);
-        first.insert(place, row);
+        first.insert(index, row);
         bound
     } else {
         u64::from(row.sends)
@@ -115,14 +115,14 @@ pub(crate) fn rows_taken(
     ensures few { array_vec_len result ≤ room_beside buddy.now }
 {
     let room = room_beside(buddy);
-    let passed_over = place_of_buddy(rows, buddy);
+    let passed_over = index_of_buddy(rows, buddy);
     let mut first = ArrayVec::new();
     // No row that was sent this often, or more often, is among the first.
     let mut bound = limit;
-    for (place, row) in rows.iter().enumerate() {
+    for (index, row) in rows.iter().enumerate() {
         let sends = row.sends;
-        if u64::from(sends) < bound && place != passed_over {
-            bound = take_row(&mut first, TakenRow { place, sends }, room, bound);
+        if u64::from(sends) < bound && index != passed_over {
+            bound = take_row(&mut first, TakenRow { index, sends }, room, bound);
         }
     }
     first
@@ -135,7 +135,7 @@ fn push_claims(claims: &mut ArrayVec<Claim, MAX_CLAIMS>, rows: &[Queued], taken:
     ensures { claims.new.items ≡ claims.old.items ++ map queued_claim (rows_at rows.now taken.now) }
 {
     for row in taken {
-        claims.push(rows[row.place].claim);
+        claims.push(rows[row.index].claim);
     }
 }
 
@@ -166,6 +166,6 @@ pub(crate) fn count_sends(rows: &mut [Queued], taken: &[TakenRow])
     ensures { rows.new ≡ map (sent_once (map queued_claim (rows_at rows.old taken.now))) rows.old }
 {
     for row in taken {
-        rows[row.place].sends = row.sends + 1;
+        rows[row.index].sends = row.sends + 1;
     }
 }

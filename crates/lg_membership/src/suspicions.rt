@@ -16,7 +16,7 @@ ghost use Rattle.lg_membership.specs.Support.Room.{HasSeat};
 use crate::applied::Deadline;
 use crate::suspected::Suspected;
 use arrayvec::ArrayVec;
-use lg_rules::{Claim, Heard, MAX_OTHERS, Members, Name, Status, put_row, seat_of};
+use lg_rules::{Claim, Heard, MAX_OTHERS, Members, Name, Status, index_of, put_row};
 use lg_suspicion::Suspicion;
 use lg_timing::{Config, Moment};
 
@@ -74,7 +74,7 @@ fn end(suspicions: &mut Suspicions, name: &Name) -> Deadline
     ensures deadline { let row = row_at name_cmp suspected_name name.now suspicions.old.items in
         result ≡ deadline_after (ended name.now row) }
 {
-    match seat_of(suspicions.as_slice(), name) {
+    match index_of(suspicions.as_slice(), name) {
         Ok(at) => {
             suspicions.remove(at);
             Deadline::Ends
@@ -115,7 +115,7 @@ fn join(suspicions: &mut Suspicions, name: &Name, accuser: &Name) -> Deadline
     ensures deadline { let row = row_at name_cmp suspected_name name.now suspicions.old.items in
         result ≡ deadline_after (accusing (Some accuser.now) row) }
 {
-    let Ok(at) = seat_of(suspicions.as_slice(), name) else {
+    let Ok(at) = index_of(suspicions.as_slice(), name) else {
         return Deadline::Stays;
     };
     let suspected = &mut suspicions[at];

@@ -12,7 +12,7 @@ ghost use Rattle.lg_probe.specs.Support.Helpers.{left_at, AreTaken};
 
 use crate::order::Order;
 use arrayvec::ArrayVec;
-use lg_rules::{MAX_OTHERS, Name, seat_of};
+use lg_rules::{MAX_OTHERS, Name, index_of};
 use std::marker::Model;
 
 /// The most helpers of a probe: 8 (this project's choice).
@@ -48,7 +48,7 @@ fn places_of(names: &[Name], target: &Name) -> Places
     ensures few { array_vec_len result ≤ 1 }
 {
     let mut taken = ArrayVec::new();
-    if let Ok(place) = seat_of(names, target) {
+    if let Ok(place) = index_of(names, target) {
         taken.push(place);
     }
     taken

@@ -8,14 +8,14 @@ ghost use Rattle.lg_rules.specs.Meaning.Rows.{name_cmp, is_among, put_key, Rises
 ghost use Rattle.lg_probe.specs.Meaning.Order.{without};
 
 use arrayvec::ArrayVec;
-use lg_rules::{MAX_OTHERS, Name, put_row, seat_of};
+use lg_rules::{MAX_OTHERS, Name, index_of, put_row};
 
 /// Whether a name is among names in rising order.
 pub(crate) fn is_among(names: &[Name], name: &Name) -> bool
     requires { Rises name_cmp names.now }
     ensures { result ≡ is_among name_cmp name.now names.now }
 {
-    match seat_of(names, name) {
+    match index_of(names, name) {
         Ok(_) => true,
         Err(_) => false,
     }
@@ -35,7 +35,7 @@ pub(crate) fn take_out(names: &mut ArrayVec<Name, MAX_OTHERS>, name: &Name)
     requires { Rises name_cmp names.old.items }
     ensures { names.new.items ≡ without name.now names.old.items }
 {
-    if let Ok(at) = seat_of(names.as_slice(), name) {
+    if let Ok(at) = index_of(names.as_slice(), name) {
         names.remove(at);
     }
 }

@@ -18,4 +18,4 @@ pub use members::{Heard, MAX_MEMBERS, MAX_OTHERS, Members};
 pub use name::{MAX_NAME, Name, NameFault, is_name_byte};
 pub use overriding::beats;
 pub use own::{Own, OwnHeard};
-pub use rows::{Keyed, put_row, seat_of};
+pub use rows::{Keyed, index_of, put_row};

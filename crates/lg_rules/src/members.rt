@@ -16,7 +16,7 @@ ghost use Rattle.lg_rules.specs.Meaning.Table.{heard, hearing_of, is_failed, kno
 use crate::claim::{Claim, Record, Status};
 use crate::name::Name;
 use crate::overriding::beats;
-use crate::rows::seat_of;
+use crate::rows::index_of;
 use arrayvec::ArrayVec;
 use std::marker::Model;
 
@@ -80,7 +80,7 @@ fn find_record<'a>(records: &'a [Record], name: &Name) -> Option<&'a Record>
     requires { Rises name_cmp (map name_of records.now) }
     ensures { option_copied result ≡ row_at name_cmp name_of name.now records.now }
 {
-    match seat_of(records, name) {
+    match index_of(records, name) {
         Ok(at) => Some(&records[at]),
         Err(_) => None,
     }
@@ -141,7 +141,7 @@ fn hear_in(records: &mut ArrayVec<Record, MAX_OTHERS>, live: &mut usize, claim: 
     ensures table { records.new.items ≡ heard records.old.items claim.now }
     ensures counted { live.new ≡ live_in records.new.items }
 {
-    match seat_of(records.as_slice(), &claim.name) {
+    match index_of(records.as_slice(), &claim.name) {
         Ok(at) if beats(claim, &records[at]) => {
             replace(records, live, at, claim);
             Heard::Overrode

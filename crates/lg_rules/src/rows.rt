@@ -31,7 +31,7 @@ impl Keyed for Name {
 }
 
 /// How many rows have a lesser name. Found by binary search.
-fn place_of<T: Keyed>(rows: &[T], name: &Name) -> usize
+fn count_lesser<T: Keyed>(rows: &[T], name: &Name) -> usize
     requires { Rises name_cmp (map T.key_of rows.now) }
     ensures { result ≡ prefix_len (λ r. is_lt (name_cmp (T.key_of r) name.now)) rows.now }
 {
@@ -40,13 +40,13 @@ fn place_of<T: Keyed>(rows: &[T], name: &Name) -> usize
 
 /// `Ok` with the index of the row that has a name, or else `Err` with the index at which such a row would be
 /// inserted. The rows have to be in rising order of their names.
-pub fn seat_of<T: Keyed>(rows: &[T], name: &Name) -> Result<usize, usize>
+pub fn index_of<T: Keyed>(rows: &[T], name: &Name) -> Result<usize, usize>
     requires { Rises name_cmp (map T.key_of rows.now) }
     ensures { let has = HasRow name_cmp T.key_of name.now rows.now in
         let lacks = LacksRow name_cmp T.key_of name.now rows.now in
         MatchResult result has lacks }
 {
-    let at = place_of(rows, name);
+    let at = count_lesser(rows, name);
     if at < rows.len() {
         let row = &rows[at];
         if row.key() == *name { Ok(at) } else { Err(at) }
@@ -62,7 +62,7 @@ pub fn put_row<T: Keyed + Drop, const N: usize>(rows: &mut ArrayVec<T, N>, row: 
     requires rises { Rises name_cmp (map T.key_of rows.old.items) }
     ensures { rows.new.items ≡ put_row name_cmp T.key_of row rows.old.items }
 {
-    match seat_of(rows.as_slice(), &row.key()) {
+    match index_of(rows.as_slice(), &row.key()) {
         Ok(at) => rows[at] = row,
         Err(at) => rows.insert(at, row),
     }

@@ -72,18 +72,18 @@ fn least_of(timers: &[Timer]) -> Option<Timer>
 }
 
 /// The index of the timer with this id, if there is one.
-fn place_of(timers: &[Timer], id: &TimerId) -> Option<usize>
+fn index_of(timers: &[Timer], id: &TimerId) -> Option<usize>
     ensures { result ≡ position (has_id id.now) timers.now }
 {
     timers.iter().position(|timer| timer.has_id(id))
 }
 
 /// Replaces the timer at an index.
-fn put_at(timers: &mut ArrayVec<Timer, MAX_TIMERS>, place: usize, timer: Timer)
-    requires { place < array_vec_len timers.old }
-    ensures { timers.new.items ≡ slice_set timers.old.items place timer }
+fn put_at(timers: &mut ArrayVec<Timer, MAX_TIMERS>, index: usize, timer: Timer)
+    requires { index < array_vec_len timers.old }
+    ensures { timers.new.items ≡ slice_set timers.old.items index timer }
 {
-    timers[place] = timer;
+    timers[index] = timer;
 }
 
 impl Timers {
@@ -123,8 +123,8 @@ impl Timers {
         requires { is_set timer.id self.old ≡ false → length self.old < MAX_TIMERS }
         ensures { self.new ≡ with_timer timer (without_timer timer.id self.old) }
     {
-        match place_of(&self.timers, &timer.id) {
-            Some(place) => put_at(&mut self.timers, place, timer),
+        match index_of(&self.timers, &timer.id) {
+            Some(index) => put_at(&mut self.timers, index, timer),
             None => self.timers.push(timer),
         }
     }
@@ -134,9 +134,9 @@ impl Timers {
         ensures was_set { result ≡ is_set id.now self.old }
         ensures others { self.new ≡ without_timer id.now self.old }
     {
-        match place_of(&self.timers, id) {
-            Some(place) => {
-                self.timers.swap_remove(place);
+        match index_of(&self.timers, id) {
+            Some(index) => {
+                self.timers.swap_remove(index);
                 true
             }
             None => false,

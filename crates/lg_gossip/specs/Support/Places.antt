@@ -6,9 +6,9 @@ use Rattle.lg_gossip.specs.declared.queued.Queued.{Queued}
 -- there is a row at this index, and it was sent this often
 pub record IsRowOf (rows : List Queued) (taken : TakenRow) : Type 0 where
   pub row : Queued
-  pub stands : slice_get rows taken.place ≡ Some row
+  pub stands : slice_get rows taken.index ≡ Some row
   pub sends : taken.sends ≡ row.sends
 
 -- the rows at these indices
 abbrev pub rows_at : List Queued → List TakenRow → List Queued
-rows_at rows taken = filter_map (λ t. slice_get rows t.place) taken
+rows_at rows taken = filter_map (λ t. slice_get rows t.index) taken

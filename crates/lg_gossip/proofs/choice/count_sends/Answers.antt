@@ -10,16 +10,16 @@ pub loop-row-init : goal.loop-row-init
 loop-row-init c = count-none c.args.rows.now
 
 pub overflow_add-rows : goal.overflow_add-rows
-overflow_add-rows c = omega (arith, sent-most MAX_TIMES_SENT c.args.rows.now _ c.requires.few (holds_at (IsRowOf c.args.rows.now) c.loop-row.row-index record { place = 0; sends = 0 } c.args.taken.now c.loop-row-test.true c.requires.places))
+overflow_add-rows c = omega (arith, sent-most MAX_TIMES_SENT c.args.rows.now _ c.requires.few (holds_at (IsRowOf c.args.rows.now) c.loop-row.row-index record { index = 0; sends = 0 } c.args.taken.now c.loop-row-test.true c.requires.places))
 
 pub offset_bounds-rows-row : goal.offset_bounds-rows-row
-offset_bounds-rows-row c = omega (arith, c.requires.most, within-at c.args.rows.now c.loop-row.row-index record { place = 0; sends = 0 } c.args.taken.now c.loop-row-test.true c.requires.places)
+offset_bounds-rows-row c = omega (arith, c.requires.most, within-at c.args.rows.now c.loop-row.row-index record { index = 0; sends = 0 } c.args.taken.now c.loop-row-test.true c.requires.places)
 
 pub bounds-rows-row : goal.bounds-rows-row
-bounds-rows-row c = omega (arith, c.loop-row.auto.rows, within-at c.args.rows.now c.loop-row.row-index record { place = 0; sends = 0 } c.args.taken.now c.loop-row-test.true c.requires.places)
+bounds-rows-row c = omega (arith, c.loop-row.auto.rows, within-at c.args.rows.now c.loop-row.row-index record { index = 0; sends = 0 } c.args.taken.now c.loop-row-test.true c.requires.places)
 
 pub bounds-rows-row-in-loop-row : goal.bounds-rows-row-in-loop-row
-bounds-rows-row-in-loop-row c = omega (arith, c.loop-row.auto.rows, within-at c.args.rows.now c.loop-row.row-index record { place = 0; sends = 0 } c.args.taken.now c.loop-row-test.true c.requires.places)
+bounds-rows-row-in-loop-row c = omega (arith, c.loop-row.auto.rows, within-at c.args.rows.now c.loop-row.row-index record { index = 0; sends = 0 } c.args.taken.now c.loop-row-test.true c.requires.places)
 
 pub loop-row-preserved : goal.loop-row-preserved
-loop-row-preserved c = count-next c.args.rows.now c.loop-row.rows c.loop-row.row-index record { place = 0; sends = 0 } c.index-rows-row.result c.args.taken.now c.loop-row-test.true c.requires.places c.requires.order c.loop-row.invariant
+loop-row-preserved c = count-next c.args.rows.now c.loop-row.rows c.loop-row.row-index record { index = 0; sends = 0 } c.index-rows-row.result c.args.taken.now c.loop-row-test.true c.requires.places c.requires.order c.loop-row.invariant

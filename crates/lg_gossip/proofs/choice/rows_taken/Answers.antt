@@ -3,27 +3,27 @@ use Rattle.std.proofs.lemmas.Bool.{eq-eqb, ne_eqb}
 use Rattle.lg_gossip.specs.Meaning.Queue.{is_beside}
 use Rattle.lg_gossip.proofs.Choosing.{chooses, passes}
 use Rattle.lg_gossip.proofs.choice.rows_taken.Goals as goal
-use Rattle.lg_gossip.proofs.choice.rows_taken.Goals.{then-from-bound+then-place-passed_over, else-from-bound, else-from-bound-via-then-from-bound+else-place-passed_over, else-from-bound-via-else-from-bound}
+use Rattle.lg_gossip.proofs.choice.rows_taken.Goals.{then-from-bound+then-index-passed_over, else-from-bound, else-from-bound-via-then-from-bound+else-index-passed_over, else-from-bound-via-else-from-bound}
 
-pub loop-place-preserved : goal.loop-place-preserved
-loop-place-preserved c =
+pub loop-index-preserved : goal.loop-index-preserved
+loop-index-preserved c =
     let buddy = c.args.buddy.now in
-    let row = c.index-rows-place.result in
-    let place = c.loop-place.place in
+    let row = c.index-rows-index.result in
+    let index = c.loop-index.index in
     let room = c.room_beside-room.result in
-    let first = c.loop-place.first.items in
-    let beside = ap (is_beside buddy) c.index-rows-place.is ∙ c.place_of_buddy-passed_over.ensures place row c.loop-place-test.true in
+    let first = c.loop-index.first.items in
+    let beside = ap (is_beside buddy) c.index-rows-index.is ∙ c.index_of_buddy-passed_over.ensures index row c.loop-index-test.true in
     elim c.if-from-bound.branch [
-      | then-from-bound+then-place-passed_over w ↦
+      | then-from-bound+then-index-passed_over w ↦
           rw (w.bound-is ∙ w.take_row-bound.ensures.bound, ap (λ v. v.items) w.first-is ∙ w.take_row-bound.ensures.rows)
-          (chooses buddy c.args.limit room place row c.args.rows.now c.loop-place-test.true c.index-rows-place.is c.requires record { place = place; sends = row.sends } c.loop-place.bound first refl refl
-          (omega (arith, c.from.ensures, w.if-from-bound.true)) (beside ∙ ap not (ne_eqb place c.place_of_buddy-passed_over.result w.if-place-passed_over.true)) c.room_beside-room.ensures.some c.loop-place.invariant)
+          (chooses buddy c.args.limit room index row c.args.rows.now c.loop-index-test.true c.index-rows-index.is c.requires record { index = index; sends = row.sends } c.loop-index.bound first refl refl
+          (omega (arith, c.from.ensures, w.if-from-bound.true)) (beside ∙ ap not (ne_eqb index c.index_of_buddy-passed_over.result w.if-index-passed_over.true)) c.room_beside-room.ensures.some c.loop-index.invariant)
       | else-from-bound w ↦
           rw (w.bound-is, ap (λ v. v.items) w.first-is)
-          (passes buddy c.args.limit room place row c.args.rows.now c.loop-place-test.true c.index-rows-place.is c.requires c.loop-place.bound first
+          (passes buddy c.args.limit room index row c.args.rows.now c.loop-index-test.true c.index-rows-index.is c.requires c.loop-index.bound first
           (elim w.else-from-bound.branch [
-            | else-from-bound-via-then-from-bound+else-place-passed_over v ↦ inr (beside ∙ ap not (eq-eqb place c.place_of_buddy-passed_over.result v.if-place-passed_over.false))
+            | else-from-bound-via-then-from-bound+else-index-passed_over v ↦ inr (beside ∙ ap not (eq-eqb index c.index_of_buddy-passed_over.result v.if-index-passed_over.false))
             | else-from-bound-via-else-from-bound v ↦ inl (omega (arith, c.from.ensures, v.if-from-bound.false))
           ])
-          c.loop-place.invariant)
+          c.loop-index.invariant)
     ]

@@ -4,7 +4,7 @@ use Rattle.std.proofs.lemmas.Fn.{always_returns_same}
 use Rattle.lg_rules.specs.Meaning.Rows.{name_cmp}
 use Rattle.lg_rules.proofs.KeyOrder.{names_order}
 use Rattle.lg_rules.proofs.Places.{point_is, parted}
-use Rattle.lg_rules.proofs.rows.place_of.Goals as goal
+use Rattle.lg_rules.proofs.rows.count_lesser.Goals as goal
 
 pub returns : goal.returns
 returns g c =
