@@ -3,7 +3,7 @@ use crate::says::Said::{self, Alive, Failed, Suspect};
 use crate::says::{claim_of, moved};
 use lg_rules::{
     Claim, Heard, Incarnation, Keyed, MAX_OTHERS, Members, Name, NameFault, Own, OwnHeard, Status,
-    beats, is_name_byte, seat_of,
+    beats, index_of, is_name_byte,
 };
 use lg_testing::{alive, claim, failed, letter, local, name, numbered, suspect};
 
@@ -190,8 +190,8 @@ fn facts_of_seats_and_room(members: &mut Members) -> [bool; 5] {
     let unknown = numbered(44);
     let newer = claim(numbered(45), Status::Alive, 3);
     [
-        seat_of(members.records(), &unknown) == Err(0),
-        seat_of(members.records(), &numbered(46)) == Ok(1),
+        index_of(members.records(), &unknown) == Err(0),
+        index_of(members.records(), &numbered(46)) == Ok(1),
         hear(members, &claim(unknown, Status::Alive, 9)) == Some(Heard::NoRoom),
         hear(members, &newer) == Some(Heard::Overrode),
         members.get(&numbered(45)).copied() == Some(newer),
