@@ -1,4 +1,5 @@
 -- What is right: to believe the contracts, read these.
+pub mod Bytes
 pub mod Spelling
 pub mod Fault
 pub mod Decoding

@@ -28,7 +28,7 @@ pub enum Fault {
     /// The kind of a claim isn't 1 to 3.
     #[error("the kind of a claim has to be 1 to 3")]
     ClaimKind = 7,
-    /// An incarnation is above 1,000,000,000. It is judged at the last of its four bytes.
+    /// An incarnation is above [`MAX_INCARNATION`]. It is judged at the last of its four bytes.
     #[error("an incarnation is at most {most}", most = MAX_INCARNATION)]
     Incarnation = 8,
     /// A byte follows the packet.

@@ -1,4 +1,4 @@
-//! The kinds of packets and of claims, and the bytes that stand for them.
+//! The bytes that a packet begins with, and those that stand for the kinds of packets and of claims.
 //!
 //! Defined in: `specs/Meaning/Spelling.antt`, `specs/Meaning/Reading.antt`.
 //! Tested in: `lg_detector_tests/src/packet.rt`.
@@ -8,6 +8,15 @@ ghost use Rattle.lg_packet.specs.Meaning.Spelling.{kind_of, claim_kind_of};
 
 use crate::packet::Body;
 use lg_rules::Status;
+
+/// The first byte of a packet. With the second it is the magic, which tells a packet from other datagrams.
+pub(crate) const FIRST_MAGIC: u8 = 0x53;
+
+/// The second byte of a packet.
+pub(crate) const SECOND_MAGIC: u8 = 0x4c;
+
+/// The version of the format, which is the third byte of a packet.
+pub(crate) const VERSION: u8 = 1;
 
 /// The kind of a packet, by the byte that stands for it.
 #[derive(Clone, Copy, Debug, PartialEq, Eq)]

@@ -2,10 +2,11 @@
 //!
 //! Defined in: `specs/Meaning/Decoding.antt`, `specs/Meaning/Spelling.antt`, `specs/Meaning/Fault.antt`.
 //! Tested in: `lg_detector_tests/src/packet.rt`.
-ghost use Rattle.std.specs.Prelude.{◌≡◌, ◌<◌, ℕ, List, [], ◌∷◌, ◌++◌, Some, Result};
+ghost use Rattle.std.specs.Prelude.{◌≡◌, ℕ, List, [], ◌∷◌, ◌++◌, Some, Result};
 ghost use Rattle.std.specs.List.{AllByRecursion};
 ghost use Rattle.lg_packet.specs.declared.packet.Packet.{Packet};
 ghost use Rattle.lg_packet.specs.declared.fault.Fault.{Fault};
+ghost use Rattle.lg_packet.specs.Meaning.Bytes.{IsByte};
 ghost use Rattle.lg_packet.specs.Meaning.Decoding.{DecodesTo};
 ghost use Rattle.lg_packet.specs.Meaning.Reading.{packet_of};
 ghost use Rattle.lg_packet.specs.Meaning.Fault.{IncarnationFits, Stands, fault_behind, fault_of};
@@ -22,7 +23,7 @@ pub fn one_spelling()
 pub fn one_reading()
     ensures one { (bytes : List ℕ) (r s : Result Packet Fault)
         → DecodesTo bytes r → DecodesTo bytes s → r ≡ s }
-    ensures read { (bytes : List ℕ) → AllByRecursion (λ b. b < 256) bytes → DecodesTo bytes (packet_of bytes) }
+    ensures read { (bytes : List ℕ) → AllByRecursion IsByte bytes → DecodesTo bytes (packet_of bytes) }
 {}
 
 /// The fault of bytes is that of the first byte that can't stand in its place, whatever follows it. If each byte can,
@@ -34,13 +35,13 @@ pub fn first_bad_byte()
 {}
 
 /// Some spelling begins with a front exactly if two things hold. Each byte of the front can stand in its place. And
-/// an incarnation that the front ends in can still be at most 1,000,000,000.
+/// an incarnation that the front ends in can still be at most [`MAX_INCARNATION`](lg_rules::MAX_INCARNATION).
 ///
 /// The second is needed because an incarnation is judged at its fourth byte. Three bytes that already make it too
 /// great can stand, but no spelling begins with them.
 pub fn begun_spelling()
     ensures stands { (front : List ℕ) → BeginsSpelling front → Stands front }
     ensures incarnation { (front : List ℕ) → BeginsSpelling front → IncarnationFits front }
-    ensures fits { (front : List ℕ) → AllByRecursion (λ b. b < 256) front
+    ensures fits { (front : List ℕ) → AllByRecursion IsByte front
         → Stands front → IncarnationFits front → BeginsSpelling front }
 {}

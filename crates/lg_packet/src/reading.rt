@@ -18,7 +18,9 @@ ghost use Rattle.lg_packet.specs.Support.Gives.{Gives};
 ghost use Rattle.lg_packet.specs.Meaning.Spelling.{Spells};
 
 use crate::fault::Fault;
-use crate::kind::{ClaimKind, Kind, claim_kind_of_byte, kind_of_byte};
+use crate::kind::{
+    ClaimKind, FIRST_MAGIC, Kind, SECOND_MAGIC, VERSION, claim_kind_of_byte, kind_of_byte,
+};
 use crate::packet::{Body, Packet};
 use lg_rules::{Addr, Claim, Incarnation, MAX_CLAIMS, MAX_NAME, Name, Status, is_name_byte};
 
@@ -168,9 +170,9 @@ impl Reader<'_> {
     fn head(&mut self) -> Result<Kind, Fault>
         ensures { Gives (λ x. (x, self.new.rest.now)) result (head_at self.old.rest.now) }
     {
-        self.literal(0x53, Fault::Magic)?;
-        self.literal(0x4c, Fault::Magic)?;
-        self.literal(1, Fault::Version)?;
+        self.literal(FIRST_MAGIC, Fault::Magic)?;
+        self.literal(SECOND_MAGIC, Fault::Magic)?;
+        self.literal(VERSION, Fault::Version)?;
         self.kind()
     }
 

@@ -11,26 +11,35 @@ ghost use Rattle.lg_packet.specs.Meaning.Spelling.{spelled_accuser, spelled_addr
 ghost use Rattle.lg_packet.specs.Meaning.Spelling.{spelled_claim, spelled_claims, spelled_head, spelled_name, spelling};
 ghost use Rattle.lg_packet.specs.Meaning.Reading.{packet_of};
 
-use crate::kind::{Kind, claim_kind_of, kind_of};
+use crate::kind::{FIRST_MAGIC, Kind, SECOND_MAGIC, VERSION, claim_kind_of, kind_of};
 use crate::packet::{Body, Packet};
 use arrayvec::ArrayVec;
 use lg_rules::{Addr, Claim, MAX_CLAIMS, MAX_NAME, Name, Status};
 
+/// The bytes of the head: the magic, the version and the kind.
+const HEAD_ROOM: usize = 4;
+
+/// The bytes of a number or an incarnation.
+const NUMBER_ROOM: usize = 4;
+
 /// The most bytes of a name with its length: 33.
 const NAME_ROOM: usize = 1 + MAX_NAME;
 
-/// The bytes of an address: 6.
+/// The bytes of an address, which has four of its own and two of its port.
 const ADDR_ROOM: usize = 4 + 2;
 
 /// The most bytes of a body: 43, those of a PingReq, which has a number, a name and an address.
-const BODY_ROOM: usize = 4 + NAME_ROOM + ADDR_ROOM;
+const BODY_ROOM: usize = NUMBER_ROOM + NAME_ROOM + ADDR_ROOM;
 
 /// The most bytes of a claim: 77, for its kind, name, address, incarnation and accuser.
-const CLAIM_ROOM: usize = 1 + NAME_ROOM + ADDR_ROOM + 4 + NAME_ROOM;
+const CLAIM_ROOM: usize = 1 + NAME_ROOM + ADDR_ROOM + NUMBER_ROOM + NAME_ROOM;
+
+/// The most bytes of the claims with their count: 463.
+const CLAIMS_ROOM: usize = 1 + MAX_CLAIMS * CLAIM_ROOM;
 
 /// The most bytes of a packet: 543 (this project's choice). These are 4 of the head, 33 of the sender's name, 43 of
-/// the body, 1 of the count, and 6 claims of at most 77.
-pub const MAX_PACKET: usize = 4 + NAME_ROOM + BODY_ROOM + 1 + MAX_CLAIMS * CLAIM_ROOM;
+/// the body, and 463 of the claims with their count.
+pub const MAX_PACKET: usize = HEAD_ROOM + NAME_ROOM + BODY_ROOM + CLAIMS_ROOM;
 
 /// Bytes that are being written.
 type Row = ArrayVec<u8, MAX_PACKET>;
@@ -45,11 +54,11 @@ fn put(out: &mut Row, bytes: &[u8])
 
 /// Writes the magic, the version and the kind.
 fn put_head(out: &mut Row, kind: Kind)
-    requires { array_vec_len out.old + 4 ≤ MAX_PACKET }
+    requires { array_vec_len out.old + HEAD_ROOM ≤ MAX_PACKET }
     ensures items { out.new.items ≡ out.old.items ++ spelled_head kind }
-    ensures len { array_vec_len out.new ≡ array_vec_len out.old + 4 }
+    ensures len { array_vec_len out.new ≡ array_vec_len out.old + HEAD_ROOM }
 {
-    put(out, &[0x53, 0x4c, 1, kind as u8]);
+    put(out, &[FIRST_MAGIC, SECOND_MAGIC, VERSION, kind as u8]);
 }
 
 fn put_name(out: &mut Row, name: &Name)
@@ -140,7 +149,7 @@ fn put_claim(out: &mut Row, claim: &Claim)
 
 fn put_claims(out: &mut Row, claims: &[Claim])
     requires few { length claims.now ≤ MAX_CLAIMS }
-    requires room { array_vec_len out.old + 1 + MAX_CLAIMS * CLAIM_ROOM ≤ MAX_PACKET }
+    requires room { array_vec_len out.old + CLAIMS_ROOM ≤ MAX_PACKET }
     ensures items { out.new.items ≡ out.old.items ++ spelled_claims claims.now }
     ensures claims { AreClaims claims.now }
 {

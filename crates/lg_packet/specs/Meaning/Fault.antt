@@ -6,6 +6,7 @@ use Rattle.std.specs.Prelude.{List, [], ◌∷◌, ◌++◌, length, take, repli
 use Rattle.std.specs.Int.{w32, from_be_bytes}
 use Rattle.lg_rules.specs.Meaning.Name.{is_name_byte}
 use Rattle.lg_rules.specs.Meaning.Bounds.{greatest_incarnation, most_claims, most_name_bytes}
+use Rattle.lg_packet.specs.Meaning.Bytes.{first_magic, second_magic, version}
 use Rattle.lg_packet.specs.declared.fault.Fault.{Fault}
 use Rattle.lg_packet.specs.declared.fault.Fault.TheVariants as faults
 
@@ -26,7 +27,7 @@ pub data Part : Type 0 where
 -- whether a byte can stand at a place where this is due
 abbrev pub is_allowed : Part → ℕ → Bool
 is_allowed (MagicByte magic) b = b == magic
-is_allowed VersionByte b = b == 1
+is_allowed VersionByte b = b == version
 is_allowed KindByte b = nat_le 1 b && nat_le b 6
 is_allowed LengthByte b = nat_le 1 b && nat_le b most_name_bytes
 is_allowed AfterLengthByte b = nat_le b most_name_bytes
@@ -83,7 +84,7 @@ brought _ b = []
 
 -- what is due at the beginning of a packet
 abbrev pub packet_parts : List Part
-packet_parts = MagicByte 0x53 ∷ MagicByte 0x4c ∷ VersionByte ∷ KindByte ∷ []
+packet_parts = MagicByte first_magic ∷ MagicByte second_magic ∷ VersionByte ∷ KindByte ∷ []
 
 -- what is still due after one more byte, and after a front
 abbrev pub due_behind : List Part → ℕ → List Part

@@ -11,6 +11,7 @@ use Rattle.lg_rules.specs.declared.claim.Claim.{Claim}
 use Rattle.lg_rules.specs.declared.claim.Status.{Status}
 use Rattle.lg_rules.specs.declared.claim.Status.TheVariants.{Alive, Suspect, Failed}
 use Rattle.lg_rules.specs.Meaning.Bounds.{greatest_incarnation, most_claims, most_name_bytes}
+use Rattle.lg_packet.specs.Meaning.Bytes.{first_magic, second_magic, version}
 use Rattle.lg_packet.specs.declared.fault.Fault.{Fault}
 use Rattle.lg_packet.specs.declared.fault.Fault.TheVariants as faults
 use Rattle.lg_packet.specs.declared.kind.ClaimKind.{ClaimKind}
@@ -87,10 +88,10 @@ after_at (n ∷ bytes) = if n == 0 then Ok (None, bytes) else some_name_at (n �
 -- the magic, the version and the kind
 unfoldable pub head_at : List ℕ → Result (Kind × List ℕ) Fault
 head_at bytes = do
-  first ← literal_at 0x53 faults.Magic bytes
-  second ← literal_at 0x4c faults.Magic first
-  version ← literal_at 1 faults.Version second
-  kind_at version
+  first ← literal_at first_magic faults.Magic bytes
+  second ← literal_at second_magic faults.Magic first
+  third ← literal_at version faults.Version second
+  kind_at third
 
 unfoldable pub body_at : Kind → List ℕ → Result (Body × List ℕ) Fault
 body_at kinds.Ping bytes = do

@@ -9,6 +9,7 @@ use Rattle.lg_rules.specs.declared.claim.Claim.{Claim}
 use Rattle.lg_rules.specs.declared.claim.Status.{Status}
 use Rattle.lg_rules.specs.declared.claim.Status.TheVariants.{Alive, Suspect, Failed}
 use Rattle.lg_rules.specs.Meaning.Bounds.{greatest_incarnation, most_claims}
+use Rattle.lg_packet.specs.Meaning.Bytes.{IsByte, first_magic, second_magic, version}
 use Rattle.lg_packet.specs.declared.kind.ClaimKind.{ClaimKind}
 use Rattle.lg_packet.specs.declared.kind.ClaimKind.TheVariants as claims
 use Rattle.lg_packet.specs.declared.kind.Kind.{Kind}
@@ -72,7 +73,7 @@ spelled_body Page = []
 
 -- the head: the magic, the version and the kind
 abbrev pub spelled_head : Kind → List ℕ
-spelled_head kind = 0x53 ∷ 0x4c ∷ 1 ∷ byte_of_kind kind ∷ []
+spelled_head kind = first_magic ∷ second_magic ∷ version ∷ byte_of_kind kind ∷ []
 
 -- the accuser of a status, if there is one
 abbrev pub spelled_accuser : Status → List ℕ
@@ -96,10 +97,10 @@ spelling p =
     spelled_head (kind_of p.body) ++ (spelled_name p.sender ++ (spelled_body p.body ++ spelled_claims p.claims.items))
 
 -- What has a spelling: names that are names, numbers of four bytes, addresses of four bytes with a port of two bytes,
--- incarnations of at most 1,000,000,000, and at most 6 claims.
+-- incarnations of at most `greatest_incarnation`, and at most `most_claims` claims.
 pub record IsAddr (addr : Addr) : Type 0 where
   pub four : length addr.octets ≡ 4
-  pub octets : AllByRecursion (λ b. b < 256) addr.octets
+  pub octets : AllByRecursion IsByte addr.octets
   pub port : addr.port < 2 ^ 16
 
 abbrev pub IsAfter : Option (List ℕ) → Type 0
