@@ -11,13 +11,14 @@ ghost use Rattle.lg_detector.specs.Meaning.Choice.{choice, choice_by, first_body
 
 use arrayvec::ArrayVec;
 use lg_packet::{Body, Packet};
+use lg_probe::MAX_HELPERS;
 use lg_rules::{Addr, Incarnation, MAX_CLAIMS, Name, Record};
 use lg_timers::{Timer, TimerId};
 
-/// The most packets that one event sends: the PingReqs to 8 helpers (this project's choice).
-pub const MAX_SENDS: usize = 8;
+/// The most packets that one event sends: a PingReq to each of the helpers that are asked.
+pub const MAX_SENDS: usize = MAX_HELPERS;
 
-/// The most records that one event changes: those of the 6 claims of a packet (this project's choice).
+/// The most records that one event changes: one for each claim of a packet.
 pub const MAX_CHANGED: usize = MAX_CLAIMS;
 
 /// A packet to be sent.
@@ -66,7 +67,7 @@ pub enum Answer {
         score: u64,
         /// This member's incarnation.
         number: Incarnation,
-        /// How many members haven't failed, this one included: 1 to 256.
+        /// How many members haven't failed, this one included: 1 to [`MAX_MEMBERS`](crate::MAX_MEMBERS).
         members: u64,
     },
 }
@@ -74,18 +75,18 @@ pub enum Answer {
 /// What a detector gives back for an event. Its size is fixed, so everything always fits.
 #[derive(Debug, Drop)]
 pub struct Reply {
-    /// The timer that fired. Only a tick fires one.
+    /// The timer that fired, if one did. Only a tick fires one.
     pub fired: Option<Timer>,
     /// The packets to be sent, in order.
     pub sends: ArrayVec<Outgoing, MAX_SENDS>,
-    /// The records that differ from those before the event, in the order of their names. The opening has none.
+    /// The records that differ from those before the event, in the order of their names. An opening's reply has none.
     pub changed: ArrayVec<Record, MAX_CHANGED>,
-    /// The answer to a question.
+    /// The answer, if the event was a question.
     pub answer: Option<Answer>,
-    /// Whether a claim about this member has come that nothing can refute.
+    /// Whether a claim about this member has come, since the opening, that nothing can refute.
     pub ousted: bool,
-    /// The least deadline of the timers that are set after the event, in milliseconds. After the opening one is
-    /// always set.
+    /// The least deadline of the timers that are set after the event, in milliseconds. It is 0 if none is set. From
+    /// the opening on one always is.
     pub next: u64,
 }
 

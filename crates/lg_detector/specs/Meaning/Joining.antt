@@ -1,6 +1,6 @@
 -- Joining, by a form of anti-entropy (push-pull): a member asks another for its table by a Pull. The answers are
--- Pages of at most 6 records, in the order of names. None of these takes claims of the queue (this project's choice;
--- SWIM, section 3.2, leaves open how a member joins).
+-- Pages of records, in the order of names, at most `most_claims` each. None of these takes claims of the queue (this
+-- project's choice; SWIM, section 3.2, leaves open how a member joins).
 use Rattle.std.specs.Prelude.{ℕ, ◌-◌, List, [], ◌∷◌, Option, Some, None, slice_get}
 use Rattle.lg_rules.specs.declared.addr.Addr.{Addr}
 use Rattle.lg_rules.specs.declared.claim.Claim.{Claim}
@@ -31,8 +31,8 @@ page_behind to after log =
     let members = group_log log in
     with_claims to (group.me members) Page (page_of after (group.view members))
 
--- A Page with a sixth claim is full. It is answered by a Pull for the records after that claim, whether or not it was
--- known.
+-- A Page of `most_claims` claims is full. It is answered by a Pull for the records after its last claim, the sixth,
+-- whether or not that one was known.
 abbrev pub next_pull : Addr → Option Claim → Log → List Outgoing
 next_pull to None log = []
 next_pull to (Some sixth) log = pull_after to (Some sixth.name) log ∷ []

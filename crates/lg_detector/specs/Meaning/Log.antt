@@ -1,15 +1,17 @@
--- What happens to a detector, as facts, and what is read off them.
+-- The log of a detector: what happened to it, as a list of facts, the latest first. Read off it here are the number of
+-- events, the greatest moment, and the facts that concern the group. The other files of this folder read off the rest.
 use Rattle.std.specs.Prelude.{ℕ, ◌+◌, max, List, [], ◌∷◌}
 use Rattle.lg_rules.specs.declared.addr.Addr.{Addr}
 use Rattle.lg_membership.specs.Meaning.Log as group
 use Rattle.lg_timers.specs.declared.timer.Timer.{Timer}
 
--- A log lists what happened as facts, the latest first. A fact is one of these:
--- - an event came at a moment;
--- - a timer fired at a tick with these random words;
--- - an Ack or a Nack with a number came from a member;
--- - a relay to a target was opened for an asker, which is reached at an address and asked by a number;
--- - something that concerns the group: the member was opened, a claim was applied, or a packet was sent that took
+-- The facts:
+-- - Came: an event came at this moment, in milliseconds;
+-- - Fired: this timer fired, at a tick with these random words;
+-- - AckHeard, NackHeard: an Ack, or a Nack, with this number came from the member of this name;
+-- - Relayed: a relay to the target of this name was opened for an asker, which is reached at this address and asked by
+--   this number;
+-- - OfGroup: a fact that concerns the group. The member was opened, a claim was applied, or a packet was sent that took
 --   claims of the queue.
 pub data Fact : Type 0 where
   Came : ℕ → Fact

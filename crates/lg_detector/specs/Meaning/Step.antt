@@ -104,9 +104,7 @@ view_after f = view (log_of (reverse f))
 abbrev pub deadline_after : List Event → Option ℕ
 deadline_after f = deadline_in (pending (log_of (reverse f)))
 
--- A list of events is accepted if it is empty. It is also accepted if its first event is an opening with a
--- configuration that passes its check, no later one is an opening, and it has at most 4,000,000,000 events (this
--- project's choice).
+-- the most events of a list that is accepted (this project's choice)
 abbrev pub most_events : ℕ
 most_events = 4000000000
 
@@ -123,6 +121,8 @@ abbrev pub opens_well : Event → Bool
 opens_well (Open now opening) = is_ok (check_of opening)
 opens_well _ = false
 
+-- A list of events is accepted if it is empty. It is also accepted if its first event is an opening with a
+-- configuration that passes its check, no later one is an opening, and it has at most `most_events` events.
 abbrev pub is_accepted : List Event → Bool
 is_accepted [] = true
 is_accepted (e ∷ es) = opens_well e && (not (list_any is_open es) && nat_le (length es + 1) most_events)

@@ -3,9 +3,9 @@
 //!
 //! - A Ping or a PingReq for this member gets an Ack with its number, sent to where it came from. A Ping for another
 //!   member does nothing.
-//! - A PingReq for another member (an indirect probe) opens a relay, unless 64 are open. The relay takes the next
-//!   sequence number, and a Ping for the target goes to the address in the PingReq. If 64 are open, a Nack with the
-//!   PingReq's number goes at once to where the PingReq came from.
+//! - A PingReq for another member (an indirect probe) opens a relay. The relay takes the next sequence number, and
+//!   a Ping for the target goes to the address in the PingReq. If as many relays are open as are allowed, a Nack with
+//!   the PingReq's number goes at once to where the PingReq came from.
 //! - An Ack counts for the probe that runs, by its number and its sender. It counts for a relay in the same way: the
 //!   relay is closed, and its asker gets an Ack with the asker's number.
 //! - A Nack counts for the probe that runs, once for each helper that was asked.

@@ -1,7 +1,7 @@
 //! Joining, by a form of anti-entropy (push-pull): a member asks another for its table by a Pull, which carries the
-//! asker's own record. The answers are Pages of at most 6 records, in the order of names. A Page of 6 is answered by
-//! a Pull for the records after its last claim, and so the whole table comes. Pulls and Pages take no claims of the
-//! queue (this project's choice).
+//! asker's own record. The answers are Pages of records, in the order of names. A Page is full if it has `MAX_CLAIMS`
+//! records. A full Page is answered by a Pull for the records after its last claim, and so the whole table comes.
+//! Pulls and Pages take no claims of the queue (this project's choice).
 //!
 //! Defined in: `specs/Meaning/Joining.antt`, `specs/Support/Joining.antt`.
 //! Tested in: `lg_detector_tests/src/detector/joining.rt`.

@@ -45,7 +45,7 @@ impl Detector {
     }
 
     /// The records of all members, this one included, in the order of their names. Allocates the list alone, of at
-    /// most 256 records; the only error is that memory was refused.
+    /// most [`MAX_MEMBERS`] records; the only error is that memory was refused.
     pub fn table(&self, alloc: Global) -> Result<Vec<Record>, NoMemory>
         ensures state { IfOk result (λ table. table.items ≡ view_in self.now) }
         ensures list { (f : List Happened) → self.now ≡ state_after f
@@ -91,7 +91,7 @@ impl Detector {
         self.parts.membership.name()
     }
 
-    /// How many events it has accepted, at most 4,000,000,000.
+    /// How many events it has accepted, at most [`MAX_EVENTS`](crate::MAX_EVENTS).
     pub fn events(&self) -> u64
         ensures state { result ≡ self.now.events }
         ensures list { (f : List Happened) → self.now ≡ state_after f → result ≡ length f }
