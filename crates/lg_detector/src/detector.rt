@@ -1,6 +1,9 @@
 //! The detector: what it holds, which events it accepts, and the two calls that advance it by one event, `step` and
 //! `absorb`. Each kind of event has a file of its own.
 //!
+//! In a contract `event.now` is the event that `event` refers to. It isn't the event's moment, although the field of
+//! that moment is also called `now`.
+//!
 //! Defined in: `specs/Meaning/Step.antt`, `specs/Support/Step.antt`, `specs/Meaning/Window.antt`.
 //! Tested in: `lg_detector_tests/src/detector/open.rt`, `lg_detector_tests/src/detector/copies.rt`.
 ghost use Rattle.std.specs.Prelude.{◌≡◌, ℕ, ◌≤◌, ◌<◌, ◌+◌, ◌++◌, [], ◌∷◌, List, length};
@@ -140,7 +143,7 @@ impl Detector {
     }
 
     /// Whether an event can come next. The first event has to be an opening with a good configuration, and no later
-    /// one may be an opening. At most 4,000,000,000 events are accepted in all.
+    /// one may be an opening. At most [`MAX_EVENTS`] events are accepted in all.
     pub fn accepts(&self, event: &Event) -> bool
         ensures state { result ≡ accepts_of self.now event.now }
         // After an accepted list: exactly if the list with this event is accepted.
@@ -264,9 +267,9 @@ pub fn states_lead_on()
         → targets_after (f ++ e ∷ []) ≡ targets_after f ++ option_to_list (choice (reply_after f e)) }
 {}
 
-/// Which lists of events are accepted. They have at most 4,000,000,000 events, and the first one is an opening. The
+/// Which lists of events are accepted. They have at most [`MAX_EVENTS`] events, and the first one is an opening. The
 /// list of an opening alone is accepted if its configuration passes the check. An accepted list that has an opening
-/// and fewer than 4,000,000,000 events is also accepted with a further event that is no opening.
+/// and fewer than [`MAX_EVENTS`] events is also accepted with a further event that is no opening.
 pub fn accepted_lists()
     ensures few { (f : List Happened) → is_accepted f ≡ true → length f ≤ MAX_EVENTS }
     ensures opens { (x : Happened) (f : List Happened) → is_accepted (x ∷ f) ≡ true → is_open x ≡ true }
@@ -276,9 +279,9 @@ pub fn accepted_lists()
         → is_accepted (Opening now opening ∷ []) ≡ true }
 {}
 
-/// As long as the others that haven't failed stay the same p names, any 2p - 1 rounds in a row that choose a target
-/// choose each of them (SWIM, section 4.3). The p here is one less than the number of members there. If there are no
-/// such names, nobody is chosen.
+/// Whom a stretch of rounds chooses (SWIM, section 4.3). Suppose that throughout the stretch the others that haven't
+/// failed are the same p names. This member isn't one of them. Then 2p - 1 rounds of the stretch in a row, if each
+/// chooses a target, choose each of these names. If there are no such names, nobody is chosen.
 pub fn windows_have_each()
     ensures each { (log stretch : Log) (name : List ℕ) → AreOthers (others log) stretch log
         → is_among name_cmp name (others log) ≡ true → window (others log) ≤ length (targets stretch log)

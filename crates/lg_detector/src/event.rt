@@ -5,7 +5,8 @@ use lg_packet::Packet;
 use lg_rules::{Addr, Name};
 use lg_timing::{Config, Moment};
 
-/// What happens to a detector, at the moment that the caller hands in.
+/// What happens to a detector. Each event has a moment, which the caller hands in. If a later moment was handed in
+/// before, the detector goes by that one.
 #[derive(Debug, Drop)]
 pub enum Event {
     /// The detector is opened. The first event is an opening, and no later one is.
@@ -19,7 +20,7 @@ pub enum Event {
     Tick {
         /// When.
         now: Moment,
-        /// Random words: the first chooses whom a round probes, and each in turn picks a helper.
+        /// Random words. The first one chooses whom a round probes. Each in turn picks a helper.
         words: [u32; 8],
     },
     /// A packet is heard.

@@ -13,7 +13,8 @@ use crate::detector::{Detector, NoMemory};
 use std::alloc::Global;
 use std::marker::Model;
 
-/// A summary of all that a detector has heard. It is what the definitions say of the list of events, and not the list.
+/// A summary of all that happened to a detector. It holds what the definitions read off the list of events, and not the
+/// list itself.
 ///
 /// A contract sees it as the state that the events leave.
 #[derive(Drop)]
@@ -41,8 +42,8 @@ impl Detector {
         })
     }
 
-    /// A detector in the state after each list of events that the summary is of. Allocates one box for it; the only
-    /// error is that memory was refused.
+    /// A detector in the state that the summary has. If the summary is of a list of events, that is the state after the
+    /// list. Allocates one box for it; the only error is that memory was refused.
     pub fn resume(alloc: Global, summary: &Summary) -> Result<Detector, NoMemory>
         ensures state { IfOk result (λ d. d ≡ summary.now) }
         ensures list { (f : List Happened) → IsSummary summary.now f → IfOk result (λ d. d ≡ state_after f) }

@@ -3,7 +3,7 @@
 //! timer that fires is in `tick.rt`.
 //!
 //! Defined in: `specs/Meaning/Apply.antt`, `specs/Support/State.antt`, `specs/Meaning/Timing.antt`.
-//! Tested in: `lg_detector_tests/src/detector/hear.rt`.
+//! Tested in: `lg_detector_tests/src/detector/hear.rt`, `lg_detector_tests/src/detector/ask.rt`.
 ghost use Rattle.std.specs.Prelude.{◌≡◌, ◌<◌, ◌≤◌, length};
 ghost use Rattle.lg_rules.specs.Meaning.Rows.{name_cmp, put_key};
 ghost use Rattle.lg_rules.specs.Support.Standing.{changed_names};
