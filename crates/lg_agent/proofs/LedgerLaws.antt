@@ -17,7 +17,6 @@ use Rattle.lg_history.specs.Meaning.Rest.{IsRest}
 use Rattle.lg_history.proofs.Legal.{events-append, length-events, may_follow, opened}
 use Rattle.lg_history.proofs.Rests.{whole_events, whole_length, rest_accepted, rest_grows}
 use Rattle.lg_view.specs.Meaning.Views.{begins_open}
-use Rattle.lg_agent.specs.declared.receipt.Receipt.{Receipt}
 use Rattle.lg_agent.specs.declared.refusal.Refusal.{Refusal}
 use Rattle.lg_agent.specs.declared.refusal.Refusal.TheVariants.{NoPlace, HistoryFull, NoMemory}
 use Rattle.lg_agent.specs.Meaning.Ledger.{Ledger, own_name, own_limit, count_of}
@@ -115,6 +114,6 @@ limit-front [] g begun front = absurd cc
 limit-front (x ∷ f) g begun (rest, is) = let whole : x ∷ f ++ rest ≡ g = is in ap own_limit (sym whole)
 
 -- what a call of a place is refused for, by a ledger whose events begin with those that its caller has seen
-pub refusal_if : (l : Ledger) (seat : ℕ) (seen : List Event) (r : Result Receipt Refusal) → 0 < seat → seat ≤ l.places → l.limit ≡ own_limit seen → MatchResult r (λ _. refusal_of l seat ≡ None) (λ e. (refusal_of l seat ≡ Some e) ⊎ ((e ≡ NoMemory) × (refusal_of l seat ≡ None))) → IfErr r (IsRefusal seen)
+pub refusal_if : (l : Ledger) (seat : ℕ) (seen : List Event) (r : Result ℕ Refusal) → 0 < seat → seat ≤ l.places → l.limit ≡ own_limit seen → MatchResult r (λ _. refusal_of l seat ≡ None) (λ e. (refusal_of l seat ≡ Some e) ⊎ ((e ≡ NoMemory) × (refusal_of l seat ≡ None))) → IfErr r (IsRefusal seen)
 refusal_if l seat seen (Ok r) low high own is = tt
 refusal_if l seat seen (Err e) low high own is = refused_so l seat seen e low high own is

@@ -5,6 +5,7 @@ use mathlib.Core.List.{IsPrefix}
 use Rattle.std.proofs.lemmas.List.{length-drop}
 use Rattle.std.proofs.lemmas.List.Elements.{All-nil, All-cons, All-head, All-tail, All-append}
 use Rattle.lg_detector.specs.declared.event.Event.{Event}
+use Rattle.lg_detector.specs.declared.reply.Reply.{Reply}
 use Rattle.lg_detector.specs.Meaning.Step.{is_accepted, is_open, reply_after}
 use Rattle.lg_history.specs.Meaning.History.{Entry, entry, events}
 use Rattle.lg_history.proofs.Legal.{events-append, length-events}
@@ -13,7 +14,7 @@ use Rattle.lg_view.specs.Meaning.Views.{begins_open}
 use Rattle.lg_agent.specs.declared.receipt.Receipt.{Receipt}
 use Rattle.lg_agent.specs.declared.refusal.Refusal.{Refusal}
 use Rattle.lg_agent.specs.Meaning.Ledger.{Ledger, Own, all_events, count_of}
-use Rattle.lg_agent.specs.Meaning.Calls.{with_entry, IsAnswered, IsCall, IsFresh, AreFresh}
+use Rattle.lg_agent.specs.Meaning.Calls.{with_entry, receipt_of, IsAnswered, IsCall, IsFresh, AreFresh}
 
 pub answered_by : (l : Ledger) (seat : ℕ) (seen : List Event) (e : Event) (r : Receipt) (now : List Event)
     → length seen ≤ count_of l → r.place ≡ count_of l → r.reply ≡ reply_after (all_events l) e
@@ -47,14 +48,14 @@ pub all-last : {A : Type 0} (P : A → Type 0) (xs : List A) (x : A) → All P (
 all-last P [] x a = All-head P x [] a
 all-last P (y ∷ xs) x a = all-last P xs x (All-tail P y (xs ++ x ∷ []) a)
 
-pub answered_if : (l : Ledger) (seat : ℕ) (seen : List Event) (e : Event) (result : Result Receipt Refusal) (after : Ledger) (now : List Event)
-    → length seen ≤ count_of l → IfOk result (λ r. (after ≡ with_entry l seat e) × (r.place ≡ count_of l) × (r.reply ≡ reply_after (all_events l) e))
+pub answered_if : (l : Ledger) (seat : ℕ) (seen : List Event) (e : Event) (result : Result ℕ Refusal) (reply : Reply) (after : Ledger) (now : List Event)
+    → length seen ≤ count_of l → IfOk result (λ place. (after ≡ with_entry l seat e) × (place ≡ count_of l) × (reply ≡ reply_after (all_events l) e))
     → IsPrefix seen (all_events after) → now ≡ all_events after → is_accepted now ≡ true
-    → IfOk result (λ r. IsAnswered seen e r now)
-answered_if l seat seen e (Ok r) after now short done begins all accepted =
+    → IfOk result (λ place. IsAnswered seen e (receipt_of place reply) now)
+answered_if l seat seen e (Ok place) reply after now short done begins all accepted =
     let is : after ≡ with_entry l seat e = done.0 in
-    answered_by l seat seen e r now short done.1 done.2 (subst (λ (k : Ledger). IsPrefix seen (all_events k)) is begins) (all ∙ ap all_events is) accepted
-answered_if l seat seen e (Err f) after now short done begins all accepted = tt
+    answered_by l seat seen e (receipt_of place reply) now short done.1 done.2 (subst (λ (k : Ledger). IsPrefix seen (all_events k)) is begins) (all ∙ ap all_events is) accepted
+answered_if l seat seen e (Err f) reply after now short done begins all accepted = tt
 
 pub open_prefix : (xs ys : List Event) → IsPrefix xs ys → begins_open xs ≡ true → begins_open ys ≡ true
 open_prefix [] ys p opens = absurd cc

@@ -13,7 +13,7 @@ ghost use Rattle.lg_agent.specs.declared.refusal.Refusal.TheVariants.{NoMemory, 
 ghost use Rattle.lg_agent.specs.Meaning.Calls.{AreFresh};
 ghost use Rattle.lg_agent.specs.Meaning.Ledger.{all_events};
 
-use crate::kept::Kept;
+use crate::kept::{Kept, MAX_PLACES};
 use crate::name::AgentName;
 use crate::pass::Pass;
 use crate::refusal::Refusal;
@@ -64,8 +64,8 @@ impl<A: AgentName> Agent<A> {
     /// seat waits for its pass.
     ///
     /// The book has to be the one that `A` names, and the configuration has to be checked. The places have to be 1 to
-    /// 32, as many as `A` names. Allocates memory. Refused with [`Refusal::NoMemory`] if that was refused, or with
-    /// [`Refusal::NoPlace`] if there was no reader for a seat.
+    /// [`MAX_PLACES`], as many as `A` names. Allocates memory. Refused with [`Refusal::NoMemory`] if that was refused,
+    /// or with [`Refusal::NoPlace`] if there was no reader for a seat.
     pub fn open<R: Wait>(
         rt: &R,
         alloc: Global,
@@ -76,7 +76,7 @@ impl<A: AgentName> Agent<A> {
     ) -> Result<Agent<A>, Refusal>
         requires book { book.seen.book ≡ A.book }
         requires config { IsChecked config }
-        requires places { (0 < places) × (places ≤ 32) × (places ≡ A.places) }
+        requires places { (0 < places) × (places ≤ MAX_PLACES) × (places ≡ A.places) }
         ensures name { IfOk result (λ a. a.name ≡ config.name) }
         // Each look has seen this opening.
         ensures told { IfOk result (λ a. (length a.told ≡ places)

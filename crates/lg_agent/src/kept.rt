@@ -12,7 +12,7 @@ ghost use Rattle.lg_view.specs.Meaning.Views.{begins_open};
 ghost use Rattle.lg_history.specs.Meaning.Rest.{IsRest, StandsFor, AnsweredFrom, AreCut, made_by, of_seat};
 ghost use Rattle.lg_agent.specs.declared.refusal.Refusal.TheVariants.{Behind, NoMemory};
 ghost use Rattle.lg_agent.specs.Meaning.Ledger.{own_name, own_limit, all_events, count_of};
-ghost use Rattle.lg_agent.specs.Meaning.Calls.{with_entry, refusal_of, IsAnswered, IsRefusal, IsRotated};
+ghost use Rattle.lg_agent.specs.Meaning.Calls.{with_entry, refusal_of, receipt_of, IsAnswered, IsRefusal, IsRotated};
 
 use crate::name::AgentName;
 use crate::receipt::Receipt;
@@ -28,8 +28,11 @@ use std::sync::Wait;
 
 mod opening;
 
-/// How many seats there are: one for the opening, and one for each of at most 32 passes.
-pub(crate) const SEATS: usize = 33;
+/// The most places of an agent, each of which has one pass (this project's choice).
+pub const MAX_PLACES: usize = 32;
+
+/// How many seats there are: one for the opening, and one for each place.
+pub(crate) const SEATS: usize = MAX_PLACES + 1;
 
 /// The value under an agent's lock. A contract sees it as the number of its places, its limit, the stored entries,
 /// and the summary of those that were cut off before them.
@@ -65,6 +68,8 @@ where
     ghost use Rattle.lg_history.specs.Meaning.History.{events};
     ghost use Rattle.lg_history.specs.Meaning.Rest.{IsRest, StandsFor};
     ghost use Rattle.lg_agent.specs.Meaning.Ledger.{Ledger, own_name, own_limit};
+    ghost use Rattle.lg_detector.specs.declared.detector.TheConstants.{MAX_EVENTS};
+    ghost use Rattle.lg_agent.specs.declared.kept.TheConstants.{MAX_PLACES, SEATS};
 
     ghost Value = { Ledger };
 
@@ -87,11 +92,11 @@ where
         × (k.base ≡ length (take k.base k.feed.events))
         × (k.name ≡ own_name k.feed.events)
         × (k.limit ≡ own_limit k.feed.events)
-        × (k.limit ≤ 4000000000)
+        × (k.limit ≤ MAX_EVENTS)
         × (0 < k.places)
-        × (k.places ≤ 32)
+        × (k.places ≤ MAX_PLACES)
         × (k.places ≡ A.places)
-        × (length k.cut ≡ 33) };
+        × (length k.cut ≡ SEATS) };
 }
 
 impl<A: AgentName> Kept<A> {
@@ -147,10 +152,10 @@ impl<A: AgentName> Kept<A> {
         self.summary.as_ref()
     }
 
-    /// How many places there are, 1 to 32.
+    /// How many places there are, 1 to [`MAX_PLACES`].
     pub fn places(&self) -> usize
         ensures places { result ≡ self.now.places }
-        ensures range { (0 < result) × (result ≤ 32) }
+        ensures range { (0 < result) × (result ≤ MAX_PLACES) }
         ensures named { result ≡ A.places }
     {
         self.places
@@ -164,14 +169,7 @@ impl<A: AgentName> Kept<A> {
     }
 
     /// Applies one event of the pass with this seat: the history grows by its entry, and its events are published.
-    /// The event must be no opening.
-    ///
-    /// It is refused with the first of these that applies, and then nothing has changed:
-    /// - [`Refusal::NoPlace`] if the seat isn't from 1 to the number of places;
-    /// - [`Refusal::HistoryFull`] if there were as many events as a detector accepts, or if as many entries are
-    ///   stored as are allowed;
-    /// - [`Refusal::NoMemory`] if memory was refused for the entry, for the published event, or for the lists that
-    ///   hold them.
+    /// The event must be no opening. Refused as [`Kept::apply_into`] is, and then nothing has changed.
     pub fn apply<R: Wait>(
         &mut self,
         rt: &R,
@@ -184,6 +182,38 @@ impl<A: AgentName> Kept<A> {
             × (r.place ≡ count_of self.old)
             × (r.reply ≡ reply_after (all_events self.old) event.now)) }
         ensures refused { OnErr result (self.new ≡ self.old) }
+        // Which refusal it is.
+        ensures exact { MatchResult result (λ _. refusal_of self.old seat ≡ None)
+            (λ e. (refusal_of self.old seat ≡ Some e)
+            ⊎ ((e ≡ NoMemory) × (refusal_of self.old seat ≡ None))) }
+    {
+        let mut reply = Reply::default();
+        let place = self.apply_into(rt, alloc, seat, event, &mut reply)?;
+        Ok(Receipt { place, reply })
+    }
+
+    /// Applies one event as [`Kept::apply`] does, writes the reply over `reply`, and returns the position of the entry
+    /// in the history, in which entries that were cut off count.
+    ///
+    /// It is refused with the first of these that applies. Then nothing has changed, and `reply` is as it was:
+    /// - [`Refusal::NoPlace`] if the seat isn't from 1 to the number of places;
+    /// - [`Refusal::HistoryFull`] if there were as many events as a detector accepts, or if as many entries are
+    ///   stored as are allowed;
+    /// - [`Refusal::NoMemory`] if memory was refused for the entry, for the published event, or for the lists that
+    ///   hold them.
+    pub fn apply_into<R: Wait>(
+        &mut self,
+        rt: &R,
+        alloc: Global,
+        seat: usize,
+        event: &Event,
+        reply: &mut Reply,
+    ) -> Result<u64, Refusal>
+        requires { is_open event.now ≡ false }
+        ensures answered { IfOk result (λ place. (self.new ≡ with_entry self.old seat event.now)
+            × (place ≡ count_of self.old)
+            × (reply.new ≡ reply_after (all_events self.old) event.now)) }
+        ensures refused { OnErr result ((self.new ≡ self.old) × (reply.new ≡ reply.old)) }
         // Which refusal it is.
         ensures exact { MatchResult result (λ _. refusal_of self.old seat ≡ None)
             (λ e. (refusal_of self.old seat ≡ Some e)
@@ -206,13 +236,12 @@ impl<A: AgentName> Kept<A> {
             self.history.withdraw();
             return Err(Refusal::NoMemory);
         }
-        let mut reply = Reply::default();
-        self.detector.step(event, &mut reply);
-        self.history.complete(alloc, &reply);
+        self.detector.step(event, reply);
+        self.history.complete(alloc, reply);
         self.feed.publish(rt);
         let place = self.count;
         self.count += 1;
-        Ok(Receipt { place, reply })
+        Ok(place)
     }
 
     /// Cuts off all stored entries: a summary of all events so far is kept instead, and they are added to the counts
@@ -254,22 +283,24 @@ impl<A: AgentName> Kept<A> {
         self.feed.compare(look);
     }
 
-    /// One call of the pass with this seat: applies its event, and brings its look up to date. Refused with
-    /// [`Refusal::Behind`] if the look has seen more than is published, otherwise as [`Kept::apply`] is.
-    pub(crate) fn call<R: Wait>(
+    /// One call of the pass with this seat: applies its event, writes the reply over `reply`, and brings its look up to
+    /// date. Returns the position of the entry. Refused with [`Refusal::Behind`] if the look has seen more than is
+    /// published, otherwise as [`Kept::apply_into`] is.
+    pub(crate) fn call_into<R: Wait>(
         &mut self,
         rt: &R,
         alloc: Global,
         seat: usize,
         look: &mut Look<A>,
         event: &Event,
-    ) -> Result<Receipt, Refusal>
+        reply: &mut Reply,
+    ) -> Result<u64, Refusal>
         requires event { is_open event.now ≡ false }
         requires look { begins_open look.old ≡ true }
         requires seat { (0 < seat) × (seat ≤ A.places) }
-        ensures answered { IfOk result (λ r. IsAnswered look.old event.now r look.new) }
-        ensures history { IfOk result (λ r. self.new ≡ with_entry self.old seat event.now) }
-        ensures refused { OnErr result ((self.new ≡ self.old) × (look.new ≡ look.old)) }
+        ensures answered { IfOk result (λ place. IsAnswered look.old event.now (receipt_of place reply.new) look.new) }
+        ensures history { IfOk result (λ _. self.new ≡ with_entry self.old seat event.now) }
+        ensures refused { OnErr result ((self.new ≡ self.old) × (look.new ≡ look.old) × (reply.new ≡ reply.old)) }
         ensures refusal { IfErr result (IsRefusal look.old) }
         // Which refusal it is.
         ensures exact { IfErr result (λ e. ((count_of self.old < length look.old)
@@ -285,7 +316,7 @@ impl<A: AgentName> Kept<A> {
         // What the look has seen begins all events, so its opening gives the limit.
         self.compare(look);
         let _history = self.history();
-        let answer = self.apply(rt, alloc, seat, event);
+        let answer = self.apply_into(rt, alloc, seat, event, reply);
         if answer.is_ok() {
             self.tell(look);
         }
@@ -326,10 +357,10 @@ impl<A: AgentName> Kept<A> {
 
 /// Adds to the count of each seat how many of these entries it made.
 fn count_seats(counts: &mut [u64; SEATS], entries: &[Entry])
-    requires seats { All (λ x. x.seat ≤ 32) entries.now }
-    requires room { (seat : ℕ) → of_seat counts.old seat + length entries.now ≤ 4000000000 }
+    requires seats { All (λ x. x.seat ≤ MAX_PLACES) entries.now }
+    requires room { (seat : ℕ) → of_seat counts.old seat + length entries.now ≤ MAX_EVENTS }
     ensures counts { (seat : ℕ) → of_seat counts.new seat ≡ of_seat counts.old seat + made_by seat entries.now }
-    ensures long { length counts.new ≡ 33 }
+    ensures long { length counts.new ≡ SEATS }
 {
     for entry in entries {
         counts[entry.seat()] += 1;

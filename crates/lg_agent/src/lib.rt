@@ -32,7 +32,7 @@ mod spent;
 pub use agent::Agent;
 pub use closed::Closed;
 pub use closing::Unclosed;
-pub use kept::Kept;
+pub use kept::{Kept, MAX_PLACES};
 pub use lg_detector::NoMemory;
 pub use name::AgentName;
 pub use pass::Pass;

@@ -9,7 +9,7 @@ ghost use Rattle.lg_packet.specs.Meaning.Reading.{packet_of};
 ghost use Rattle.lg_detector.specs.declared.event.Event.TheVariants.{Tick, Heard, Ask, Health, Pull};
 ghost use Rattle.lg_detector.specs.Meaning.Step.{is_open};
 ghost use Rattle.lg_agent.specs.declared.refusal.Refusal.TheVariants.{BadPacket, NoMemory};
-ghost use Rattle.lg_agent.specs.Meaning.Calls.{IsCall, IsRefusal, IsBadPacket, IsRotatedPass};
+ghost use Rattle.lg_agent.specs.Meaning.Calls.{receipt_of, IsCall, IsRefusal, IsBadPacket, IsRotatedPass};
 
 use crate::kept::Kept;
 use crate::name::AgentName;
@@ -17,7 +17,7 @@ use crate::receipt::Receipt;
 use crate::refusal::Refusal;
 use crate::spent::Spent;
 use left_right::Absorb;
-use lg_detector::Event;
+use lg_detector::{Event, Reply};
 use lg_packet::decode;
 use lg_rules::{Addr, Name};
 use lg_timing::Moment;
@@ -33,6 +33,10 @@ use std::sync::{Mutex, Wait};
 /// Each call takes the lock, and may wait for it. An answered call makes one entry of the history. Its reply is the
 /// one that the definitions give to its event after a list of events that begins with all that the pass had seen. A
 /// refused call makes no entry, and changes nothing.
+///
+/// A call has two forms. One returns a [`Receipt`], with the reply in it. The other, whose name ends in `_into`, writes
+/// the reply over one that its caller keeps, and returns the position of the call's entry. A reply takes some 5 KB, so
+/// a loop that keeps one copies less. If a call of the second form is refused, the reply is as it was.
 #[derive(Drop)]
 pub struct Pass<'a, A: AgentName>
 where
@@ -55,13 +59,19 @@ where
 
 impl<'a, A: AgentName> Pass<'a, A> {
     /// Makes one event, under the lock.
-    fn call<R: Wait>(&mut self, rt: &R, alloc: Global, event: &Event) -> Result<Receipt, Refusal>
+    fn call_into<R: Wait>(
+        &mut self,
+        rt: &R,
+        alloc: Global,
+        event: &Event,
+        reply: &mut Reply,
+    ) -> Result<u64, Refusal>
         requires { is_open event.now ≡ false }
-        ensures answered { MatchResult result (λ r. IsCall self.old event.now r self.new)
-            (λ _. self.new ≡ self.old) }
+        ensures answered { MatchResult result (λ place. IsCall self.old event.now (receipt_of place reply.new) self.new)
+            (λ _. (self.new ≡ self.old) × (reply.new ≡ reply.old)) }
         ensures refusal { IfErr result (IsRefusal self.old.seen) }
     {
-        self.own.call(self.kept, rt, alloc, event)
+        self.own.call_into(self.kept, rt, alloc, event, reply)
     }
 
     /// Time has passed: fires the first timer that is due, if one is. The moment is in milliseconds, and the words
@@ -77,7 +87,26 @@ impl<'a, A: AgentName> Pass<'a, A> {
             (λ _. self.new ≡ self.old) }
         ensures refusal { IfErr result (IsRefusal self.old.seen) }
     {
-        self.call(rt, alloc, &Event::Tick { now, words })
+        let mut reply = Reply::default();
+        let place = self.tick_into(rt, alloc, now, words, &mut reply)?;
+        Ok(Receipt { place, reply })
+    }
+
+    /// As [`Pass::tick`], with the reply written over `reply`. Returns the position of the call's entry.
+    pub fn tick_into<R: Wait>(
+        &mut self,
+        rt: &R,
+        alloc: Global,
+        now: Moment,
+        words: [u32; 8],
+        reply: &mut Reply,
+    ) -> Result<u64, Refusal>
+        ensures answered { MatchResult result
+            (λ place. IsCall self.old (Tick now words) (receipt_of place reply.new) self.new)
+            (λ _. (self.new ≡ self.old) × (reply.new ≡ reply.old)) }
+        ensures refusal { IfErr result (IsRefusal self.old.seen) }
+    {
+        self.call_into(rt, alloc, &Event::Tick { now, words }, reply)
     }
 
     /// A datagram came from an address: hears the packet that its bytes spell. If they are no packet, and only then,
@@ -97,8 +126,30 @@ impl<'a, A: AgentName> Pass<'a, A> {
         ensures only { (f : Broken) → result ≡ Err (BadPacket f) → packet_of bytes.now ≡ Err f }
         ensures refusal { IfErr result (λ e. IsBadPacket e ⊎ IsRefusal self.old.seen e) }
     {
+        let mut reply = Reply::default();
+        let place = self.datagram_into(rt, alloc, now, source, bytes, &mut reply)?;
+        Ok(Receipt { place, reply })
+    }
+
+    /// As [`Pass::datagram`], with the reply written over `reply`. Returns the position of the call's entry.
+    pub fn datagram_into<R: Wait>(
+        &mut self,
+        rt: &R,
+        alloc: Global,
+        now: Moment,
+        source: Addr,
+        bytes: &[u8],
+        reply: &mut Reply,
+    ) -> Result<u64, Refusal>
+        ensures answered { IfOk result (λ place. (p : Read) × (packet_of bytes.now ≡ Ok p)
+            × IsCall self.old (Heard now source p) (receipt_of place reply.new) self.new) }
+        ensures refused { OnErr result ((self.new ≡ self.old) × (reply.new ≡ reply.old)) }
+        ensures bad { (f : Broken) → packet_of bytes.now ≡ Err f → result ≡ Err (BadPacket f) }
+        ensures only { (f : Broken) → result ≡ Err (BadPacket f) → packet_of bytes.now ≡ Err f }
+        ensures refusal { IfErr result (λ e. IsBadPacket e ⊎ IsRefusal self.old.seen e) }
+    {
         match decode(bytes) {
-            Ok(packet) => self.call(
+            Ok(packet) => self.call_into(
                 rt,
                 alloc,
                 &Event::Heard {
@@ -106,6 +157,7 @@ impl<'a, A: AgentName> Pass<'a, A> {
                     source,
                     packet,
                 },
+                reply,
             ),
             Err(fault) => Err(Refusal::BadPacket(fault)),
         }
@@ -123,7 +175,26 @@ impl<'a, A: AgentName> Pass<'a, A> {
             (λ _. self.new ≡ self.old) }
         ensures refusal { IfErr result (IsRefusal self.old.seen) }
     {
-        self.call(rt, alloc, &Event::Ask { now, name: *name })
+        let mut reply = Reply::default();
+        let place = self.ask_into(rt, alloc, now, name, &mut reply)?;
+        Ok(Receipt { place, reply })
+    }
+
+    /// As [`Pass::ask`], with the reply written over `reply`. Returns the position of the call's entry.
+    pub fn ask_into<R: Wait>(
+        &mut self,
+        rt: &R,
+        alloc: Global,
+        now: Moment,
+        name: &Name,
+        reply: &mut Reply,
+    ) -> Result<u64, Refusal>
+        ensures answered { MatchResult result
+            (λ place. IsCall self.old (Ask now name.now) (receipt_of place reply.new) self.new)
+            (λ _. (self.new ≡ self.old) × (reply.new ≡ reply.old)) }
+        ensures refusal { IfErr result (IsRefusal self.old.seen) }
+    {
+        self.call_into(rt, alloc, &Event::Ask { now, name: *name }, reply)
     }
 
     /// Asks for the health score, this member's incarnation and the number of members.
@@ -137,7 +208,25 @@ impl<'a, A: AgentName> Pass<'a, A> {
             (λ _. self.new ≡ self.old) }
         ensures refusal { IfErr result (IsRefusal self.old.seen) }
     {
-        self.call(rt, alloc, &Event::Health { now })
+        let mut reply = Reply::default();
+        let place = self.health_into(rt, alloc, now, &mut reply)?;
+        Ok(Receipt { place, reply })
+    }
+
+    /// As [`Pass::health`], with the reply written over `reply`. Returns the position of the call's entry.
+    pub fn health_into<R: Wait>(
+        &mut self,
+        rt: &R,
+        alloc: Global,
+        now: Moment,
+        reply: &mut Reply,
+    ) -> Result<u64, Refusal>
+        ensures answered { MatchResult result
+            (λ place. IsCall self.old (Health now) (receipt_of place reply.new) self.new)
+            (λ _. (self.new ≡ self.old) × (reply.new ≡ reply.old)) }
+        ensures refusal { IfErr result (IsRefusal self.old.seen) }
+    {
+        self.call_into(rt, alloc, &Event::Health { now }, reply)
     }
 
     /// Asks another member, at this address, for its table.
@@ -152,7 +241,26 @@ impl<'a, A: AgentName> Pass<'a, A> {
             (λ _. self.new ≡ self.old) }
         ensures refusal { IfErr result (IsRefusal self.old.seen) }
     {
-        self.call(rt, alloc, &Event::Pull { now, peer })
+        let mut reply = Reply::default();
+        let place = self.pull_into(rt, alloc, now, peer, &mut reply)?;
+        Ok(Receipt { place, reply })
+    }
+
+    /// As [`Pass::pull`], with the reply written over `reply`. Returns the position of the call's entry.
+    pub fn pull_into<R: Wait>(
+        &mut self,
+        rt: &R,
+        alloc: Global,
+        now: Moment,
+        peer: Addr,
+        reply: &mut Reply,
+    ) -> Result<u64, Refusal>
+        ensures answered { MatchResult result
+            (λ place. IsCall self.old (Pull now peer) (receipt_of place reply.new) self.new)
+            (λ _. (self.new ≡ self.old) × (reply.new ≡ reply.old)) }
+        ensures refusal { IfErr result (IsRefusal self.old.seen) }
+    {
+        self.call_into(rt, alloc, &Event::Pull { now, peer }, reply)
     }
 
     /// Cuts the stored entries off the history; a summary of all events so far is kept instead. Returns how many they

@@ -6,14 +6,13 @@ ghost use Rattle.std.specs.Prelude.{◌≡◌, ◌+◌, ◌≤◌, drop, length,
 ghost use Rattle.std.specs.Vec.{vec_capacity};
 ghost use Rattle.lg_detector.specs.Meaning.Step.{is_open};
 ghost use Rattle.lg_agent.specs.declared.refusal.Refusal.TheVariants.{NoMemory};
-ghost use Rattle.lg_agent.specs.Meaning.Calls.{with_entry, IsCall, IsRefusal, IsRotated, IsRotatedPass};
+ghost use Rattle.lg_agent.specs.Meaning.Calls.{with_entry, receipt_of, IsCall, IsRefusal, IsRotated, IsRotatedPass};
 ghost use Rattle.lg_agent.specs.Meaning.Closing.{below};
 
 use crate::kept::Kept;
 use crate::name::AgentName;
-use crate::receipt::Receipt;
 use crate::refusal::Refusal;
-use lg_detector::Event;
+use lg_detector::{Event, Reply};
 use lg_rules::Name;
 use lg_view::Look;
 use std::alloc::Global;
@@ -94,50 +93,53 @@ impl<A: AgentName> Spent<A> {
         self.mine.as_slice()
     }
 
-    /// Makes one event, under the lock, which is taken once.
-    pub(crate) fn call<R: Wait>(
+    /// Makes one event, under the lock, which is taken once. Writes the reply over `reply`, and returns the position of
+    /// the entry.
+    pub(crate) fn call_into<R: Wait>(
         &mut self,
         kept: &Mutex<Kept<A>>,
         rt: &R,
         alloc: Global,
         event: &Event,
-    ) -> Result<Receipt, Refusal>
+        reply: &mut Reply,
+    ) -> Result<u64, Refusal>
         requires { is_open event.now ≡ false }
-        ensures answered { MatchResult result (λ r. IsCall self.old event.now r self.new)
-            (λ _. self.new ≡ self.old) }
+        ensures answered { MatchResult result (λ place. IsCall self.old event.now (receipt_of place reply.new) self.new)
+            (λ _. (self.new ≡ self.old) × (reply.new ≡ reply.old)) }
         ensures refusal { IfErr result (IsRefusal self.old.seen) }
     {
         let mut guard = kept.lock(rt);
-        let answer = self.call_in(&mut guard, rt, alloc, event);
+        let answer = self.call_in(&mut guard, rt, alloc, event, reply);
         MutexGuard::unlock(guard);
         answer
     }
 
     /// Makes one event, by the value under the lock. First it reserves memory for the position. Then it applies the
     /// event, brings the look up to date, and keeps the position. If it is refused, neither the pass nor the value
-    /// has changed.
+    /// nor the reply has changed.
     fn call_in<R: Wait>(
         &mut self,
         kept: &mut Kept<A>,
         rt: &R,
         alloc: Global,
         event: &Event,
-    ) -> Result<Receipt, Refusal>
+        reply: &mut Reply,
+    ) -> Result<u64, Refusal>
         requires { is_open event.now ≡ false }
-        ensures answered { IfOk result (λ r. IsCall self.old event.now r self.new) }
+        ensures answered { IfOk result (λ place. IsCall self.old event.now (receipt_of place reply.new) self.new) }
         ensures history { IfOk result (λ _. kept.new ≡ with_entry kept.old self.old.seat event.now) }
-        ensures refused { OnErr result ((self.new ≡ self.old) × (kept.new ≡ kept.old)) }
+        ensures refused { OnErr result ((self.new ≡ self.old) × (kept.new ≡ kept.old) × (reply.new ≡ reply.old)) }
         ensures refusal { IfErr result (IsRefusal self.old.seen) }
     {
         if self.mine.reserve(1).is_err() {
             return Err(Refusal::NoMemory);
         }
         let base = kept.base();
-        let answer = kept.call(rt, alloc, self.seat, &mut self.look, event);
-        if let Ok(receipt) = &answer {
+        let answer = kept.call_into(rt, alloc, self.seat, &mut self.look, event, reply);
+        if let Ok(place) = &answer {
             let moved = cut_positions(base, &mut self.mine);
             self.gone += moved as u64;
-            self.mine.push_reserved(receipt.place);
+            self.mine.push_reserved(*place);
         }
         answer
     }

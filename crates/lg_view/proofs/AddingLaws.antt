@@ -6,12 +6,13 @@ use mathlib.Core.List.{IsPrefix}
 use prog.Atomic.{either}
 use Rattle.logbook.specs.Pages.{Cell, cell, keeps, no_nib, step, Moves, Goes}
 use Rattle.lg_detector.specs.declared.event.Event.{Event}
+use Rattle.lg_detector.specs.declared.detector.TheConstants.{MAX_EVENTS}
 use Rattle.lg_detector.specs.Meaning.Step.{is_accepted}
 use Rattle.lg_view.specs.Meaning.Rule.{IsKept, Adds}
 use Rattle.lg_view.proofs.Fronts.{prefix_whole}
 
 -- an accepted list isn't too long for a word
-pub accepted_short : (f : List Event) → is_accepted f ≡ true → length f ≤ 4000000000
+pub accepted_short : (f : List Event) → is_accepted f ≡ true → length f ≤ MAX_EVENTS
 accepted_short [] a = omega arith
 accepted_short (e ∷ f) a = grind (arith, nat_tests)
 

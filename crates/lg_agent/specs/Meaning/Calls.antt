@@ -4,6 +4,7 @@ use Rattle.std.specs.Prelude.{if◌then◌else◌}
 use Rattle.std.specs.Prelude.{List, [], ◌∷◌, ◌++◌, length, Option, Some, None, All}
 use mathlib.Core.List.{IsPrefix}
 use Rattle.lg_detector.specs.declared.event.Event.{Event}
+use Rattle.lg_detector.specs.declared.reply.Reply.{Reply}
 use Rattle.lg_detector.specs.Meaning.Step.{is_accepted, reply_after, most_events}
 use Rattle.lg_detector.specs.Support.State.{State}
 use Rattle.lg_detector.specs.Support.Summary.{IsSummary}
@@ -42,6 +43,10 @@ refusal_of l seat =
     else (if nat_le most_events (count_of l)
     then Some (HistoryFull most_events)
     else (if nat_le l.limit (length l.history) then Some (HistoryFull l.limit) else None))
+
+-- the receipt of an answered call, by the position of its entry and the reply that was written for it
+abbrev pub receipt_of : ℕ → Reply → Receipt
+receipt_of place reply = record { place = place; reply = reply }
 
 -- An answered call, by what its caller has seen before and after. There is an accepted list of events which begins
 -- with all that the caller had seen and ends with the call's event. The event has the receipt's position (`place`),

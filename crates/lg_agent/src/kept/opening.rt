@@ -12,7 +12,7 @@ ghost use Rattle.lg_history.specs.Meaning.History.{entry};
 ghost use Rattle.lg_history.specs.Meaning.Rest.{of_seat};
 ghost use Rattle.lg_agent.specs.declared.refusal.Refusal.TheVariants.{NoMemory, NoPlace};
 
-use super::{Kept, SEATS};
+use super::{Kept, MAX_PLACES, SEATS};
 use crate::name::AgentName;
 use crate::refusal::Refusal;
 use lg_detector::{Detector, Event, NoMemory, Reply};
@@ -26,8 +26,8 @@ impl<A: AgentName> Kept<A> {
     /// A history of one entry, that of the opening, and a look for each seat, which has seen nothing.
     ///
     /// The book has to be the one that `A` names, and the configuration has to be checked. The places have to be 1 to
-    /// 32, as many as `A` names. Refused with [`Refusal::NoPlace`] if there was no reader for a seat, or with
-    /// [`Refusal::NoMemory`] if memory was refused.
+    /// [`MAX_PLACES`], as many as `A` names. Refused with [`Refusal::NoPlace`] if there was no reader for a seat, or
+    /// with [`Refusal::NoMemory`] if memory was refused.
     pub fn open<R: Wait>(
         rt: &R,
         alloc: Global,
@@ -38,7 +38,7 @@ impl<A: AgentName> Kept<A> {
     ) -> Result<(Kept<A>, Vec<Look<A>>), Refusal>
         requires book { book.seen.book ≡ A.book }
         requires config { IsChecked config }
-        requires places { (0 < places) × (places ≤ 32) × (places ≡ A.places) }
+        requires places { (0 < places) × (places ≤ MAX_PLACES) × (places ≡ A.places) }
         ensures kept { IfOk result (λ r. r.0 ≡ record {
           places = places;
           limit = config.history_limit;
@@ -72,7 +72,7 @@ impl<A: AgentName> Kept<A> {
     ) -> Result<Kept<A>, Refusal>
         requires feed { (feed.events ≡ []) × (feed.waiting ≡ []) }
         requires config { IsChecked config }
-        requires places { (0 < places) × (places ≤ 32) × (places ≡ A.places) }
+        requires places { (0 < places) × (places ≤ MAX_PLACES) × (places ≡ A.places) }
         ensures kept { IfOk result (λ k. k ≡ record {
           places = places;
           limit = config.history_limit;

@@ -16,6 +16,7 @@ use crate::front::Front;
 use crate::published::Published;
 use arrayvec::ArrayVec;
 use crossbeam_utils::rule::Unruled;
+use lg_detector::MAX_MEMBERS;
 use lg_rules::{Name, Record};
 
 /// The front alone.
@@ -71,7 +72,7 @@ pub(super) fn read_members<P: PairName>(
     reader: LookReader<P>,
     mut records: Vec<Record>,
 ) -> (LookReader<P>, Option<(Vec<Record>, Front<P>)>)
-    requires { (records.items ≡ []) × (256 ≤ vec_capacity records) }
+    requires { (records.items ≡ []) × (MAX_MEMBERS ≤ vec_capacity records) }
     ensures { IfSome result.1 (λ taken. taken.0.items ≡ view_after taken.1) }
 {
     match reader.enter_as::<Unruled>() {
@@ -86,7 +87,7 @@ pub(super) fn read_members<P: PairName>(
 
 /// Writes the records of all members into an empty list with enough capacity for them.
 fn put_records<P: PairName>(published: &Published<P>, records: &mut Vec<Record>)
-    requires { (records.old.items ≡ []) × (256 ≤ vec_capacity records.old) }
+    requires { (records.old.items ≡ []) × (MAX_MEMBERS ≤ vec_capacity records.old) }
     ensures { records.new.items ≡ view_after published.now }
 {
     let mut row = ArrayVec::new();

@@ -5,6 +5,7 @@ use Rattle.lg_detector.specs.Support.State.{State}
 use Rattle.lg_detector.specs.Support.Summary.{IsSummary}
 use Rattle.lg_history.specs.Meaning.Rest.{StandsFor, AnsweredFrom}
 use Rattle.lg_history.proofs.Rests.{rest_accepted, rest_answered, rest_seats, answered_from}
+use Rattle.lg_agent.specs.declared.kept.TheConstants.{SEATS}
 use Rattle.lg_agent.proofs.kept.Kept.summary.Goals as goal
 
 pub returns-clause-accepted : goal.returns-clause-accepted
@@ -25,5 +26,5 @@ returns-clause-from g c =
 pub returns-clause-seats : goal.returns-clause-seats
 returns-clause-seats g c =
     let k = c.self.inside in
-    let long : length k.cut ≡ 33 = c.self.invariant.14 in
+    let long : length k.cut ≡ SEATS = c.self.invariant.14 in
     rw (← c.self.view_is) (rest_seats k.places (take k.base k.feed.events) k.cut k.history.entries c.self.invariant.0 (omega (arith, long, c.self.invariant.12)))

@@ -7,7 +7,7 @@ use Rattle.lg_history.specs.Meaning.History.{Entry, HistoryValue, entry, events,
 use Rattle.lg_view.specs.Meaning.Views.{Stream}
 use Rattle.lg_agent.specs.Meaning.Ledger.{own_name, own_limit}
 use Rattle.lg_agent.proofs.LedgerLaws.{goes_on, GoesOn, past_stays}
-use Rattle.lg_agent.proofs.kept.Kept.apply.Goals as goal
+use Rattle.lg_agent.proofs.kept.Kept.apply_into.Goals as goal
 
 pub step-requires : goal.step-requires
 step-requires g c =
