@@ -16,14 +16,12 @@ ghost use Rattle.lg_commands.specs.Support.Hearing.{line_end, with_heard, Accept
 use crate::line::LineFault;
 use arrayvec::ArrayVec;
 use lg_detector::{Detector, Event, NoMemory, Outgoing, Reply};
-use lg_packet::{MAX_PACKET, Packet};
+use lg_packet::Packet;
+use lg_report::{Row, put_hex};
 use lg_rules::{Addr, Name};
-use lg_text::{End, MAX_INPUT, cut_line, put_hex};
+use lg_text::{End, MAX_INPUT, cut_line};
 use lg_timing::{Config, Moment};
 use std::alloc::Global;
-
-/// A buffer for the bytes of a packet that is written.
-type Row = ArrayVec<u8, MAX_PACKET>;
 
 /// The address of the machine itself.
 const LOCALHOST: [u8; 4] = [127, 0, 0, 1];

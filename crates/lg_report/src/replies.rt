@@ -8,15 +8,10 @@ ghost use Rattle.lg_report.specs.Meaning.Replies.{answer_line, fired_text, healt
 ghost use Rattle.lg_report.specs.Meaning.Replies.{ousted_text, reply_text, send_line, sends_text};
 ghost use Rattle.lg_report.specs.Meaning.Replies.{subject_text, tick_text, told_text};
 
+use crate::packet::{Row, put_hex};
 use crate::records::{put, put_addr, put_numbered, put_record, put_records};
-use arrayvec::ArrayVec;
 use lg_detector::{Answer, Event, MAX_SENDS, NoMemory, Outgoing, Reply, Timer, TimerId};
-use lg_packet::MAX_PACKET;
 use lg_rules::Incarnation;
-use lg_text::put_hex;
-
-/// A buffer for the bytes of a packet that is written.
-type Row = ArrayVec<u8, MAX_PACKET>;
 
 /// The word for the kind of a timer.
 fn kind_word(id: &TimerId) -> &'static str
@@ -220,7 +215,7 @@ pub fn put_reply(
     event: &Event,
     first: u64,
     reply: &Reply,
-    row: &mut ArrayVec<u8, MAX_PACKET>,
+    row: &mut Row,
     text: &mut Vec<u8>,
 ) -> Result<(), NoMemory>
     requires { first + MAX_SENDS < 2 ^ 64 }

@@ -8,7 +8,6 @@ mod input;
 mod lines;
 mod number;
 mod output;
-mod packet;
 
 pub use end::End;
 pub use fault::RunFault;
@@ -16,4 +15,3 @@ pub use input::{MAX_INPUT, read_input};
 pub use lines::cut_line;
 pub use number::{MAX_DIGITS, number_in};
 pub use output::{report, write_whole};
-pub use packet::put_hex;

@@ -20,7 +20,7 @@ use Rattle.lg_detector.specs.declared.reply.Reply.{Reply}
 use Rattle.lg_detector.specs.Meaning.Examples.{a, b, c, at, nothing, opening, says, ticks, timer_of}
 use Rattle.lg_text.specs.Meaning.Lines.{newline}
 use Rattle.lg_report.specs.Meaning.Records.{table_text}
-use Rattle.lg_report.specs.Meaning.Replies.{reply_text}
+use Rattle.lg_report.specs.Meaning.Replies.{packet_text, reply_text}
 
 -- What has to be unfolded to compute a worked reply.
 unfoldable pub by_computing : Unit {0}
@@ -70,6 +70,12 @@ acks = refl
 hears_an_ack : reply_text (says 20 (Ack 1) []) 3 (nothing 1000) ≡ lines (codes "next 1000" ∷ [])
 unfolding by_computing
 hears_an_ack = refl
+
+-- an Ack of b, numbered 7
+acked : packet_text record { sender = 98 ∷ []; body = Ack 7; claims = record { items = [] } }
+    ≡ codes "534c010301620000000700"
+unfolding by_computing
+acked = refl
 
 -- ---- a suspicion, the buddy and the refutation
 

@@ -1,9 +1,5 @@
 -- Worked rows.
 use Rattle.std.specs.Prelude.{◌≡◌, [], ◌∷◌, ◌++◌, Some, None, codes, refl}
-use Rattle.hex.proofs.OnLiterals.{hex_on_literals}
-use Rattle.hex.specs.Hex.{encode_lower}
-use Rattle.lg_packet.specs.Meaning.Spelling.{spelling}
-use Rattle.lg_packet.specs.declared.packet.Body.TheVariants.{Ack}
 use Rattle.lg_text.specs.Meaning.Faults.{run_fault_text}
 use Rattle.lg_text.specs.Meaning.Lines.{lines_of}
 use Rattle.lg_text.specs.Meaning.Numbers.{number_of}
@@ -33,12 +29,6 @@ signed = refl
 
 no-digit : number_of [] ≡ None
 no-digit = refl
-
--- an Ack of b, numbered 7
-acked : encode_lower (spelling record { sender = 98 ∷ []; body = Ack 7; claims = record { items = [] } })
-    ≡ codes "534c010301620000000700"
-unfolding hex_on_literals spelling
-acked = refl
 
 read-fault : run_fault_text Read ≡ codes "lg: read" ++ 10 ∷ []
 read-fault = refl
