@@ -7,7 +7,7 @@ use Rattle.std.proofs.lemmas.List.{take_all, take_min, take_more, get_or-map}
 use Rattle.std.proofs.Math.Nat.{min-eq_left, min-eq_right}
 use Rattle.std.proofs.Math.Seq.{take-append-add}
 use Rattle.lg_detector.specs.declared.event.Event.{Event}
-use Rattle.lg_detector.specs.Meaning.Choice.{choice, targets_after}
+use Rattle.lg_detector.specs.Meaning.Choice.{choice_of_reply, targets_after}
 use Rattle.lg_detector.specs.Meaning.Step.{is_accepted, reply_after}
 use Rattle.lg_detector.specs.Support.State.{State}
 use Rattle.lg_detector.proofs.Accepting.{events-after}
@@ -39,7 +39,7 @@ answered_at f (x ∷ h) (suc i) d answered low =
 abbrev pub chosen_before : List Event → List Entry → ℕ → List (List ℕ)
 chosen_before f h i = targets_after (take i (f ++ events h))
 
-pub chosen_more : (f : List Event) (h : List Entry) (i : ℕ) (d : Entry) (told : Option (List ℕ)) → Answered f h → i < length h → told ≡ choice (get_or h i d).reply → chosen_before f h (length f + (i + 1)) ≡ chosen_before f h (length f + i) ++ option_to_list told
+pub chosen_more : (f : List Event) (h : List Entry) (i : ℕ) (d : Entry) (told : Option (List ℕ)) → Answered f h → i < length h → told ≡ choice_of_reply (get_or h i d).reply → chosen_before f h (length f + (i + 1)) ≡ chosen_before f h (length f + i) ++ option_to_list told
 chosen_more f h i d told answered low is =
     let e : Event = (get_or h i d).event in
     let long : i < length (events h) = omega (arith, length-events h) in
@@ -52,7 +52,7 @@ chosen_more f h i d told answered low is =
     ∙ ap (λ (l : List Event). targets_after l ++ option_to_list told) (sym first))
 
 -- the list of whom they chose grows with each entry
-pub names_more : (c : Left) (w : IsWell c) (from place i : ℕ) (d : Entry) (told : Option (List ℕ)) (names more : List (List ℕ)) → i < length c.history → place ≡ c.base + i → told ≡ choice (get_or c.history i d).reply
+pub names_more : (c : Left) (w : IsWell c) (from place i : ℕ) (d : Entry) (told : Option (List ℕ)) (names more : List (List ℕ)) → i < length c.history → place ≡ c.base + i → told ≡ choice_of_reply (get_or c.history i d).reply
     → ((f : List Event) → StandsFor c.summary f → is_accepted (f ++ events c.history) ≡ true → chosen_before f c.history place ≡ chosen_before f c.history from ++ names)
     → more ≡ names ++ option_to_list told
     → (f : List Event) → StandsFor c.summary f → is_accepted (f ++ events c.history) ≡ true → chosen_before f c.history (place + 1) ≡ chosen_before f c.history from ++ more

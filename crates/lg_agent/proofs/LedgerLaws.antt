@@ -8,7 +8,7 @@ use Rattle.lg_timing.specs.Meaning.Config.{check_of, IsChecked}
 use Rattle.lg_timing.proofs.ConfigLemmas.{ranges}
 use Rattle.lg_detector.specs.declared.event.Event.{Event}
 use Rattle.lg_detector.specs.declared.event.Event.TheVariants.{Open}
-use Rattle.lg_detector.specs.Meaning.Step.{is_accepted, is_open, reply_after, most_events}
+use Rattle.lg_detector.specs.Meaning.Step.{is_accepted, is_open_event, reply_after, most_events}
 use Rattle.lg_detector.specs.Support.State.{State}
 use Rattle.lg_detector.specs.Support.Step.{accepts_of, state_after}
 use Rattle.lg_detector.proofs.Accepting.{accepts-after}
@@ -46,7 +46,7 @@ pub record GoesOn (places : ℕ) (past : List Event) (cut : List ℕ) (h : List 
   pub name : own_name (past ++ events (h ++ x ∷ [])) ≡ own_name (past ++ events h)
   pub limit : own_limit (past ++ events (h ++ x ∷ [])) ≡ own_limit (past ++ events h)
 
-pub goes_on : (places : ℕ) (past : List Event) (cut : List ℕ) (h : List Entry) (s : State) (seat : ℕ) (e : Event) → IsRest places past cut h → s ≡ state_after (past ++ events h) → is_open e ≡ false → length h + length past < 4000000000 → 0 < seat → seat ≤ places
+pub goes_on : (places : ℕ) (past : List Event) (cut : List ℕ) (h : List Entry) (s : State) (seat : ℕ) (e : Event) → IsRest places past cut h → s ≡ state_after (past ++ events h) → is_open_event e ≡ false → length h + length past < 4000000000 → 0 < seat → seat ≤ places
     → GoesOn places past cut h s seat e (entry seat e (reply_after (past ++ events h) e))
 goes_on places past cut h s seat e rest after shut few low high =
     let x : Entry = entry seat e (reply_after (past ++ events h) e) in

@@ -6,7 +6,7 @@ use Rattle.std.proofs.lemmas.List.{length-drop}
 use Rattle.std.proofs.lemmas.List.Elements.{All-nil, All-cons, All-head, All-tail, All-append}
 use Rattle.lg_detector.specs.declared.event.Event.{Event}
 use Rattle.lg_detector.specs.declared.reply.Reply.{Reply}
-use Rattle.lg_detector.specs.Meaning.Step.{is_accepted, is_open, reply_after}
+use Rattle.lg_detector.specs.Meaning.Step.{is_accepted, is_open_event, reply_after}
 use Rattle.lg_history.specs.Meaning.History.{Entry, entry, events}
 use Rattle.lg_history.proofs.Legal.{events-append, length-events}
 use Rattle.lg_view.proofs.Fronts.{prefix_shorter}
@@ -60,7 +60,7 @@ answered_if l seat seen e (Err f) reply after now short done begins all accepted
 pub open_prefix : (xs ys : List Event) → IsPrefix xs ys → begins_open xs ≡ true → begins_open ys ≡ true
 open_prefix [] ys p opens = absurd cc
 open_prefix (x ∷ xs) [] p opens = absurd (cc (p.1))
-open_prefix (x ∷ xs) (y ∷ ys) p opens = let head : y ≡ x = cc (p.1) in ap is_open head ∙ opens
+open_prefix (x ∷ xs) (y ∷ ys) p opens = let head : y ≡ x = cc (p.1) in ap is_open_event head ∙ opens
 
 pub all_one_more : (n x : ℕ) (xs : List ℕ) → All (λ k. k < n) xs → x < n → All (λ k. k < n) (xs ++ x ∷ [])
 all_one_more n x xs all low = All-append (λ (k : ℕ). k < n) xs (x ∷ []) all (All-cons (λ (k : ℕ). k < n) x [] low (All-nil (λ (k : ℕ). k < n)))

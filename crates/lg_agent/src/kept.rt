@@ -5,7 +5,7 @@
 ghost use Rattle.std.specs.Prelude.{◌≡◌, ◌<◌, ◌≤◌, ◌+◌, ◌⊎◌, [], ℕ, All, length, true, false, Some, None, get_or};
 ghost use Rattle.std.specs.Prelude.{MatchResult, MatchOption, IfOk, IfErr, OnErr};
 ghost use mathlib.Core.List.{IsPrefix};
-ghost use Rattle.lg_detector.specs.Meaning.Step.{is_open, is_accepted, reply_after};
+ghost use Rattle.lg_detector.specs.Meaning.Step.{is_open_event, is_accepted, reply_after};
 ghost use Rattle.lg_detector.specs.Support.State.{State};
 ghost use Rattle.lg_history.specs.Meaning.History.{IsLegal, Answered};
 ghost use Rattle.lg_view.specs.Meaning.Views.{begins_open};
@@ -177,7 +177,7 @@ impl<A: AgentName> Kept<A> {
         seat: usize,
         event: &Event,
     ) -> Result<Receipt, Refusal>
-        requires { is_open event.now ≡ false }
+        requires { is_open_event event.now ≡ false }
         ensures answered { IfOk result (λ r. (self.new ≡ with_entry self.old seat event.now)
             × (r.place ≡ count_of self.old)
             × (r.reply ≡ reply_after (all_events self.old) event.now)) }
@@ -209,7 +209,7 @@ impl<A: AgentName> Kept<A> {
         event: &Event,
         reply: &mut Reply,
     ) -> Result<u64, Refusal>
-        requires { is_open event.now ≡ false }
+        requires { is_open_event event.now ≡ false }
         ensures answered { IfOk result (λ place. (self.new ≡ with_entry self.old seat event.now)
             × (place ≡ count_of self.old)
             × (reply.new ≡ reply_after (all_events self.old) event.now)) }
@@ -295,7 +295,7 @@ impl<A: AgentName> Kept<A> {
         event: &Event,
         reply: &mut Reply,
     ) -> Result<u64, Refusal>
-        requires event { is_open event.now ≡ false }
+        requires event { is_open_event event.now ≡ false }
         requires look { begins_open look.old ≡ true }
         requires seat { (0 < seat) × (seat ≤ A.places) }
         ensures answered { IfOk result (λ place. IsAnswered look.old event.now (receipt_of place reply.new) look.new) }

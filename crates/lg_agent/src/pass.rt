@@ -7,7 +7,7 @@ ghost use Rattle.lg_packet.specs.declared.fault.Fault.{Fault as Broken};
 ghost use Rattle.lg_packet.specs.declared.packet.Packet.{Packet as Read};
 ghost use Rattle.lg_packet.specs.Meaning.Reading.{packet_of};
 ghost use Rattle.lg_detector.specs.declared.event.Event.TheVariants.{Tick, Heard, Ask, Health, Pull};
-ghost use Rattle.lg_detector.specs.Meaning.Step.{is_open};
+ghost use Rattle.lg_detector.specs.Meaning.Step.{is_open_event};
 ghost use Rattle.lg_agent.specs.declared.refusal.Refusal.TheVariants.{BadPacket, NoMemory};
 ghost use Rattle.lg_agent.specs.Meaning.Calls.{receipt_of, IsCall, IsRefusal, IsBadPacket, IsRotatedPass};
 
@@ -66,7 +66,7 @@ impl<'a, A: AgentName> Pass<'a, A> {
         event: &Event,
         reply: &mut Reply,
     ) -> Result<u64, Refusal>
-        requires { is_open event.now ≡ false }
+        requires { is_open_event event.now ≡ false }
         ensures answered { MatchResult result (λ place. IsCall self.old event.now (receipt_of place reply.new) self.new)
             (λ _. (self.new ≡ self.old) × (reply.new ≡ reply.old)) }
         ensures refusal { IfErr result (IsRefusal self.old.seen) }

@@ -4,7 +4,7 @@
 //! Tested in: `lg_agent_tests/src/agent/leaving.rt`.
 ghost use Rattle.std.specs.Prelude.{◌≡◌, ◌+◌, ◌≤◌, drop, length, vec_len, false, MatchResult, IfErr, IfOk, OnErr};
 ghost use Rattle.std.specs.Vec.{vec_capacity};
-ghost use Rattle.lg_detector.specs.Meaning.Step.{is_open};
+ghost use Rattle.lg_detector.specs.Meaning.Step.{is_open_event};
 ghost use Rattle.lg_agent.specs.declared.refusal.Refusal.TheVariants.{NoMemory};
 ghost use Rattle.lg_agent.specs.Meaning.Calls.{with_entry, receipt_of, IsCall, IsRefusal, IsRotated, IsRotatedPass};
 ghost use Rattle.lg_agent.specs.Meaning.Closing.{below};
@@ -103,7 +103,7 @@ impl<A: AgentName> Spent<A> {
         event: &Event,
         reply: &mut Reply,
     ) -> Result<u64, Refusal>
-        requires { is_open event.now ≡ false }
+        requires { is_open_event event.now ≡ false }
         ensures answered { MatchResult result (λ place. IsCall self.old event.now (receipt_of place reply.new) self.new)
             (λ _. (self.new ≡ self.old) × (reply.new ≡ reply.old)) }
         ensures refusal { IfErr result (IsRefusal self.old.seen) }
@@ -125,7 +125,7 @@ impl<A: AgentName> Spent<A> {
         event: &Event,
         reply: &mut Reply,
     ) -> Result<u64, Refusal>
-        requires { is_open event.now ≡ false }
+        requires { is_open_event event.now ≡ false }
         ensures answered { IfOk result (λ place. IsCall self.old event.now (receipt_of place reply.new) self.new) }
         ensures history { IfOk result (λ _. kept.new ≡ with_entry kept.old self.old.seat event.now) }
         ensures refused { OnErr result ((self.new ≡ self.old) × (kept.new ≡ kept.old) × (reply.new ≡ reply.old)) }

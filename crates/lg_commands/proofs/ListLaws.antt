@@ -14,7 +14,8 @@ use Rattle.lg_rules.specs.Meaning.Name.{bad_byte, is_name, is_name_byte, name_of
 use Rattle.lg_rules.proofs.NameLemmas.{is_named}
 use Rattle.lg_rules.proofs.Tests.{both}
 use Rattle.lg_probe.specs.Meaning.Order.{picks}
-use Rattle.lg_commands.specs.Meaning.Choosing.{are_different, are_names, choices_of, comma_parts, is_word, name_lines, names_in, order_text, word_of, words_in}
+use Rattle.lg_commands.specs.Meaning.Choosing.{are_different, are_names, choices_of, comma_parts, is_word, name_lines}
+use Rattle.lg_commands.specs.Meaning.Choosing.{names_in, order_text, word_of, words_of_text}
 use Rattle.lg_commands.specs.declared.order.BadList.{BadList}
 use Rattle.lg_commands.specs.declared.order.BadList.TheVariants.{Names, Words}
 
@@ -100,14 +101,14 @@ not_word part none = go (is_word part) refl
     go true it = let no : Some (digits_value 10 part) ≡ None = sym (cond-true (is_word part) (Some (digits_value 10 part)) None it) ∙ none in absurd cc
     go false it = it
 
-pub no_words : (text items : List ℕ) → eqb (length text) 0 ≡ true → items ≡ [] → Some items ≡ words_in text
-unfolding words_in
+pub no_words : (text items : List ℕ) → eqb (length text) 0 ≡ true → items ≡ [] → Some items ≡ words_of_text text
+unfolding words_of_text
 no_words text items empty none = rw (empty, none) refl
 
 -- a part is no word
 pub bad_word : (text part : List ℕ) (k : ℕ) (d : List ℕ) → eqb (length text) 0 ≡ false → k < length (comma_parts text) → part ≡ get_or (comma_parts text) k d → word_of part ≡ None
-    → None ≡ words_in text
-unfolding words_in
+    → None ≡ words_of_text text
+unfolding words_of_text
 bad_word text part k d some within is none =
     let parts = comma_parts text in
     let bad : is_word (get_or parts k d) ≡ false = ap is_word (sym is) ∙ not_word part none in
@@ -115,8 +116,8 @@ bad_word text part k d some within is none =
 
 -- each part is a word
 pub all_words : (text : List ℕ) (parts : List (List ℕ)) (items : List ℕ) → eqb (length text) 0 ≡ false → HasRead is_word (digits_value 10) parts items → parts ≡ comma_parts text
-    → Some items ≡ words_in text
-unfolding words_in
+    → Some items ≡ words_of_text text
+unfolding words_of_text
 all_words text parts items some has ends =
     let good : list_all is_word (comma_parts text) ≡ true = ap (list_all is_word) (sym ends) ∙ has.passed in
     rw (some, good) (ap Some (has.are ∙ ap (map (digits_value 10)) ends))
@@ -138,14 +139,14 @@ pub names_good : {V : Type 0} (items : V → List (List ℕ)) (v : V) (read : Op
     → order_text names words ≡ Err Names → ⊥
 unfolding order_text
 names_good items v None names words is taken bad = absurd cc
-names_good items v (Some u) names words is taken bad = go (words_in words) (rw (← is) at bad)
+names_good items v (Some u) names words is taken bad = go (words_of_text words) (rw (← is) at bad)
   where
     go : (listed : Option (List ℕ)) → choices_of (Some (items u)) listed ≡ Err Names → ⊥
     go None e = let same : Words ≡ Names = cc in absurd cc
     go (Some ws) e = absurd cc
 
 pub words_bad : {V W : Type 0} (items : V → List (List ℕ)) (v : V) (read : Option V) (numbers : W → List ℕ) (listed : Option W) (names words : List ℕ) (e : BadList)
-    → option_map items read ≡ names_in names → ok_or read Names ≡ Ok v → option_map numbers listed ≡ words_in words → ok_or listed Words ≡ Err e
+    → option_map items read ≡ names_in names → ok_or read Names ≡ Ok v → option_map numbers listed ≡ words_of_text words → ok_or listed Words ≡ Err e
     → order_text names words ≡ Err e
 unfolding order_text
 words_bad items v None numbers listed names words e is taken said refused = absurd cc
@@ -153,7 +154,7 @@ words_bad items v (Some u) numbers None names words e is taken said refused = rw
 words_bad items v (Some u) numbers (Some w) names words e is taken said refused = absurd cc
 
 pub both_good : {V W : Type 0} (items : V → List (List ℕ)) (v : V) (read : Option V) (numbers : W → List ℕ) (w : W) (listed : Option W) (names words : List ℕ)
-    → option_map items read ≡ names_in names → ok_or read Names ≡ Ok v → option_map numbers listed ≡ words_in words → ok_or listed Words ≡ Ok w
+    → option_map items read ≡ names_in names → ok_or read Names ≡ Ok v → option_map numbers listed ≡ words_of_text words → ok_or listed Words ≡ Ok w
     → (chosen : List (List ℕ)) (text : List ℕ) → chosen ≡ picks (items v) (numbers w) → text ≡ name_lines chosen
     → order_text names words ≡ Ok text
 unfolding order_text

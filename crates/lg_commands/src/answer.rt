@@ -8,7 +8,7 @@ ghost use Rattle.std.specs.List.{flat_map};
 ghost use Rattle.lg_detector.specs.Support.Step.{state_after};
 ghost use Rattle.lg_detector.specs.declared.event.Event.{Event as Happened};
 ghost use Rattle.lg_text.specs.Meaning.Lines.{newline};
-ghost use Rattle.lg_commands.specs.Meaning.Answering.{answer_end, answer_text, heard, line_text, opening};
+ghost use Rattle.lg_commands.specs.Meaning.Answering.{answer_end, answer_text, heard_event, line_answer, opening};
 ghost use Rattle.lg_commands.specs.Meaning.Answering.{sent_line, sent_text};
 ghost use Rattle.lg_commands.specs.Meaning.Spelled.{fault_text, packet_in};
 ghost use Rattle.lg_commands.specs.Support.Hearing.{line_end, with_heard, AcceptsHeard};
@@ -88,7 +88,7 @@ fn answer_line(
     requires space { length line.now ≤ 2 * length bytes.old + 1 }
     requires accepts { AcceptsHeard detector.old }
     ensures text { OnOk result ((earlier : List Happened) → detector.old ≡ state_after earlier
-        → text.new.items ≡ text.old.items ++ line_text earlier line.now) }
+        → text.new.items ≡ text.old.items ++ line_answer earlier line.now) }
     ensures after { (earlier : List Happened) → detector.old ≡ state_after earlier
         → detector.new ≡ state_after (with_heard earlier (packet_in line.now)) }
     ensures end { IfOk result (λ end. end ≡ line_end line.now) }

@@ -6,7 +6,7 @@ ghost use Rattle.std.specs.Prelude.{◌≡◌, ◌≢◌, Ok, Err, IfErr, IfOk};
 ghost use Rattle.std.specs.Option.{option_map};
 ghost use Rattle.lg_rules.specs.Meaning.Rows.{name_cmp, is_among};
 ghost use Rattle.lg_commands.specs.Meaning.Choosing.{are_different, name_lines, names_in};
-ghost use Rattle.lg_commands.specs.Meaning.Choosing.{order_text, word_of, words_in};
+ghost use Rattle.lg_commands.specs.Meaning.Choosing.{order_text, word_of, words_of_text};
 ghost use Rattle.lg_commands.specs.Meaning.Faults.{bad_list_text};
 ghost use Rattle.lg_commands.specs.Meaning.Running.{IsFaultOf};
 
@@ -124,7 +124,7 @@ fn word_of(text: &str) -> Option<u32>
 
 /// The words between the commas of a text, if each part is a word. An empty text has none.
 fn words_in(alloc: Global, text: &str) -> Result<Option<Vec<u32>>, AllocError>
-    ensures { IfOk result (λ words. option_map (λ v. v.items) words ≡ words_in text.now) }
+    ensures { IfOk result (λ words. option_map (λ v. v.items) words ≡ words_of_text text.now) }
 {
     let mut words = Vec::new(alloc);
     if text.is_empty() {

@@ -9,15 +9,15 @@ use Rattle.toml.specs.Data.{get_member}
 use Rattle.toml.specs.View.{view, items_view, members_view}
 use Rattle.toml.specs.declared.value.Value.{Value}
 use Rattle.toml.proofs.Views.{Entry, view-lookup}
-use Rattle.lg_config.specs.Meaning.Keys.{are_known, are_texts, is_of_kind, is_text, kind_of}
+use Rattle.lg_config.specs.Meaning.Keys.{are_known, are_texts, is_of_kind, is_text, kind_of_key}
 
 pub texts-all : (vs : List Value) → list_all (λ v. is_text (view v)) vs ≡ are_texts (items_view vs)
 texts-all [] = refl
 texts-all (v ∷ vs) = ap (λ b. is_text (view v) && b) (texts-all vs)
 
-pub known-all : (es : List Entry) → list_all (λ e. is_of_kind (kind_of (string_bytes e.0)) (view e.1)) es ≡ are_known (members_view es)
+pub known-all : (es : List Entry) → list_all (λ e. is_of_kind (kind_of_key (string_bytes e.0)) (view e.1)) es ≡ are_known (members_view es)
 known-all [] = refl
-known-all (e ∷ es) = ap (λ b. is_of_kind (kind_of (string_bytes e.0)) (view e.1) && b) (known-all es)
+known-all (e ∷ es) = ap (λ b. is_of_kind (kind_of_key (string_bytes e.0)) (view e.1) && b) (known-all es)
 
 some-mapped : {A B : Type 0} (f : A → B) (o : Option A) → is_some o ≡ is_some (option_map f o)
 some-mapped f None = refl

@@ -6,7 +6,7 @@ use Rattle.std.proofs.lemmas.List.{take_all}
 use Rattle.std.proofs.lemmas.Option.{same_Some}
 use Rattle.lg_rules.specs.declared.addr.Addr.{Addr}
 use Rattle.lg_timing.specs.Meaning.Bounds.{most_seeds}
-use Rattle.lg_timing.specs.Meaning.Config.{are_good_seeds, check_of, defaults, fault_of, first_broken}
+use Rattle.lg_timing.specs.Meaning.Config.{are_good_seeds, check_of, defaults, fault_checked, first_broken}
 use Rattle.lg_timing.specs.declared.config.Config.{Config}
 use Rattle.lg_timing.specs.declared.config.ConfigFault.{ConfigFault}
 use Rattle.lg_timing.specs.declared.config.ConfigFault.TheVariants.{Seeds}
@@ -17,9 +17,10 @@ use Rattle.toml.specs.View.{items_view}
 use Rattle.toml.specs.declared.value.Value.{Value}
 use Rattle.lg_config.specs.declared.fault.FileFault.TheVariants as fault
 use Rattle.lg_config.specs.declared.node.NodeConfig.{NodeConfig}
-use Rattle.lg_config.specs.Meaning.Answer.{meaning_of, unless_config, unless_value}
+use Rattle.lg_config.specs.Meaning.Answer.{meaning_of, unless_config, unless_node}
 use Rattle.lg_config.specs.Meaning.Keys.{are_right_keys}
-use Rattle.lg_config.specs.Meaning.Settings.{addr_in, dice_in, name_in, seeds_at, seeds_of, settings_of, with_numbers, with_seeds}
+use Rattle.lg_config.specs.Meaning.Settings.{addr_in, dice_in, name_in, seeds_at, seeds_of_items, settings_of}
+use Rattle.lg_config.specs.Meaning.Settings.{with_numbers, with_seeds}
 use Rattle.lg_config.specs.Support.Reading.{kept, with_first_seeds}
 use Rattle.lg_config.proofs.SeedLaws.{seeds-counted}
 
@@ -29,7 +30,7 @@ abbrev or_seeds : Result (Unit {0}) ConfigFault → Result (Unit {0}) ConfigFaul
 or_seeds (Ok passed) = Err Seeds
 or_seeds (Err broken) = Err broken
 
-last-broken : (broken : Option Key) (good : Bool) → fault_of broken false ≡ or_seeds (fault_of broken good)
+last-broken : (broken : Option Key) (good : Bool) → fault_checked broken false ≡ or_seeds (fault_checked broken good)
 last-broken None true = refl
 last-broken None false = refl
 last-broken (Some key) good = refl
@@ -43,9 +44,9 @@ many-seeds c seeds many =
 
 -- ---- the seeds that settings have
 
-settings-seeds : (m : Members) (node : NodeConfig) → settings_of m ≡ Some node → seeds_of (seeds_at m) ≡ Some node.config.seeds.items
+settings-seeds : (m : Members) (node : NodeConfig) → settings_of m ≡ Some node → seeds_of_items (seeds_at m) ≡ Some node.config.seeds.items
 unfolding settings_of
-settings-seeds m node is = go (name_in m) (addr_in m) (dice_in m) (seeds_of (seeds_at m)) is
+settings-seeds m node is = go (name_in m) (addr_in m) (dice_in m) (seeds_of_items (seeds_at m)) is
   where
     go : (name : Option (List ℕ)) (addr : Option Addr) (dice : Option ℕ) (seeds : Option (List Seed))
         → option_and_then (λ n. option_and_then (λ a. option_and_then (λ d. option_and_then (λ ss. Some (let made : NodeConfig = record { config = with_seeds ss (with_numbers m (defaults n a)); dice = d } in made)) seeds) dice) addr) name ≡ Some node
@@ -57,7 +58,7 @@ settings-seeds m node is = go (name_in m) (addr_in m) (dice_in m) (seeds_of (see
     go (Some n) (Some a) (Some d) (Some ss) e = ap (option_map (λ made. made.config.seeds.items)) e
 
 settings-counted : (m : Members) (node : NodeConfig) (vs : List Value) → items_view vs ≡ seeds_at m → settings_of m ≡ Some node → length node.config.seeds.items ≡ length vs
-settings-counted m node vs same is = seeds-counted vs node.config.seeds.items (ap seeds_of same ∙ settings-seeds m node is)
+settings-counted m node vs same is = seeds-counted vs node.config.seeds.items (ap seeds_of_items same ∙ settings-seeds m node is)
 
 -- ---- what settings mean
 
@@ -86,7 +87,7 @@ pub judged-broken : (m : Members) (first : NodeConfig) (broken : ConfigFault) �
     → Err (fault.Config broken) ≡ meaning_of m
 judged-broken m first broken right found is = rw right (go (settings_of m) found)
   where
-    go : (settings : Option NodeConfig) → Some first ≡ option_map with_first_seeds settings → Err (fault.Config broken) ≡ unless_value settings
+    go : (settings : Option NodeConfig) → Some first ≡ option_map with_first_seeds settings → Err (fault.Config broken) ≡ unless_node settings
     go None e = absurd cc
     go (Some node) e = ap (unless_config node) (sym (broken-whole node broken (checked-kept first node (Err broken) e is)))
 
@@ -94,7 +95,7 @@ pub judged-many : (m : Members) (first : NodeConfig) (vs : List Value) → are_r
     → items_view vs ≡ seeds_at m → most_seeds < length vs → Err (fault.Config Seeds) ≡ meaning_of m
 judged-many m first vs right found is same many = rw right (go (settings_of m) refl found)
   where
-    go : (settings : Option NodeConfig) → settings_of m ≡ settings → Some first ≡ option_map with_first_seeds settings → Err (fault.Config Seeds) ≡ unless_value settings
+    go : (settings : Option NodeConfig) → settings_of m ≡ settings → Some first ≡ option_map with_first_seeds settings → Err (fault.Config Seeds) ≡ unless_node settings
     go None s e = absurd cc
     go (Some node) s e =
         let past : most_seeds < length node.config.seeds.items = omega (arith, many, settings-counted m node vs same s) in
@@ -104,7 +105,7 @@ pub judged-good : (m : Members) (first : NodeConfig) (vs : List Value) → are_r
     → items_view vs ≡ seeds_at m → length vs ≤ most_seeds → Ok first ≡ meaning_of m
 judged-good m first vs right found is same few = rw right (go (settings_of m) refl found)
   where
-    go : (settings : Option NodeConfig) → settings_of m ≡ settings → Some first ≡ option_map with_first_seeds settings → Ok first ≡ unless_value settings
+    go : (settings : Option NodeConfig) → settings_of m ≡ settings → Some first ≡ option_map with_first_seeds settings → Ok first ≡ unless_node settings
     go None s e = absurd cc
     go (Some node) s e =
         let within : length node.config.seeds.items ≤ most_seeds = omega (arith, few, settings-counted m node vs same s) in

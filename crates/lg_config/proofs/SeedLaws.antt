@@ -7,7 +7,7 @@ use Rattle.lg_timing.specs.declared.config.Seed.{Seed}
 use Rattle.toml.specs.Data.{Data, Items, no_items, as_array}
 use Rattle.toml.specs.View.{view, items_view}
 use Rattle.toml.specs.declared.value.Value.{Value}
-use Rattle.lg_config.specs.Meaning.Settings.{seed_of_value, seeds_of}
+use Rattle.lg_config.specs.Meaning.Settings.{seed_of_value, seeds_of_items}
 use Rattle.lg_config.specs.Support.Reading.{first_seeds, kept}
 
 -- ---- the elements at the key of the seeds
@@ -39,10 +39,10 @@ alone : (last : Option Seed) → and_others last (Some []) ≡ and_last (Some []
 alone None = refl
 alone (Some s) = refl
 
-seeds-last : (vs : List Value) (v : Value) → seeds_of (items_view (vs ++ v ∷ [])) ≡ and_last (seeds_of (items_view vs)) (seed_of_value (view v))
+seeds-last : (vs : List Value) (v : Value) → seeds_of_items (items_view (vs ++ v ∷ [])) ≡ and_last (seeds_of_items (items_view vs)) (seed_of_value (view v))
 seeds-last [] v = alone (seed_of_value (view v))
 seeds-last (w ∷ vs) v =
-    ap (and_others (seed_of_value (view w))) (seeds-last vs v) ∙ behind-first (seed_of_value (view w)) (seeds_of (items_view vs)) (seed_of_value (view v))
+    ap (and_others (seed_of_value (view w))) (seeds-last vs v) ∙ behind-first (seed_of_value (view w)) (seeds_of_items (items_view vs)) (seed_of_value (view v))
 
 -- ---- where one value is no seed
 
@@ -50,7 +50,7 @@ nothing-behind : (first : Option Seed) → and_others first None ≡ None
 nothing-behind None = refl
 nothing-behind (Some s) = refl
 
-none-at : (vs : List Value) (i : ℕ) (v : Value) → i < length vs → v ≡ get_or vs i v → seed_of_value (view v) ≡ None → seeds_of (items_view vs) ≡ None
+none-at : (vs : List Value) (i : ℕ) (v : Value) → i < length vs → v ≡ get_or vs i v → seed_of_value (view v) ≡ None → seeds_of_items (items_view vs) ≡ None
 none-at [] i v within is none = absurd (omega arith)
 none-at (w ∷ vs) zero v within is none = rw (← is, none) refl
 none-at (w ∷ vs) (suc i) v within is none = rw (none-at vs i v (omega arith) is none) (nothing-behind (seed_of_value (view w)))
@@ -84,17 +84,17 @@ full (Some ss) last seeds s read is room =
     let same : kept ss ≡ seeds = same_Some _ _ read in
     rw is (ap Some (kept-full ss s (rw same room) ∙ same))
 
-one-more : (vs : List Value) (i : ℕ) (v : Value) → i < length vs → v ≡ get_or vs i v → first_seeds (items_view (take (i + 1) vs)) ≡ option_map kept (and_last (seeds_of (items_view (take i vs))) (seed_of_value (view v)))
+one-more : (vs : List Value) (i : ℕ) (v : Value) → i < length vs → v ≡ get_or vs i v → first_seeds (items_view (take (i + 1) vs)) ≡ option_map kept (and_last (seeds_of_items (items_view (take i vs))) (seed_of_value (view v)))
 one-more vs i v within is =
     ap (λ ws. first_seeds (items_view ws)) (take_more vs i v within ∙ ap (λ w. take i vs ++ w ∷ []) (sym is)) ∙ ap (option_map kept) (seeds-last (take i vs) v)
 
 pub read-more : (vs : List Value) (i : ℕ) (v : Value) (seeds : List Seed) (s : Seed) → i < length vs → v ≡ get_or vs i v → first_seeds (items_view (take i vs)) ≡ Some seeds
     → seed_of_value (view v) ≡ Some s → length seeds < most_seeds → first_seeds (items_view (take (i + 1) vs)) ≡ Some (seeds ++ s ∷ [])
-read-more vs i v seeds s within is read found room = one-more vs i v within is ∙ more (seeds_of (items_view (take i vs))) (seed_of_value (view v)) seeds s read found room
+read-more vs i v seeds s within is read found room = one-more vs i v within is ∙ more (seeds_of_items (items_view (take i vs))) (seed_of_value (view v)) seeds s read found room
 
 pub read-full : (vs : List Value) (i : ℕ) (v : Value) (seeds : List Seed) (s : Seed) → i < length vs → v ≡ get_or vs i v → first_seeds (items_view (take i vs)) ≡ Some seeds
     → seed_of_value (view v) ≡ Some s → most_seeds ≤ length seeds → first_seeds (items_view (take (i + 1) vs)) ≡ Some seeds
-read-full vs i v seeds s within is read found none = one-more vs i v within is ∙ full (seeds_of (items_view (take i vs))) (seed_of_value (view v)) seeds s read found none
+read-full vs i v seeds s within is read found none = one-more vs i v within is ∙ full (seeds_of_items (items_view (take i vs))) (seed_of_value (view v)) seeds s read found none
 
 -- ---- how many seeds there are
 
@@ -105,7 +105,7 @@ behind-counted (Some s) (Some ts) ss n is count =
     let same : s ∷ ts ≡ ss = same_Some _ _ is in
     omega (arith, ap length same, count ts refl)
 
-pub seeds-counted : (vs : List Value) (ss : List Seed) → seeds_of (items_view vs) ≡ Some ss → length ss ≡ length vs
+pub seeds-counted : (vs : List Value) (ss : List Seed) → seeds_of_items (items_view vs) ≡ Some ss → length ss ≡ length vs
 seeds-counted [] ss is = sym (ap length (same_Some {A = List Seed} [] ss is))
 seeds-counted (v ∷ vs) ss is =
-    omega (arith, behind-counted (seed_of_value (view v)) (seeds_of (items_view vs)) ss (length vs) is (λ ts h. seeds-counted vs ts h))
+    omega (arith, behind-counted (seed_of_value (view v)) (seeds_of_items (items_view vs)) ss (length vs) is (λ ts h. seeds-counted vs ts h))

@@ -4,7 +4,7 @@
 //! Tested in: `cases/config.case`.
 ghost use Rattle.std.specs.Prelude.{◌≡◌};
 ghost use Rattle.std.specs.Option.{option_map};
-ghost use Rattle.lg_config.specs.Support.Reading.{IsParsed, text_of};
+ghost use Rattle.lg_config.specs.Support.Reading.{IsParsed, file_text};
 
 use crate::fault::{FileFault, ReadFault};
 use std::alloc::Global;
@@ -16,7 +16,7 @@ pub const MAX_FILE: usize = 65_536;
 
 /// The text that the bytes of a file spell, if they are UTF-8 and not too many.
 fn text_in(bytes: &[u8]) -> Option<&str>
-    ensures { option_map (λ text. text.now) result ≡ text_of bytes.now }
+    ensures { option_map (λ text. text.now) result ≡ file_text bytes.now }
 {
     if bytes.len() > MAX_FILE {
         return None;

@@ -5,7 +5,7 @@
 ghost use Rattle.std.specs.Prelude.{◌≡◌};
 ghost use Rattle.std.specs.List.{list_all};
 ghost use Rattle.toml.specs.View.{view, items_view, table_view};
-ghost use Rattle.lg_config.specs.Meaning.Keys.{are_right_keys, are_texts, is_of_kind, kind_of};
+ghost use Rattle.lg_config.specs.Meaning.Keys.{are_right_keys, are_texts, is_of_kind, kind_of_key};
 
 use toml::{Table, Value};
 
@@ -29,7 +29,7 @@ pub(crate) const SEEDS: &str = "seeds";
 /// The kind of a key's value. None if the key is unknown.
 #[tactic(auto, unfolding(crate::specs::Meaning::Keys::kind_of))]
 fn kind_of(key: &str) -> Option<Kind>
-    ensures { result ≡ kind_of key.now }
+    ensures { result ≡ kind_of_key key.now }
 {
     match key {
         "name" | "address" => Some(Kind::Text),

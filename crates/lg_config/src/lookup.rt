@@ -5,7 +5,7 @@
 ghost use Rattle.std.specs.Prelude.{◌≡◌};
 ghost use Rattle.std.specs.Option.{option_map};
 ghost use Rattle.toml.specs.View.{items_view, table_view};
-ghost use Rattle.lg_config.specs.Meaning.Settings.{integer_at, natural, number_at, seeds_at, text_at};
+ghost use Rattle.lg_config.specs.Meaning.Settings.{integer_at, natural, number_at_key, seeds_at, text_at};
 
 use crate::keys::SEEDS;
 use toml::{Table, Value};
@@ -39,7 +39,7 @@ fn natural(number: i64) -> u64
 
 /// The number at a key, or its default.
 pub(crate) fn number_at(table: &Table, key: &str, default: u64) -> u64
-    ensures { result ≡ number_at key.now default (table_view table.now) }
+    ensures { result ≡ number_at_key key.now default (table_view table.now) }
 {
     match integer_at(table, key) {
         Some(number) => natural(number),

@@ -3,8 +3,8 @@
 //! Defined in: `specs/Meaning/Texts.antt`.
 //! Tested in: `cases/config_forms.case`, `cases/config_seeds.case`.
 ghost use Rattle.std.specs.Prelude.{◌≡◌, ◌==◌, position};
-ghost use Rattle.lg_config.specs.Meaning.Texts.{address_of, before, behind, member_name_of, octet_of, octets_of};
-ghost use Rattle.lg_config.specs.Meaning.Texts.{port_among, port_of, seed_of};
+ghost use Rattle.lg_config.specs.Meaning.Texts.{address_of, before, behind, name_of_setting, octet_of, octets_of};
+ghost use Rattle.lg_config.specs.Meaning.Texts.{port_among, port_of_text, seed_of_text};
 
 use lg_rules::{Addr, Name};
 use lg_text::number_in;
@@ -42,7 +42,7 @@ pub(crate) fn port_among(number: u64) -> Option<u16>
 
 /// The port that a text spells.
 fn port_in(text: &[u8]) -> Option<u16>
-    ensures { result ≡ port_of text.now }
+    ensures { result ≡ port_of_text text.now }
 {
     port_among(number_in(text)?)
 }
@@ -82,7 +82,7 @@ fn address_in(text: &[u8]) -> Option<Addr>
 
 /// The name that a text spells.
 pub(crate) fn name_in(text: &[u8]) -> Option<Name>
-    ensures { result ≡ member_name_of text.now }
+    ensures { result ≡ name_of_setting text.now }
 {
     Name::new(text).ok()
 }
@@ -90,7 +90,7 @@ pub(crate) fn name_in(text: &[u8]) -> Option<Name>
 /// The seed that a text spells: NAME@A.B.C.D:PORT.
 #[tactic(auto, unfolding(crate::specs::Meaning::Texts::seed_of))]
 pub(crate) fn seed_in(text: &[u8]) -> Option<Seed>
-    ensures { result ≡ seed_of text.now }
+    ensures { result ≡ seed_of_text text.now }
 {
     let (name, addr) = cut_at(text, b'@');
     let name = name_in(name)?;

@@ -9,7 +9,7 @@ use Rattle.lg_timing.specs.Meaning.Config.{IsChecked}
 use Rattle.lg_detector.specs.declared.detector.TheConstants.{MAX_EVENTS}
 use Rattle.lg_detector.specs.declared.event.Event.{Event}
 use Rattle.lg_detector.specs.declared.event.Event.TheVariants.{Open, Tick, Heard, Ask, Health, Pull}
-use Rattle.lg_detector.specs.Meaning.Step.{is_open, opens_well, is_accepted, most_events}
+use Rattle.lg_detector.specs.Meaning.Step.{is_open_event, opens_well, is_accepted, most_events}
 use Rattle.lg_detector.specs.Support.Step.{state_after, accepts_of}
 use Rattle.lg_detector.proofs.Accepting.{accepts-after, events-after}
 
@@ -20,15 +20,15 @@ record IsBegun (x : Event) (f : List Event) : Type 0 where
 
 begun : (x : Event) (f : List Event) → is_accepted (x ∷ f) ≡ true → IsBegun x f
 begun x f accepted =
-    let parts = both (opens_well x) (not (list_any is_open f) && nat_le (length f + 1) most_events) accepted in
-    let rest = both (not (list_any is_open f)) (nat_le (length f + 1) most_events) parts.1 in
+    let parts = both (opens_well x) (not (list_any is_open_event f) && nat_le (length f + 1) most_events) accepted in
+    let rest = both (not (list_any is_open_event f)) (nat_le (length f + 1) most_events) parts.1 in
     record { opens = parts.0; few = grind (arith, nat_tests, rest.1) }
 
 pub accepted_few : (f : List Event) → is_accepted f ≡ true → length f ≤ MAX_EVENTS
 accepted_few [] accepted = omega arith
 accepted_few (x ∷ f) accepted = omega (arith, (begun x f accepted).few)
 
-opens_by : (e : Event) → opens_well e ≡ true → is_open e ≡ true
+opens_by : (e : Event) → opens_well e ≡ true → is_open_event e ≡ true
 opens_by (Open now opening) well = refl
 opens_by (Tick now words) well = absurd cc
 opens_by (Heard now source packet) well = absurd cc
@@ -36,11 +36,11 @@ opens_by (Ask now name) well = absurd cc
 opens_by (Health now) well = absurd cc
 opens_by (Pull now peer) well = absurd cc
 
-pub accepted_opens : (x : Event) (f : List Event) → is_accepted (x ∷ f) ≡ true → is_open x ≡ true
+pub accepted_opens : (x : Event) (f : List Event) → is_accepted (x ∷ f) ≡ true → is_open_event x ≡ true
 accepted_opens x f accepted = opens_by x (begun x f accepted).opens
 
 -- An event that is no opening can come next, as long as there is room.
-pub accepted_more : (x : Event) (f : List Event) (e : Event) → is_accepted (x ∷ f) ≡ true → is_open e ≡ false → length f + 1 < MAX_EVENTS → is_accepted (x ∷ f ++ e ∷ []) ≡ true
+pub accepted_more : (x : Event) (f : List Event) (e : Event) → is_accepted (x ∷ f) ≡ true → is_open_event e ≡ false → length f + 1 < MAX_EVENTS → is_accepted (x ∷ f ++ e ∷ []) ≡ true
 accepted_more x f e accepted shut few =
     let count : (state_after (x ∷ f)).events ≡ length f + 1 = omega (arith, events-after (x ∷ f)) in
     let room : accepts_of (state_after (x ∷ f)) e ≡ true = grind (arith, nat_tests) in

@@ -10,15 +10,15 @@ use Rattle.lg_timing.specs.Meaning.Config.{check_of, IsChecked}
 use Rattle.lg_timers.specs.declared.timer.Timer.{Timer}
 use Rattle.lg_detector.specs.declared.event.Event.{Event}
 use Rattle.lg_detector.specs.declared.event.Event.TheVariants.{Open, Tick, Heard, Ask, Health, Pull as Pulls}
-use Rattle.lg_detector.specs.Meaning.Log.{Log, Came, events}
+use Rattle.lg_detector.specs.Meaning.Log.{Log, Came, event_count}
 use Rattle.lg_detector.specs.Meaning.Timing.{due}
 use Rattle.lg_detector.specs.Meaning.Tick.{expire}
-use Rattle.lg_detector.specs.Meaning.Step.{log_of, is_open, opens_well, is_accepted, most_events}
+use Rattle.lg_detector.specs.Meaning.Step.{log_of, is_open_event, opens_well, is_accepted, most_events}
 use Rattle.lg_detector.specs.Support.State.{State}
 use Rattle.lg_detector.specs.Support.Step.{state_after, accepts_of}
 use Rattle.lg_detector.proofs.Leaving.{IsLeft, left-open, left-hear, left-fire}
 
-events_left : IsLeft events
+events_left : IsLeft event_count
 events_left = record {
   said = λ now origin c log. refl;
   sent = λ taken log. refl;
@@ -27,17 +27,17 @@ events_left = record {
   relayed = λ target source k log. refl;
 }
 
-events-expire : (o : Option Timer) (words : List ℕ) (log : Log) → events (expire o words log) ≡ events log
+events-expire : (o : Option Timer) (words : List ℕ) (log : Log) → event_count (expire o words log) ≡ event_count log
 events-expire None words log = refl
-events-expire (Some timer) words log = left-fire events events_left timer words log
+events-expire (Some timer) words log = left-fire event_count events_left timer words log
 
 one_more : (n m : ℕ) → n ≡ m → n + 1 ≡ suc m
 one_more n m e = omega arith
 
-events-log_of : (past : List Event) → events (log_of past) ≡ length past
+events-log_of : (past : List Event) → event_count (log_of past) ≡ length past
 events-log_of [] = refl
-events-log_of (Open now opening ∷ past) = left-open events events_left now opening (log_of past) ∙ one_more _ _ (events-log_of past)
-events-log_of (Heard now source packet ∷ past) = left-hear events events_left now source packet (log_of past) ∙ one_more _ _ (events-log_of past)
+events-log_of (Open now opening ∷ past) = left-open event_count events_left now opening (log_of past) ∙ one_more _ _ (events-log_of past)
+events-log_of (Heard now source packet ∷ past) = left-hear event_count events_left now source packet (log_of past) ∙ one_more _ _ (events-log_of past)
 events-log_of (Tick now words ∷ past) = events-expire (due (Came now ∷ log_of past)) words (Came now ∷ log_of past) ∙ one_more _ _ (events-log_of past)
 events-log_of (Ask now name ∷ past) = one_more _ _ (events-log_of past)
 events-log_of (Health now ∷ past) = one_more _ _ (events-log_of past)
@@ -65,11 +65,11 @@ accepts-after [] e accepted = both (opens_well e)
     both true = refl
     both false = refl
 accepts-after (x ∷ xs) e accepted =
-    let is = none_open (opens_well x) (list_any is_open xs) _ accepted in
-    let left : accepts_of (state_after (x ∷ xs)) e ≡ accepts_by (length (x ∷ xs)) (opens_well e) (is_open e) = ap (λ (n : ℕ). accepts_by n (opens_well e) (is_open e)) (events-after (x ∷ xs)) in
-    let opens : list_any is_open (xs ++ e ∷ []) ≡ is_open e = list_any-append is_open xs (e ∷ []) ∙ rw is.1 (or_none (is_open e)) in
+    let is = none_open (opens_well x) (list_any is_open_event xs) _ accepted in
+    let left : accepts_of (state_after (x ∷ xs)) e ≡ accepts_by (length (x ∷ xs)) (opens_well e) (is_open_event e) = ap (λ (n : ℕ). accepts_by n (opens_well e) (is_open_event e)) (events-after (x ∷ xs)) in
+    let opens : list_any is_open_event (xs ++ e ∷ []) ≡ is_open_event e = list_any-append is_open_event xs (e ∷ []) ∙ rw is.1 (or_none (is_open_event e)) in
     let len : length (xs ++ e ∷ []) + 1 ≡ suc (length xs) + 1 = omega (arith, length-append xs (e ∷ [])) in
-    left ∙ rw (is.0, opens, len) (limit (opens_well e) (is_open e) (length xs))
+    left ∙ rw (is.0, opens, len) (limit (opens_well e) (is_open_event e) (length xs))
   where
     limit : (well opens : Bool) (n : ℕ) → accepts_by (suc n) well opens ≡ (not opens && leb (suc n + 1) most_events)
     limit well opens n = grind arith

@@ -9,33 +9,34 @@ use Rattle.lg_rules.specs.Support.Standing.{Standing, hear_claim, changes_record
 use Rattle.lg_membership.specs.declared.origin.Origin.{Origin}
 use Rattle.lg_membership.specs.declared.origin.Origin.TheVariants.{Group}
 use Rattle.lg_membership.specs.Support.State as known
+use Rattle.lg_membership.specs.Support.State.{GroupState, apply_all_to_group, apply_to_group}
 use Rattle.lg_membership.proofs.Applying.{standing-apply, applied-changed}
 use Rattle.lg_membership.proofs.Differing.{shown-differing}
 use Rattle.lg_detector.specs.Support.Reached.{IsReached}
-use Rattle.lg_detector.specs.Support.State.{State, apply, apply_all}
-use Rattle.lg_detector.specs.Support.Step.{view_in}
+use Rattle.lg_detector.specs.Support.State.{State, apply_state, apply_all_state}
+use Rattle.lg_detector.specs.Support.Step.{view_state}
 use Rattle.lg_detector.proofs.Reaching.{reached-member}
 
 -- what is known of the group, once a claim is said
-pub membership-apply : (origin : Origin) (c : Claim) (s : State) → (apply origin c s).membership ≡ known.apply s.moment origin c s.membership
-unfolding apply
+pub membership-apply : (origin : Origin) (c : Claim) (s : State) → (apply_state origin c s).membership ≡ apply_to_group s.moment origin c s.membership
+unfolding apply_state
 membership-apply origin c s = refl
 
-moment-apply : (origin : Origin) (c : Claim) (s : State) → (apply origin c s).moment ≡ s.moment
-unfolding apply
+moment-apply : (origin : Origin) (c : Claim) (s : State) → (apply_state origin c s).moment ≡ s.moment
+unfolding apply_state
 moment-apply origin c s = refl
 
-pub membership-apply_all : (origin : Origin) (cs : List Claim) (s : State) → (apply_all origin cs s).membership ≡ known.apply_all s.moment origin cs s.membership
+pub membership-apply_all : (origin : Origin) (cs : List Claim) (s : State) → (apply_all_state origin cs s).membership ≡ apply_all_to_group s.moment origin cs s.membership
 membership-apply_all origin [] s = refl
 membership-apply_all origin (c ∷ cs) s =
-    membership-apply_all origin cs (apply origin c s) ∙ (λ i. known.apply_all (moment-apply origin c s i) origin cs (membership-apply origin c s i))
+    membership-apply_all origin cs (apply_state origin c s) ∙ (λ i. apply_all_to_group (moment-apply origin c s i) origin cs (membership-apply origin c s i))
 
-standing-said : (origin : Origin) (c : Claim) (s : State) → known.standing (apply origin c s).membership ≡ hear_claim (known.standing s.membership) c
+standing-said : (origin : Origin) (c : Claim) (s : State) → known.standing (apply_state origin c s).membership ≡ hear_claim (known.standing s.membership) c
 standing-said origin c s = ap known.standing (membership-apply origin c s) ∙ standing-apply s.moment origin c s.membership
 
 -- after the first so many claims, the records of these names have changed
 pub record IsOnTheWay (first now : State) (claims : List Claim) (i : ℕ) (names : List (List ℕ)) : Type 0 where
-  pub state : apply_all Group (drop i claims) now ≡ apply_all Group claims first
+  pub state : apply_all_state Group (drop i claims) now ≡ apply_all_state Group claims first
   pub changed : names ++ changed_names (known.standing now.membership) (drop i claims) ≡ changed_names (known.standing first.membership) claims
   pub few : length names ≤ i
 
@@ -68,13 +69,13 @@ length-with_name true names c = omega (arith, length-append names (c.name ∷ []
 length-with_name false names c = omega arith
 
 goes_on : (first now : State) (claims : List Claim) (i : ℕ) (names : List (List ℕ)) (c : Claim) → IsOnTheWay first now claims i names → i < length claims → c ≡ get_or claims i c
-    → IsOnTheWay first (apply Group c now) claims (i + 1) (with_name (changes_record (known.standing now.membership) c) names c)
+    → IsOnTheWay first (apply_state Group c now) claims (i + 1) (with_name (changes_record (known.standing now.membership) c) names c)
 goes_on first now claims i names c way lt is =
     let step = next_claim claims i c lt is in
     let rest = drop (i + 1) claims in
     let here = known.standing now.membership in
     record {
-      state = sym (ap (λ cs. apply_all Group cs now) step) ∙ way.state;
+      state = sym (ap (λ cs. apply_all_state Group cs now) step) ∙ way.state;
       changed =
           sym (
           ap (λ cs. names ++ changed_names here cs) step
@@ -85,23 +86,23 @@ goes_on first now claims i names c way lt is =
     }
 
 pub goes_on_named : (first now after : State) (claims : List Claim) (i : ℕ) (names later : List (List ℕ)) (c : Claim) (b : Bool) → IsOnTheWay first now claims i names → i < length claims
-    → c ≡ get_or claims i c → after ≡ apply Group c now → b ≡ (known.applied now.moment c now.membership).changed → later ≡ with_name b names c → IsOnTheWay first after claims (i + 1) later
+    → c ≡ get_or claims i c → after ≡ apply_state Group c now → b ≡ (known.applied now.moment c now.membership).changed → later ≡ with_name b names c → IsOnTheWay first after claims (i + 1) later
 goes_on_named first now after claims i names later c b way lt is state changes names-is =
     rw (state, names-is, changes ∙ applied-changed now.moment c now.membership) (goes_on first now claims i names c way lt is)
 
 -- at the end
-pub all_said : (first now : State) (claims : List Claim) (i : ℕ) (names : List (List ℕ)) → IsOnTheWay first now claims i names → length claims ≤ i → now ≡ apply_all Group claims first
-all_said first now claims i names way le = ap (λ cs. apply_all Group cs now) (sym (drop_all i claims le)) ∙ way.state
+pub all_said : (first now : State) (claims : List Claim) (i : ℕ) (names : List (List ℕ)) → IsOnTheWay first now claims i names → length claims ≤ i → now ≡ apply_all_state Group claims first
+all_said first now claims i names way le = ap (λ cs. apply_all_state Group cs now) (sym (drop_all i claims le)) ∙ way.state
 
 pub all_named : (first now : State) (claims : List Claim) (i : ℕ) (names : List (List ℕ)) → IsOnTheWay first now claims i names → length claims ≤ i → names ≡ changed_names (known.standing first.membership) claims
 all_named first now claims i names way le = sym (append-nil names) ∙ ap (λ cs. names ++ changed_names (known.standing now.membership) cs) (sym (drop_all i claims le)) ∙ way.changed
 
 -- The records of the names whose records claims changed are those that differ.
 pub say_differing : (s : State) (cs : List Claim) → IsReached s
-    → filter (λ r. is_among name_cmp r.name (changed_names (known.standing s.membership) cs)) (view_in (apply_all Group cs s)) ≡ changed (view_in s) (view_in (apply_all Group cs s))
+    → filter (λ r. is_among name_cmp r.name (changed_names (known.standing s.membership) cs)) (view_state (apply_all_state Group cs s)) ≡ changed (view_state s) (view_state (apply_all_state Group cs s))
 say_differing s cs r =
     let is = membership-apply_all Group cs s in
     let test : Claim → Bool = λ c. is_among name_cmp c.name (changed_names (known.standing s.membership) cs) in
-    ap (λ (m : known.State). filter test (known.shown m)) is
+    ap (λ (m : GroupState). filter test (known.shown m)) is
     ∙ shown-differing s.moment Group cs s.membership (reached-member s r)
-    ∙ ap (λ (m : known.State). changed (known.shown s.membership) (known.shown m)) (sym is)
+    ∙ ap (λ (m : GroupState). changed (known.shown s.membership) (known.shown m)) (sym is)

@@ -26,6 +26,7 @@ use Rattle.lg_probe.specs.Meaning.Round.{RoundFact}
 use Rattle.lg_probe.proofs.OrderLaws.{candidate_is}
 use Rattle.lg_membership.specs.declared.origin.Origin.TheVariants.{Group}
 use Rattle.lg_membership.specs.Meaning.Log as group
+use Rattle.lg_membership.specs.Meaning.Log.{GroupLog, group_view}
 use Rattle.lg_membership.specs.Meaning.Suspicions.{suspicions}
 use Rattle.lg_membership.proofs.Chosen.{found_key}
 use Rattle.lg_membership.proofs.LiveOthers.{among-live}
@@ -34,7 +35,7 @@ use Rattle.lg_detector.specs.declared.event.Event.TheVariants.{Open, Tick, Heard
 use Rattle.lg_detector.specs.declared.reply.Reply.{Reply}
 use Rattle.lg_detector.specs.Meaning.Log.{Log, Came, Fired, moment, group_log}
 use Rattle.lg_detector.specs.Meaning.Probing.{Probe, is_round_start, others, round_names, first_word, chosen, number, probe, probe_by, since_start}
-use Rattle.lg_detector.specs.Meaning.Relaying.{relays, opened_at, has_nacked}
+use Rattle.lg_detector.specs.Meaning.Relaying.{relays, opened_at, relay_has_nacked}
 use Rattle.lg_detector.specs.Meaning.Window.{targets}
 use Rattle.lg_detector.specs.Meaning.Timing.{start_timers, probe_timers, start_by, round_start, end_at, direct_at, nack_timer, relay_timer, suspicion_timer, nack_time, relay_time}
 use Rattle.lg_detector.specs.Meaning.Timing.{round_timers, nack_timers, relay_timers, suspicion_timers, pending, due}
@@ -42,7 +43,7 @@ use Rattle.lg_detector.specs.Meaning.Apply.{apply_all}
 use Rattle.lg_detector.specs.Meaning.Send.{packets}
 use Rattle.lg_detector.specs.Meaning.Tick.{found, ping_to, messages, claims_said, expire, expire_sends}
 use Rattle.lg_detector.specs.Meaning.Step.{step, log_of, reply, reply_after}
-use Rattle.lg_detector.specs.Meaning.Choice.{first_body, pinged, choice_by, choice, targets_after}
+use Rattle.lg_detector.specs.Meaning.Choice.{first_body, pinged, choice_by, choice_of_reply, targets_after}
 use Rattle.lg_detector.proofs.Leaving.{IsLeft, left-open, left-hear, left-fire}
 use Rattle.lg_detector.proofs.Deadlines.{configuration, configuration_left, configuration-expire, was_opened, opened-first, is_timed}
 
@@ -54,7 +55,7 @@ record HasRow (m : List ℕ) (rows : List Claim) : Type 0 where
   pub named : row.name ≡ m
 
 -- Another that hasn't failed has one in the table,
-row_in_table : (g : group.Log) (m : List ℕ) → is_among name_cmp m (group.live_others g) ≡ true → HasRow m (group.table g)
+row_in_table : (g : GroupLog) (m : List ℕ) → is_among name_cmp m (group.live_others g) ≡ true → HasRow m (group.table g)
 row_in_table g m among =
     let live = sym (among-live m (group.table g) (rises-table (group.me g) (group.said g))) ∙ among in
     elim (held (found m (group.table g))) [
@@ -73,7 +74,7 @@ row_in_view (Some opening) own rows m opened has =
       | inr other ↦ record { row = has.row; is = put ∙ ap (λ b. cond b (Some me) (found m rows)) other ∙ has.is; named = has.named }
     ]
 
-row_of_chosen : (words : List ℕ) (log : Log) (m : List ℕ) → was_opened log ≡ true → chosen words log ≡ Some m → HasRow m (group.view (group_log log))
+row_of_chosen : (words : List ℕ) (log : Log) (m : List ℕ) → was_opened log ≡ true → chosen words log ≡ Some m → HasRow m (group_view (group_log log))
 row_of_chosen words log m opened is =
     let g = group_log log in
     let candidate = candidate_is (others log) (current_round (others log) (round_names log)) (first_word words) m is in
@@ -120,7 +121,7 @@ none_pending log untimed =
     any-turned moves_round (round_timers log ++ (nack_timers log ++ (relay_timers log ++ suspicion_timers log)))
     ∙ none_of_four (round_timers log) (nack_timers log) (relay_timers log) (suspicion_timers log)
     (none_in_round (end_at log) (direct_at log) (probe log) (since_start log) (round_start log) untimed)
-    (none_in_map (λ r. nack_timer (opened_at log r.number + later) r.number) (filter (λ r. not (has_nacked log r.number)) (relays log)) (λ r. refl))
+    (none_in_map (λ r. nack_timer (opened_at log r.number + later) r.number) (filter (λ r. not (relay_has_nacked log r.number)) (relays log)) (λ r. refl))
     (none_in_map (λ r. relay_timer (opened_at log r.number + end) r.number) (relays log) (λ r. refl))
     (none_in_map suspicion_timer (suspicions (group_log log)) (λ r. refl))
 
@@ -207,7 +208,7 @@ gained-by Direct words log sent opened = nothing_gained (all_targets log)
 gained-by (RelayNack k) words log sent opened = nothing_gained (all_targets log)
 gained-by (RelayEnd k) words log sent opened = nothing_gained (all_targets log)
 gained-by RoundStart words log sent opened =
-    let rows = group.view (group_log log) in
+    let rows = group_view (group_log log) in
     let there : chosen words (log ++ []) ≡ chosen words log = ap (λ (past : Log). chosen words past) (append-nil log) in
     let is = pinged_is (chosen words log) (number log) rows sent (λ m e. row_of_chosen words log m (opened refl) e) in
     ap (λ o. all_targets log ++ option_to_list o) (there ∙ sym is)
@@ -219,7 +220,7 @@ gained-expire (Some timer) words log opened =
     left-fire all_targets targets_left timer words log
     ∙ gained-by timer.id words log (apply_all Group (claims_said timer.id log) (Fired timer words ∷ log)) (opened timer refl)
 
-gained-step : (past : List Event) (e : Event) → all_targets (step e (log_of past)) ≡ all_targets (log_of past) ++ option_to_list (choice (reply e (log_of past)))
+gained-step : (past : List Event) (e : Event) → all_targets (step e (log_of past)) ≡ all_targets (log_of past) ++ option_to_list (choice_of_reply (reply e (log_of past)))
 gained-step past (Open now opening) = left-open all_targets targets_left now opening (log_of past) ∙ nothing_gained (all_targets (log_of past))
 gained-step past (Heard now source packet) = left-hear all_targets targets_left now source packet (log_of past) ∙ nothing_gained (all_targets (log_of past))
 gained-step past (Tick now words) =
@@ -230,10 +231,10 @@ gained-step past (Health now) = nothing_gained (all_targets (log_of past))
 gained-step past (Pull now peer) = nothing_gained (all_targets (log_of past))
 
 -- The targets of a list with one more event are those of the list, and whom the reply tells.
-pub targets-gained : (f : List Event) (e : Event) → targets_after (f ++ e ∷ []) ≡ targets_after f ++ option_to_list (choice (reply_after f e))
+pub targets-gained : (f : List Event) (e : Event) → targets_after (f ++ e ∷ []) ≡ targets_after f ++ option_to_list (choice_of_reply (reply_after f e))
 targets-gained f e =
     ap (λ (past : List Event). all_targets (log_of past)) (reverse-append f (e ∷ [])) ∙ gained-step (reverse f) e
 
 -- the same by a reply that is that one, and whom it tells
-pub choice-gained : (r : Reply) (told : Option (List ℕ)) → told ≡ choice r → (f : List Event) (e : Event) → r ≡ reply_after f e → targets_after (f ++ e ∷ []) ≡ targets_after f ++ option_to_list told
-choice-gained r told tells f e is = targets-gained f e ∙ ap (λ o. targets_after f ++ option_to_list o) (sym (tells ∙ ap choice is))
+pub choice-gained : (r : Reply) (told : Option (List ℕ)) → told ≡ choice_of_reply r → (f : List Event) (e : Event) → r ≡ reply_after f e → targets_after (f ++ e ∷ []) ≡ targets_after f ++ option_to_list told
+choice-gained r told tells f e is = targets-gained f e ∙ ap (λ o. targets_after f ++ option_to_list o) (sym (tells ∙ ap choice_of_reply is))

@@ -18,7 +18,7 @@ use Rattle.lg_detector.specs.Meaning.Probing.{Probe, chosen, number, new_probe, 
 use Rattle.lg_detector.specs.Meaning.Timing.{start_timer, end_timer, start_timers, direct_timers, probe_timers, start_unless, start_by, round_start, end_at, direct_at, interval_later}
 use Rattle.lg_detector.specs.Meaning.Timing.{nack_timers, relay_timers, suspicion_timers, deadline_in, due}
 use Rattle.lg_detector.specs.Meaning.Tick.{expire}
-use Rattle.lg_detector.specs.Meaning.Step.{step, log_of, is_open, begins_open, deadline_after}
+use Rattle.lg_detector.specs.Meaning.Step.{step, log_of, is_open_event, begins_open, deadline_after}
 use Rattle.lg_detector.proofs.Leaving.{IsLeft, left-open, left-hear, left-fire}
 
 -- Whether the member was opened, and what that is read off.
@@ -42,7 +42,7 @@ configuration-expire None words log = refl
 configuration-expire (Some timer) words log = left-fire configuration configuration_left timer words log
 
 -- After an opening it was, and no event changes that.
-pub opened-first : (e : Event) (log : Log) → is_open e ≡ true → was_opened (step e log) ≡ true
+pub opened-first : (e : Event) (log : Log) → is_open_event e ≡ true → was_opened (step e log) ≡ true
 opened-first (Open now opening) log opens = ap is_some (left-open configuration configuration_left now opening log)
 opened-first (Heard now source packet) log opens = absurd cc
 opened-first (Tick now words) log opens = absurd cc
@@ -58,7 +58,7 @@ opened-next (Ask now name) log was = was
 opened-next (Health now) log was = was
 opened-next (Pull now peer) log was = was
 
-opened-past : (past : List Event) (x : Event) → is_open x ≡ true → was_opened (log_of (past ++ x ∷ [])) ≡ true
+opened-past : (past : List Event) (x : Event) → is_open_event x ≡ true → was_opened (log_of (past ++ x ∷ [])) ≡ true
 opened-past [] x opens = opened-first x [] opens
 opened-past (e ∷ past) x opens = opened-next e (log_of (past ++ x ∷ [])) (opened-past past x opens)
 
@@ -98,7 +98,7 @@ some_least end direct None past (Some d) rest set = rw (least-with_timer (start_
 some_least end direct (Some p) past start rest set =
     rw (least-with_timer (end_timer end) (in_turn ((direct_timers direct p past ++ start_timers start) ++ rest))) refl
 
-pub deadline_is_set : (x : Event) (f : List Event) → is_open x ≡ true → is_some (deadline_after (x ∷ f)) ≡ true
+pub deadline_is_set : (x : Event) (f : List Event) → is_open_event x ≡ true → is_some (deadline_after (x ∷ f)) ≡ true
 deadline_is_set x f opens =
     let log : Log = log_of (reverse (x ∷ f)) in
     let back : reverse (x ∷ f) ≡ reverse f ++ x ∷ [] = reverse-append (x ∷ []) f in

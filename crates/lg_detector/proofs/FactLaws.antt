@@ -20,26 +20,30 @@ use Rattle.lg_membership.specs.Meaning.Applied.{is_refuted}
 use Rattle.lg_membership.specs.Meaning.Suspicions.{suspicions}
 use Rattle.lg_membership.specs.Support.Changes.{suspicions_after}
 use Rattle.lg_membership.specs.Support.State as known
+use Rattle.lg_membership.specs.Support.State.{GroupState, group_state_of}
 use Rattle.lg_membership.proofs.FactLaws.{open-state as member-open, apply-state as member-apply, send-state as member-send, own_name}
 use Rattle.lg_membership.proofs.Reaching.{apply-own, apply-other}
 use Rattle.lg_membership.proofs.SuspicionLaws.{rises-suspicions, suspicions-opened}
 use Rattle.lg_membership.proofs.Hearings.{change_about}
 use Rattle.lg_membership.proofs.LiveOthers.{live-opened}
-use Rattle.lg_detector.specs.Meaning.Log.{Log, Came, OfGroup, events, moment, group_log}
+use Rattle.lg_detector.specs.Meaning.Log.{Log, Came, OfGroup, event_count, moment, group_log}
 use Rattle.lg_detector.specs.Meaning.Probing.{number, round, probe, since_start}
-use Rattle.lg_detector.specs.Meaning.Relaying.{relays, has_nacked, opened_at}
-use Rattle.lg_detector.specs.Meaning.Timing.{mark_of, earned, max_in, score, round_start, round_timers, nack_timers, relay_timers, pending, nack_time, relay_time, end_at, direct_at, start_timer, suspicion_timer}
+use Rattle.lg_detector.specs.Meaning.Relaying.{relays, relay_has_nacked, opened_at}
+use Rattle.lg_detector.specs.Meaning.Timing.{marks_of_hearing, earned, max_in, score, round_start, round_timers}
+use Rattle.lg_detector.specs.Meaning.Timing.{nack_timers, relay_timers, pending, nack_time, relay_time, end_at}
+use Rattle.lg_detector.specs.Meaning.Timing.{direct_at, start_timer, suspicion_timer}
 use Rattle.lg_detector.specs.Meaning.Apply as log_of_it
-use Rattle.lg_detector.specs.Support.State.{state_of, order_of, come, begin, marked_if, follow, apply, send_taken}
+use Rattle.lg_detector.specs.Support.State.{state_of, order_of, come_state, begin, marked_if, follow, apply_state}
+use Rattle.lg_detector.specs.Support.State.{send_taken}
 use Rattle.lg_detector.proofs.OrderLaws.{order-said}
 use Rattle.lg_detector.proofs.TimerLaws.{turned, pending-after, pending-alone, are_round, no_suspicion-nacks, no_suspicion-ends}
 
-pub come-state : (now : ℕ) (log : Log) → come now (state_of log) ≡ state_of (Came now ∷ log)
+pub come-state : (now : ℕ) (log : Log) → come_state now (state_of log) ≡ state_of (Came now ∷ log)
 come-state now log = refl
 
 pub begin-state : (opening : Config) (log : Log) → begin opening (state_of log) ≡ state_of (OfGroup (group.Opened opening) ∷ log)
 begin-state opening log = λ i. record {
-  events = events log;
+  events = event_count log;
   moment = moment log;
   score = record { value = 0; max = opening.max_score };
   timers = (pending-alone (moment log) ∙ ap (λ rows. turned (start_timer (moment log) ∷ []) [] [] (map suspicion_timer rows)) (sym (suspicions-opened opening (group_log log)))) i;
@@ -54,17 +58,17 @@ begin-state opening log = λ i. record {
 abbrev with_marks : ℕ → List ℤ → ScoreValue
 with_marks max past = record { value = score_of max past; max = max }
 
-marked-by : (max : ℕ) (hearing : OwnHeard) (past : List ℤ) → marked_if (is_refuted hearing) (with_marks max past) ≡ with_marks max (mark_of hearing past)
+marked-by : (max : ℕ) (hearing : OwnHeard) (past : List ℤ) → marked_if (is_refuted hearing) (with_marks max past) ≡ with_marks max (marks_of_hearing hearing past)
 marked-by max Refuted past = refl
 marked-by max Raised past = refl
 marked-by max Ousted past = refl
 marked-by max Ignored past = refl
 
-applied-own : (now : ℕ) (c : Claim) (s : known.State) → c.name ≡ s.own.name → known.applied now c s ≡ known.applied_own c s
+applied-own : (now : ℕ) (c : Claim) (s : GroupState) → c.name ≡ s.own.name → known.applied now c s ≡ known.applied_own c s
 unfolding known.applied
 applied-own now c s same = rw (same_key names_order c.name s.own.name same) refl
 
-applied-other : (now : ℕ) (c : Claim) (s : known.State) → c.name ≢ s.own.name → known.applied now c s ≡ known.applied_other now c s
+applied-other : (now : ℕ) (c : Claim) (s : GroupState) → c.name ≢ s.own.name → known.applied now c s ≡ known.applied_other now c s
 unfolding known.applied
 applied-other now c s other = rw (other_key names_order c.name s.own.name other) refl
 
@@ -78,7 +82,7 @@ rounds_apart log = (are_round (end_at log) (direct_at log) (probe log) (since_st
 nacks_apart : (log : Log) → NoSuspicion (nack_timers log)
 nacks_apart log =
     let later = nack_time (group.config (group_log log)) in
-    no_suspicion-nacks (λ k. opened_at log k + later) (filter (λ r. not (has_nacked log r.number)) (relays log))
+    no_suspicion-nacks (λ k. opened_at log k + later) (filter (λ r. not (relay_has_nacked log r.number)) (relays log))
 
 ends_apart : (log : Log) → NoSuspicion (relay_timers log)
 ends_apart log =
@@ -88,20 +92,20 @@ ends_apart log =
 abbrev said : Origin → Claim → Log → Log
 said origin c log = log_of_it.apply origin c log
 
-own-said : (origin : Origin) (c : Claim) (log : Log) → c.name ≡ group.me (group_log log) → apply origin c (state_of log) ≡ state_of (said origin c log)
-unfolding apply
+own-said : (origin : Origin) (c : Claim) (log : Log) → c.name ≡ group.me (group_log log) → apply_state origin c (state_of log) ≡ state_of (said origin c log)
+unfolding apply_state
 own-said origin c log same =
     let g = group_log log in
     let max = max_in (group.config g) in
-    let to_own = applied-own (moment log) c (known.state_of g) (same ∙ sym (own_name g)) in
+    let to_own = applied-own (moment log) c (group_state_of g) (same ∙ sym (own_name g)) in
     let member = member-apply (moment log) origin c g in
     let rows : suspicions g ≡ suspicions (group_log (said origin c log)) =
-    sym (ap (λ (s : known.State). s.suspicions) (apply-own (moment log) origin c (known.state_of g) (same ∙ sym (own_name g)))) ∙ ap (λ (s : known.State). s.suspicions) member in
+    sym (ap (λ (s : GroupState). s.suspicions) (apply-own (moment log) origin c (group_state_of g) (same ∙ sym (own_name g)))) ∙ ap (λ (s : GroupState). s.suspicions) member in
     let marks = ap (λ (a : Applied). marked_if a.refuted (score log)) to_own
     ∙ marked-by max (own_hearing (group.own g) c) (earned log) in
     let times = ap (λ (a : Applied). follow c.name a.deadline (pending log)) to_own ∙ ap (parts log) rows in
     λ i. record {
-      events = events log;
+      events = event_count log;
       moment = moment log;
       score = marks i;
       timers = times i;
@@ -112,25 +116,25 @@ own-said origin c log same =
       membership = member i;
     }
 
-other-said : (origin : Origin) (c : Claim) (log : Log) → c.name ≢ group.me (group_log log) → apply origin c (state_of log) ≡ state_of (said origin c log)
-unfolding apply
+other-said : (origin : Origin) (c : Claim) (log : Log) → c.name ≢ group.me (group_log log) → apply_state origin c (state_of log) ≡ state_of (said origin c log)
+unfolding apply_state
 other-said origin c log other =
     let g = group_log log in
-    let s = known.state_of g in
+    let s = group_state_of g in
     let apart = λ (same : c.name ≡ s.own.name). other (same ∙ own_name g) in
     let max = max_in (group.config g) in
     let to_other = applied-other (moment log) c s apart in
     let member = member-apply (moment log) origin c g in
     let change = known.change_in (moment log) c s in
     let rows : suspicions_after change (suspicions g) ≡ suspicions (group_log (said origin c log)) =
-    sym (ap (λ (t : known.State). t.suspicions) (apply-other (moment log) origin c s apart)) ∙ ap (λ (t : known.State). t.suspicions) member in
+    sym (ap (λ (t : GroupState). t.suspicions) (apply-other (moment log) origin c s apart)) ∙ ap (λ (t : GroupState). t.suspicions) member in
     let marks = ap (λ (a : Applied). marked_if a.refuted (score log)) to_other
-    ∙ ap (λ (h : OwnHeard). with_marks max (mark_of h (earned log))) (sym (own_hearing-other (group.own g) c apart)) in
+    ∙ ap (λ (h : OwnHeard). with_marks max (marks_of_hearing h (earned log))) (sym (own_hearing-other (group.own g) c apart)) in
     let times = ap (λ (a : Applied). follow c.name a.deadline (pending log)) to_other
     ∙ pending-after (round_timers log) (nack_timers log) (relay_timers log) c.name change (suspicions g) (rounds_apart log) (nacks_apart log) (ends_apart log) (change_about (moment log) c s) (rises-suspicions g)
     ∙ ap (parts log) rows in
     λ i. record {
-      events = events log;
+      events = event_count log;
       moment = moment log;
       score = marks i;
       timers = times i;
@@ -141,7 +145,7 @@ other-said origin c log other =
       membership = member i;
     }
 
-pub apply-state : (origin : Origin) (c : Claim) (log : Log) → apply origin c (state_of log) ≡ state_of (said origin c log)
+pub apply-state : (origin : Origin) (c : Claim) (log : Log) → apply_state origin c (state_of log) ≡ state_of (said origin c log)
 apply-state origin c log = elim (cases_key names_order c.name (group.me (group_log log))) [
   | inl same ↦ own-said origin c log same
   | inr other ↦ other-said origin c log other
@@ -151,7 +155,7 @@ pub send-state : (taken : List Claim) (log : Log) → send_taken taken (state_of
 send-state taken log =
     let member = member-send taken (group_log log) in
     λ i. record {
-      events = events log;
+      events = event_count log;
       moment = moment log;
       score = score log;
       timers = parts log (member i).suspicions;

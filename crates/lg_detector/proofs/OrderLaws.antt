@@ -23,14 +23,15 @@ use Rattle.lg_membership.proofs.AppliedLaws.{applied-log, live-applied}
 use Rattle.lg_membership.proofs.LiveOthers.{live_known}
 use Rattle.lg_membership.specs.declared.origin.Origin.{Origin}
 use Rattle.lg_membership.specs.Support.State as known
+use Rattle.lg_membership.specs.Support.State.{group_state_of}
 use Rattle.lg_detector.specs.Meaning.Log.{Log, Came, Fired, AckHeard, NackHeard, Relayed, OfGroup, moment, group_log}
 use Rattle.lg_detector.specs.Meaning.Apply as to_log
 use Rattle.lg_detector.specs.Meaning.Probing as probing
 use Rattle.lg_detector.specs.Meaning.Probing.{others, round_names, first_word}
-use Rattle.lg_detector.specs.Support.State as state
+use Rattle.lg_detector.specs.Support.State.{chosen_state}
 use Rattle.lg_detector.specs.Support.State.{State, state_of, order_of, reorder}
 
-pub chosen-is : (words : List ℕ) (log : Log) → state.chosen words (state_of log) ≡ probing.chosen words log
+pub chosen-is : (words : List ℕ) (log : Log) → chosen_state words (state_of log) ≡ probing.chosen words log
 chosen-is words log = choice-in_order (others log) (round_names log) (first_word words)
 
 pub order-chose : (words : List ℕ) (log : Log)
@@ -50,10 +51,10 @@ reorder-is m Joins o = refl
 reorder-is m Leaves o = refl
 
 pub order-said : (origin : Origin) (c : Claim) (log : Log)
-    → reorder c.name (known.applied (moment log) c (known.state_of (group_log log))).presence (order_of log) ≡ order_of (to_log.apply origin c log)
+    → reorder c.name (known.applied (moment log) c (group_state_of (group_log log))).presence (order_of log) ≡ order_of (to_log.apply origin c log)
 order-said origin c log =
     let g = group_log log in
-    let applied = known.applied (moment log) c (known.state_of g) in
+    let applied = known.applied (moment log) c (group_state_of g) in
     reorder-is c.name applied.presence (order_of log)
     ∙ ap (λ names. record { names = names; chosen = in_order name_cmp (round_names log) })
     (sym (live-applied (moment log) origin c g applied (applied-log (moment log) origin c g)))
@@ -141,7 +142,7 @@ room log origin c live =
 pub room_joined : (s : State) (log : Log) (c : Claim) → s ≡ state_of log → (known.applied s.moment c s.membership).presence ≡ Joins → length (put_key name_cmp c.name (known_names s.order)) ≤ MAX_OTHERS
 room_joined s log c is joins =
     let g = group_log log in
-    let at_log : (known.applied (moment log) c (known.state_of g)).presence ≡ Joins =
+    let at_log : (known.applied (moment log) c (group_state_of g)).presence ≡ Joins =
     sym (ap (λ (t : State). (known.applied t.moment c t.membership).presence) is) ∙ joins in
     let live = joined_live (is_live g c.name) (is_live (group_log (to_log.apply Group c log)) c.name) (sym (applied-log (moment log) Group c g).presence ∙ at_log) in
     subst (λ (t : State). length (put_key name_cmp c.name (known_names t.order)) ≤ MAX_OTHERS) (sym is) (room log Group c live)

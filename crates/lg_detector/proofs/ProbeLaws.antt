@@ -17,15 +17,17 @@ use Rattle.lg_probe.proofs.RoundLaws.{asked_after, nacked_after}
 use Rattle.lg_membership.specs.declared.suspected.Suspected.{Suspected}
 use Rattle.lg_membership.specs.Meaning.Log as group
 use Rattle.lg_membership.specs.Meaning.Suspicions.{suspicions}
-use Rattle.lg_membership.specs.Support.State as known
-use Rattle.lg_detector.specs.Meaning.Log.{Log, Fired, AckHeard, NackHeard, Relayed, events, moment, group_log}
+use Rattle.lg_membership.specs.Support.State.{group_state_of}
+use Rattle.lg_detector.specs.Meaning.Log.{Log, Fired, AckHeard, NackHeard, Relayed, event_count, moment, group_log}
 use Rattle.lg_detector.specs.Meaning.Probing as probing
 use Rattle.lg_detector.specs.Meaning.Probing.{Probe, number, probe, since_start, round, round_at, new_probe, first_word, target, helpers_of}
-use Rattle.lg_detector.specs.Meaning.Relaying.{relays, has_nacked, opened_at}
+use Rattle.lg_detector.specs.Meaning.Relaying.{relays, relay_has_nacked, opened_at}
 use Rattle.lg_detector.specs.Meaning.Timing as timing
 use Rattle.lg_detector.specs.Meaning.Timing.{earned, max_in, score, round_start, round_timers, nack_timers, relay_timers, pending, nack_time, relay_time, end_at, direct_at, is_first, mark_of_end, mark_of_ack}
 use Rattle.lg_detector.specs.Support.State as state
-use Rattle.lg_detector.specs.Support.State.{State, state_of, order_of, fire, fire_id, start_probe, marked_end, marked_ack, hear_ack, hear_nack, open_relay}
+use Rattle.lg_detector.specs.Support.State.{helpers_state}
+use Rattle.lg_detector.specs.Support.State.{State, state_of, order_of, fire_state, fire_id, start_probe, marked_end}
+use Rattle.lg_detector.specs.Support.State.{marked_ack, hear_ack, hear_nack, open_relay}
 use Rattle.lg_detector.proofs.OrderLaws.{order-chose, chosen-is}
 use Rattle.lg_detector.proofs.RelayLaws.{numbered, nacked-timers, closed-timers, ended-timers, opened-timers, nacks-opened, ends-opened, relays-opened, relays-acked, relays-closed}
 use Rattle.lg_detector.proofs.TimerLaws.{turned, nacks, ends, runs, AreRound, are_round, start-set, probe-set, without-direct, first-direct, asked-timers, acked-timers}
@@ -38,7 +40,7 @@ abbrev relay_at : Log → ℕ → ℕ
 relay_at log k = opened_at log k + relay_time (group.config (group_log log))
 
 abbrev is_silent : Log → Relay → Bool
-is_silent log r = not (has_nacked log r.number)
+is_silent log r = not (relay_has_nacked log r.number)
 
 abbrev rows : Log → List Suspected
 rows log = suspicions (group_log log)
@@ -56,7 +58,7 @@ abbrev after_start : Log → Option (List ℕ) → OrderValue → State
 after_start log o order =
     let later = timing.interval_later log in
     record {
-      events = events log;
+      events = event_count log;
       moment = moment log;
       score = score log;
       timers = turned (timing.probe_timers later (timing.timeout_later log) (new_probe (number log) o) [] ++ timing.start_timers (timing.start_unless later o)) (nack_timers log) (relay_timers log) (runs (rows log));
@@ -64,12 +66,12 @@ after_start log o order =
       number = cond (is_some o) (number log + 1) (number log);
       round = round_at [] (new_probe (number log) o);
       relays = relays log;
-      membership = known.state_of (group_log log);
+      membership = group_state_of (group_log log);
     }
 
 start-by : (log : Log) (o : Option (List ℕ)) (order : OrderValue) → start_probe o (record (state_of log) { order = order }) ≡ after_start log o order
 start-by log None order = λ i. record {
-  events = events log;
+  events = event_count log;
   moment = moment log;
   score = score log;
   timers = start-set (nack_at log) (relay_at log) (filter (is_silent log) (relays log)) (relays log) (rows log) (timing.interval_later log) (round_timers log) (are log) i;
@@ -77,10 +79,10 @@ start-by log None order = λ i. record {
   number = number log;
   round = None;
   relays = relays log;
-  membership = known.state_of (group_log log);
+  membership = group_state_of (group_log log);
 }
 start-by log (Some m) order = λ i. record {
-  events = events log;
+  events = event_count log;
   moment = moment log;
   score = score log;
   timers = probe-set (nack_at log) (relay_at log) (filter (is_silent log) (relays log)) (relays log) (rows log) (timing.interval_later log) (timing.timeout_later log) (round_timers log) (are log) i;
@@ -88,7 +90,7 @@ start-by log (Some m) order = λ i. record {
   number = number log + 1;
   round = Some (round_of (number log) m []);
   relays = relays log;
-  membership = known.state_of (group_log log);
+  membership = group_state_of (group_log log);
 }
 
 start-state : (d : ℕ) (words : List ℕ) (log : Log) → state.start_round words (state_of log) ≡ state_of (Fired (record { deadline = d; id = RoundStart }) words ∷ log)
@@ -99,7 +101,7 @@ start-state d words log =
     ∙ ap (after_start log (probing.chosen words log)) (order-chose words log)
 
 -- helpers are asked
-pub helpers-is : (words : List ℕ) (log : Log) → state.helpers words (state_of log) ≡ probing.helpers words log
+pub helpers-is : (words : List ℕ) (log : Log) → helpers_state words (state_of log) ≡ probing.helpers words log
 helpers-is words log =
     ap (helpers_of (probing.indirect_in (group.config (group_log log))) words (probing.others log)) (target-is (probe log) (since_start log))
 
@@ -116,7 +118,7 @@ direct-state d words log =
     let asked = ap (λ h. option_map (λ r. round_with r (Asked h)) (round log)) (helpers-is words log)
     ∙ asked-round (probe log) (since_start log) (probing.helpers words log) in
     λ i. record {
-      events = events log;
+      events = event_count log;
       moment = moment log;
       score = score log;
       timers = timers i;
@@ -124,7 +126,7 @@ direct-state d words log =
       number = number log;
       round = asked i;
       relays = relays log;
-      membership = known.state_of (group_log log);
+      membership = group_state_of (group_log log);
     }
 
 -- a round ends
@@ -141,7 +143,7 @@ end-state d words log =
     let score = end-mark (round log) (max_in (group.config (group_log log))) (earned log) in
     let timers = start-set (nack_at log) (relay_at log) silent (relays log) (rows log) (moment log) (round_timers log) (are log) in
     λ i. record {
-      events = events log;
+      events = event_count log;
       moment = moment log;
       score = score i;
       timers = timers i;
@@ -149,7 +151,7 @@ end-state d words log =
       number = number log;
       round = None;
       relays = relays log;
-      membership = known.state_of (group_log log);
+      membership = group_state_of (group_log log);
     }
 
 -- the timers of relays
@@ -160,9 +162,9 @@ neither false b = refl
 nack-state : (d k : ℕ) (words : List ℕ) (log : Log) → state.nack_relay k (state_of log) ≡ state_of (Fired (record { deadline = d; id = RelayNack k }) words ∷ log)
 nack-state d k words log =
     let timers = nacked-timers (round_timers log) (are log) (nack_at log) (relay_at log) (rows log) k (is_silent log)
-    (λ r. not ((r.number == k) || has_nacked log r.number)) (relays log) (λ r. neither (r.number == k) (has_nacked log r.number)) in
+    (λ r. not ((r.number == k) || relay_has_nacked log r.number)) (relays log) (λ r. neither (r.number == k) (relay_has_nacked log r.number)) in
     λ i. record {
-      events = events log;
+      events = event_count log;
       moment = moment log;
       score = score log;
       timers = timers i;
@@ -170,7 +172,7 @@ nack-state d k words log =
       number = number log;
       round = round log;
       relays = relays log;
-      membership = known.state_of (group_log log);
+      membership = group_state_of (group_log log);
     }
 
 close-state : (d k : ℕ) (words : List ℕ) (log : Log) → state.close_relay k (state_of log) ≡ state_of (Fired (record { deadline = d; id = RelayEnd k }) words ∷ log)
@@ -179,7 +181,7 @@ close-state d k words log =
     let timers = closed-timers (round_timers log) (are log) (nack_at log) (relay_at log) (rows log) k (is_silent log) (relays log)
     ∙ ap (λ rs. turned (round_timers log) (nacks (nack_at log) (filter (is_silent log) rs)) (ends (relay_at log) rs) (runs (rows log))) open_then in
     λ i. record {
-      events = events log;
+      events = event_count log;
       moment = moment log;
       score = score log;
       timers = timers i;
@@ -187,7 +189,7 @@ close-state d k words log =
       number = number log;
       round = round log;
       relays = open_then i;
-      membership = known.state_of (group_log log);
+      membership = group_state_of (group_log log);
     }
 
 fired : (d : ℕ) (id : TimerId) (words : List ℕ) (log : Log) → fire_id id words (state_of log) ≡ state_of (Fired (record { deadline = d; id = id }) words ∷ log)
@@ -198,8 +200,8 @@ fired d (RelayNack k) words log = nack-state d k words log
 fired d (RelayEnd k) words log = close-state d k words log
 fired d RoundStart words log = start-state d words log
 
-pub fire-state : (timer : Timer) (words : List ℕ) (log : Log) → fire timer words (state_of log) ≡ state_of (Fired timer words ∷ log)
-unfolding fire
+pub fire-state : (timer : Timer) (words : List ℕ) (log : Log) → fire_state timer words (state_of log) ≡ state_of (Fired timer words ∷ log)
+unfolding fire_state
 fire-state timer words log = fired timer.deadline timer.id words log
 
 -- an Ack comes
@@ -237,7 +239,7 @@ ack-state k sender log =
     (numbered log).apart
     ∙ ap (λ rs. turned A (nacks (nack_at log) (filter (is_silent log) rs)) (ends (relay_at log) rs) (runs (rows log))) open_then in
     λ i. record {
-      events = events log;
+      events = event_count log;
       moment = moment log;
       score = score i;
       timers = timers i;
@@ -245,7 +247,7 @@ ack-state k sender log =
       number = number log;
       round = acked-round (probe log) (since_start log) k sender i;
       relays = open_then i;
-      membership = known.state_of (group_log log);
+      membership = group_state_of (group_log log);
     }
 
 -- a Nack comes
@@ -263,7 +265,7 @@ unfolding hear_nack
 nack-heard k sender log =
     let timers = ap (λ ts. turned ts (nack_timers log) (relay_timers log) (runs (rows log))) (nack-timers (end_at log) (direct_at log) (probe log) (since_start log) k sender (round_start log)) in
     λ i. record {
-      events = events log;
+      events = event_count log;
       moment = moment log;
       score = score log;
       timers = timers i;
@@ -271,7 +273,7 @@ nack-heard k sender log =
       number = number log;
       round = nacked-round (probe log) (since_start log) k sender i;
       relays = relays log;
-      membership = known.state_of (group_log log);
+      membership = group_state_of (group_log log);
     }
 
 -- a relay is opened
@@ -283,7 +285,7 @@ relayed-state target asker asked log =
     (numbered log).below
     ∙ (λ i. turned (round_timers log) (nacks-opened target asker asked log i) (ends-opened target asker asked log i) (runs (rows log))) in
     λ i. record {
-      events = events log;
+      events = event_count log;
       moment = moment log;
       score = score log;
       timers = timers i;
@@ -291,5 +293,5 @@ relayed-state target asker asked log =
       number = number log + 1;
       round = round log;
       relays = open_then i;
-      membership = known.state_of (group_log log);
+      membership = group_state_of (group_log log);
     }

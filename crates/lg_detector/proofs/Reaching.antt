@@ -17,15 +17,19 @@ use Rattle.lg_membership.specs.declared.origin.Origin.{Origin}
 use Rattle.lg_membership.specs.Meaning.Log as group
 use Rattle.lg_membership.specs.Meaning.Suspicions.{suspicions}
 use Rattle.lg_membership.specs.Support.Reached as member
+use Rattle.lg_membership.specs.Support.Reached.{IsGroupReached}
 use Rattle.lg_membership.proofs.Reaching.{config-apply}
 use Rattle.lg_membership.proofs.SuspicionLaws.{length-suspicions}
 use Rattle.lg_detector.specs.declared.detector.TheConstants.{MAX_EVENTS}
 use Rattle.lg_detector.specs.Meaning.Log.{Log, Came, Fired, AckHeard, NackHeard, Relayed, OfGroup, group_log}
 use Rattle.lg_detector.specs.Meaning.Probing.{probe, since_start}
-use Rattle.lg_detector.specs.Meaning.Relaying.{relays, has_nacked, opened_at, new_relay}
+use Rattle.lg_detector.specs.Meaning.Relaying.{relays, relay_has_nacked, opened_at, new_relay}
 use Rattle.lg_detector.specs.Meaning.Timing.{round_start, round_timers, pending, nack_time, relay_time, end_at, direct_at}
 use Rattle.lg_detector.specs.Meaning.Apply as to_log
-use Rattle.lg_detector.specs.Support.State.{State, come, begin, apply, apply_all, send_taken, fire, fire_id, start_round, chosen, number_after, state_of, ask_helpers, end_round, nack_relay, close_relay, hear_ack, hear_nack, open_relay}
+use Rattle.lg_detector.specs.Support.State.{State, come_state, begin, apply_state, apply_all_state, send_taken}
+use Rattle.lg_detector.specs.Support.State.{fire_state, fire_id, start_round, chosen_state, number_after, state_of}
+use Rattle.lg_detector.specs.Support.State.{ask_helpers, end_round, nack_relay, close_relay, hear_ack, hear_nack}
+use Rattle.lg_detector.specs.Support.State.{open_relay}
 use Rattle.lg_detector.specs.Support.Reached.{IsReached}
 use Rattle.lg_detector.proofs.FactLaws.{come-state, begin-state, apply-state, send-state}
 use Rattle.lg_detector.proofs.ProbeLaws.{fire-state, ack-state, nack-heard, relayed-state}
@@ -39,7 +43,7 @@ few log le =
     omega (
       arith,
       le,
-      length-turned (round_timers log) (λ k. opened_at log k + nack_time (group.config g)) (λ k. opened_at log k + relay_time (group.config g)) (λ r. not (has_nacked log r.number)) (relays log) (suspicions g),
+      length-turned (round_timers log) (λ k. opened_at log k + nack_time (group.config g)) (λ k. opened_at log k + relay_time (group.config g)) (λ r. not (relay_has_nacked log r.number)) (relays log) (suspicions g),
       length-round (end_at log) (direct_at log) (probe log) (since_start log) (round_start log),
       length-suspicions g,
     )
@@ -52,48 +56,48 @@ pub none_numbered : (s : State) → IsReached s → asker_at s.number s.relays �
 none_numbered s r = subst (λ (t : State). asker_at t.number t.relays ≡ None) (sym r.is) (none_at _ (relays r.log) (numbered r.log).below)
 
 -- what it knows of the group is reached, too
-pub reached-member : (s : State) → IsReached s → member.IsReached s.membership
+pub reached-member : (s : State) → IsReached s → IsGroupReached s.membership
 reached-member s r = record { log = group_log r.log; is = ap (λ (t : State). t.membership) r.is; good = r.good }
 
 -- A state that a fact leads to: its configuration is the same, and the bounds hold of it.
 leads : (s after : State) (log : Log) → after ≡ s → s ≡ state_of log → member.IsGood s.membership.config → s.events ≤ MAX_EVENTS → s.number ≤ s.events + 1 → length s.relays ≤ MAX_RELAYS → IsReached after
 leads s after log e is good most n few = subst IsReached (sym e) (record { log = log; is = is; good = good; few_events = most; numbered = n; few_relays = few })
 
-pub reached-come : (s after : State) (now : ℕ) → after ≡ come now s → s.events < MAX_EVENTS → IsReached s → IsReached after
-reached-come s after now e room r = leads (come now s) after (Came now ∷ r.log) e (ap (come now) r.is ∙ come-state now r.log) r.good (omega (arith, room)) (omega (arith, r.numbered)) r.few_relays
+pub reached-come : (s after : State) (now : ℕ) → after ≡ come_state now s → s.events < MAX_EVENTS → IsReached s → IsReached after
+reached-come s after now e room r = leads (come_state now s) after (Came now ∷ r.log) e (ap (come_state now) r.is ∙ come-state now r.log) r.good (omega (arith, room)) (omega (arith, r.numbered)) r.few_relays
 
 pub reached-begin : (s after : State) (opening : Config) → after ≡ begin opening s → IsChecked opening → IsReached s → IsReached after
 reached-begin s after opening e checked r =
     leads (begin opening s) after (OfGroup (group.Opened opening) ∷ r.log) e (ap (begin opening) r.is ∙ begin-state opening r.log) checked r.few_events (omega arith) (omega arith)
 
 -- a claim leaves the configuration, the numbers and the relays
-pub config-apply-in : (origin : Origin) (c : Claim) (s : State) → (apply origin c s).membership.config ≡ s.membership.config
-unfolding apply
+pub config-apply-in : (origin : Origin) (c : Claim) (s : State) → (apply_state origin c s).membership.config ≡ s.membership.config
+unfolding apply_state
 config-apply-in origin c s = config-apply s.moment origin c s.membership
 
-pub number-apply : (origin : Origin) (c : Claim) (s : State) → (apply origin c s).number ≡ s.number
-unfolding apply
+pub number-apply : (origin : Origin) (c : Claim) (s : State) → (apply_state origin c s).number ≡ s.number
+unfolding apply_state
 number-apply origin c s = refl
 
-pub events-apply : (origin : Origin) (c : Claim) (s : State) → (apply origin c s).events ≡ s.events
-unfolding apply
+pub events-apply : (origin : Origin) (c : Claim) (s : State) → (apply_state origin c s).events ≡ s.events
+unfolding apply_state
 events-apply origin c s = refl
 
-pub number-apply_all : (origin : Origin) (cs : List Claim) (s : State) → (apply_all origin cs s).number ≡ s.number
+pub number-apply_all : (origin : Origin) (cs : List Claim) (s : State) → (apply_all_state origin cs s).number ≡ s.number
 number-apply_all origin [] s = refl
-number-apply_all origin (c ∷ cs) s = number-apply_all origin cs (apply origin c s) ∙ number-apply origin c s
+number-apply_all origin (c ∷ cs) s = number-apply_all origin cs (apply_state origin c s) ∙ number-apply origin c s
 
-pub events-apply_all : (origin : Origin) (cs : List Claim) (s : State) → (apply_all origin cs s).events ≡ s.events
+pub events-apply_all : (origin : Origin) (cs : List Claim) (s : State) → (apply_all_state origin cs s).events ≡ s.events
 events-apply_all origin [] s = refl
-events-apply_all origin (c ∷ cs) s = events-apply_all origin cs (apply origin c s) ∙ events-apply origin c s
+events-apply_all origin (c ∷ cs) s = events-apply_all origin cs (apply_state origin c s) ∙ events-apply origin c s
 
-relays-apply : (origin : Origin) (c : Claim) (s : State) → (apply origin c s).relays ≡ s.relays
-unfolding apply
+relays-apply : (origin : Origin) (c : Claim) (s : State) → (apply_state origin c s).relays ≡ s.relays
+unfolding apply_state
 relays-apply origin c s = refl
 
-pub reached-apply : (s after : State) (origin : Origin) (c : Claim) → after ≡ apply origin c s → IsReached s → IsReached after
+pub reached-apply : (s after : State) (origin : Origin) (c : Claim) → after ≡ apply_state origin c s → IsReached s → IsReached after
 reached-apply s after origin c e r =
-    leads (apply origin c s) after (to_log.apply origin c r.log) e (ap (apply origin c) r.is ∙ apply-state origin c r.log) (subst member.IsGood (sym (config-apply-in origin c s)) r.good) (omega (arith, r.few_events, events-apply origin c s))
+    leads (apply_state origin c s) after (to_log.apply origin c r.log) e (ap (apply_state origin c) r.is ∙ apply-state origin c r.log) (subst member.IsGood (sym (config-apply-in origin c s)) r.good) (omega (arith, r.few_events, events-apply origin c s))
     (omega (arith, r.numbered, number-apply origin c s, events-apply origin c s))
     (subst (λ (rs : List Relay). length rs ≤ MAX_RELAYS) (sym (relays-apply origin c s)) r.few_relays)
 
@@ -117,22 +121,22 @@ membership-fire_id (RelayNack k) words s = refl
 membership-fire_id (RelayEnd k) words s = refl
 membership-fire_id RoundStart words s = refl
 
-pub membership-fire : (timer : Timer) (words : List ℕ) (s : State) → (fire timer words s).membership ≡ s.membership
-unfolding fire
+pub membership-fire : (timer : Timer) (words : List ℕ) (s : State) → (fire_state timer words s).membership ≡ s.membership
+unfolding fire_state
 membership-fire timer words s = membership-fire_id timer.id words s
 
 -- a timer, by its id
-fires : (id : TimerId) (words : List ℕ) (s : State) → fire (record { deadline = 0; id = id }) words s ≡ fire_id id words s
-unfolding fire
+fires : (id : TimerId) (words : List ℕ) (s : State) → fire_state (record { deadline = 0; id = id }) words s ≡ fire_id id words s
+unfolding fire_state
 fires id words s = refl
 
 fired-state : (id : TimerId) (words : List ℕ) (s : State) (r : IsReached s) → fire_id id words s ≡ state_of (Fired (record { deadline = 0; id = id }) words ∷ r.log)
-fired-state id words s r = sym (fires id words s) ∙ ap (fire (record { deadline = 0; id = id }) words) r.is ∙ fire-state (record { deadline = 0; id = id }) words r.log
+fired-state id words s r = sym (fires id words s) ∙ ap (fire_state (record { deadline = 0; id = id }) words) r.is ∙ fire-state (record { deadline = 0; id = id }) words r.log
 
 pub reached-start : (s after : State) (words : List ℕ) → after ≡ start_round words s → s.number ≤ s.events → IsReached s → IsReached after
 reached-start s after words e le r =
     leads (start_round words s) after (Fired (record { deadline = 0; id = RoundStart }) words ∷ r.log) e (fired-state RoundStart words s r) r.good r.few_events
-    (start-numbered (chosen words s) s.number s.events le) r.few_relays
+    (start-numbered (chosen_state words s) s.number s.events le) r.few_relays
 
 pub reached-direct : (s after : State) (words : List ℕ) → after ≡ ask_helpers words s → IsReached s → IsReached after
 reached-direct s after words e r =

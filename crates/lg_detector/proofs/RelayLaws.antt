@@ -21,7 +21,7 @@ use Rattle.lg_membership.specs.declared.suspected.Suspected.{Suspected}
 use Rattle.lg_membership.specs.Meaning.Log as group
 use Rattle.lg_detector.specs.Meaning.Log.{Log, Came, Fired, AckHeard, NackHeard, Relayed, OfGroup, moment, group_log}
 use Rattle.lg_detector.specs.Meaning.Probing.{number, starts}
-use Rattle.lg_detector.specs.Meaning.Relaying.{relay_past, relays, new_relay, opened_at, has_nacked}
+use Rattle.lg_detector.specs.Meaning.Relaying.{relay_past, relays, new_relay, opened_at, relay_has_nacked}
 use Rattle.lg_detector.specs.Meaning.Timing.{nack_timer, relay_timer, suspicion_timer, nack_timers, relay_timers, nack_time, relay_time}
 use Rattle.lg_detector.specs.Support.State.{without_relay, without_ended, with_relay}
 use Rattle.lg_detector.proofs.EndedRelays.{found, missed, ended-none, ended-number}
@@ -209,7 +209,7 @@ agree-filter p q n (r ∷ rs) same b = rw (same r b.0) (ap (λ xs. cond (q r) (r
 
 -- The timers of the relays of a log, with one more.
 abbrev is_silent : Log → Relay → Bool
-is_silent log r = not (has_nacked log r.number)
+is_silent log r = not (relay_has_nacked log r.number)
 
 one-silent : (n : ℕ) (r : Relay) (p : Relay → Bool) → p r ≡ true → filter p (r ∷ []) ≡ r ∷ []
 one-silent n r p t = rw t refl
@@ -231,13 +231,13 @@ nacks-opened target asker asked log =
     let now : Relay → Timer = λ r. nack_timer (opened_at after r.number + later) r.number in
     let below = (numbered log).below in
     let silent : filter (is_silent log) (relays log) ≡ filter (is_silent after) (relays log) =
-    agree-filter (is_silent log) (is_silent after) n (relays log) (λ r lt. ap not (sym (older n false (has_nacked log r.number) r.number lt))) below in
+    agree-filter (is_silent log) (is_silent after) n (relays log) (λ r lt. ap not (sym (older n false (relay_has_nacked log r.number) r.number lt))) below in
     let mapped : map before (filter (is_silent after) (relays log)) ≡ map now (filter (is_silent after) (relays log)) =
     agree-map before now n (filter (is_silent after) (relays log)) (λ r lt. ap (λ d. nack_timer (d + later) r.number) (sym (older n (moment log) (opened_at log r.number) r.number lt)))
     (below-fewer n (is_silent after) (relays log) below) in
     let last : nack_timer (moment log + later) n ∷ [] ≡ map now (filter (is_silent after) (r ∷ [])) =
     ap (λ d. nack_timer (d + later) n ∷ []) (sym (itself n (moment log) (opened_at log n)))
-    ∙ ap (map now) (sym (one-silent n r (is_silent after) (ap not (itself n false (has_nacked log n))))) in
+    ∙ ap (map now) (sym (one-silent n r (is_silent after) (ap not (itself n false (relay_has_nacked log n))))) in
     (λ i. (ap (map before) silent ∙ mapped) i ++ last i)
     ∙ sym (map-append now (filter (is_silent after) (relays log)) (filter (is_silent after) (r ∷ [])))
     ∙ ap (map now) (sym (filter-append (is_silent after) (relays log) (r ∷ [])))

@@ -6,13 +6,13 @@ use Rattle.lg_rules.specs.declared.claim.Claim.{Claim}
 use Rattle.lg_detector.specs.declared.message.Message.{Message}
 use Rattle.lg_detector.specs.declared.reply.Outgoing.{Outgoing}
 use Rattle.lg_detector.specs.Meaning.Tick.{found, request_to}
-use Rattle.lg_detector.specs.Support.Send.{packets, send_all}
+use Rattle.lg_detector.specs.Support.Send.{packets_state, send_all_state}
 use Rattle.lg_detector.specs.Support.State.{State}
 
 -- after the first so many packets
 pub record HaveSent (first now : State) (ms : List Message) (i : ℕ) (sends : List Outgoing) : Type 0 where
-  pub state : send_all (drop i ms) now ≡ send_all ms first
-  pub sent : take i sends ++ packets (drop i ms) now ≡ packets ms first
+  pub state : send_all_state (drop i ms) now ≡ send_all_state ms first
+  pub sent : take i sends ++ packets_state (drop i ms) now ≡ packets_state ms first
   pub count : length sends ≡ length ms
 
 -- after the first so many names

@@ -16,6 +16,7 @@ use Rattle.lg_timers.specs.declared.timer.TimerId.TheVariants.{RelayNack, RelayE
 use Rattle.lg_membership.specs.declared.origin.Origin.{Origin}
 use Rattle.lg_membership.specs.declared.origin.Origin.TheVariants.{Seed, Group}
 use Rattle.lg_membership.specs.Meaning.Log as group
+use Rattle.lg_membership.specs.Meaning.Log.{group_view}
 use Rattle.lg_membership.specs.Meaning.Pages.{page_of}
 use Rattle.lg_membership.proofs.FactLaws.{own_name}
 use Rattle.lg_detector.specs.declared.event.Event.{Event}
@@ -32,33 +33,37 @@ use Rattle.lg_detector.specs.Meaning.Tick as tick_log
 use Rattle.lg_detector.specs.Meaning.Send as send_log
 use Rattle.lg_detector.specs.Meaning.Joining as join_log
 use Rattle.lg_detector.specs.Meaning.Step as step_log
-use Rattle.lg_detector.specs.Support.State.{State, state_of, begin, apply_all, open_relay}
-use Rattle.lg_detector.specs.Support.Send as send_state
-use Rattle.lg_detector.specs.Support.Open as open_state
-use Rattle.lg_detector.specs.Support.Hear as hear_state
-use Rattle.lg_detector.specs.Support.Joining as join_state
+use Rattle.lg_detector.specs.Support.State.{State, state_of, begin, apply_all_state, open_relay}
+use Rattle.lg_detector.specs.Support.Send.{claims_of_state, outgoing_state, packets_state, send_all_state, send_state}
+use Rattle.lg_detector.specs.Support.Open.{open_with_state}
+use Rattle.lg_detector.specs.Support.Hear.{hear_claims_state, hear_state, note_state, respond_state, response_state}
+use Rattle.lg_detector.specs.Support.Hear.{sends_to_state}
+use Rattle.lg_detector.specs.Support.Joining.{next_pull_state, page_behind_state, pull_after_state}
 use Rattle.lg_detector.specs.Support.Tick as tick_state
-use Rattle.lg_detector.specs.Support.Step.{state_after, accepts_of, view_in, advance, step, deadline_of, reply}
+use Rattle.lg_detector.specs.Support.Tick.{claims_said_state, due_state, expire_sends_state, expire_state}
+use Rattle.lg_detector.specs.Support.Tick.{messages_state, tick_state}
+use Rattle.lg_detector.specs.Support.Step.{state_after, accepts_of, view_state, advance, step_state, deadline_state}
+use Rattle.lg_detector.specs.Support.Step.{reply_state}
 use Rattle.lg_detector.proofs.FactLaws.{come-state, begin-state, apply-state, send-state}
 use Rattle.lg_detector.proofs.OrderLaws.{chosen-is}
 use Rattle.lg_detector.proofs.ProbeLaws.{fire-state, ack-state, nack-heard, relayed-state, helpers-is}
 
-pub apply_all-state : (origin : Origin) (cs : List Claim) (log : Log) → apply_all origin cs (state_of log) ≡ state_of (to_log.apply_all origin cs log)
+pub apply_all-state : (origin : Origin) (cs : List Claim) (log : Log) → apply_all_state origin cs (state_of log) ≡ state_of (to_log.apply_all origin cs log)
 apply_all-state origin [] log = refl
-apply_all-state origin (c ∷ cs) log = ap (apply_all origin cs) (apply-state origin c log) ∙ apply_all-state origin cs (to_log.apply origin c log)
+apply_all-state origin (c ∷ cs) log = ap (apply_all_state origin cs) (apply-state origin c log) ∙ apply_all-state origin cs (to_log.apply origin c log)
 
-open-state : (now : ℕ) (opening : Config) (log : Log) → open_state.open_with now opening (state_of log) ≡ state_of (open_log.open_with now opening log)
+open-state : (now : ℕ) (opening : Config) (log : Log) → open_with_state now opening (state_of log) ≡ state_of (open_log.open_with now opening log)
 open-state now opening log =
     let claims = open_log.seed_claims opening in
-    ap (λ s. apply_all Seed claims (begin opening s)) (come-state now log)
-    ∙ ap (apply_all Seed claims) (begin-state opening (Came now ∷ log))
+    ap (λ s. apply_all_state Seed claims (begin opening s)) (come-state now log)
+    ∙ ap (apply_all_state Seed claims) (begin-state opening (Came now ∷ log))
     ∙ apply_all-state Seed claims (OfGroup (group.Opened opening) ∷ Came now ∷ log)
 
-claims-state : (now : ℕ) (packet : Packet) (log : Log) → hear_state.hear_claims now packet (state_of log) ≡ state_of (hear_log.hear_claims now packet log)
-claims-state now packet log = ap (apply_all Group packet.claims.items) (come-state now log) ∙ apply_all-state Group packet.claims.items (Came now ∷ log)
+claims-state : (now : ℕ) (packet : Packet) (log : Log) → hear_claims_state now packet (state_of log) ≡ state_of (hear_log.hear_claims now packet log)
+claims-state now packet log = ap (apply_all_state Group packet.claims.items) (come-state now log) ∙ apply_all-state Group packet.claims.items (Came now ∷ log)
 
 -- the packets that are sent
-send-body : (body : Body) (log : Log) → send_state.send body (state_of log) ≡ state_of (send_log.send body log)
+send-body : (body : Body) (log : Log) → send_state body (state_of log) ≡ state_of (send_log.send body log)
 send-body (Ping number target) log = send-state _ log
 send-body (PingReq number target addr) log = send-state _ log
 send-body (Ack number) log = send-state _ log
@@ -66,11 +71,11 @@ send-body (Nack number) log = refl
 send-body (Pull after) log = refl
 send-body Page log = refl
 
-pub send_all-state : (ms : List Message) (log : Log) → send_state.send_all ms (state_of log) ≡ state_of (send_log.send_all ms log)
+pub send_all-state : (ms : List Message) (log : Log) → send_all_state ms (state_of log) ≡ state_of (send_log.send_all ms log)
 send_all-state [] log = refl
-send_all-state (m ∷ ms) log = ap (send_state.send_all ms) (send-body m.body log) ∙ send_all-state ms (send_log.send m.body log)
+send_all-state (m ∷ ms) log = ap (send_all_state ms) (send-body m.body log) ∙ send_all-state ms (send_log.send m.body log)
 
-claims_of-log : (body : Body) (log : Log) → send_state.claims_of body (state_of log) ≡ send_log.claims_of body log
+claims_of-log : (body : Body) (log : Log) → claims_of_state body (state_of log) ≡ send_log.claims_of body log
 claims_of-log (Ping number target) log = refl
 claims_of-log (PingReq number target addr) log = refl
 claims_of-log (Ack number) log = refl
@@ -78,20 +83,20 @@ claims_of-log (Nack number) log = refl
 claims_of-log (Pull after) log = refl
 claims_of-log Page log = refl
 
-outgoing-log : (m : Message) (log : Log) → send_state.outgoing m (state_of log) ≡ send_log.outgoing m log
+outgoing-log : (m : Message) (log : Log) → outgoing_state m (state_of log) ≡ send_log.outgoing m log
 outgoing-log m log = λ i. record {
   to = m.to;
   packet = record { sender = own_name (group_log log) i; body = m.body; claims = record { items = claims_of-log m.body log i } };
 }
 
-packets-log : (ms : List Message) (log : Log) → send_state.packets ms (state_of log) ≡ send_log.packets ms log
+packets-log : (ms : List Message) (log : Log) → packets_state ms (state_of log) ≡ send_log.packets ms log
 packets-log [] log = refl
 packets-log (m ∷ ms) log =
-    let rest = ap (send_state.packets ms) (send-body m.body log) ∙ packets-log ms (send_log.send m.body log) in
+    let rest = ap (packets_state ms) (send-body m.body log) ∙ packets-log ms (send_log.send m.body log) in
     λ i. outgoing-log m log i ∷ rest i
 
 -- the response to a body
-response-log : (source : Addr) (sender : List ℕ) (body : Body) (log : Log) → hear_state.response source sender body (state_of log) ≡ hear_log.response source sender body log
+response-log : (source : Addr) (sender : List ℕ) (body : Body) (log : Log) → response_state source sender body (state_of log) ≡ hear_log.response source sender body log
 response-log source sender body log = ap (λ me. hear_log.response_by me (number log) (relays log) source sender body) (own_name (group_log log))
 
 note-request : (b : Bool) (target : List ℕ) (source : Addr) (k : ℕ) (log : Log)
@@ -99,7 +104,7 @@ note-request : (b : Bool) (target : List ℕ) (source : Addr) (k : ℕ) (log : L
 note-request true target source k log = relayed-state target source k log
 note-request false target source k log = refl
 
-note-state : (source : Addr) (sender : List ℕ) (body : Body) (log : Log) → hear_state.note source sender body (state_of log) ≡ state_of (hear_log.note source sender body log)
+note-state : (source : Addr) (sender : List ℕ) (body : Body) (log : Log) → note_state source sender body (state_of log) ≡ state_of (hear_log.note source sender body log)
 note-state source sender (Ping k target) log = refl
 note-state source sender (PingReq k target addr) log =
     ap (λ me. cond (hear_log.is_relayed me (relays log) target) (open_relay target source k (state_of log)) (state_of log)) (own_name (group_log log))
@@ -109,37 +114,37 @@ note-state source sender (Nack k) log = nack-heard k sender log
 note-state source sender (Pull after) log = refl
 note-state source sender Page log = refl
 
-respond-state : (source : Addr) (sender : List ℕ) (body : Body) (log : Log) → hear_state.respond source sender body (state_of log) ≡ state_of (hear_log.respond source sender body log)
+respond-state : (source : Addr) (sender : List ℕ) (body : Body) (log : Log) → respond_state source sender body (state_of log) ≡ state_of (hear_log.respond source sender body log)
 respond-state source sender body log =
-    (λ i. send_state.send_all (response-log source sender body log i) (note-state source sender body log i))
+    (λ i. send_all_state (response-log source sender body log i) (note-state source sender body log i))
     ∙ send_all-state (hear_log.response source sender body log) (hear_log.note source sender body log)
 
-hear-state : (now : ℕ) (source : Addr) (packet : Packet) (log : Log) → hear_state.hear now source packet (state_of log) ≡ state_of (hear_log.hear now source packet log)
+hear-state : (now : ℕ) (source : Addr) (packet : Packet) (log : Log) → hear_state now source packet (state_of log) ≡ state_of (hear_log.hear now source packet log)
 hear-state now source packet log =
-    ap (hear_state.respond source packet.sender packet.body) (claims-state now packet log) ∙ respond-state source packet.sender packet.body (hear_log.hear_claims now packet log)
+    ap (respond_state source packet.sender packet.body) (claims-state now packet log) ∙ respond-state source packet.sender packet.body (hear_log.hear_claims now packet log)
 
 response_sent-log : (source : Addr) (sender : List ℕ) (body : Body) (log : Log)
-    → send_state.packets (hear_state.response source sender body (state_of log)) (hear_state.note source sender body (state_of log))
+    → packets_state (response_state source sender body (state_of log)) (note_state source sender body (state_of log))
     ≡ send_log.packets (hear_log.response source sender body log) (hear_log.note source sender body log)
 response_sent-log source sender body log =
-    (λ i. send_state.packets (response-log source sender body log i) (note-state source sender body log i))
+    (λ i. packets_state (response-log source sender body log i) (note-state source sender body log i))
     ∙ packets-log (hear_log.response source sender body log) (hear_log.note source sender body log)
 
 -- Pulls and Pages
-pull_after-log : (to : Addr) (after : Option (List ℕ)) (log : Log) → join_state.pull_after to after (state_of log) ≡ join_log.pull_after to after log
+pull_after-log : (to : Addr) (after : Option (List ℕ)) (log : Log) → pull_after_state to after (state_of log) ≡ join_log.pull_after to after log
 pull_after-log to after log =
     ap (λ me. join_log.with_claims to me (Pull after) (own_record (group.own (group_log log)) ∷ [])) (own_name (group_log log))
 
-page_behind-log : (to : Addr) (after : Option (List ℕ)) (log : Log) → join_state.page_behind to after (state_of log) ≡ join_log.page_behind to after log
+page_behind-log : (to : Addr) (after : Option (List ℕ)) (log : Log) → page_behind_state to after (state_of log) ≡ join_log.page_behind to after log
 page_behind-log to after log =
-    ap (λ me. join_log.with_claims to me Page (page_of after (group.view (group_log log)))) (own_name (group_log log))
+    ap (λ me. join_log.with_claims to me Page (page_of after (group_view (group_log log)))) (own_name (group_log log))
 
-next_pull-log : (to : Addr) (sixth : Option Claim) (log : Log) → join_state.next_pull to sixth (state_of log) ≡ join_log.next_pull to sixth log
+next_pull-log : (to : Addr) (sixth : Option Claim) (log : Log) → next_pull_state to sixth (state_of log) ≡ join_log.next_pull to sixth log
 next_pull-log to None log = refl
 next_pull-log to (Some sixth) log = λ i. pull_after-log to (Some sixth.name) log i ∷ []
 
 sends_to-log : (source : Addr) (sender : List ℕ) (body : Body) (claims : List Claim) (log : Log)
-    → hear_state.sends_to source sender body claims (state_of log) ≡ hear_log.sends_to source sender body claims log
+    → sends_to_state source sender body claims (state_of log) ≡ hear_log.sends_to source sender body claims log
 sends_to-log source sender (Ping k target) claims log = response_sent-log source sender (Ping k target) log
 sends_to-log source sender (PingReq k target addr) claims log = response_sent-log source sender (PingReq k target addr) log
 sends_to-log source sender (Ack k) claims log = response_sent-log source sender (Ack k) log
@@ -148,35 +153,35 @@ sends_to-log source sender (Pull after) claims log = λ i. page_behind-log sourc
 sends_to-log source sender Page claims log = next_pull-log source (join_log.sixth_of claims) log
 
 -- a timer fires, if one is due
-said-log : (id : TimerId) (log : Log) → tick_state.claims_said id (state_of log) ≡ tick_log.claims_said id log
-said-log id log = ap (λ me. tick_log.fired_claims id me (round log) (group.view (group_log log))) (own_name (group_log log))
+said-log : (id : TimerId) (log : Log) → claims_said_state id (state_of log) ≡ tick_log.claims_said id log
+said-log id log = ap (λ me. tick_log.fired_claims id me (round log) (group_view (group_log log))) (own_name (group_log log))
 
-messages-log : (id : TimerId) (words : List ℕ) (log : Log) → tick_state.messages id words (state_of log) ≡ tick_log.messages id words log
+messages-log : (id : TimerId) (words : List ℕ) (log : Log) → messages_state id words (state_of log) ≡ tick_log.messages id words log
 messages-log RoundEnd words log = refl
 messages-log (Suspicion m) words log = refl
-messages-log Direct words log = ap (tick_log.requests (round log) (group.view (group_log log))) (helpers-is words log)
+messages-log Direct words log = ap (tick_log.requests (round log) (group_view (group_log log))) (helpers-is words log)
 messages-log (RelayNack k) words log = refl
 messages-log (RelayEnd k) words log = refl
-messages-log RoundStart words log = ap (tick_log.ping_to (number log) (group.view (group_log log))) (chosen-is words log)
+messages-log RoundStart words log = ap (tick_log.ping_to (number log) (group_view (group_log log))) (chosen-is words log)
 
 fired-log : (timer : Timer) (words : List ℕ) (log : Log)
     → tick_state.said_by (Some timer) words (state_of log) ≡ state_of (to_log.apply_all Group (tick_log.claims_said timer.id log) (Fired timer words ∷ log))
 fired-log timer words log =
-    (λ i. apply_all Group (said-log timer.id log i) (fire-state timer words log i)) ∙ apply_all-state Group (tick_log.claims_said timer.id log) (Fired timer words ∷ log)
+    (λ i. apply_all_state Group (said-log timer.id log i) (fire-state timer words log i)) ∙ apply_all-state Group (tick_log.claims_said timer.id log) (Fired timer words ∷ log)
 
-expire-state : (o : Option Timer) (words : List ℕ) (log : Log) → tick_state.expire o words (state_of log) ≡ state_of (tick_log.expire o words log)
+expire-state : (o : Option Timer) (words : List ℕ) (log : Log) → expire_state o words (state_of log) ≡ state_of (tick_log.expire o words log)
 expire-state None words log = refl
 expire-state (Some timer) words log =
-    (λ i. send_state.send_all (messages-log timer.id words log i) (fired-log timer words log i))
+    (λ i. send_all_state (messages-log timer.id words log i) (fired-log timer words log i))
     ∙ send_all-state (tick_log.messages timer.id words log) (to_log.apply_all Group (tick_log.claims_said timer.id log) (Fired timer words ∷ log))
 
-expire_sends-log : (o : Option Timer) (words : List ℕ) (log : Log) → tick_state.expire_sends o words (state_of log) ≡ tick_log.expire_sends o words log
+expire_sends-log : (o : Option Timer) (words : List ℕ) (log : Log) → expire_sends_state o words (state_of log) ≡ tick_log.expire_sends o words log
 expire_sends-log None words log = refl
 expire_sends-log (Some timer) words log =
-    (λ i. send_state.packets (messages-log timer.id words log i) (fired-log timer words log i))
+    (λ i. packets_state (messages-log timer.id words log i) (fired-log timer words log i))
     ∙ packets-log (tick_log.messages timer.id words log) (to_log.apply_all Group (tick_log.claims_said timer.id log) (Fired timer words ∷ log))
 
-tick-state : (now : ℕ) (words : List ℕ) (log : Log) → tick_state.tick now words (state_of log) ≡ state_of (tick_log.tick now words log)
+tick-state : (now : ℕ) (words : List ℕ) (log : Log) → tick_state now words (state_of log) ≡ state_of (tick_log.tick now words log)
 tick-state now words log = expire-state (due (Came now ∷ log)) words (Came now ∷ log)
 
 pub advance-state : (log : Log) (e : Event) → advance (state_of log) e ≡ state_of (step_log.step e log)
@@ -188,28 +193,28 @@ advance-state log (Ask now name) = come-state now log
 advance-state log (Health now) = come-state now log
 advance-state log (Pulls now peer) = come-state now log
 
-pub reply-state : (log : Log) (e : Event) → reply (state_of log) e ≡ step_log.reply e log
-unfolding reply
+pub reply-state : (log : Log) (e : Event) → reply_state (state_of log) e ≡ step_log.reply e log
+unfolding reply_state
 reply-state log (Open now opening) = λ i. record {
   fired = None;
   sends = record { items = [] };
   changed = record { items = [] };
   answer = None;
   ousted = (advance-state log (Open now opening) i).membership.own.ousted;
-  next = or_zero (deadline_of (advance-state log (Open now opening) i));
+  next = or_zero (deadline_state (advance-state log (Open now opening) i));
 }
 reply-state log (Heard now source packet) =
     let heard = hear_log.hear_claims now packet log in
     let heard-is = claims-state now packet log in
     let said = packet.claims.items in
-    let sends-is = ap (hear_state.sends_to source packet.sender packet.body said) heard-is ∙ sends_to-log source packet.sender packet.body said heard in
+    let sends-is = ap (sends_to_state source packet.sender packet.body said) heard-is ∙ sends_to-log source packet.sender packet.body said heard in
     λ i. record {
       fired = None;
       sends = record { items = sends-is i };
-      changed = record { items = changed (step_log.view log) (view_in (heard-is i)) };
+      changed = record { items = changed (step_log.view log) (view_state (heard-is i)) };
       answer = None;
       ousted = (advance-state log (Heard now source packet) i).membership.own.ousted;
-      next = or_zero (deadline_of (advance-state log (Heard now source packet) i));
+      next = or_zero (deadline_state (advance-state log (Heard now source packet) i));
     }
 reply-state log (Ask now name) = λ i. record {
   fired = None;
@@ -217,7 +222,7 @@ reply-state log (Ask now name) = λ i. record {
   changed = record { items = [] };
   answer = step_log.answer_by (Ask now name) log;
   ousted = (advance-state log (Ask now name) i).membership.own.ousted;
-  next = or_zero (deadline_of (advance-state log (Ask now name) i));
+  next = or_zero (deadline_state (advance-state log (Ask now name) i));
 }
 reply-state log (Health now) = λ i. record {
   fired = None;
@@ -225,7 +230,7 @@ reply-state log (Health now) = λ i. record {
   changed = record { items = [] };
   answer = step_log.answer_by (Health now) log;
   ousted = (advance-state log (Health now) i).membership.own.ousted;
-  next = or_zero (deadline_of (advance-state log (Health now) i));
+  next = or_zero (deadline_state (advance-state log (Health now) i));
 }
 reply-state log (Pulls now peer) = λ i. record {
   fired = None;
@@ -233,28 +238,28 @@ reply-state log (Pulls now peer) = λ i. record {
   changed = record { items = [] };
   answer = None;
   ousted = (advance-state log (Pulls now peer) i).membership.own.ousted;
-  next = or_zero (deadline_of (advance-state log (Pulls now peer) i));
+  next = or_zero (deadline_state (advance-state log (Pulls now peer) i));
 }
 reply-state log (Tick now words) = λ i. record {
-  fired = tick_state.due (come-state now log i);
+  fired = due_state (come-state now log i);
   sends = record { items = expire_sends-log (due (Came now ∷ log)) words (Came now ∷ log) i };
-  changed = record { items = changed (step_log.view log) (view_in (tick-state now words log i)) };
+  changed = record { items = changed (step_log.view log) (view_state (tick-state now words log i)) };
   answer = None;
   ousted = (advance-state log (Tick now words) i).membership.own.ousted;
-  next = or_zero (deadline_of (advance-state log (Tick now words) i));
+  next = or_zero (deadline_state (advance-state log (Tick now words) i));
 }
 
 -- an event that is accepted leads on
-pub step-accepted : (s : State) (e : Event) → IsTrue (accepts_of s e) → step s e ≡ advance s e
+pub step-accepted : (s : State) (e : Event) → IsTrue (accepts_of s e) → step_state s e ≡ advance s e
 step-accepted s e accepted = rw accepted refl
 
 -- one more event
 state_after-append : (f : List Event) (e : Event) → state_of (step_log.step e (step_log.log_of (reverse f))) ≡ state_after (f ++ e ∷ [])
 state_after-append f e = sym (ap (λ (past : List Event). state_of (step_log.log_of past)) (reverse-append f (e ∷ [])))
 
-pub step-after : (f : List Event) (e : Event) → IsTrue (accepts_of (state_after f) e) → step (state_after f) e ≡ state_after (f ++ e ∷ [])
+pub step-after : (f : List Event) (e : Event) → IsTrue (accepts_of (state_after f) e) → step_state (state_after f) e ≡ state_after (f ++ e ∷ [])
 step-after f e accepted =
     step-accepted (state_after f) e accepted ∙ advance-state (step_log.log_of (reverse f)) e ∙ state_after-append f e
 
-pub reply-of : (f : List Event) (e : Event) → reply (state_after f) e ≡ step_log.reply_after f e
+pub reply-of : (f : List Event) (e : Event) → reply_state (state_after f) e ≡ step_log.reply_after f e
 reply-of f e = reply-state (step_log.log_of (reverse f)) e

@@ -15,7 +15,8 @@ use Rattle.lg_probe.specs.declared.relays.Relay.{Relay}
 use Rattle.lg_probe.specs.Meaning.Round.{RoundFact, Asked, Acked, asked_in, is_acked, ack_counts}
 use Rattle.lg_membership.specs.declared.suspected.Suspected.{Suspected}
 use Rattle.lg_membership.specs.Meaning.Suspicions.{suspected_name}
-use Rattle.lg_membership.specs.Support.Changes.{Change, Nothing, Ending, Putting, IsAbout, suspicions_after, deadline_after}
+use Rattle.lg_membership.specs.Support.Changes.{Change, Nothing, Ending, Putting, IsAbout, suspicions_after}
+use Rattle.lg_membership.specs.Support.Changes.{deadline_of_change}
 use Rattle.lg_detector.specs.Meaning.Probing.{Probe, round_at}
 use Rattle.lg_detector.specs.Meaning.Timing.{start_timer, end_timer, direct_timer, start_timers, probe_timers, is_asking, is_waiting, nack_timer, relay_timer, suspicion_timer, is_first}
 use Rattle.lg_detector.specs.Support.State.{follow, with_start, with_probe, without_direct}
@@ -147,13 +148,13 @@ acked-timers end direct (Some p) past k sender start =
 
 -- The timers after a change of the suspicions.
 pub pending-after : (A B C : List Timer) (m : List ℕ) (change : Change) (rows : List Suspected) → NoSuspicion A → NoSuspicion B → NoSuspicion C → IsAbout m change → Rises name_cmp (map suspected_name rows)
-    → follow m (deadline_after change) (turned A B C (runs rows)) ≡ turned A B C (runs (suspicions_after change rows))
+    → follow m (deadline_of_change change) (turned A B C (runs rows)) ≡ turned A B C (runs (suspicions_after change rows))
 pending-after A B C m Nothing rows a b c about rises = refl
 pending-after A B C m (Ending k) rows a b c about rises =
-    subst (λ n. follow n (deadline_after (Ending k)) (turned A B C (runs rows)) ≡ turned A B C (runs (suspicions_after (Ending k) rows))) about
+    subst (λ n. follow n (deadline_of_change (Ending k)) (turned A B C (runs rows)) ≡ turned A B C (runs (suspicions_after (Ending k) rows))) about
     (sym (parts-without suspected_name suspicion_timer (λ r. refl) k A B C rows a b c))
 pending-after A B C m (Putting r) rows a b c about rises =
-    subst (λ n. follow n (deadline_after (Putting r)) (turned A B C (runs rows)) ≡ turned A B C (runs (suspicions_after (Putting r) rows))) about
+    subst (λ n. follow n (deadline_of_change (Putting r)) (turned A B C (runs rows)) ≡ turned A B C (runs (suspicions_after (Putting r) rows))) about
     (sym (parts-put suspected_name suspicion_timer (λ r. refl) r A B C rows a b c rises))
 
 pub no_suspicion-nacks : (at : ℕ → ℕ) (rows : List Relay) → NoSuspicion (nacks at rows)

@@ -18,10 +18,12 @@ ghost use Rattle.lg_detector.specs.declared.event.Event.TheVariants.{Open as Ope
 ghost use Rattle.lg_detector.specs.Meaning.Log.{Log};
 ghost use Rattle.lg_detector.specs.Meaning.Probing.{others};
 ghost use Rattle.lg_detector.specs.Meaning.Window.{targets, AreOthers};
-ghost use Rattle.lg_detector.specs.Meaning.Step.{is_accepted, is_open, opens_well, begins_open};
+ghost use Rattle.lg_detector.specs.Meaning.Step.{is_accepted, is_open_event, opens_well, begins_open};
 ghost use Rattle.lg_detector.specs.Meaning.Step.{reply_after, deadline_after};
-ghost use Rattle.lg_detector.specs.Meaning.Choice.{choice, targets_after};
+ghost use Rattle.lg_detector.specs.Meaning.Choice.{choice_of_reply, targets_after};
 ghost use Rattle.lg_detector.specs.Support.Step as state;
+ghost use Rattle.lg_detector.specs.Support.Step.{answer_by_state, changed_by_state, fired_by_state, reply_state};
+ghost use Rattle.lg_detector.specs.Support.Step.{sends_by_state, step_state};
 ghost use Rattle.lg_detector.specs.Support.Step.{accepts_at, accepts_of, state_after};
 
 use crate::event::Event;
@@ -157,8 +159,8 @@ impl Detector {
     /// always succeeds.
     pub fn step(&mut self, event: &Event, reply: &mut Reply)
         requires { IsTrue (accepts_of self.old event.now) }
-        ensures state { self.new ≡ state.step self.old event.now }
-        ensures reply { reply.new ≡ state.reply self.old event.now }
+        ensures state { self.new ≡ step_state self.old event.now }
+        ensures reply { reply.new ≡ reply_state self.old event.now }
         // After any list of events: the state is then that of the list with this event, and the reply is the one that
         // the definitions give after the list.
         ensures after { (f : List Happened) → self.old ≡ state_after f
@@ -171,7 +173,7 @@ impl Detector {
     /// Advances the state by an event, without a reply. An event that isn't accepted changes nothing. Allocates
     /// nothing, and always succeeds.
     pub fn absorb(&mut self, event: &Event)
-        ensures state { self.new ≡ state.step self.old event.now }
+        ensures state { self.new ≡ step_state self.old event.now }
         ensures after { (f : List Happened) → self.old ≡ state_after f → IsTrue (accepts_of self.old event.now)
             → self.new ≡ state_after (f ++ event.now ∷ []) }
         ensures refused { accepts_of self.old event.now ≡ false → self.new ≡ self.old }
@@ -186,7 +188,7 @@ impl Detector {
     fn advance(&mut self, event: &Event, reply: &mut Reply)
         requires { IsTrue (accepts_of self.old event.now) }
         ensures state { self.new ≡ state.advance self.old event.now }
-        ensures reply { reply.new ≡ state.reply self.old event.now }
+        ensures reply { reply.new ≡ reply_state self.old event.now }
     {
         self.react(event, reply);
         reply.ousted = self.is_ousted();
@@ -199,10 +201,10 @@ impl Detector {
     fn react(&mut self, event: &Event, reply: &mut Reply)
         requires { IsTrue (accepts_of self.old event.now) }
         ensures state { self.new ≡ state.advance self.old event.now }
-        ensures fired { reply.new.fired ≡ state.fired_by self.old event.now }
-        ensures sends { reply.new.sends.items ≡ state.sends_by self.old event.now }
-        ensures differing { reply.new.changed.items ≡ state.changed_by self.old event.now }
-        ensures answer { reply.new.answer ≡ state.answer_by self.old event.now }
+        ensures fired { reply.new.fired ≡ fired_by_state self.old event.now }
+        ensures sends { reply.new.sends.items ≡ sends_by_state self.old event.now }
+        ensures differing { reply.new.changed.items ≡ changed_by_state self.old event.now }
+        ensures answer { reply.new.answer ≡ answer_by_state self.old event.now }
     {
         match event {
             Event::Open { now, config } => self.open_with(*now, config, reply),
@@ -221,7 +223,7 @@ impl Detector {
 
 /// Whether an event is an opening.
 fn is_opening(event: &Event) -> bool
-    ensures { result ≡ is_open event.now }
+    ensures { result ≡ is_open_event event.now }
 {
     matches!(event, Event::Open { .. })
 }
@@ -251,20 +253,20 @@ fn can_come(events: u64, event: &Event) -> bool
 /// accepts an event advances as the list does, and its reply is the one of the definitions.
 pub fn states_lead_on()
     ensures next { (f : List Happened) (e : Happened) → IsTrue (accepts_of (state_after f) e)
-        → state.step (state_after f) e ≡ state_after (f ++ e ∷ []) }
-    ensures reply { (f : List Happened) (e : Happened) → state.reply (state_after f) e ≡ reply_after f e }
+        → step_state (state_after f) e ≡ state_after (f ++ e ∷ []) }
+    ensures reply { (f : List Happened) (e : Happened) → reply_state (state_after f) e ≡ reply_after f e }
     // After an accepted list: an event is accepted exactly if the list with it is.
     ensures accepts { (f : List Happened) (e : Happened) → is_accepted f ≡ true
         → accepts_of (state_after f) e ≡ is_accepted (f ++ e ∷ []) }
     ensures events { (f : List Happened) → (state_after f).events ≡ length f }
     // After a list that begins with an opening a timer is always set. One clause says it of the first event, the
     // other of the list.
-    ensures deadline { (x : Happened) (f : List Happened) → is_open x ≡ true
+    ensures deadline { (x : Happened) (f : List Happened) → is_open_event x ≡ true
         → is_some (deadline_after (x ∷ f)) ≡ true }
     ensures timed { (f : List Happened) → begins_open f ≡ true → is_some (deadline_after f) ≡ true }
     // The reply to an event says whom the event chose.
     ensures chosen { (f : List Happened) (e : Happened)
-        → targets_after (f ++ e ∷ []) ≡ targets_after f ++ option_to_list (choice (reply_after f e)) }
+        → targets_after (f ++ e ∷ []) ≡ targets_after f ++ option_to_list (choice_of_reply (reply_after f e)) }
 {}
 
 /// Which lists of events are accepted. They have at most [`MAX_EVENTS`] events, and the first one is an opening. The
@@ -272,9 +274,9 @@ pub fn states_lead_on()
 /// and fewer than [`MAX_EVENTS`] events is also accepted with a further event that is no opening.
 pub fn accepted_lists()
     ensures few { (f : List Happened) → is_accepted f ≡ true → length f ≤ MAX_EVENTS }
-    ensures opens { (x : Happened) (f : List Happened) → is_accepted (x ∷ f) ≡ true → is_open x ≡ true }
+    ensures opens { (x : Happened) (f : List Happened) → is_accepted (x ∷ f) ≡ true → is_open_event x ≡ true }
     ensures more { (x : Happened) (f : List Happened) (e : Happened) → is_accepted (x ∷ f) ≡ true
-        → is_open e ≡ false → length f + 1 < MAX_EVENTS → is_accepted (x ∷ f ++ e ∷ []) ≡ true }
+        → is_open_event e ≡ false → length f + 1 < MAX_EVENTS → is_accepted (x ∷ f ++ e ∷ []) ≡ true }
     ensures opening { (now : ℕ) (opening : Configuration) → IsChecked opening
         → is_accepted (Opening now opening ∷ []) ≡ true }
 {}

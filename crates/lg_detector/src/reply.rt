@@ -7,7 +7,7 @@ ghost use Rattle.std.specs.Option.{option_to_list};
 ghost use Rattle.arrayvec.specs.ArrayVec.{array_vec_len};
 ghost use Rattle.lg_detector.specs.declared.event.Event.{Event as Happened};
 ghost use Rattle.lg_detector.specs.Meaning.Step.{reply_after};
-ghost use Rattle.lg_detector.specs.Meaning.Choice.{choice, choice_by, first_body, targets_after};
+ghost use Rattle.lg_detector.specs.Meaning.Choice.{choice_of_reply, choice_by, first_body, targets_after};
 
 use arrayvec::ArrayVec;
 use lg_packet::{Body, Packet};
@@ -161,7 +161,7 @@ impl Reply {
     /// Whom the start of a round chose: the target of the Ping that it sent (SWIM, section 4.3). None if no start of
     /// a round fired, or if it chose nobody. Allocates nothing.
     pub fn chosen(&self) -> Option<Name>
-        ensures reply { result ≡ choice self.now }
+        ensures reply { result ≡ choice_of_reply self.now }
         // The reply to an event after a list of events says which target the event adds to those of the list.
         ensures gained { (f : List Happened) (e : Happened) → self.now ≡ reply_after f e
             → targets_after (f ++ e ∷ []) ≡ targets_after f ++ option_to_list result }

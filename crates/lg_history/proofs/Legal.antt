@@ -8,7 +8,7 @@ use Rattle.lg_timing.specs.Meaning.Config.{IsChecked}
 use Rattle.lg_detector.specs.declared.event.Event.{Event}
 use Rattle.lg_detector.specs.declared.event.Event.TheVariants.{Open}
 use Rattle.lg_detector.specs.declared.reply.Reply.{Reply}
-use Rattle.lg_detector.specs.Meaning.Step.{is_accepted, is_open, opens_well, most_events, reply_after}
+use Rattle.lg_detector.specs.Meaning.Step.{is_accepted, is_open_event, opens_well, most_events, reply_after}
 use Rattle.lg_history.specs.Meaning.History.{Entry, entry, events, Answered, IsSeat, Seated, IsLegal}
 
 pub events-append : (h : List Entry) (x : Entry) → events (h ++ x ∷ []) ≡ events h ++ x.event ∷ []
@@ -52,19 +52,19 @@ all_three false rest few e = absurd cc
 three : (first rest few : Bool) → first ≡ true → rest ≡ false → few ≡ true → (first && (not rest && few)) ≡ true
 three first rest few a b c = rw (a, b, c) refl
 
-pub accepted-append : (x : Event) (f : List Event) (e : Event) → is_accepted (x ∷ f) ≡ true → is_open e ≡ false → length f + 1 < most_events → is_accepted (x ∷ (f ++ e ∷ [])) ≡ true
+pub accepted-append : (x : Event) (f : List Event) (e : Event) → is_accepted (x ∷ f) ≡ true → is_open_event e ≡ false → length f + 1 < most_events → is_accepted (x ∷ (f ++ e ∷ [])) ≡ true
 accepted-append x f e accepted shut few =
-    let are = all_three (opens_well x) (list_any is_open f) _ accepted in
-    let later : list_any is_open (f ++ e ∷ []) ≡ false = list_any-append is_open f (e ∷ []) ∙ rw (are.1, shut) refl in
+    let are = all_three (opens_well x) (list_any is_open_event f) _ accepted in
+    let later : list_any is_open_event (f ++ e ∷ []) ≡ false = list_any-append is_open_event f (e ∷ []) ∙ rw (are.1, shut) refl in
     let longer : length (f ++ e ∷ []) + 1 ≤ most_events = omega (arith, length-append f (e ∷ [])) in
-    three (opens_well x) (list_any is_open (f ++ e ∷ [])) _ are.0 later (grind arith)
+    three (opens_well x) (list_any is_open_event (f ++ e ∷ [])) _ are.0 later (grind arith)
 
 -- the events of a legal history that isn't full are accepted with one more that opens nothing
-pub may_follow : (places : ℕ) (h : List Entry) (e : Event) → IsLegal places h → is_open e ≡ false → length h < most_events → is_accepted (events h ++ e ∷ []) ≡ true
+pub may_follow : (places : ℕ) (h : List Entry) (e : Event) → IsLegal places h → is_open_event e ≡ false → length h < most_events → is_accepted (events h ++ e ∷ []) ≡ true
 may_follow places [] e legal shut few = absurd legal.seated
 may_follow places (y ∷ h) e legal shut few = accepted-append y.event (events h) e legal.accepted shut (omega (arith, length-events h))
 
-pub grown : (places seat : ℕ) (h : List Entry) (e : Event) (r : Reply) → IsLegal places h → is_open e ≡ false → length h < most_events → 0 < seat → seat ≤ places → r ≡ reply_after (events h) e → IsLegal places (h ++ entry seat e r ∷ [])
+pub grown : (places seat : ℕ) (h : List Entry) (e : Event) (r : Reply) → IsLegal places h → is_open_event e ≡ false → length h < most_events → 0 < seat → seat ≤ places → r ≡ reply_after (events h) e → IsLegal places (h ++ entry seat e r ∷ [])
 grown places seat h e r legal shut few low high is = record {
   accepted = ap is_accepted (events-append h (entry seat e r)) ∙ may_follow places h e legal shut few;
   seated = seated-append places h (entry seat e r) legal.seated (low, high);

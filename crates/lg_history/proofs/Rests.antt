@@ -8,9 +8,9 @@ use Rattle.std.proofs.lemmas.List.Elements.{All-nil, All-cons, All-head, All-tai
 use Rattle.std.proofs.lemmas.List.Sums.{sum_by-append, sum_by-cons, count_by-le-length}
 use Rattle.lg_detector.specs.declared.event.Event.{Event}
 use Rattle.lg_detector.specs.declared.reply.Reply.{Reply}
-use Rattle.lg_detector.specs.Meaning.Step.{is_accepted, is_open, most_events, reply_after}
+use Rattle.lg_detector.specs.Meaning.Step.{is_accepted, is_open_event, most_events, reply_after}
 use Rattle.lg_detector.specs.Support.State.{State}
-use Rattle.lg_detector.specs.Support.Step.{accepts_of, state_after, step, reply}
+use Rattle.lg_detector.specs.Support.Step.{accepts_of, state_after, step_state, reply_state}
 use Rattle.lg_detector.specs.Support.Summary.{IsSummary}
 use Rattle.lg_detector.proofs.AcceptedLists.{accepted_few}
 use Rattle.lg_detector.proofs.Accepting.{accepts-after}
@@ -62,8 +62,8 @@ answered_from s f (x ∷ h) is accepted answered =
     let whole : is_accepted ((f ++ e ∷ []) ++ events h) ≡ true = ap is_accepted again ∙ accepted in
     let one : is_accepted (f ++ e ∷ []) ≡ true = accepted_front (f ++ e ∷ []) (events h) whole in
     let takes : accepts_of (state_after f) e ≡ true = accepts-after f e (accepted_front f (e ∷ []) one) ∙ one in
-    let next : step s e ≡ state_after (f ++ e ∷ []) = ap (λ (t : State). step t e) is ∙ step-after f e takes in
-    (answered.0 ∙ (sym (reply-of f e) ∙ ap (λ (t : State). reply t e) (sym is)), answered_from (step s e) (f ++ e ∷ []) h next whole answered.1)
+    let next : step_state s e ≡ state_after (f ++ e ∷ []) = ap (λ (t : State). step_state t e) is ∙ step-after f e takes in
+    (answered.0 ∙ (sym (reply-of f e) ∙ ap (λ (t : State). reply_state t e) (sym is)), answered_from (step_state s e) (f ++ e ∷ []) h next whole answered.1)
 
 -- the other way round
 pub answered_after : (s : State) (f : List Event) (h : List Entry) → IsSummary s f → is_accepted (f ++ events h) ≡ true → AnsweredFrom s h → Answered f h
@@ -74,11 +74,11 @@ answered_after s f (x ∷ h) is accepted answered =
     let whole : is_accepted ((f ++ e ∷ []) ++ events h) ≡ true = ap is_accepted again ∙ accepted in
     let one : is_accepted (f ++ e ∷ []) ≡ true = accepted_front (f ++ e ∷ []) (events h) whole in
     let takes : accepts_of (state_after f) e ≡ true = accepts-after f e (accepted_front f (e ∷ []) one) ∙ one in
-    let next : step s e ≡ state_after (f ++ e ∷ []) = ap (λ (t : State). step t e) is ∙ step-after f e takes in
-    (answered.0 ∙ (ap (λ (t : State). reply t e) is ∙ reply-of f e), answered_after (step s e) (f ++ e ∷ []) h next whole answered.1)
+    let next : step_state s e ≡ state_after (f ++ e ∷ []) = ap (λ (t : State). step_state t e) is ∙ step-after f e takes in
+    (answered.0 ∙ (ap (λ (t : State). reply_state t e) is ∙ reply-of f e), answered_after (step_state s e) (f ++ e ∷ []) h next whole answered.1)
 
 -- What is left goes on by one entry, as a whole history does.
-pub rest_grows : (places seat : ℕ) (past : List Event) (cut : List ℕ) (h : List Entry) (e : Event) (r : Reply) → IsRest places past cut h → is_open e ≡ false → length h + length past < most_events → 0 < seat → seat ≤ places → r ≡ reply_after (past ++ events h) e
+pub rest_grows : (places seat : ℕ) (past : List Event) (cut : List ℕ) (h : List Entry) (e : Event) (r : Reply) → IsRest places past cut h → is_open_event e ≡ false → length h + length past < most_events → 0 < seat → seat ≤ places → r ≡ reply_after (past ++ events h) e
     → IsRest places past cut (h ++ entry seat e r ∷ [])
 rest_grows places seat past cut h e r rest shut few low high is =
     let whole : length (rest.gone ++ h) ≡ length h + length past = whole_length places past cut h rest in

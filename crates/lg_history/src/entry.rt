@@ -3,7 +3,7 @@
 //! Defined in: `specs/Meaning/History.antt`, `lg_detector/specs/Meaning/Choice.antt`.
 //! Tested in: `lg_agent_tests/src/history/refused_memory.rt`.
 ghost use Rattle.std.specs.Prelude.{◌≡◌};
-ghost use Rattle.lg_detector.specs.Meaning.Choice.{choice};
+ghost use Rattle.lg_detector.specs.Meaning.Choice.{choice_of_reply};
 
 use crate::event::StoredEvent;
 use crate::reply::StoredReply;
@@ -59,7 +59,7 @@ impl Entry {
     /// Whom the start of a round chose, by the reply: the target of the Ping that it sent (SWIM, section 4.3). None
     /// if no start of a round fired, or if it chose nobody. Allocates nothing, and makes no copy of the reply.
     pub fn chosen(&self) -> Option<Name>
-        ensures { result ≡ choice self.now.reply }
+        ensures { result ≡ choice_of_reply self.now.reply }
     {
         self.reply.chosen()
     }

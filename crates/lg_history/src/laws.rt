@@ -7,7 +7,7 @@ ghost use Rattle.lg_timing.specs.declared.config.Config.{Config};
 ghost use Rattle.lg_timing.specs.Meaning.Config.{IsChecked};
 ghost use Rattle.lg_detector.specs.declared.event.Event.{Event};
 ghost use Rattle.lg_detector.specs.declared.event.Event.TheVariants.{Open};
-ghost use Rattle.lg_detector.specs.Meaning.Step.{is_open, most_events, reply_after};
+ghost use Rattle.lg_detector.specs.Meaning.Step.{is_open_event, most_events, reply_after};
 ghost use Rattle.lg_detector.specs.Support.State.{State};
 ghost use Rattle.lg_detector.specs.Support.Summary.{IsSummary};
 ghost use Rattle.lg_detector.specs.Meaning.Step.{is_accepted};
@@ -19,7 +19,7 @@ ghost use Rattle.lg_history.specs.Meaning.Rest.{IsRest, AnsweredFrom, AreCut, of
 pub fn histories_grow()
     ensures begins { (places now : ℕ) (config : Config) → IsChecked config
         → IsLegal places (entry 0 (Open now config) (reply_after [] (Open now config)) ∷ []) }
-    ensures grows { (places seat : ℕ) (h : List Entry) (e : Event) → IsLegal places h → is_open e ≡ false
+    ensures grows { (places seat : ℕ) (h : List Entry) (e : Event) → IsLegal places h → is_open_event e ≡ false
         → length h < most_events → 0 < seat → seat ≤ places
         → IsLegal places (h ++ entry seat e (reply_after (events h) e) ∷ []) }
     // Its events grow by that one event, and it has as many events as entries.
@@ -41,7 +41,7 @@ pub fn rests_go_on()
     ensures whole { (places : ℕ) (cut : List ℕ) (h : List Entry) → ((seat : ℕ) → of_seat cut seat ≡ 0)
         → IsLegal places h → IsRest places [] cut h }
     ensures grows { (places seat : ℕ) (past : List Event) (cut : List ℕ) (h : List Entry) (e : Event)
-        → IsRest places past cut h → is_open e ≡ false → length h + length past < most_events
+        → IsRest places past cut h → is_open_event e ≡ false → length h + length past < most_events
         → 0 < seat → seat ≤ places
         → IsRest places past cut (h ++ entry seat e (reply_after (past ++ events h) e) ∷ []) }
     ensures cut { (places : ℕ) (past : List Event) (cut more : List ℕ) (h : List Entry) → IsRest places past cut h

@@ -4,7 +4,7 @@
 //! Tested in: `lg_agent_tests/src/history/refused_memory.rt`.
 ghost use Rattle.std.specs.Prelude.{◌≡◌, ◌≤◌, length, option_copied, option_map, IfOk};
 ghost use Rattle.lg_detector.specs.declared.reply.TheConstants.{MAX_SENDS};
-ghost use Rattle.lg_detector.specs.Meaning.Choice.{choice, first_body};
+ghost use Rattle.lg_detector.specs.Meaning.Choice.{choice_of_reply, first_body};
 
 use crate::packet::StoredOutgoing;
 use arrayvec::ArrayVec;
@@ -136,7 +136,7 @@ impl ExactReply {
 
     /// Whom the start of a round chose.
     fn chosen(&self) -> Option<Name>
-        ensures { result ≡ choice self.now }
+        ensures { result ≡ choice_of_reply self.now }
     {
         choice_by(timer_in(&self.fired), first_body(self.sends.as_slice()))
     }
@@ -226,7 +226,7 @@ impl StoredReply {
 
     /// Whom the start of a round chose.
     pub(crate) fn chosen(&self) -> Option<Name>
-        ensures { result ≡ choice self.now }
+        ensures { result ≡ choice_of_reply self.now }
     {
         match &self.form {
             Form::Exact(exact) => exact.chosen(),

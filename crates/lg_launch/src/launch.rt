@@ -6,8 +6,8 @@
 ghost use Rattle.std.specs.Prelude.{◌≡◌, ◌⊎◌, IfErr};
 ghost use Rattle.lg_text.specs.Meaning.Running.{AppendsFront};
 ghost use Rattle.lg_timing.specs.Meaning.Config.{IsChecked};
-ghost use Rattle.lg_launch.specs.Meaning.Telling.{line_of, status_of};
-ghost use Rattle.lg_launch.specs.Meaning.Running.{table_of, Writes, RunsNode, RunsBytes, RunsFile};
+ghost use Rattle.lg_launch.specs.Meaning.Telling.{line_of, status_told};
+ghost use Rattle.lg_launch.specs.Meaning.Running.{table_at_end, Writes, RunsNode, RunsBytes, RunsFile};
 
 use crate::telling::table_of;
 use crate::told::Told;
@@ -133,7 +133,8 @@ fn write_table<W: Write>(
     ran: &Result<NodeEnd, NodeFault>,
     writer: &mut W,
 ) -> Result<(), RunFault>
-    ensures { Writes writer.old writer.new (W.contents writer.old) (W.contents writer.new) (table_of ran.now) result }
+    ensures { Writes writer.old writer.new (W.contents writer.old) (W.contents writer.new)
+        (table_at_end ran.now) result }
 {
     let Some(records) = table_of(ran) else {
         return Ok(());
@@ -146,7 +147,7 @@ fn write_table<W: Write>(
 /// Reports what is told, and gives its status.
 fn tell<F: Write>(told: Told, faults: &mut F) -> u8
     ensures line { AppendsFront (F.contents faults.old) (F.contents faults.new) (line_of told) }
-    ensures status { result ≡ status_of told }
+    ensures status { result ≡ status_told told }
 {
     report(faults, told.line());
     told.status()

@@ -6,7 +6,7 @@ ghost use Rattle.std.specs.Prelude.{◌≡◌, unwrap_or, Ok};
 ghost use Rattle.std.specs.Option.{option_map};
 ghost use Rattle.lg_node.specs.declared.ending.Why.TheVariants.{Stopped};
 ghost use Rattle.lg_launch.specs.declared.told.Told.{Told as OneTold};
-ghost use Rattle.lg_launch.specs.Meaning.Running.{table_of};
+ghost use Rattle.lg_launch.specs.Meaning.Running.{table_at_end};
 ghost use Rattle.lg_launch.specs.Meaning.Telling.{ending, finished, run_told};
 
 use crate::told::Told;
@@ -16,7 +16,7 @@ use lg_text::RunFault;
 
 /// The records of the table that is to be written, if one is to be.
 pub(crate) fn table_of(ran: &Result<NodeEnd, NodeFault>) -> Option<&[Record]>
-    ensures { option_map (λ records. records.now) result ≡ table_of ran.now }
+    ensures { option_map (λ records. records.now) result ≡ table_at_end ran.now }
 {
     let Ok(end) = ran else {
         return None;

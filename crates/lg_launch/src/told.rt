@@ -4,7 +4,7 @@
 //! Tested in: `lg_command_tests/src/launch/told.rt`.
 ghost use Rattle.std.specs.Prelude.{◌≡◌};
 ghost use Rattle.lg_config.specs.Meaning.Faults.{config_fault_number, fault_number};
-ghost use Rattle.lg_launch.specs.Meaning.Telling.{status_of, line_of, config_line, refusal_told, fault_told};
+ghost use Rattle.lg_launch.specs.Meaning.Telling.{status_told, line_of, config_line, refusal_told, fault_told};
 
 use lg_agent::Refusal;
 use lg_config::FileFault;
@@ -43,7 +43,7 @@ impl Told {
     /// The exit status: 0 for [`Told::Done`], 3 for [`Told::Config`], 4 for [`Told::Ousted`], 5 for [`Told::Link`],
     /// and 1 for the others.
     pub fn status(self) -> u8
-        ensures { result ≡ status_of self }
+        ensures { result ≡ status_told self }
     {
         match self {
             Told::Done => 0,

@@ -14,7 +14,7 @@ use Rattle.lg_rules.proofs.KeyOrder.{names_order, other_key}
 use Rattle.lg_rules.proofs.PastLaws.{earliest_passes, unbeaten_some}
 use Rattle.lg_rules.proofs.Ranks.{ranked}
 use Rattle.lg_gossip.specs.Meaning.Queue.{is_suspect}
-use Rattle.lg_membership.specs.Meaning.Log.{Log, Opened, Said, Sent, said}
+use Rattle.lg_membership.specs.Meaning.Log.{GroupLog, Opened, Said, Sent, said}
 use Rattle.lg_membership.specs.Meaning.Suspicions.{accuses, accusers_in, raise_of}
 
 -- whether some claim of a past accuses a member at an incarnation
@@ -33,7 +33,7 @@ none_accuse m i (c ∷ past) e = elim (cases_Bool (accuses m i c)) [
   | inr f ↦ (let rest : is_accused m i past ≡ false = rw f at e in rw f (none_accuse m i past rest))
 ]
 
-pub none_raises : (m : List ℕ) (i : ℕ) (log : Log) → is_accused m i (said log) ≡ false → raise_of m i log ≡ None
+pub none_raises : (m : List ℕ) (i : ℕ) (log : GroupLog) → is_accused m i (said log) ≡ false → raise_of m i log ≡ None
 none_raises m i [] e = refl
 none_raises m i (Opened opening ∷ log) e = refl
 none_raises m i (Said now origin c ∷ log) e = elim (cases_Bool (accuses m i c)) [
@@ -51,7 +51,7 @@ or_before : {A : Type 0} (o p : Option A) → o ≢ None → or_else o p ≢ Non
 or_before None p some e = some refl
 or_before (Some y) p some e = absurd cc
 
-pub one_raises : (m : List ℕ) (i : ℕ) (log : Log) → is_accused m i (said log) ≡ true → raise_of m i log ≢ None
+pub one_raises : (m : List ℕ) (i : ℕ) (log : GroupLog) → is_accused m i (said log) ≡ true → raise_of m i log ≢ None
 one_raises m i [] e = absurd cc
 one_raises m i (Opened opening ∷ log) e = absurd cc
 one_raises m i (Said now origin c ∷ log) e = elim (cases_Bool (accuses m i c)) [

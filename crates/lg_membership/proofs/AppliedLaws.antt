@@ -22,12 +22,15 @@ use Rattle.lg_membership.specs.declared.applied.Applied.{Applied}
 use Rattle.lg_membership.specs.declared.applied.Deadline.{Deadline}
 use Rattle.lg_membership.specs.declared.origin.Origin.{Origin}
 use Rattle.lg_membership.specs.declared.suspected.Suspected.{Suspected}
-use Rattle.lg_membership.specs.Meaning.Log.{Log, Said, config, me, said, own, table, live_others, addr_in}
+use Rattle.lg_membership.specs.Meaning.Log.{GroupLog, Said, config, me, said, own, table, live_others, opening_addr}
 use Rattle.lg_membership.specs.Meaning.Suspicions.{suspicions, suspected_name}
 use Rattle.lg_membership.specs.Meaning.Applied.{record_in, suspicion_in, is_refuted, IsRecordChange, IsDeadlineChange, IsApplied}
-use Rattle.lg_membership.specs.Support.Changes.{Change, Nothing, Ending, Putting, raised, ended, overriding, accusing, change_by, change_of, row_about, suspicions_after, deadline_after, live_after}
-use Rattle.lg_membership.specs.Support.State.{State, state_of, standing, live_others_in, apply, applied_own, applied_other, applied}
-use Rattle.lg_membership.specs.Support.Reached.{IsReached}
+use Rattle.lg_membership.specs.Support.Changes.{Change, Nothing, Ending, Putting, raised, ended, overriding, accusing}
+use Rattle.lg_membership.specs.Support.Changes.{change_by, change_of, row_about, suspicions_after, deadline_of_change}
+use Rattle.lg_membership.specs.Support.Changes.{live_after}
+use Rattle.lg_membership.specs.Support.State.{GroupState, group_state_of, standing, live_others_in, apply_to_group}
+use Rattle.lg_membership.specs.Support.State.{applied_own, applied_other, applied}
+use Rattle.lg_membership.specs.Support.Reached.{IsGroupReached}
 use Rattle.lg_membership.proofs.Applying.{applied-changed}
 use Rattle.lg_membership.proofs.Chosen.{found_key}
 use Rattle.lg_membership.proofs.FactLaws.{own_name, apply-state}
@@ -43,9 +46,9 @@ follows_another r (Some b) follows e = absurd (false≢true (sym (ranked.not_its
 changes_to : (before after : Option Claim) (r : Claim) → after ≡ Some r → Follows r before → IsRecordChange before after true
 changes_to before after r is follows = λ same. follows_another r before follows (sym same ∙ is)
 
-record-changed : (now : ℕ) (origin : Origin) (c : Claim) (log : Log)
-    → IsRecordChange (record_in log c.name) (record_in (Said now origin c ∷ log) c.name) (changes_record (standing (state_of log)) c)
-record-changed now origin c log = elim (view_hearing (me log) (addr_in (config log)) c (said log)) [
+record-changed : (now : ℕ) (origin : Origin) (c : Claim) (log : GroupLog)
+    → IsRecordChange (record_in log c.name) (record_in (Said now origin c ∷ log) c.name) (changes_record (standing (group_state_of log)) c)
+record-changed now origin c log = elim (view_hearing (me log) (opening_addr (config log)) c (said log)) [
   | Changes change ↦ (
       subst (λ b. IsRecordChange (record_in log c.name) (record_in (Said now origin c ∷ log) c.name) b) (sym change.changes)
       (changes_to (record_in log c.name) (record_in (Said now origin c ∷ log) c.name) change.r change.row change.follows))
@@ -92,7 +95,7 @@ about-change NoRoom o now n c rows = tt
 
 -- so it is what becomes of the member's suspicion and its deadline
 deadline-change : (n : List ℕ) (rows : List Suspected) (ch : Change) → IsAbout n rows ch
-    → IsDeadlineChange (row_at name_cmp suspected_name n rows) (row_at name_cmp suspected_name n (suspicions_after ch rows)) (deadline_after ch)
+    → IsDeadlineChange (row_at name_cmp suspected_name n rows) (row_at name_cmp suspected_name n (suspicions_after ch rows)) (deadline_of_change ch)
 deadline-change n rows Nothing is = refl
 deadline-change n rows (Ending m) is =
     (is.1, ap (λ k. row_at name_cmp suspected_name n (without_row name_cmp suspected_name k rows)) is.0 ∙ row_at-without names_order suspected_name n rows)
@@ -101,35 +104,35 @@ deadline-change n rows (Putting r) is =
     (row_at-put names_order suspected_name n r rows
     ∙ ap (λ b. cond b (Some r) (row_at name_cmp suspected_name n rows)) (same_key names_order r.name n is))
 
-deadline-other : (now : ℕ) (origin : Origin) (c : Claim) (log : Log) → c.name ≢ me log
-    → IsDeadlineChange (suspicion_in log c.name) (suspicion_in (Said now origin c ∷ log) c.name) (applied_other now c (state_of log)).deadline
+deadline-other : (now : ℕ) (origin : Origin) (c : Claim) (log : GroupLog) → c.name ≢ me log
+    → IsDeadlineChange (suspicion_in log c.name) (suspicion_in (Said now origin c ∷ log) c.name) (applied_other now c (group_state_of log)).deadline
 deadline-other now origin c log other =
     let rows = suspicions log in
     let ch = change_of (config log) now (table log) rows c in
     let is = about-change (hearing_of (table log) c) (config log) now (live_in (heard (table log) c)) c rows in
-    subst (λ (after : List Suspected). IsDeadlineChange (suspicion_in log c.name) (row_at name_cmp suspected_name c.name after) (deadline_after ch))
+    subst (λ (after : List Suspected). IsDeadlineChange (suspicion_in log c.name) (row_at name_cmp suspected_name c.name after) (deadline_of_change ch))
     (suspicions-other now origin log c other) (deadline-change c.name rows ch is)
 
 -- What applying a claim says, of oneself and of another.
-applied-is : (now : ℕ) (c : Claim) (s : State) (b : Bool) → is_same name_cmp c.name s.own.name ≡ b → applied now c s ≡ cond b (applied_own c s) (applied_other now c s)
+applied-is : (now : ℕ) (c : Claim) (s : GroupState) (b : Bool) → is_same name_cmp c.name s.own.name ≡ b → applied now c s ≡ cond b (applied_own c s) (applied_other now c s)
 unfolding applied
 applied-is now c s b e = ap (λ x. cond x (applied_own c s) (applied_other now c s)) e
 
-pub applied-own : (now : ℕ) (c : Claim) (s : State) → c.name ≡ s.own.name → applied now c s ≡ applied_own c s
+pub applied-own : (now : ℕ) (c : Claim) (s : GroupState) → c.name ≡ s.own.name → applied now c s ≡ applied_own c s
 applied-own now c s same = applied-is now c s true (same_key names_order c.name s.own.name same)
 
-pub applied-other : (now : ℕ) (c : Claim) (s : State) → c.name ≢ s.own.name → applied now c s ≡ applied_other now c s
+pub applied-other : (now : ℕ) (c : Claim) (s : GroupState) → c.name ≢ s.own.name → applied now c s ≡ applied_other now c s
 applied-other now c s other = applied-is now c s false (other_key names_order c.name s.own.name other)
 
-changed-log : (now : ℕ) (origin : Origin) (c : Claim) (log : Log)
-    → IsRecordChange (record_in log c.name) (record_in (Said now origin c ∷ log) c.name) (applied now c (state_of log)).changed
+changed-log : (now : ℕ) (origin : Origin) (c : Claim) (log : GroupLog)
+    → IsRecordChange (record_in log c.name) (record_in (Said now origin c ∷ log) c.name) (applied now c (group_state_of log)).changed
 changed-log now origin c log =
-    subst (λ b. IsRecordChange (record_in log c.name) (record_in (Said now origin c ∷ log) c.name) b) (sym (applied-changed now c (state_of log))) (record-changed now origin c log)
+    subst (λ b. IsRecordChange (record_in log c.name) (record_in (Said now origin c ∷ log) c.name) b) (sym (applied-changed now c (group_state_of log))) (record-changed now origin c log)
 
-pub applied-log : (now : ℕ) (origin : Origin) (c : Claim) (log : Log) → IsApplied now origin c log (applied now c (state_of log))
+pub applied-log : (now : ℕ) (origin : Origin) (c : Claim) (log : GroupLog) → IsApplied now origin c log (applied now c (group_state_of log))
 applied-log now origin c log = elim (cases_key names_order c.name (me log)) [
   | inl same ↦ (
-      let is = applied-own now c (state_of log) (same ∙ sym (own_name log)) in
+      let is = applied-own now c (group_state_of log) (same ∙ sym (own_name log)) in
       record {
         changed = changed-log now origin c log;
         refuted = ap (λ (a : Applied). a.refuted) is;
@@ -140,7 +143,7 @@ applied-log now origin c log = elim (cases_key names_order c.name (me log)) [
       })
   | inr other ↦ (
       let apart : c.name ≢ (own log).name = λ e. other (e ∙ own_name log) in
-      let is = applied-other now c (state_of log) apart in
+      let is = applied-other now c (group_state_of log) apart in
       record {
         changed = changed-log now origin c log;
         refuted = ap (λ (a : Applied). a.refuted) is ∙ sym (ap is_refuted (own_hearing-other (own log) c apart));
@@ -153,15 +156,15 @@ applied-log now origin c log = elim (cases_key names_order c.name (me log)) [
 
 -- Which others haven't failed once a claim is said, by what applying it says: those before where its member stays, those
 -- and it where it joins, and those without it where it leaves.
-pub live-applied : (now : ℕ) (origin : Origin) (c : Claim) (log : Log) (applied : Applied) → IsApplied now origin c log applied
+pub live-applied : (now : ℕ) (origin : Origin) (c : Claim) (log : GroupLog) (applied : Applied) → IsApplied now origin c log applied
     → live_others (Said now origin c ∷ log) ≡ live_after applied.presence c.name (live_others log)
 live-applied now origin c log applied is =
     live-said now origin c log ∙ ap (λ p. live_after p c.name (live_others log)) (sym is.presence)
 
 -- the same by the state
-pub live-apply : (now : ℕ) (origin : Origin) (c : Claim) (s : State) → IsReached s
-    → live_others_in (apply now origin c s) ≡ live_after (applied now c s).presence c.name (live_others_in s)
+pub live-apply : (now : ℕ) (origin : Origin) (c : Claim) (s : GroupState) → IsGroupReached s
+    → live_others_in (apply_to_group now origin c s) ≡ live_after (applied now c s).presence c.name (live_others_in s)
 live-apply now origin c s r =
-    let law : (t : State) → Type 0 = λ t. live_others_in (apply now origin c t) ≡ live_after (applied now c t).presence c.name (live_others_in t) in
+    let law : (t : GroupState) → Type 0 = λ t. live_others_in (apply_to_group now origin c t) ≡ live_after (applied now c t).presence c.name (live_others_in t) in
     subst law (sym r.is)
-    (ap live_others_in (apply-state now origin c r.log) ∙ live-applied now origin c r.log (applied now c (state_of r.log)) (applied-log now origin c r.log))
+    (ap live_others_in (apply-state now origin c r.log) ∙ live-applied now origin c r.log (applied now c (group_state_of r.log)) (applied-log now origin c r.log))

@@ -9,13 +9,14 @@ use Rattle.lg_rules.proofs.OwnLaws.{own-same, own-other, own_of_name}
 use Rattle.lg_rules.proofs.Tables.{heard-table, table-own}
 use Rattle.lg_timing.specs.declared.config.Config.{Config}
 use Rattle.lg_membership.specs.declared.origin.Origin.{Origin}
-use Rattle.lg_membership.specs.Meaning.Log.{Log, Opened, Said, Sent, config, me, said, own, addr_in}
+use Rattle.lg_membership.specs.Meaning.Log.{GroupLog, Opened, Said, Sent, config, me, said, own, opening_addr}
 use Rattle.lg_membership.specs.Meaning.Gossip.{lambda_in}
-use Rattle.lg_membership.specs.Support.State.{state_of, open_with, apply_own, apply_other, apply, send}
+use Rattle.lg_membership.specs.Support.State.{group_state_of, open_group, apply_own, apply_other, apply_to_group}
+use Rattle.lg_membership.specs.Support.State.{send_from_group}
 use Rattle.lg_membership.proofs.QueueLaws.{queue-own, queue-other, queue-sent, queue-opened}
 use Rattle.lg_membership.proofs.SuspicionLaws.{suspicions-sent, suspicions-opened, suspicions-own, suspicions-other}
 
-pub open-state : (opening : Config) (log : Log) → open_with opening (state_of log) ≡ state_of (Opened opening ∷ log)
+pub open-state : (opening : Config) (log : GroupLog) → open_group opening (group_state_of log) ≡ group_state_of (Opened opening ∷ log)
 open-state opening log = λ i. record {
   config = Some opening;
   own = own_of opening.name opening.addr [];
@@ -24,41 +25,41 @@ open-state opening log = λ i. record {
   queue = record { lambda = opening.lambda; rows = sym (queue-opened opening log) i };
 }
 
-own-applied : (now : ℕ) (origin : Origin) (c : Claim) (log : Log) → c.name ≡ me log → apply_own c (state_of log) ≡ state_of (Said now origin c ∷ log)
+own-applied : (now : ℕ) (origin : Origin) (c : Claim) (log : GroupLog) → c.name ≡ me log → apply_own c (group_state_of log) ≡ group_state_of (Said now origin c ∷ log)
 own-applied now origin c log same = λ i. record {
   config = config log;
-  own = sym (own-same (me log) (addr_in (config log)) c (said log) same) i;
+  own = sym (own-same (me log) (opening_addr (config log)) c (said log) same) i;
   members = record { own = me log; table = sym (table-own (me log) c (said log) same) i };
   suspicions = suspicions-own now origin log c same i;
   queue = queue-own now origin log c same i;
 }
 
-other-applied : (now : ℕ) (origin : Origin) (c : Claim) (log : Log) → c.name ≢ me log → apply_other now origin c (state_of log) ≡ state_of (Said now origin c ∷ log)
+other-applied : (now : ℕ) (origin : Origin) (c : Claim) (log : GroupLog) → c.name ≢ me log → apply_other now origin c (group_state_of log) ≡ group_state_of (Said now origin c ∷ log)
 other-applied now origin c log other = λ i. record {
   config = config log;
-  own = sym (own-other (me log) (addr_in (config log)) c (said log) other) i;
+  own = sym (own-other (me log) (opening_addr (config log)) c (said log) other) i;
   members = record { own = me log; table = heard-table (me log) c (said log) other i };
   suspicions = suspicions-other now origin log c other i;
   queue = queue-other now origin log c other i;
 }
 
 -- oneself has the own name
-pub own_name : (log : Log) → (own log).name ≡ me log
-own_name log = own_of_name (me log) (addr_in (config log)) (said log)
+pub own_name : (log : GroupLog) → (own log).name ≡ me log
+own_name log = own_of_name (me log) (opening_addr (config log)) (said log)
 
-pub apply-state : (now : ℕ) (origin : Origin) (c : Claim) (log : Log) → apply now origin c (state_of log) ≡ state_of (Said now origin c ∷ log)
-unfolding apply
+pub apply-state : (now : ℕ) (origin : Origin) (c : Claim) (log : GroupLog) → apply_to_group now origin c (group_state_of log) ≡ group_state_of (Said now origin c ∷ log)
+unfolding apply_to_group
 apply-state now origin c log = elim (cases_key names_order c.name (me log)) [
   | inl same ↦ either (same_key names_order c.name (own log).name (same ∙ sym (own_name log))) ∙ own-applied now origin c log same
   | inr other ↦ either (other_key names_order c.name (own log).name (λ e. other (e ∙ own_name log))) ∙ other-applied now origin c log other
 ]
   where
     either : {b : Bool} → is_same name_cmp c.name (own log).name ≡ b
-        → cond (is_same name_cmp c.name (own log).name) (apply_own c (state_of log)) (apply_other now origin c (state_of log))
-        ≡ cond b (apply_own c (state_of log)) (apply_other now origin c (state_of log))
-    either e = ap (λ b. cond b (apply_own c (state_of log)) (apply_other now origin c (state_of log))) e
+        → cond (is_same name_cmp c.name (own log).name) (apply_own c (group_state_of log)) (apply_other now origin c (group_state_of log))
+        ≡ cond b (apply_own c (group_state_of log)) (apply_other now origin c (group_state_of log))
+    either e = ap (λ b. cond b (apply_own c (group_state_of log)) (apply_other now origin c (group_state_of log))) e
 
-pub send-state : (taken : List Claim) (log : Log) → send taken (state_of log) ≡ state_of (Sent taken ∷ log)
+pub send-state : (taken : List Claim) (log : GroupLog) → send_from_group taken (group_state_of log) ≡ group_state_of (Sent taken ∷ log)
 send-state taken log = λ i. record {
   config = config log;
   own = own log;

@@ -15,8 +15,9 @@ use Rattle.lg_suspicion.specs.Meaning.Accusers.{accuser_counts, accused}
 use Rattle.lg_membership.specs.declared.applied.Deadline.{Deadline}
 use Rattle.lg_membership.specs.declared.suspected.Suspected.{Suspected}
 use Rattle.lg_membership.specs.Meaning.Suspicions.{suspected_name, is_accusation, counts_in}
-use Rattle.lg_membership.specs.Support.Changes.{Nothing, Putting, IsAbout, raised, ended, overriding, accusing, change_by, row_about, deadline_after, stands, is_override}
-use Rattle.lg_membership.specs.Support.State.{State, change_in}
+use Rattle.lg_membership.specs.Support.Changes.{Nothing, Putting, IsAbout, raised, ended, overriding, accusing}
+use Rattle.lg_membership.specs.Support.Changes.{change_by, row_about, deadline_of_change, stands, is_override}
+use Rattle.lg_membership.specs.Support.State.{GroupState, change_in}
 use Rattle.lg_membership.proofs.Chosen.{found_key}
 
 -- a claim that isn't taken overrides nothing
@@ -49,17 +50,17 @@ pub overrode-takes : (table : List Claim) (c : Claim) → hearing_of table c ≡
 overrode-takes table c e = sym (override-takes table c) ∙ ap is_override e
 
 -- an accuser counts exactly where a deadline is set for it
-either_counts : (b : Bool) (row : Suspected) (accuser : List ℕ) → accuser_counts row.suspicion accuser ≡ b → stands (deadline_after (accusing (Some accuser) (Some row))) ≡ b
+either_counts : (b : Bool) (row : Suspected) (accuser : List ℕ) → accuser_counts row.suspicion accuser ≡ b → stands (deadline_of_change (accusing (Some accuser) (Some row))) ≡ b
 either_counts true row accuser e = rw e refl
 either_counts false row accuser e = rw e refl
 
-accusing-stands : (a : Option (List ℕ)) (row : Option Suspected) → stands (deadline_after (accusing a row)) ≡ counts_in a row
+accusing-stands : (a : Option (List ℕ)) (row : Option Suspected) → stands (deadline_of_change (accusing a row)) ≡ counts_in a row
 accusing-stands None row = refl
 accusing-stands (Some accuser) None = refl
 accusing-stands (Some accuser) (Some row) = either_counts (accuser_counts row.suspicion accuser) row accuser refl
 
 pub confirms-stands : (h : Heard) (opened : Option Config) (now n : ℕ) (row : Option Suspected) (c : Claim)
-    → (is_accusation h && stands (deadline_after (change_by h opened now n row c))) ≡ (is_accusation h && counts_in (accuser_of c.status) row)
+    → (is_accusation h && stands (deadline_of_change (change_by h opened now n row c))) ≡ (is_accusation h && counts_in (accuser_of c.status) row)
 confirms-stands Overrode opened now n row c = refl
 confirms-stands Accused opened now n row c = accusing-stands (accuser_of c.status) row
 confirms-stands Same opened now n row c = refl
@@ -68,7 +69,7 @@ confirms-stands NoRoom opened now n row c = refl
 
 -- So a claim is passed on exactly where it is taken or confirms a suspicion.
 pub counts_for : (table : List Claim) (opened : Option Config) (now n : ℕ) (row : Option Suspected) (c : Claim) {h : Heard} {d : Deadline}
-    → h ≡ hearing_of table c → d ≡ deadline_after (change_by (hearing_of table c) opened now n row c)
+    → h ≡ hearing_of table c → d ≡ deadline_of_change (change_by (hearing_of table c) opened now n row c)
     → (is_override h || (is_accusation h && stands d)) ≡ (takes table c || (is_accusation (hearing_of table c) && counts_in (accuser_of c.status) row))
 counts_for table opened now n row c hearing deadline =
     (λ i. is_override (hearing i) || (is_accusation (hearing i) && stands (deadline i)))
@@ -105,7 +106,7 @@ by_about Same opened now n row c named = tt
 by_about Ignored opened now n row c named = tt
 by_about NoRoom opened now n row c named = tt
 
-pub change_about : (now : ℕ) (c : Claim) (s : State) → IsAbout c.name (change_in now c s)
+pub change_about : (now : ℕ) (c : Claim) (s : GroupState) → IsAbout c.name (change_in now c s)
 change_about now c s =
     by_about (hearing_of s.members.table c) s.config now (live_in (heard s.members.table c)) (row_about c s.suspicions) c
     (found_key names_order suspected_name c.name s.suspicions)

@@ -9,17 +9,17 @@ use Rattle.lg_rules.proofs.Roster.{rises-roster, roster-own, length-roster, own_
 use Rattle.lg_rules.proofs.Tables.{IsTaken, Taken, Unbeaten, Out, heard_cases}
 use Rattle.lg_timing.specs.declared.config.Config.{Config}
 use Rattle.lg_membership.specs.declared.origin.Origin.{Origin}
-use Rattle.lg_membership.specs.Meaning.Log.{Fact, Log, Opened, Said, Sent, me, said, known}
+use Rattle.lg_membership.specs.Meaning.Log.{GroupFact, GroupLog, Opened, Said, Sent, me, said, known}
 
-pub rises-known : (log : Log) → Rises name_cmp (known log)
+pub rises-known : (log : GroupLog) → Rises name_cmp (known log)
 rises-known log = rises-put names_order (me log) (roster (me log) (said log)) (rises-roster (me log) (said log))
 
-pub length-known : (log : Log) → length (known log) ≤ 256
+pub length-known : (log : GroupLog) → length (known log) ≤ 256
 length-known log =
     omega (arith, length-put names_order (me log) (roster (me log) (said log)) (own_unknown (me log) (said log)), length-roster (me log) (said log))
 
 -- oneself is known
-pub own_known : (log : Log) → is_among name_cmp (me log) (known log) ≡ true
+pub own_known : (log : GroupLog) → is_among name_cmp (me log) (known log) ≡ true
 own_known log = among-put_same names_order (me log) (roster (me log) (said log))
 
 or_swap : (a b c : Bool) → (a || (b || c)) ≡ (b || (a || c))
@@ -41,14 +41,14 @@ put-twice m n ns rise =
     ∙ sym (among-put names_order k n (put_key name_cmp m ns)))
 
 -- A claim about oneself makes no name known; one that is taken makes its name known, and one that isn't none.
-pub known-own : (now : ℕ) (origin : Origin) (log : Log) (c : Claim) → c.name ≡ me log → known (Said now origin c ∷ log) ≡ known log
+pub known-own : (now : ℕ) (origin : Origin) (log : GroupLog) (c : Claim) → c.name ≡ me log → known (Said now origin c ∷ log) ≡ known log
 known-own now origin log c same = ap (put_key name_cmp (me log)) (roster-own (me log) c (said log) same)
 
-pub known-taken : (now : ℕ) (origin : Origin) (log : Log) (c : Claim) → IsTaken (me log) c (said log) → known (Said now origin c ∷ log) ≡ put_key name_cmp c.name (known log)
+pub known-taken : (now : ℕ) (origin : Origin) (log : GroupLog) (c : Claim) → IsTaken (me log) c (said log) → known (Said now origin c ∷ log) ≡ put_key name_cmp c.name (known log)
 known-taken now origin log c taken =
     ap (put_key name_cmp (me log)) taken.names ∙ put-twice (me log) c.name (roster (me log) (said log)) (rises-roster (me log) (said log))
 
-pub known-passed : (now : ℕ) (origin : Origin) (log : Log) (c : Claim) → roster (me log) (c ∷ said log) ≡ roster (me log) (said log) → known (Said now origin c ∷ log) ≡ known log
+pub known-passed : (now : ℕ) (origin : Origin) (log : GroupLog) (c : Claim) → roster (me log) (c ∷ said log) ≡ roster (me log) (said log) → known (Said now origin c ∷ log) ≡ known log
 known-passed now origin log c names = ap (put_key name_cmp (me log)) names
 
 or_right : (a : Bool) {b : Bool} → b ≡ true → (a || b) ≡ true
@@ -56,11 +56,11 @@ or_right true e = refl
 or_right false e = e
 
 -- the others that have records are known
-pub roster_known : (log : Log) (m : List ℕ) → is_among name_cmp m (roster (me log) (said log)) ≡ true → is_among name_cmp m (known log) ≡ true
+pub roster_known : (log : GroupLog) (m : List ℕ) → is_among name_cmp m (roster (me log) (said log)) ≡ true → is_among name_cmp m (known log) ≡ true
 roster_known log m among = among-put names_order m (me log) (roster (me log) (said log)) ∙ or_right (is_same name_cmp (me log) m) among
 
 -- what is known stays known
-pub known-grows : (now : ℕ) (origin : Origin) (log : Log) (c : Claim) (m : List ℕ) → is_among name_cmp m (known log) ≡ true → is_among name_cmp m (known (Said now origin c ∷ log)) ≡ true
+pub known-grows : (now : ℕ) (origin : Origin) (log : GroupLog) (c : Claim) (m : List ℕ) → is_among name_cmp m (known log) ≡ true → is_among name_cmp m (known (Said now origin c ∷ log)) ≡ true
 known-grows now origin log c m among = elim (cases_key names_order c.name (me log)) [
   | inl same ↦ ap (is_among name_cmp m) (known-own now origin log c same) ∙ among
   | inr other ↦ elim (heard_cases (me log) c (said log) other) [
@@ -71,7 +71,7 @@ known-grows now origin log c m among = elim (cases_key names_order c.name (me lo
 ]
 
 -- So do the others that are known, of whom there are at most 255.
-pub others-grow : (now : ℕ) (origin : Origin) (log : Log) (c : Claim) (m : List ℕ) → is_among name_cmp m (roster (me log) (said log)) ≡ true
+pub others-grow : (now : ℕ) (origin : Origin) (log : GroupLog) (c : Claim) (m : List ℕ) → is_among name_cmp m (roster (me log) (said log)) ≡ true
     → is_among name_cmp m (roster (me log) (c ∷ said log)) ≡ true
 others-grow now origin log c m among = elim (cases_key names_order c.name (me log)) [
   | inl same ↦ ap (is_among name_cmp m) (roster-own (me log) c (said log) same) ∙ among
@@ -85,17 +85,17 @@ others-grow now origin log c m among = elim (cases_key names_order c.name (me lo
   ]
 ]
 
-pub length-others : (log : Log) → length (roster (me log) (said log)) ≤ 255
+pub length-others : (log : GroupLog) → length (roster (me log) (said log)) ≤ 255
 length-others log = length-roster (me log) (said log)
 
 -- Whatever happens but an opening, who is known stays known.
-pub others-stay : (fact : Fact) (log : Log) (m : List ℕ) → ((opening : Config) → fact ≢ Opened opening)
+pub others-stay : (fact : GroupFact) (log : GroupLog) (m : List ℕ) → ((opening : Config) → fact ≢ Opened opening)
     → is_among name_cmp m (roster (me log) (said log)) ≡ true → is_among name_cmp m (roster (me (fact ∷ log)) (said (fact ∷ log))) ≡ true
 others-stay (Opened opening) log m unopened among = absurd (unopened opening refl)
 others-stay (Said now origin c) log m unopened among = others-grow now origin log c m among
 others-stay (Sent taken) log m unopened among = among
 
-pub known-stays : (fact : Fact) (log : Log) (m : List ℕ) → ((opening : Config) → fact ≢ Opened opening)
+pub known-stays : (fact : GroupFact) (log : GroupLog) (m : List ℕ) → ((opening : Config) → fact ≢ Opened opening)
     → is_among name_cmp m (known log) ≡ true → is_among name_cmp m (known (fact ∷ log)) ≡ true
 known-stays (Opened opening) log m unopened among = absurd (unopened opening refl)
 known-stays (Said now origin c) log m unopened among = known-grows now origin log c m among

@@ -24,10 +24,10 @@ use Rattle.lg_timing.specs.declared.config.Config.{Config}
 use Rattle.lg_membership.specs.declared.applied.Presence.{Presence}
 use Rattle.lg_membership.specs.declared.applied.Presence.TheVariants.{Stays as Remains, Joins, Leaves}
 use Rattle.lg_membership.specs.declared.origin.Origin.{Origin}
-use Rattle.lg_membership.specs.Meaning.Log.{Log, Opened, Said, me, said, table, live, live_names, live_others}
+use Rattle.lg_membership.specs.Meaning.Log.{GroupLog, Opened, Said, me, said, table, live, live_names, live_others}
 use Rattle.lg_membership.specs.Meaning.Applied.{is_live, presence_of}
 use Rattle.lg_membership.specs.Support.Changes.{presence_heard, presence_by, live_after}
-use Rattle.lg_membership.specs.Support.State.{State, state_of, open_with, live_others_in}
+use Rattle.lg_membership.specs.Support.State.{GroupState, group_state_of, open_group, live_others_in}
 
 -- A member is among them exactly where it has a record that isn't Failed.
 abbrev lives : Claim → Bool
@@ -171,11 +171,11 @@ presence-counted rows c rise =
     ∙ (λ i. presence_of (sym was i) (sym is i))
 
 -- How many haven't failed, oneself included, is one more than the others that haven't.
-pub live-others : (log : Log) → live log ≡ length (live_others log) + 1
+pub live-others : (log : GroupLog) → live log ≡ length (live_others log) + 1
 live-others log = omega (arith, length-map (filter lives (table log)) name_of, length-filter lives (table log))
 
 -- They are in the order of names,
-pub rises-live_others : (log : Log) → Rises name_cmp (live_others log)
+pub rises-live_others : (log : GroupLog) → Rises name_cmp (live_others log)
 rises-live_others log = rises-live (table log) (rises-table (me log) (said log))
 
 -- each is known,
@@ -183,13 +183,13 @@ known_if : (b : Bool) (o : Option Claim) → has_live (cond b o None) ≡ true �
 known_if true o e = refl
 known_if false o e = absurd (false≢true e)
 
-pub live_known : (log : Log) (m : List ℕ) → is_among name_cmp m (live_others log) ≡ true → is_among name_cmp m (roster (me log) (said log)) ≡ true
+pub live_known : (log : GroupLog) (m : List ℕ) → is_among name_cmp m (live_others log) ≡ true → is_among name_cmp m (roster (me log) (said log)) ≡ true
 live_known log m among =
     let is = among-live m (table log) (rises-table (me log) (said log)) ∙ ap has_live (row_at-table (me log) (said log) m) in
     known_if (is_among name_cmp m (roster (me log) (said log))) (record_of (said log) m) (sym is ∙ among)
 
 -- and they are at most 255.
-pub length-live_others : (log : Log) → length (live_others log) ≤ 255
+pub length-live_others : (log : GroupLog) → length (live_others log) ≤ 255
 length-live_others log =
     omega (arith, length-map (filter lives (table log)) name_of, length-filter lives (table log), count_by-le-length lives (table log), length_table-le (me log) (said log))
 
@@ -197,18 +197,18 @@ length-live_others log =
 pub live-nil : live_others [] ≡ []
 live-nil = ap live_names (table-nil (me []))
 
-pub live-opened : (opening : Config) (log : Log) → live_others (Opened opening ∷ log) ≡ []
+pub live-opened : (opening : Config) (log : GroupLog) → live_others (Opened opening ∷ log) ≡ []
 live-opened opening log = ap live_names (table-nil opening.name)
 
-pub live-open : (opening : Config) (s : State) → live_others_in (open_with opening s) ≡ []
+pub live-open : (opening : Config) (s : GroupState) → live_others_in (open_group opening s) ≡ []
 live-open opening s = ap live_names (table-nil opening.name)
 
 -- Those of a log's state are those of the log.
-pub live-state : (log : Log) → live_others_in (state_of log) ≡ live_others log
+pub live-state : (log : GroupLog) → live_others_in (group_state_of log) ≡ live_others log
 live-state log = refl
 
 -- Once a claim is said, its member joined them, left them, or neither.
-said-others : (now : ℕ) (origin : Origin) (c : Claim) (log : Log) (k : List ℕ) → c.name ≢ k
+said-others : (now : ℕ) (origin : Origin) (c : Claim) (log : GroupLog) (k : List ℕ) → c.name ≢ k
     → is_among name_cmp k (live_others (Said now origin c ∷ log)) ≡ is_among name_cmp k (live_others log)
 said-others now origin c log k d = elim (cases_key names_order c.name (me log)) [
   | inl same ↦ ap (λ rows. is_among name_cmp k (live_names rows)) (table-own (me log) c (said log) same)
@@ -217,10 +217,10 @@ said-others now origin c log k d = elim (cases_key names_order c.name (me log)) 
       ∙ heard-live (table log) c (rises-table (me log) (said log)) k d)
 ]
 
-abbrev pub presence_said : ℕ → Origin → Claim → Log → Presence
+abbrev pub presence_said : ℕ → Origin → Claim → GroupLog → Presence
 presence_said now origin c log = presence_of (is_live log c.name) (is_live (Said now origin c ∷ log) c.name)
 
-pub live-said : (now : ℕ) (origin : Origin) (c : Claim) (log : Log)
+pub live-said : (now : ℕ) (origin : Origin) (c : Claim) (log : GroupLog)
     → live_others (Said now origin c ∷ log) ≡ live_after (presence_said now origin c log) c.name (live_others log)
 live-said now origin c log =
     changed-names c.name (live_others log) (live_others (Said now origin c ∷ log)) (rises-live_others log) (rises-live_others (Said now origin c ∷ log))
@@ -231,11 +231,11 @@ presence_still : (b : Bool) → Remains ≡ presence_of b b
 presence_still true = refl
 presence_still false = refl
 
-pub presence-own : (now : ℕ) (origin : Origin) (c : Claim) (log : Log) → c.name ≡ me log → Remains ≡ presence_said now origin c log
+pub presence-own : (now : ℕ) (origin : Origin) (c : Claim) (log : GroupLog) → c.name ≡ me log → Remains ≡ presence_said now origin c log
 presence-own now origin c log same =
     presence_still (is_live log c.name)
     ∙ ap (λ rows. presence_of (is_live log c.name) (is_among name_cmp c.name (live_names rows))) (sym (table-own (me log) c (said log) same))
 
-pub presence-other : (now : ℕ) (origin : Origin) (c : Claim) (log : Log) → c.name ≢ me log → presence_heard (table log) c ≡ presence_said now origin c log
+pub presence-other : (now : ℕ) (origin : Origin) (c : Claim) (log : GroupLog) → c.name ≢ me log → presence_heard (table log) c ≡ presence_said now origin c log
 presence-other now origin c log other =
     ap (λ rows. presence_of (is_live log c.name) (is_among name_cmp c.name (live_names rows))) (heard-table (me log) c (said log) other)

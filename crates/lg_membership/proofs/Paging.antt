@@ -10,8 +10,8 @@ use Rattle.lg_rules.specs.Meaning.Own.{own_record}
 use Rattle.lg_rules.specs.Meaning.Rows.{name_cmp, put_row, Rises}
 use Rattle.lg_rules.proofs.KeyOrder.{names_order}
 use Rattle.lg_membership.specs.Meaning.Pages.{is_behind, page_of}
-use Rattle.lg_membership.specs.Support.Reached.{IsReached}
-use Rattle.lg_membership.specs.Support.State.{State, shown, with_behind}
+use Rattle.lg_membership.specs.Support.Reached.{IsGroupReached}
+use Rattle.lg_membership.specs.Support.State.{GroupState, shown, with_behind}
 use Rattle.lg_membership.proofs.PageLaws.{take-fewer, take-put, filter-put, filter-put_other, rises-take, rises-passed}
 use Rattle.lg_membership.proofs.Rooms.{reached-ordered}
 use Rattle.lg_membership.proofs.Shown.{view-opened}
@@ -42,7 +42,7 @@ page-put after own rows rise = elim (cases_Bool (is_behind after own)) [
 ]
 
 -- the page of a state that is open
-pub page-shown : (after : Option (List ℕ)) (s : State) → IsReached s → is_some s.config ≡ true
+pub page-shown : (after : Option (List ℕ)) (s : GroupState) → IsGroupReached s → is_some s.config ≡ true
     → take most_claims (with_behind after (own_record s.own) (page_of after s.members.table)) ≡ page_of after (shown s)
 page-shown after s r known =
     page-put after (own_record s.own) s.members.table (reached-ordered s r).rises

@@ -13,18 +13,18 @@ use Rattle.lg_rules.proofs.RowLaws.{rows_equal, rows-put, rows-skip}
 use Rattle.lg_rules.proofs.Tables.{Taken, Unbeaten, Out, heard_cases}
 use Rattle.lg_gossip.specs.Meaning.Queue.{fresh, queued_name, sent_once}
 use Rattle.lg_membership.specs.declared.origin.Origin.{Origin}
-use Rattle.lg_membership.specs.Meaning.Log.{Log, Opened, Said, Sent, config, me, said, own, table, known}
+use Rattle.lg_membership.specs.Meaning.Log.{GroupLog, Opened, Said, Sent, config, me, said, own, table, known}
 use Rattle.lg_membership.specs.Meaning.Suspicions.{suspicions}
 use Rattle.lg_membership.specs.Meaning.Gossip.{lambda_in, put_of_own, put_of_other, put_by, queued, queue_rows, queue}
 use Rattle.lg_membership.specs.Support.State.{queue_with}
 use Rattle.lg_membership.proofs.KnownLaws.{rises-known, known-own, known-taken, known-passed}
 use Rattle.lg_membership.proofs.QueuedLaws.{queued-sent, put_by-own, put_by-other, put_by-grows, queued_keyed, queued_unknown, queued-put, queued-put_other, queued-no_put}
 
-abbrev names_after : ℕ → Origin → Log → Claim → List (List ℕ)
+abbrev names_after : ℕ → Origin → GroupLog → Claim → List (List ℕ)
 names_after now origin log c = known (Said now origin c ∷ log)
 
 -- a claim is put
-rows-queued : (now : ℕ) (origin : Origin) (log : Log) (c p : Claim) → put_by origin log c ≡ Some p
+rows-queued : (now : ℕ) (origin : Origin) (log : GroupLog) (c p : Claim) → put_by origin log c ≡ Some p
     → put_row name_cmp queued_name (fresh p) (queue_rows log) ≡ queue_rows (Said now origin c ∷ log)
 unfolding queue_rows
 rows-queued now origin log c p put =
@@ -33,13 +33,13 @@ rows-queued now origin log c p put =
     ∙ ap (filter_map (queued (Said now origin c ∷ log))) (sym (put_by-grows now origin log c p put))
 
 -- none is put, and no name becomes known
-rows-stay : (now : ℕ) (origin : Origin) (log : Log) (c : Claim) → put_by origin log c ≡ None → names_after now origin log c ≡ known log → queue_rows log ≡ queue_rows (Said now origin c ∷ log)
+rows-stay : (now : ℕ) (origin : Origin) (log : GroupLog) (c : Claim) → put_by origin log c ≡ None → names_after now origin log c ≡ known log → queue_rows log ≡ queue_rows (Said now origin c ∷ log)
 unfolding queue_rows
 rows-stay now origin log c none names =
     sym (rows_equal (queued log) (queued (Said now origin c ∷ log)) (known log) (queued-no_put now origin log c none)) ∙ ap (filter_map (queued (Said now origin c ∷ log))) (sym names)
 
 -- none is put, and a name becomes known or was
-rows-join : (now : ℕ) (origin : Origin) (log : Log) (c : Claim) → put_by origin log c ≡ None → names_after now origin log c ≡ put_key name_cmp c.name (known log)
+rows-join : (now : ℕ) (origin : Origin) (log : GroupLog) (c : Claim) → put_by origin log c ≡ None → names_after now origin log c ≡ put_key name_cmp c.name (known log)
     → queue_rows log ≡ queue_rows (Said now origin c ∷ log)
 unfolding queue_rows
 rows-join now origin log c none names = elim (cases_Bool (is_among name_cmp c.name (known log))) [
@@ -52,14 +52,14 @@ rows-join now origin log c none names = elim (cases_Bool (is_among name_cmp c.na
 ]
 
 -- a queue with a claim put, or none
-queue-by : (now : ℕ) (origin : Origin) (log : Log) (c : Claim) (o : Option Claim) → (o ≡ None → queue_rows log ≡ queue_rows (Said now origin c ∷ log))
+queue-by : (now : ℕ) (origin : Origin) (log : GroupLog) (c : Claim) (o : Option Claim) → (o ≡ None → queue_rows log ≡ queue_rows (Said now origin c ∷ log))
     → ((p : Claim) → o ≡ Some p → put_row name_cmp queued_name (fresh p) (queue_rows log) ≡ queue_rows (Said now origin c ∷ log))
     → queue_with o (queue log) ≡ queue (Said now origin c ∷ log)
 queue-by now origin log c None none some = λ i. record { lambda = lambda_in (config log); rows = none refl i }
 queue-by now origin log c (Some p) none some = λ i. record { lambda = lambda_in (config log); rows = some p refl i }
 
 -- the queue once a claim about oneself is said
-pub queue-own : (now : ℕ) (origin : Origin) (log : Log) (c : Claim) → c.name ≡ me log
+pub queue-own : (now : ℕ) (origin : Origin) (log : GroupLog) (c : Claim) → c.name ≡ me log
     → queue_with (put_of_own (own_hearing (own log) c) (own_heard (own log) c)) (queue log) ≡ queue (Said now origin c ∷ log)
 queue-own now origin log c same =
     let put = put_of_own (own_hearing (own log) c) (own_heard (own log) c) in
@@ -67,7 +67,7 @@ queue-own now origin log c same =
     queue-by now origin log c put (λ e. rows-stay now origin log c (says ∙ e) (known-own now origin log c same)) (λ p e. rows-queued now origin log c p (says ∙ e))
 
 -- the queue once a claim about another is said
-pub queue-other : (now : ℕ) (origin : Origin) (log : Log) (c : Claim) → c.name ≢ me log → queue_with (put_of_other origin (table log) (suspicions log) c) (queue log) ≡ queue (Said now origin c ∷ log)
+pub queue-other : (now : ℕ) (origin : Origin) (log : GroupLog) (c : Claim) → c.name ≢ me log → queue_with (put_of_other origin (table log) (suspicions log) c) (queue log) ≡ queue (Said now origin c ∷ log)
 queue-other now origin log c other =
     let put = put_of_other origin (table log) (suspicions log) c in
     let says = put_by-other origin log c other in
@@ -87,12 +87,12 @@ rows-map f g h (n ∷ ns) each = elim (held (g n)) [
 ]
 
 -- the queue once a packet took these claims
-pub queue-sent : (log : Log) (taken : List Claim) → map (sent_once taken) (queue_rows log) ≡ queue_rows (Sent taken ∷ log)
+pub queue-sent : (log : GroupLog) (taken : List Claim) → map (sent_once taken) (queue_rows log) ≡ queue_rows (Sent taken ∷ log)
 unfolding queue_rows
 queue-sent log taken = rows-map (sent_once taken) (queued log) (queued (Sent taken ∷ log)) (known log) (queued-sent log taken)
 
 -- the queue of a member that was just opened
-queued-opened : (opening : Config) (log : Log) (m : List ℕ) → queued (Opened opening ∷ log) m ≡ None
+queued-opened : (opening : Config) (log : GroupLog) (m : List ℕ) → queued (Opened opening ∷ log) m ≡ None
 unfolding queued
 queued-opened opening log m = refl
 
@@ -100,7 +100,7 @@ pub none_rows : {K R : Type 0} (f : K → Option R) (ns : List K) → ((n : K) �
 none_rows f [] h = refl
 none_rows f (n ∷ ns) h = rw (h n) (none_rows f ns h)
 
-pub queue-opened : (opening : Config) (log : Log) → queue_rows (Opened opening ∷ log) ≡ []
+pub queue-opened : (opening : Config) (log : GroupLog) → queue_rows (Opened opening ∷ log) ≡ []
 unfolding queue_rows
 queue-opened opening log = none_rows (queued (Opened opening ∷ log)) (known (Opened opening ∷ log)) (queued-opened opening log)
 

@@ -21,18 +21,18 @@ use Rattle.lg_gossip.specs.Meaning.Queue.{fresh, queued_name, sent_once}
 use Rattle.lg_membership.specs.declared.origin.Origin.{Origin}
 use Rattle.lg_membership.specs.declared.origin.Origin.TheVariants.{Seed, Group}
 use Rattle.lg_membership.specs.declared.suspected.Suspected.{Suspected}
-use Rattle.lg_membership.specs.Meaning.Log.{Log, Opened, Said, Sent, me, said, own, table, known}
+use Rattle.lg_membership.specs.Meaning.Log.{GroupLog, Opened, Said, Sent, me, said, own, table, known}
 use Rattle.lg_membership.specs.Meaning.Suspicions.{suspicions, confirms}
 use Rattle.lg_membership.specs.Meaning.Gossip.{put_of_own, put_if, put_of_other, put_by, put_or, put_last, sends, queued}
 use Rattle.lg_membership.proofs.KnownLaws.{rises-known, own_known, known-own, known-taken, known-passed, known-grows, roster_known}
 
 -- What a claim puts into the queue, about oneself or another.
-pub put_by-own : (origin : Origin) (log : Log) (c : Claim) → c.name ≡ me log
+pub put_by-own : (origin : Origin) (log : GroupLog) (c : Claim) → c.name ≡ me log
     → put_by origin log c ≡ put_of_own (own_hearing (own log) c) (own_heard (own log) c)
 unfolding put_by
 put_by-own origin log c same = rw (same_key names_order c.name (me log) same) refl
 
-pub put_by-other : (origin : Origin) (log : Log) (c : Claim) → c.name ≢ me log → put_by origin log c ≡ put_of_other origin (table log) (suspicions log) c
+pub put_by-other : (origin : Origin) (log : GroupLog) (c : Claim) → c.name ≢ me log → put_by origin log c ≡ put_of_other origin (table log) (suspicions log) c
 unfolding put_by
 put_by-other origin log c other = rw (other_key names_order c.name (me log) other) refl
 
@@ -43,7 +43,7 @@ put_own_name Ousted oneself p e = absurd cc
 put_own_name Ignored oneself p e = absurd cc
 
 -- what a claim about oneself puts is about oneself
-pub own_put_name : (log : Log) (c p : Claim) → put_of_own (own_hearing (own log) c) (own_heard (own log) c) ≡ Some p → p.name ≡ me log
+pub own_put_name : (log : GroupLog) (c p : Claim) → put_of_own (own_hearing (own log) c) (own_heard (own log) c) ≡ Some p → p.name ≡ me log
 own_put_name log c p e =
     put_own_name (own_hearing (own log) c) (own_heard (own log) c) p e ∙ own_heard_name (own log) c ∙ own_of_name (me log) _ (said log)
 
@@ -55,17 +55,17 @@ put_or_name (Some q) before m p rest e = elim (cases_Bool (is_same name_cmp q.na
   | inr f ↦ rest (rw f at e)
 ]
 
-last_name : (log : Log) (m : List ℕ) (p : Claim) → put_last log m ≡ Some p → p.name ≡ m
+last_name : (log : GroupLog) (m : List ℕ) (p : Claim) → put_last log m ≡ Some p → p.name ≡ m
 last_name [] m p e = absurd cc
 last_name (Opened opening ∷ log) m p e = absurd cc
 last_name (Said now origin c ∷ log) m p e = put_or_name (put_by origin log c) (put_last log m) m p (last_name log m p) e
 last_name (Sent taken ∷ log) m p e = last_name log m p e
 
-queued_last : (log : Log) (m : List ℕ) → put_last log m ≡ None → queued log m ≡ None
+queued_last : (log : GroupLog) (m : List ℕ) → put_last log m ≡ None → queued log m ≡ None
 unfolding queued
 queued_last log m e = rw e refl
 
-pub queued_keyed : (log : Log) → Keyed queued_name (queued log)
+pub queued_keyed : (log : GroupLog) → Keyed queued_name (queued log)
 unfolding queued
 queued_keyed log m r e = elim (held (put_last log m)) [
   | Missing gap ↦ (let bad : None ≡ Some r = rw gap at e in absurd cc)
@@ -92,11 +92,11 @@ put_none origin rows suspects c test = ap (λ b. put_if origin b c) test ∙ if_
 out_none : (origin : Origin) (rows : List Claim) (suspects : List Suspected) (c : Claim) → takes rows c ≡ false → row_at name_cmp name_of c.name rows ≡ None → put_of_other origin rows suspects c ≡ None
 out_none origin rows suspects c test missing = put_none origin rows suspects c (rw (test, missing) refl)
 
-pub row_out : (log : Log) (m : List ℕ) → is_among name_cmp m (roster (me log) (said log)) ≡ false → row_at name_cmp name_of m (table log) ≡ None
+pub row_out : (log : GroupLog) (m : List ℕ) → is_among name_cmp m (roster (me log) (said log)) ≡ false → row_at name_cmp name_of m (table log) ≡ None
 row_out log m out = row_at-table (me log) (said log) m ∙ ap (λ b. cond b (record_of (said log) m) None) out
 
 -- What is put is about oneself or about the claim's member: the names that are known then are those before and this one.
-put_other_name : (now : ℕ) (origin : Origin) (log : Log) (c p : Claim) → put_of_other origin (table log) (suspicions log) c ≡ Some p → c.name ≢ me log
+put_other_name : (now : ℕ) (origin : Origin) (log : GroupLog) (c p : Claim) → put_of_other origin (table log) (suspicions log) c ≡ Some p → c.name ≢ me log
     → known (Said now origin c ∷ log) ≡ put_key name_cmp p.name (known log)
 put_other_name now origin log c p e other =
     let name = ap (λ (q : Claim). put_key name_cmp q.name (known log)) (put_is origin (table log) (suspicions log) c p e) in
@@ -108,7 +108,7 @@ put_other_name now origin log c p e other =
           absurd cc)
     ]
 
-pub put_by-grows : (now : ℕ) (origin : Origin) (log : Log) (c p : Claim) → put_by origin log c ≡ Some p → known (Said now origin c ∷ log) ≡ put_key name_cmp p.name (known log)
+pub put_by-grows : (now : ℕ) (origin : Origin) (log : GroupLog) (c p : Claim) → put_by origin log c ≡ Some p → known (Said now origin c ∷ log) ≡ put_key name_cmp p.name (known log)
 put_by-grows now origin log c p e = elim (cases_key names_order c.name (me log)) [
   | inl same ↦ (
       let name = own_put_name log c p (sym (put_by-own origin log c same) ∙ e) in
@@ -118,7 +118,7 @@ put_by-grows now origin log c p e = elim (cases_key names_order c.name (me log))
 ]
 
 -- What is queued is known.
-put_by_known : (now : ℕ) (origin : Origin) (log : Log) (c p : Claim) → put_by origin log c ≡ Some p → is_among name_cmp p.name (known (Said now origin c ∷ log)) ≡ true
+put_by_known : (now : ℕ) (origin : Origin) (log : GroupLog) (c p : Claim) → put_by origin log c ≡ Some p → is_among name_cmp p.name (known (Said now origin c ∷ log)) ≡ true
 put_by_known now origin log c p e = ap (is_among name_cmp p.name) (put_by-grows now origin log c p e) ∙ among-put_same names_order p.name (known log)
 
 or_known : (o before : Option Claim) (m : List ℕ) (p : Claim) (names : List (List ℕ)) → ((q : Claim) → o ≡ Some q → is_among name_cmp q.name names ≡ true)
@@ -129,7 +129,7 @@ or_known (Some q) before m p names put rest e = elim (cases_Bool (is_same name_c
   | inr f ↦ rest (rw f at e)
 ]
 
-last_known : (log : Log) (m : List ℕ) (p : Claim) → put_last log m ≡ Some p → is_among name_cmp m (known log) ≡ true
+last_known : (log : GroupLog) (m : List ℕ) (p : Claim) → put_last log m ≡ Some p → is_among name_cmp m (known log) ≡ true
 last_known [] m p e = absurd cc
 last_known (Opened opening ∷ log) m p e = absurd cc
 last_known (Said now origin c ∷ log) m p e =
@@ -137,27 +137,27 @@ last_known (Said now origin c ∷ log) m p e =
 last_known (Sent taken ∷ log) m p e = last_known log m p e
 
 -- so nothing is queued about a name that isn't known
-pub queued_unknown : (log : Log) (m : List ℕ) → is_among name_cmp m (known log) ≡ false → queued log m ≡ None
+pub queued_unknown : (log : GroupLog) (m : List ℕ) → is_among name_cmp m (known log) ≡ false → queued log m ≡ None
 queued_unknown log m out = elim (held (put_last log m)) [
   | Missing gap ↦ queued_last log m gap
   | Holding p is ↦ (let bad : false ≡ true = sym out ∙ last_known log m p is in absurd cc)
 ]
 
 -- A claim that is put is queued afresh; about other names nothing changes.
-pub queued-put : (now : ℕ) (origin : Origin) (log : Log) (c p : Claim) → put_by origin log c ≡ Some p → queued (Said now origin c ∷ log) p.name ≡ Some (fresh p)
+pub queued-put : (now : ℕ) (origin : Origin) (log : GroupLog) (c p : Claim) → put_by origin log c ≡ Some p → queued (Said now origin c ∷ log) p.name ≡ Some (fresh p)
 unfolding queued
 queued-put now origin log c p e = rw (e, same_key names_order p.name p.name refl) refl
 
-pub queued-put_other : (now : ℕ) (origin : Origin) (log : Log) (c p : Claim) → put_by origin log c ≡ Some p → AgreeBut p.name (queued log) (queued (Said now origin c ∷ log))
+pub queued-put_other : (now : ℕ) (origin : Origin) (log : GroupLog) (c p : Claim) → put_by origin log c ≡ Some p → AgreeBut p.name (queued log) (queued (Said now origin c ∷ log))
 unfolding queued
 queued-put_other now origin log c p e n other = rw (e, other_key names_order p.name n (λ same. other (sym same))) refl
 
-pub queued-no_put : (now : ℕ) (origin : Origin) (log : Log) (c : Claim) → put_by origin log c ≡ None → (n : List ℕ) → queued (Said now origin c ∷ log) n ≡ queued log n
+pub queued-no_put : (now : ℕ) (origin : Origin) (log : GroupLog) (c : Claim) → put_by origin log c ≡ None → (n : List ℕ) → queued (Said now origin c ∷ log) n ≡ queued log n
 unfolding queued
 queued-no_put now origin log c e n = rw e refl
 
 -- A packet that holds what is queued about a name counts once.
-pub queued-sent : (log : Log) (taken : List Claim) (m : List ℕ) → queued (Sent taken ∷ log) m ≡ option_map (sent_once taken) (queued log m)
+pub queued-sent : (log : GroupLog) (taken : List Claim) (m : List ℕ) → queued (Sent taken ∷ log) m ≡ option_map (sent_once taken) (queued log m)
 unfolding queued
 queued-sent log taken m = elim (held (put_last log m)) [
   | Missing gap ↦ rw gap refl

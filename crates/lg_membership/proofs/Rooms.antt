@@ -13,11 +13,11 @@ use Rattle.lg_rules.proofs.Roster.{own_unknown}
 use Rattle.lg_gossip.specs.Meaning.Queue.{queued_name}
 use Rattle.lg_membership.specs.declared.origin.Origin.{Origin}
 use Rattle.lg_membership.specs.declared.origin.Origin.TheVariants.{Group}
-use Rattle.lg_membership.specs.Meaning.Log.{Log, Said, me, said, own, table, known}
+use Rattle.lg_membership.specs.Meaning.Log.{GroupLog, Said, me, said, own, table, known}
 use Rattle.lg_membership.specs.Meaning.Suspicions.{suspicions, suspected_name}
 use Rattle.lg_membership.specs.Meaning.Gossip.{put_of_own, put_of_other, put_by, queued, queue_rows, queue}
-use Rattle.lg_membership.specs.Support.Reached.{IsReached}
-use Rattle.lg_membership.specs.Support.State.{State, state_of, put_in, own_hearing_in}
+use Rattle.lg_membership.specs.Support.Reached.{IsGroupReached}
+use Rattle.lg_membership.specs.Support.State.{GroupState, group_state_of, put_in, own_hearing_in}
 use Rattle.lg_membership.specs.Support.Room.{HasPlace, HasSeat, HasRoom, IsOrdered}
 use Rattle.lg_membership.proofs.FactLaws.{own_name}
 use Rattle.lg_membership.proofs.KnownLaws.{rises-known, length-known}
@@ -25,37 +25,37 @@ use Rattle.lg_membership.proofs.SuspicionLaws.{seat_of, rises-suspicions}
 use Rattle.lg_membership.proofs.QueuedLaws.{queued_keyed, put_by-grows}
 
 -- what a claim puts is about a name that is known then, of which there are at most 256
-place_of : (origin : Origin) (log : Log) (c p : Claim) → put_by origin log c ≡ Some p → row_at name_cmp queued_name p.name (queue_rows log) ≡ None → length (queue_rows log) < 256
+place_of : (origin : Origin) (log : GroupLog) (c p : Claim) → put_by origin log c ≡ Some p → row_at name_cmp queued_name p.name (queue_rows log) ≡ None → length (queue_rows log) < 256
 unfolding queue_rows
 place_of origin log c p put missing =
     rows_room names_order queued_name (queued log) p.name 256 (known log) (rises-known log) (queued_keyed log)
     (subst (λ ns. length ns ≤ 256) (put_by-grows 0 origin log c p put) (length-known (Said 0 origin c ∷ log))) missing
 
-has_place : (o : Option Claim) (log : Log) → ((p : Claim) → o ≡ Some p → row_at name_cmp queued_name p.name (queue_rows log) ≡ None → length (queue_rows log) < 256) → HasPlace o (queue log)
+has_place : (o : Option Claim) (log : GroupLog) → ((p : Claim) → o ≡ Some p → row_at name_cmp queued_name p.name (queue_rows log) ≡ None → length (queue_rows log) < 256) → HasPlace o (queue log)
 has_place None log places = tt
 has_place (Some p) log places = places p refl
 
-put_in-log : (origin : Origin) (log : Log) (c : Claim) → put_in origin c (state_of log) ≡ put_by origin log c
+put_in-log : (origin : Origin) (log : GroupLog) (c : Claim) → put_in origin c (group_state_of log) ≡ put_by origin log c
 unfolding put_by
 put_in-log origin log c =
     ap (λ n. cond (is_same name_cmp c.name n) (put_of_own (own_hearing (own log) c) (own_heard (own log) c)) (put_of_other origin (table log) (suspicions log) c)) (own_name log)
 
 -- a claim that is taken has a seat for the suspicion of its member
-seat_at : (c : Claim) (log : Log) → c.name ≢ me log → takes (table log) c ≡ true → row_at name_cmp suspected_name c.name (suspicions log) ≡ None → length (suspicions log) < 255
+seat_at : (c : Claim) (log : GroupLog) → c.name ≢ me log → takes (table log) c ≡ true → row_at name_cmp suspected_name c.name (suspicions log) ≡ None → length (suspicions log) < 255
 seat_at c log other taken = elim (heard_cases (me log) c (said log) other) [
   | Taken t ↦ seat_of log c t
   | Unbeaten k ↦ (let bad : false ≡ true = sym k.taken ∙ taken in absurd cc)
   | Out o ↦ (let bad : false ≡ true = sym o.taken ∙ taken in absurd cc)
 ]
 
-pub has_room : (origin : Origin) (c : Claim) (log : Log) → HasRoom origin c (state_of log)
+pub has_room : (origin : Origin) (c : Claim) (log : GroupLog) → HasRoom origin c (group_state_of log)
 has_room origin c log = record {
-  place = has_place (put_in origin c (state_of log)) log (λ p e. place_of origin log c p (sym (put_in-log origin log c) ∙ e));
+  place = has_place (put_in origin c (group_state_of log)) log (λ p e. place_of origin log c p (sym (put_in-log origin log c) ∙ e));
   seat = seat_at c log;
 }
 
 -- and the records are in order
-pub is_ordered : (log : Log) → IsOrdered (state_of log)
+pub is_ordered : (log : GroupLog) → IsOrdered (group_state_of log)
 is_ordered log = record {
   one_name = own_name log;
   suspects = rises-suspicions log;
@@ -68,23 +68,23 @@ is_ordered log = record {
 }
 
 -- The same of a state that is reached.
-pub reached-ordered : (s : State) → IsReached s → IsOrdered s
+pub reached-ordered : (s : GroupState) → IsGroupReached s → IsOrdered s
 reached-ordered s r = subst IsOrdered (sym r.is) (is_ordered r.log)
 
-reached_room : (origin : Origin) (c : Claim) (s : State) → IsReached s → HasRoom origin c s
+reached_room : (origin : Origin) (c : Claim) (s : GroupState) → IsGroupReached s → HasRoom origin c s
 reached_room origin c s r = subst (HasRoom origin c) (sym r.is) (has_room origin c r.log)
 
-pub own_place : (c : Claim) (s : State) → IsReached s → c.name ≡ s.own.name → HasPlace (put_of_own (own_hearing_in c s) (own_heard s.own c)) s.queue
+pub own_place : (c : Claim) (s : GroupState) → IsGroupReached s → c.name ≡ s.own.name → HasPlace (put_of_own (own_hearing_in c s) (own_heard s.own c)) s.queue
 own_place c s r same =
     let room = reached_room Group c s r in
     subst (λ b. HasPlace (cond b (put_of_own (own_hearing_in c s) (own_heard s.own c)) (put_of_other Group s.members.table s.suspicions c)) s.queue)
     (same_key names_order c.name s.own.name same) room.place
 
-pub other_place : (origin : Origin) (c : Claim) (s : State) → IsReached s → c.name ≢ s.own.name → HasPlace (put_of_other origin s.members.table s.suspicions c) s.queue
+pub other_place : (origin : Origin) (c : Claim) (s : GroupState) → IsGroupReached s → c.name ≢ s.own.name → HasPlace (put_of_other origin s.members.table s.suspicions c) s.queue
 other_place origin c s r other =
     let room = reached_room origin c s r in
     subst (λ b. HasPlace (cond b (put_of_own (own_hearing_in c s) (own_heard s.own c)) (put_of_other origin s.members.table s.suspicions c)) s.queue)
     (other_key names_order c.name s.own.name other) room.place
 
-pub other_seat : (c : Claim) (s : State) → IsReached s → c.name ≢ s.own.name → takes s.members.table c ≡ true → HasSeat c.name s.suspicions
+pub other_seat : (c : Claim) (s : GroupState) → IsGroupReached s → c.name ≢ s.own.name → takes s.members.table c ≡ true → HasSeat c.name s.suspicions
 other_seat c s r other = (reached_room Group c s r).seat (λ e. other (e ∙ sym (reached-ordered s r).one_name))

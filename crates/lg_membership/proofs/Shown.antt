@@ -10,8 +10,8 @@ use Rattle.lg_rules.proofs.RowLaws.{row_at-put}
 use Rattle.lg_rules.proofs.RowsFound.{rises-put_row}
 use Rattle.lg_timing.specs.declared.config.Config.{Config}
 use Rattle.lg_membership.specs.Meaning.Log.{view_in}
-use Rattle.lg_membership.specs.Support.Reached.{IsReached}
-use Rattle.lg_membership.specs.Support.State.{State, shown}
+use Rattle.lg_membership.specs.Support.Reached.{IsGroupReached}
+use Rattle.lg_membership.specs.Support.State.{GroupState, shown}
 use Rattle.lg_membership.proofs.Rooms.{reached-ordered}
 
 -- after the opening oneself is shown among the others
@@ -33,5 +33,5 @@ rises-view : (o : Option Config) (oneself : Oneself) (rows : List Claim) → Ris
 rises-view None oneself rows rise = tt
 rises-view (Some opening) oneself rows rise = rises-put_row names_order name_of (own_record oneself) rows rise
 
-pub rises-shown : (s : State) → IsReached s → Rises name_cmp (map name_of (shown s))
+pub rises-shown : (s : GroupState) → IsGroupReached s → Rises name_cmp (map name_of (shown s))
 rises-shown s r = rises-view s.config s.own s.members.table (reached-ordered s r).rises

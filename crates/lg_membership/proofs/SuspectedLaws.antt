@@ -17,12 +17,12 @@ use Rattle.std.proofs.lemmas.Bool.{cases_Bool, eq-eqb}
 use Rattle.lg_gossip.specs.Meaning.Queue.{is_suspect}
 use Rattle.lg_membership.specs.declared.suspected.Suspected.{Suspected}
 use Rattle.lg_membership.specs.declared.origin.Origin.{Origin}
-use Rattle.lg_membership.specs.Meaning.Log.{Log, Said, config, said, live}
+use Rattle.lg_membership.specs.Meaning.Log.{GroupLog, Said, config, said, live}
 use Rattle.lg_membership.specs.Meaning.Suspicions.{accuses, accusers_in, raise_of, said_at, suspicion_since, suspected_by, suspected_in, suspected, suspected_name}
 use Rattle.lg_membership.proofs.AccusedLaws.{accuses-other, none_accuse, none_raises, one_raises, record_accused, not_accused}
 
 -- Where two logs were opened alike, and say the same of a member, it is suspected alike.
-pub suspected-alike : (log later : Log) (m : List ℕ) → config later ≡ config log → said later ≡ said log → ((i : ℕ) → raise_of m i later ≡ raise_of m i log)
+pub suspected-alike : (log later : GroupLog) (m : List ℕ) → config later ≡ config log → said later ≡ said log → ((i : ℕ) → raise_of m i later ≡ raise_of m i log)
     → suspected later m ≡ suspected log m
 unfolding suspected
 suspected-alike log later m opened claims raise =
@@ -44,17 +44,17 @@ or_nothing (Some x) = refl
 accusers-quiet : (m : List ℕ) (i : ℕ) (c : Claim) (past : List Claim) → accuses m i c ≡ false → accusers_in m i (c ∷ past) ≡ accusers_in m i past
 accusers-quiet m i c past e = rw e refl
 
-raise-quiet : (m : List ℕ) (i : ℕ) (now : ℕ) (origin : Origin) (c : Claim) (log : Log) → accuses m i c ≡ false → raise_of m i (Said now origin c ∷ log) ≡ raise_of m i log
+raise-quiet : (m : List ℕ) (i : ℕ) (now : ℕ) (origin : Origin) (c : Claim) (log : GroupLog) → accuses m i c ≡ false → raise_of m i (Said now origin c ∷ log) ≡ raise_of m i log
 raise-quiet m i now origin c log e = rw e (or_nothing (raise_of m i log))
 
-quiet_record : (opening : Config) (now : ℕ) (origin : Origin) (log : Log) (c : Claim) (m : List ℕ) (r : Claim) → (is_suspect r.status ≡ true → accuses m r.incarnation c ≡ false)
+quiet_record : (opening : Config) (now : ℕ) (origin : Origin) (log : GroupLog) (c : Claim) (m : List ℕ) (r : Claim) → (is_suspect r.status ≡ true → accuses m r.incarnation c ≡ false)
     → suspected_by opening (Said now origin c ∷ log) m (Some r) ≡ suspected_by opening log m (Some r)
 quiet_record opening now origin log c m r quiet = elim (cases_Bool (is_suspect r.status)) [
   | inl t ↦ rw t (λ j. suspicion_since opening m (accusers-quiet m r.incarnation c (said log) (quiet t) j) (raise-quiet m r.incarnation now origin c log (quiet t) j))
   | inr f ↦ rw f refl
 ]
 
-pub suspected-quiet : (now : ℕ) (origin : Origin) (log : Log) (c : Claim) (m : List ℕ) → record_of (c ∷ said log) m ≡ record_of (said log) m
+pub suspected-quiet : (now : ℕ) (origin : Origin) (log : GroupLog) (c : Claim) (m : List ℕ) → record_of (c ∷ said log) m ≡ record_of (said log) m
     → ((r : Claim) → record_of (said log) m ≡ Some r → is_suspect r.status ≡ true → accuses m r.incarnation c ≡ false)
     → suspected (Said now origin c ∷ log) m ≡ suspected log m
 unfolding suspected
@@ -71,16 +71,16 @@ suspected-quiet now origin log c m same quiet = by_config (config log)
     by_config (Some opening) = ap (suspected_by opening (Said now origin c ∷ log) m) same ∙ by_record opening
 
 -- a claim about another member
-pub suspected-other : (now : ℕ) (origin : Origin) (log : Log) (c : Claim) (m : List ℕ) → c.name ≢ m → suspected (Said now origin c ∷ log) m ≡ suspected log m
+pub suspected-other : (now : ℕ) (origin : Origin) (log : GroupLog) (c : Claim) (m : List ℕ) → c.name ≢ m → suspected (Said now origin c ∷ log) m ≡ suspected log m
 suspected-other now origin log c m other = suspected-quiet now origin log c m (record_of-other c (said log) m other) (λ r is suspect. accuses-other m r.incarnation c other)
 
 -- before the opening nobody is suspected
-pub suspected-unopened : (log : Log) (m : List ℕ) → config log ≡ None → suspected log m ≡ None
+pub suspected-unopened : (log : GroupLog) (m : List ℕ) → config log ≡ None → suspected log m ≡ None
 unfolding suspected
 suspected-unopened log m e = ap (λ o. suspected_in o log m) e
 
 -- A claim that stands and doesn't suspect ends the suspicion.
-pub suspected-ended : (log : Log) (m : List ℕ) (c : Claim) → record_of (said log) m ≡ Some c → is_suspect c.status ≡ false → suspected log m ≡ None
+pub suspected-ended : (log : GroupLog) (m : List ℕ) (c : Claim) → record_of (said log) m ≡ Some c → is_suspect c.status ≡ false → suspected log m ≡ None
 unfolding suspected
 suspected-ended log m c stands calm = by_config (config log)
   where
@@ -89,7 +89,7 @@ suspected-ended log m c stands calm = by_config (config log)
     by_config (Some opening) = rw (stands, calm) refl
 
 -- One that suspects raises one anew.
-abbrev pub raised_at : Config → Log → List ℕ → List ℕ → Suspected
+abbrev pub raised_at : Config → GroupLog → List ℕ → List ℕ → Suspected
 raised_at opening log m accuser = record { name = m; suspicion = record { raised = said_at log; timeout = range_of (live log) opening; accusers = accuser ∷ [] } }
 
 accuses_itself : (c : Claim) → is_suspect c.status ≡ true → accuses c.name c.incarnation c ≡ true
@@ -99,11 +99,11 @@ accusers-raised : (c : Claim) (accuser : List ℕ) (past : List Claim) → c.sta
     → accusers_in c.name c.incarnation (c ∷ past) ≡ accuser ∷ []
 accusers-raised c accuser past is suspect none = rw (accuses_itself c suspect, is) (ap (λ others. accuser ∷ others) none)
 
-raise-raised : (now : ℕ) (origin : Origin) (c : Claim) (log : Log) → is_suspect c.status ≡ true → raise_of c.name c.incarnation log ≡ None
+raise-raised : (now : ℕ) (origin : Origin) (c : Claim) (log : GroupLog) → is_suspect c.status ≡ true → raise_of c.name c.incarnation log ≡ None
     → raise_of c.name c.incarnation (Said now origin c ∷ log) ≡ Some (Said now origin c ∷ log)
 raise-raised now origin c log suspect none = rw (accuses_itself c suspect, none) refl
 
-pub suspected-raised : (now : ℕ) (origin : Origin) (log : Log) (c : Claim) (accuser : List ℕ) (opening : Config) → config log ≡ Some opening → c.status ≡ Suspect accuser
+pub suspected-raised : (now : ℕ) (origin : Origin) (log : GroupLog) (c : Claim) (accuser : List ℕ) (opening : Config) → config log ≡ Some opening → c.status ≡ Suspect accuser
     → record_of (c ∷ said log) c.name ≡ Some c → ((r : Claim) → record_of (said log) c.name ≡ Some r → beats_of c r ≡ true)
     → suspected (Said now origin c ∷ log) c.name ≡ Some (raised_at opening (Said now origin c ∷ log) c.name accuser)
 unfolding suspected
@@ -120,13 +120,13 @@ suspected-raised now origin log c accuser opening opened is stands beaten =
     ∙ ap (λ names. Some record { name = c.name; suspicion = record { raised = said_at later; timeout = range_of (live later) opening; accusers = names } }) (counted-one (range_of (live later) opening).confirmations accuser)
 
 -- One more accusation at the incarnation of the record adds its accuser.
-pub record HasAccuser (now : ℕ) (origin : Origin) (log : Log) (c : Claim) (accuser : List ℕ) : Type 0 where
+pub record HasAccuser (now : ℕ) (origin : Origin) (log : GroupLog) (c : Claim) (accuser : List ℕ) : Type 0 where
   pub row : Suspected
   pub before : suspected log c.name ≡ Some row
   pub named : row.name ≡ c.name
   pub after : suspected (Said now origin c ∷ log) c.name ≡ Some record { name = row.name; suspicion = accused row.suspicion accuser }
 
-pub suspected-accused : (now : ℕ) (origin : Origin) (log : Log) (c r : Claim) (accuser : List ℕ) (opening : Config) → config log ≡ Some opening → c.status ≡ Suspect accuser
+pub suspected-accused : (now : ℕ) (origin : Origin) (log : GroupLog) (c r : Claim) (accuser : List ℕ) (opening : Config) → config log ≡ Some opening → c.status ≡ Suspect accuser
     → record_of (said log) c.name ≡ Some r → record_of (c ∷ said log) c.name ≡ Some r → is_suspect r.status ≡ true → c.incarnation ≡ r.incarnation
     → HasAccuser now origin log c accuser
 unfolding suspected
@@ -159,11 +159,11 @@ suspected-accused now origin log c r accuser opening opened is before after susp
     ]
 
 -- What is suspected under a name has that name.
-since_keyed : (opening : Config) (m : List ℕ) (accusers : List (List ℕ)) (front : Option Log) (row : Suspected) → suspicion_since opening m accusers front ≡ Some row → row.name ≡ m
+since_keyed : (opening : Config) (m : List ℕ) (accusers : List (List ℕ)) (front : Option GroupLog) (row : Suspected) → suspicion_since opening m accusers front ≡ Some row → row.name ≡ m
 since_keyed opening m accusers None row e = absurd cc
 since_keyed opening m accusers (Some front) row e = ap suspected_name (sym (held_once _ row e))
 
-pub suspected_keyed : (log : Log) → Keyed suspected_name (suspected log)
+pub suspected_keyed : (log : GroupLog) → Keyed suspected_name (suspected log)
 unfolding suspected
 suspected_keyed log m row e = by_config (config log) e
   where

@@ -21,7 +21,7 @@ use Rattle.lg_suspicion.specs.Meaning.Accusers.{SuspicionValue, accuser_counts, 
 use Rattle.lg_gossip.specs.Meaning.Queue.{is_suspect}
 use Rattle.lg_membership.specs.declared.suspected.Suspected.{Suspected}
 use Rattle.lg_membership.specs.declared.origin.Origin.{Origin}
-use Rattle.lg_membership.specs.Meaning.Log.{Log, Opened, Said, Sent, config, me, said, table, live}
+use Rattle.lg_membership.specs.Meaning.Log.{GroupLog, Opened, Said, Sent, config, me, said, table, live}
 use Rattle.lg_membership.specs.Meaning.Suspicions.{suspected, suspicions, suspected_name, accuses}
 use Rattle.lg_membership.specs.Support.Changes.{Change, Nothing, Putting, ended, accusing, overriding, change_by, change_of, row_about, suspicions_after}
 use Rattle.lg_membership.proofs.QueueLaws.{none_rows}
@@ -30,11 +30,11 @@ use Rattle.lg_membership.proofs.QueuedLaws.{row_out}
 use Rattle.lg_membership.proofs.SuspectedLaws.{suspected-alike, suspected-quiet, suspected-other, suspected-unopened, suspected-ended, suspected-raised, raised_at, suspected-accused, suspected_keyed}
 
 -- Facts that say nothing of a member leave the suspicions.
-pub suspicions-sent : (taken : List Claim) (log : Log) → suspicions log ≡ suspicions (Sent taken ∷ log)
+pub suspicions-sent : (taken : List Claim) (log : GroupLog) → suspicions log ≡ suspicions (Sent taken ∷ log)
 unfolding suspicions
 suspicions-sent taken log = sym (rows_equal (suspected log) (suspected (Sent taken ∷ log)) (roster (me log) (said log)) (λ m. suspected-alike log (Sent taken ∷ log) m refl refl (λ i. refl)))
 
-pub suspicions-opened : (opening : Config) (log : Log) → suspicions (Opened opening ∷ log) ≡ []
+pub suspicions-opened : (opening : Config) (log : GroupLog) → suspicions (Opened opening ∷ log) ≡ []
 unfolding suspicions
 suspicions-opened opening log = ap (filter_map (suspected (Opened opening ∷ log))) (roster-nil opening.name)
 
@@ -42,35 +42,35 @@ pub suspicions-nil : suspicions [] ≡ []
 unfolding suspicions
 suspicions-nil = ap (filter_map (suspected [])) (roster-nil (me []))
 
-pub suspicions-unopened : (log : Log) → config log ≡ None → suspicions log ≡ []
+pub suspicions-unopened : (log : GroupLog) → config log ≡ None → suspicions log ≡ []
 unfolding suspicions
 suspicions-unopened log e = none_rows (suspected log) (roster (me log) (said log)) (λ m. suspected-unopened log m e)
 
 -- the suspicion of a member that is known
-pub row_at-suspicions : (log : Log) (m : List ℕ) → is_among name_cmp m (roster (me log) (said log)) ≡ true → row_at name_cmp suspected_name m (suspicions log) ≡ suspected log m
+pub row_at-suspicions : (log : GroupLog) (m : List ℕ) → is_among name_cmp m (roster (me log) (said log)) ≡ true → row_at name_cmp suspected_name m (suspicions log) ≡ suspected log m
 unfolding suspicions
 row_at-suspicions log m among =
     row_at-rows names_order suspected_name (suspected log) m (roster (me log) (said log)) (rises-roster (me log) (said log)) (suspected_keyed log)
     ∙ ap (λ b. cond b (suspected log m) None) among
 
 -- They are in the order of their names.
-pub rises-suspicions : (log : Log) → Rises name_cmp (map suspected_name (suspicions log))
+pub rises-suspicions : (log : GroupLog) → Rises name_cmp (map suspected_name (suspicions log))
 unfolding suspicions
 rises-suspicions log = rises-rows names_order suspected_name (suspected log) (roster (me log) (said log)) (suspected_keyed log) (rises-roster (me log) (said log))
 
 -- A claim about oneself leaves them.
-pub suspicions-own : (now : ℕ) (origin : Origin) (log : Log) (c : Claim) → c.name ≡ me log → suspicions log ≡ suspicions (Said now origin c ∷ log)
+pub suspicions-own : (now : ℕ) (origin : Origin) (log : GroupLog) (c : Claim) → c.name ≡ me log → suspicions log ≡ suspicions (Said now origin c ∷ log)
 unfolding suspicions
 suspicions-own now origin log c same =
     let agree : AgreeBut (me log) (suspected log) (suspected (Said now origin c ∷ log)) = λ n other. suspected-other now origin log c n (λ e. other (sym e ∙ same)) in
     sym (rows_same names_order (suspected log) (suspected (Said now origin c ∷ log)) (me log) (roster (me log) (said log)) agree (own_unknown (me log) (said log)))
     ∙ ap (filter_map (suspected (Said now origin c ∷ log))) (sym (roster-own (me log) c (said log) same))
 
-agree_but : (now : ℕ) (origin : Origin) (log : Log) (c : Claim) → AgreeBut c.name (suspected log) (suspected (Said now origin c ∷ log))
+agree_but : (now : ℕ) (origin : Origin) (log : GroupLog) (c : Claim) → AgreeBut c.name (suspected log) (suspected (Said now origin c ∷ log))
 agree_but now origin log c n other = suspected-other now origin log c n (λ e. other (sym e))
 
 -- One about another puts a suspicion, ends one, or leaves them.
-rows_put : (now : ℕ) (origin : Origin) (log : Log) (c : Claim) (r : Suspected) → r.name ≡ c.name → suspected (Said now origin c ∷ log) c.name ≡ Some r
+rows_put : (now : ℕ) (origin : Origin) (log : GroupLog) (c : Claim) (r : Suspected) → r.name ≡ c.name → suspected (Said now origin c ∷ log) c.name ≡ Some r
     → roster (me log) (c ∷ said log) ≡ put_key name_cmp c.name (roster (me log) (said log))
     → put_row name_cmp suspected_name r (suspicions log) ≡ suspicions (Said now origin c ∷ log)
 unfolding suspicions
@@ -82,7 +82,7 @@ rows_put now origin log c r named is names =
     ∙ ap (λ m. filter_map g (put_key name_cmp m ns)) named
     ∙ ap (filter_map g) (sym names)
 
-rows_end : (now : ℕ) (origin : Origin) (log : Log) (c : Claim) → suspected (Said now origin c ∷ log) c.name ≡ None
+rows_end : (now : ℕ) (origin : Origin) (log : GroupLog) (c : Claim) → suspected (Said now origin c ∷ log) c.name ≡ None
     → roster (me log) (c ∷ said log) ≡ put_key name_cmp c.name (roster (me log) (said log))
     → without_row name_cmp suspected_name c.name (suspicions log) ≡ suspicions (Said now origin c ∷ log)
 unfolding suspicions
@@ -94,7 +94,7 @@ rows_end now origin log c none names =
     ∙ sym (rows-skip names_order g c.name ns none)
     ∙ ap (filter_map g) (sym names)
 
-rows_stay : (now : ℕ) (origin : Origin) (log : Log) (c : Claim) → suspected (Said now origin c ∷ log) c.name ≡ suspected log c.name → roster (me log) (c ∷ said log) ≡ roster (me log) (said log)
+rows_stay : (now : ℕ) (origin : Origin) (log : GroupLog) (c : Claim) → suspected (Said now origin c ∷ log) c.name ≡ suspected log c.name → roster (me log) (c ∷ said log) ≡ roster (me log) (said log)
     → suspicions log ≡ suspicions (Said now origin c ∷ log)
 unfolding suspicions
 rows_stay now origin log c same names =
@@ -108,7 +108,7 @@ rows_stay now origin log c same names =
       | inr other ↦ suspected-other now origin log c n other
     ]
 
-rows_out : (now : ℕ) (origin : Origin) (log : Log) (c : Claim) → is_among name_cmp c.name (roster (me log) (said log)) ≡ false → roster (me log) (c ∷ said log) ≡ roster (me log) (said log)
+rows_out : (now : ℕ) (origin : Origin) (log : GroupLog) (c : Claim) → is_among name_cmp c.name (roster (me log) (said log)) ≡ false → roster (me log) (c ∷ said log) ≡ roster (me log) (said log)
     → suspicions log ≡ suspicions (Said now origin c ∷ log)
 unfolding suspicions
 rows_out now origin log c out names =
@@ -132,10 +132,10 @@ none_changed Same now n c = refl
 none_changed Ignored now n c = refl
 none_changed NoRoom now n c = refl
 
-abbrev change : ℕ → Log → Claim → Change
+abbrev change : ℕ → GroupLog → Claim → Change
 change now log c = change_of (config log) now (table log) (suspicions log) c
 
-changed-unopened : (now : ℕ) (origin : Origin) (log : Log) (c : Claim) → config log ≡ None → suspicions_after (change now log c) (suspicions log) ≡ suspicions (Said now origin c ∷ log)
+changed-unopened : (now : ℕ) (origin : Origin) (log : GroupLog) (c : Claim) → config log ≡ None → suspicions_after (change now log c) (suspicions log) ≡ suspicions (Said now origin c ∷ log)
 changed-unopened now origin log c e =
     let none = suspicions-unopened log e in
     (λ i. suspicions_after (change_of (e i) now (table log) (none i) c) (none i))
@@ -154,7 +154,7 @@ kind_of (Suspect a) = IsSuspect a refl
 kind_of Failed = IsFailed refl
 
 -- a claim that is taken
-overrode : (log : Log) (c : Claim) → takes (table log) c ≡ true → hearing_of (table log) c ≡ Overrode
+overrode : (log : GroupLog) (c : Claim) → takes (table log) c ≡ true → hearing_of (table log) c ≡ Overrode
 overrode log c t = rw t refl
 
 -- a suspicion that ends, if there is one, leaves those of the others
@@ -165,7 +165,7 @@ ended-after m rows rise = elim (held (row_at name_cmp suspected_name m rows)) [
   | Holding row is ↦ ap (λ o. suspicions_after (ended m o) rows) is
 ]
 
-changed-taken : (now : ℕ) (origin : Origin) (log : Log) (c : Claim) (opening : Config) → config log ≡ Some opening → c.name ≢ me log → IsTaken (me log) c (said log)
+changed-taken : (now : ℕ) (origin : Origin) (log : GroupLog) (c : Claim) (opening : Config) → config log ≡ Some opening → c.name ≢ me log → IsTaken (me log) c (said log)
     → suspicions_after (change now log c) (suspicions log) ≡ suspicions (Said now origin c ∷ log)
 changed-taken now origin log c opening opened other t =
     let later = Said now origin c ∷ log in
@@ -235,7 +235,7 @@ unbeaten_as c r = elim (cases_Bool (eqb c.incarnation r.incarnation)) [
     never true = refl
     never false = refl
 
-hearing-unbeaten : (log : Log) (c : Claim) (k : IsUnbeaten (me log) c (said log)) → hearing_of (table log) c ≡ standing_hearing c (Some k.r)
+hearing-unbeaten : (log : GroupLog) (c : Claim) (k : IsUnbeaten (me log) c (said log)) → hearing_of (table log) c ≡ standing_hearing c (Some k.r)
 hearing-unbeaten log c k =
     let row = row_at-table (me log) (said log) c.name ∙ ap (λ b. cond b (record_of (said log) c.name) None) k.among ∙ k.before in
     rw k.taken (ap (standing_hearing c) row)
@@ -243,7 +243,7 @@ hearing-unbeaten log c k =
 accused-not : (s : SuspicionValue) (a : List ℕ) → accuser_counts s a ≡ false → accused s a ≡ s
 accused-not s a e = rw e refl
 
-changed-unbeaten : (now : ℕ) (origin : Origin) (log : Log) (c : Claim) (opening : Config) → config log ≡ Some opening → IsUnbeaten (me log) c (said log)
+changed-unbeaten : (now : ℕ) (origin : Origin) (log : GroupLog) (c : Claim) (opening : Config) → config log ≡ Some opening → IsUnbeaten (me log) c (said log)
     → suspicions_after (change now log c) (suspicions log) ≡ suspicions (Said now origin c ∷ log)
 changed-unbeaten now origin log c opening opened k =
     let n = live_in (heard (table log) c) in
@@ -291,14 +291,14 @@ changed-unbeaten now origin log c opening opened k =
         never (is_same name_cmp c.name c.name) off
 
 -- a claim about a name for which there is no room
-changed-out : (now : ℕ) (origin : Origin) (log : Log) (c : Claim) → takes (table log) c ≡ false → is_among name_cmp c.name (roster (me log) (said log)) ≡ false
+changed-out : (now : ℕ) (origin : Origin) (log : GroupLog) (c : Claim) → takes (table log) c ≡ false → is_among name_cmp c.name (roster (me log) (said log)) ≡ false
     → roster (me log) (c ∷ said log) ≡ roster (me log) (said log) → suspicions_after (change now log c) (suspicions log) ≡ suspicions (Said now origin c ∷ log)
 changed-out now origin log c taken out names =
     let hearing : hearing_of (table log) c ≡ NoRoom = rw (taken, row_out log c.name out) refl in
     ap (λ h. suspicions_after (change_by h (config log) now (live_in (heard (table log) c)) (row_about c (suspicions log)) c) (suspicions log)) hearing
     ∙ rows_out now origin log c out names
 
-pub suspicions-other : (now : ℕ) (origin : Origin) (log : Log) (c : Claim) → c.name ≢ me log → suspicions_after (change now log c) (suspicions log) ≡ suspicions (Said now origin c ∷ log)
+pub suspicions-other : (now : ℕ) (origin : Origin) (log : GroupLog) (c : Claim) → c.name ≢ me log → suspicions_after (change now log c) (suspicions log) ≡ suspicions (Said now origin c ∷ log)
 suspicions-other now origin log c other = elim (held (config log)) [
   | Missing none ↦ changed-unopened now origin log c none
   | Holding opening opened ↦ elim (heard_cases (me log) c (said log) other) [
@@ -309,12 +309,12 @@ suspicions-other now origin log c other = elim (held (config log)) [
 ]
 
 -- They are at most 255.
-pub length-suspicions : (log : Log) → length (suspicions log) ≤ 255
+pub length-suspicions : (log : GroupLog) → length (suspicions log) ≤ 255
 unfolding suspicions
 length-suspicions log = omega (arith, length_rows-le (suspected log) (roster (me log) (said log)), length-roster (me log) (said log))
 
 -- Where a claim is taken there is a seat for the suspicion of its member.
-pub seat_of : (log : Log) (c : Claim) → IsTaken (me log) c (said log) → row_at name_cmp suspected_name c.name (suspicions log) ≡ None → length (suspicions log) < 255
+pub seat_of : (log : GroupLog) (c : Claim) → IsTaken (me log) c (said log) → row_at name_cmp suspected_name c.name (suspicions log) ≡ None → length (suspicions log) < 255
 unfolding suspicions
 seat_of log c t missing =
     rows_room names_order suspected_name (suspected log) c.name 255 (roster (me log) (said log)) (rises-roster (me log) (said log)) (suspected_keyed log)

@@ -6,13 +6,13 @@ ghost use Rattle.std.specs.Prelude.{◌≡◌, ◌≢◌, [], ◌∷◌, ◌&&�
 ghost use Rattle.lg_rules.specs.Meaning.Rows.{name_cmp, is_same};
 ghost use Rattle.lg_rules.specs.Support.Standing.{is_rise};
 ghost use Rattle.lg_timing.specs.Meaning.Config.{IsChecked};
-ghost use Rattle.lg_membership.specs.Meaning.Log.{Fact, Log, Opened, Said, Sent};
+ghost use Rattle.lg_membership.specs.Meaning.Log.{GroupFact, GroupLog, Opened, Said, Sent};
 ghost use Rattle.lg_membership.specs.Meaning.Gossip.{put_of_own, put_if, target_record, taken, fill};
 ghost use Rattle.lg_membership.specs.Meaning.Suspicions.{is_accusation};
 ghost use Rattle.lg_membership.specs.Meaning.Applied.{is_refuted, IsApplied};
-ghost use Rattle.lg_membership.specs.Support.State.{state_of, open_with, apply, apply_own, apply_other};
+ghost use Rattle.lg_membership.specs.Support.State.{group_state_of, open_group, apply_to_group, apply_own, apply_other};
 ghost use Rattle.lg_membership.specs.Support.State.{applied, applied_own, applied_other};
-ghost use Rattle.lg_membership.specs.Support.State.{send, queue_with, taken_in, fill_in};
+ghost use Rattle.lg_membership.specs.Support.State.{send_from_group, queue_with, taken_in, fill_in};
 ghost use Rattle.lg_membership.specs.Support.Changes.{is_override, stands, presence_by};
 ghost use Rattle.lg_membership.specs.Support.Room.{HasPlace};
 
@@ -47,10 +47,10 @@ pub struct Membership {
 }
 
 impl Model for Membership {
-    ghost use Rattle.lg_membership.specs.Support.State.{State};
-    ghost use Rattle.lg_membership.specs.Support.Reached.{IsReached};
+    ghost use Rattle.lg_membership.specs.Support.State.{GroupState};
+    ghost use Rattle.lg_membership.specs.Support.Reached.{IsGroupReached};
 
-    ghost Value = { State };
+    ghost Value = { GroupState };
 
     ghost view = { λ m. record {
       config = m.config;
@@ -60,7 +60,7 @@ impl Model for Membership {
       queue = m.queue;
     } };
 
-    ghost invariant = { λ m. IsReached record {
+    ghost invariant = { λ m. IsGroupReached record {
       config = m.config;
       own = m.own;
       members = m.members;
@@ -163,7 +163,7 @@ fn presence_by(before: usize, after: usize) -> Presence
 impl Membership {
     /// A member that wasn't opened. It knows nobody, and has a placeholder for its name.
     pub fn blank() -> Membership
-        ensures { result ≡ state_of [] }
+        ensures { result ≡ group_state_of [] }
     {
         let name = Name::default();
         Membership {
@@ -196,9 +196,10 @@ impl Membership {
     /// configuration are to be applied next.
     pub fn open_with(&mut self, config: &Config)
         requires { IsChecked config.now }
-        ensures state { self.new ≡ open_with config.now self.old }
+        ensures state { self.new ≡ open_group config.now self.old }
         // Whatever happened before, the opening is added to the log.
-        ensures log { (log : Log) → self.old ≡ state_of log → self.new ≡ state_of (Opened config.now ∷ log) }
+        ensures log { (log : GroupLog) → self.old ≡ group_state_of log
+            → self.new ≡ group_state_of (Opened config.now ∷ log) }
     {
         self.own = Own::new(config.name, config.addr);
         self.members.restart(&config.name);
@@ -212,14 +213,14 @@ impl Membership {
     /// nothing.
     #[tactic(auto, unfolding(crate::specs::Support::State::apply, crate::specs::Support::State::applied))]
     pub fn apply(&mut self, now: Moment, origin: Origin, claim: &Claim) -> Applied
-        ensures state { self.new ≡ apply now origin claim.now self.old }
+        ensures state { self.new ≡ apply_to_group now origin claim.now self.old }
         ensures applied { result ≡ applied now claim.now self.old }
         // Whatever happened before, the claim is added to the log.
-        ensures log { (log : Log) → self.old ≡ state_of log
-            → self.new ≡ state_of (Said now origin claim.now ∷ log) }
+        ensures log { (log : GroupLog) → self.old ≡ group_state_of log
+            → self.new ≡ group_state_of (Said now origin claim.now ∷ log) }
         // The result says what the claim changes of its member's record and suspicion, and of the members that
         // haven't failed.
-        ensures meaning { (log : Log) → self.old ≡ state_of log → IsApplied now origin claim.now log result }
+        ensures meaning { (log : GroupLog) → self.old ≡ group_state_of log → IsApplied now origin claim.now log result }
     {
         if is_same_name(&claim.name, &self.own.name()) {
             self.apply_own(claim)
@@ -279,12 +280,12 @@ impl Membership {
     /// (Lifeguard, buddy system). A target that isn't known, or is this member itself, adds nothing.
     pub fn fill_into(&mut self, target: Option<&Name>, claims: &mut ArrayVec<Claim, MAX_CLAIMS>)
         ensures claims { claims.new.items ≡ fill_in (option_copied target.entry) self.old }
-        ensures state { self.new ≡ send (taken_in (option_copied target.entry) self.old) self.old }
+        ensures state { self.new ≡ send_from_group (taken_in (option_copied target.entry) self.old) self.old }
         // After any log, these are the claims that the log gives, and the packet that took them is added to the log.
-        ensures filled { (log : Log) → self.old ≡ state_of log
+        ensures filled { (log : GroupLog) → self.old ≡ group_state_of log
             → claims.new.items ≡ fill (option_copied target.entry) log }
-        ensures log { (log : Log) → self.old ≡ state_of log
-            → self.new ≡ state_of (Sent (taken (option_copied target.entry) log) ∷ log) }
+        ensures log { (log : GroupLog) → self.old ≡ group_state_of log
+            → self.new ≡ group_state_of (Sent (taken (option_copied target.entry) log) ∷ log) }
     {
         let to = target_record(&self.members, target);
         self.queue.fill_into(to, self.members.live(), claims);

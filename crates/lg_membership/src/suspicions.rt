@@ -9,7 +9,7 @@ ghost use Rattle.lg_rules.specs.Meaning.Rows.{name_cmp, row_at, Rises};
 ghost use Rattle.lg_rules.specs.Meaning.Table.{live_in};
 ghost use Rattle.lg_membership.specs.Meaning.Suspicions.{suspected_name};
 ghost use Rattle.lg_membership.specs.Support.Changes.{raised, ended, overriding, accusing, change_by};
-ghost use Rattle.lg_membership.specs.Support.Changes.{suspicions_after, deadline_after, row_about};
+ghost use Rattle.lg_membership.specs.Support.Changes.{suspicions_after, deadline_of_change, row_about};
 ghost use Rattle.lg_membership.specs.Support.Reached.{IsGood};
 ghost use Rattle.lg_membership.specs.Support.Room.{HasSeat};
 
@@ -50,7 +50,7 @@ fn raise(
     ensures rows { let change = raised config.now now (live_in members.now.table) name.now accuser.now in
         suspicions.new.items ≡ suspicions_after change suspicions.old.items }
     ensures deadline { let change = raised config.now now (live_in members.now.table) name.now accuser.now in
-        result ≡ deadline_after change }
+        result ≡ deadline_of_change change }
 {
     let Some(config) = config else {
         return Deadline::Stays;
@@ -72,7 +72,7 @@ fn end(suspicions: &mut Suspicions, name: &Name) -> Deadline
     ensures rows { let row = row_at name_cmp suspected_name name.now suspicions.old.items in
         suspicions.new.items ≡ suspicions_after (ended name.now row) suspicions.old.items }
     ensures deadline { let row = row_at name_cmp suspected_name name.now suspicions.old.items in
-        result ≡ deadline_after (ended name.now row) }
+        result ≡ deadline_of_change (ended name.now row) }
 {
     match index_of(suspicions.as_slice(), name) {
         Ok(at) => {
@@ -99,7 +99,7 @@ fn override_row(
         suspicions.new.items ≡ suspicions_after change suspicions.old.items }
     ensures deadline { let row = row_about claim.now suspicions.old.items in
         let change = overriding config.now now (live_in members.now.table) claim.now.name row claim.now.status in
-        result ≡ deadline_after change }
+        result ≡ deadline_of_change change }
 {
     match claim.status {
         Status::Suspect(accuser) => raise(suspicions, config, now, members, &claim.name, &accuser),
@@ -113,7 +113,7 @@ fn join(suspicions: &mut Suspicions, name: &Name, accuser: &Name) -> Deadline
     ensures rows { let row = row_at name_cmp suspected_name name.now suspicions.old.items in
         suspicions.new.items ≡ suspicions_after (accusing (Some accuser.now) row) suspicions.old.items }
     ensures deadline { let row = row_at name_cmp suspected_name name.now suspicions.old.items in
-        result ≡ deadline_after (accusing (Some accuser.now) row) }
+        result ≡ deadline_of_change (accusing (Some accuser.now) row) }
 {
     let Ok(at) = index_of(suspicions.as_slice(), name) else {
         return Deadline::Stays;
@@ -132,7 +132,7 @@ fn accuse(suspicions: &mut Suspicions, claim: &Claim) -> Deadline
     ensures rows { let row = row_about claim.now suspicions.old.items in
         suspicions.new.items ≡ suspicions_after (accusing (accuser_of claim.now.status) row) suspicions.old.items }
     ensures deadline { let row = row_about claim.now suspicions.old.items in
-        result ≡ deadline_after (accusing (accuser_of claim.now.status) row) }
+        result ≡ deadline_of_change (accusing (accuser_of claim.now.status) row) }
 {
     match claim.status {
         Status::Suspect(accuser) => join(suspicions, &claim.name, &accuser),
@@ -158,7 +158,7 @@ pub fn suspect(
         suspicions.new.items ≡ suspicions_after change suspicions.old.items }
     ensures deadline { let row = row_about claim.now suspicions.old.items in
         let change = change_by heard config.now now (live_in members.now.table) row claim.now in
-        result ≡ deadline_after change }
+        result ≡ deadline_of_change change }
 {
     match heard {
         Heard::Overrode => override_row(suspicions, config, now, members, claim),

@@ -13,14 +13,14 @@ use Rattle.lg_agent.specs.Meaning.Ledger.{Own}
 use Rattle.lg_agent.specs.Meaning.Calls.{IsCall}
 use Rattle.lg_node.specs.Meaning.Links.{WereHanded}
 use Rattle.lg_node.specs.Meaning.Nodes.{Asked}
-use Rattle.lg_node.specs.Meaning.Turns.{Turn, Line, pulls, peers_in, losses}
+use Rattle.lg_node.specs.Meaning.Turns.{Turn, Line, is_pull, peers_in, losses}
 use Rattle.lg_node.specs.Meaning.Turns.Turn.{Pulled}
 use Rattle.lg_node.proofs.TurnLaws.{made_more}
 
 pub asked_none : (tells : Bool) (a : Line) (p : Own) → Asked tells [] a a p p 0
 asked_none tells a p = record {
   turns = [];
-  made = record { kinds = All-nil (λ s. pulls s ≡ true); follows = refl; told = λ yes. sym (append-nil a.log); failed = omega arith };
+  made = record { kinds = All-nil (λ s. is_pull s ≡ true); follows = refl; told = λ yes. sym (append-nil a.log); failed = omega arith };
   each = refl;
   unsent_is = refl;
 }
@@ -33,7 +33,7 @@ asked_more tells seeds seed now r a b c p m q unsent more asked call handed =
     let lost_now : sum_by losses (t ∷ []) ≡ more = omega (arith, handed.unsent_is) in
     record {
       turns = asked.turns ++ t ∷ [];
-      made = made_more pulls tells asked.turns t a b c p m q asked.made refl (call, handed.each) handed.told (omega (arith, handed.failed_is, handed.unsent_is));
+      made = made_more is_pull tells asked.turns t a b c p m q asked.made refl (call, handed.each) handed.told (omega (arith, handed.failed_is, handed.unsent_is));
       each = flat_map-append peers_in asked.turns (t ∷ []) ∙ (ap (λ (l : List Addr). l ++ seed.addr ∷ []) asked.each ∙ sym (map-append (λ (s : Seed). s.addr) seeds (seed ∷ [])));
       unsent_is = omega (arith, sum_by-append losses asked.turns (t ∷ []), lost_now, asked.unsent_is);
     }

@@ -7,7 +7,7 @@ ghost use Rattle.lg_timing.specs.declared.config.Config.{Config as Opened};
 ghost use Rattle.lg_detector.specs.declared.event.Event.TheVariants.{Open};
 ghost use Rattle.lg_agent.specs.Meaning.Ledger.{Own};
 ghost use Rattle.lg_agent.specs.Meaning.Calls.{IsRefusal};
-ghost use Rattle.lg_node.specs.Meaning.Nodes.{HasServed, fresh};
+ghost use Rattle.lg_node.specs.Meaning.Nodes.{HasServed, fresh_own};
 ghost use Rattle.lg_node.specs.Meaning.Turns.{line};
 
 use crate::asking::ask_each;
@@ -46,8 +46,8 @@ pub(crate) fn passes_of<'a, A: AgentName>(
     requires { length agent.old.told ≡ PLACES }
     ensures { (config : Opened) → (start : ℕ) → agent.old.name ≡ config.name
         → All (λ seen. seen ≡ Open start config ∷ []) agent.old.told
-        → IfSome result (λ passes. (passes.receiver ≡ fresh config start 1)
-        × (passes.ticker ≡ fresh config start 2) × (passes.asker ≡ fresh config start 3)) }
+        → IfSome result (λ passes. (passes.receiver ≡ fresh_own config start 1)
+        × (passes.ticker ≡ fresh_own config start 2) × (passes.asker ≡ fresh_own config start 3)) }
 {
     let Ok(passes) = agent.passes(alloc) else {
         return None;
@@ -94,8 +94,8 @@ where
     C: Clock + Sync,
     D: Dice + Drop,
     requires { bound ≤ MAX_TURNS }
-    ensures served { (start : ℕ) → passes.entry.receiver ≡ fresh config.now start 1
-        → passes.entry.ticker ≡ fresh config.now start 2 → passes.entry.asker ≡ fresh config.now start 3
+    ensures served { (start : ℕ) → passes.entry.receiver ≡ fresh_own config.now start 1
+        → passes.entry.ticker ≡ fresh_own config.now start 2 → passes.entry.asker ≡ fresh_own config.now start 3
         → IfOk result (λ s. HasServed D.throws dice L.tells bound config.now until start
         (line (L.log hears) (L.failed hears)) (line (L.log s.received.link) (L.failed s.received.link))
         (line (L.log sends) (L.failed sends)) (line (L.log s.ticked.link) (L.failed s.ticked.link))

@@ -10,7 +10,7 @@ use Rattle.lg_rules.proofs.KeyOrder.{names_order, key_is}
 use Rattle.lg_rules.proofs.Rises.{rises-put, rises-in_order, rises-filter, among-put, among-in_order, among-filter, among-cons_same, among-later, length-put}
 use Rattle.lg_rules.proofs.Tests.{both}
 use Rattle.lg_probe.specs.Meaning.Order.{OrderValue, OrderFact, Joined, Left, Chose, without, candidate, candidates, is_over, current_round, choice, next_round, put_choice, names_after, round_after, order_after, order_with, known_names}
-use Rattle.lg_probe.specs.Support.Order.{IsSound}
+use Rattle.lg_probe.specs.Support.Order.{IsSoundOrder}
 use Rattle.lg_probe.proofs.NameRows.{names_few, among-append}
 
 -- what stands somewhere in a list is among it
@@ -110,7 +110,7 @@ rises-current names round r = step (is_over names round)
     step false = r
 
 -- there is room for one more of those that may be chosen
-pub choice_room : (o : OrderValue) (m : ℕ) (n : List ℕ) → IsSound o → length (known_names o) ≤ m → IsCandidate o.names (current_round o.names o.chosen) n → length (current_round o.names o.chosen) < m
+pub choice_room : (o : OrderValue) (m : ℕ) (n : List ℕ) → IsSoundOrder o → length (known_names o) ≤ m → IsCandidate o.names (current_round o.names o.chosen) n → length (current_round o.names o.chosen) < m
 choice_room o m n sound few is =
     let round = current_round o.names o.chosen in
     let rises = rises-put names_order n round (rises-current o.names o.chosen sound.chosen_rise) in
@@ -122,7 +122,7 @@ choice_room o m n sound few is =
     known k (Second a) = known_chosen o k (in_current o.names o.chosen k a)
 
 -- the round after a choice
-pub sound-choice : (o : OrderValue) (word : ℕ) → IsSound o → IsSound (order_with o (Chose word))
+pub sound-choice : (o : OrderValue) (word : ℕ) → IsSoundOrder o → IsSoundOrder (order_with o (Chose word))
 sound-choice o word sound = step (choice o.names o.chosen word) (λ n e. candidate_is o.names (current_round o.names o.chosen) word n e)
   where
     rises : Rises name_cmp (current_round o.names o.chosen)
@@ -143,7 +143,7 @@ sound-choice o word sound = step (choice o.names o.chosen word) (λ n e. candida
       | Second named ↦ known_name o k named
     ]
 
-    step : (chosen : Option (List ℕ)) → ((n : List ℕ) → chosen ≡ Some n → IsCandidate o.names (current_round o.names o.chosen) n) → IsSound record { names = o.names; chosen = put_choice chosen (current_round o.names o.chosen) }
+    step : (chosen : Option (List ℕ)) → ((n : List ℕ) → chosen ≡ Some n → IsCandidate o.names (current_round o.names o.chosen) n) → IsSoundOrder record { names = o.names; chosen = put_choice chosen (current_round o.names o.chosen) }
     step None is = record {
       names_rise = sound.names_rise;
       chosen_rise = rises;
@@ -156,7 +156,7 @@ sound-choice o word sound = step (choice o.names o.chosen word) (λ n e. candida
     }
 
 -- a member that joins
-pub join_few : (o : OrderValue) (m : ℕ) (n : List ℕ) → IsSound o → length (put_key name_cmp n (known_names o)) ≤ m → length (put_key name_cmp n o.names) ≤ m
+pub join_few : (o : OrderValue) (m : ℕ) (n : List ℕ) → IsSoundOrder o → length (put_key name_cmp n (known_names o)) ≤ m → length (put_key name_cmp n o.names) ≤ m
 join_few o m n sound few =
     let within : length (put_key name_cmp n o.names) ≤ length (put_key name_cmp n (known_names o)) = names_few (put_key name_cmp n o.names) (put_key name_cmp n (known_names o)) (rises-put names_order n o.names sound.names_rise) (λ k a. among-put names_order k n (known_names o) ∙ known k (in_either _ _ (sym (among-put names_order k n o.names) ∙ a))) in
     omega (arith, within, few)
@@ -165,10 +165,10 @@ join_few o m n sound few =
     known k (First s) = first_of _ (is_among name_cmp k (known_names o)) s
     known k (Second a) = second_of (is_same name_cmp n k) _ (among-in_order names_order k (o.chosen ++ o.names) ∙ known_name o k a)
 
-pub join_room : (o : OrderValue) (m : ℕ) (n : List ℕ) → IsSound o → length (put_key name_cmp n (known_names o)) ≤ m → is_among name_cmp n o.names ≡ false → length o.names < m
+pub join_room : (o : OrderValue) (m : ℕ) (n : List ℕ) → IsSoundOrder o → length (put_key name_cmp n (known_names o)) ≤ m → is_among name_cmp n o.names ≡ false → length o.names < m
 join_room o m n sound few fresh = omega (arith, join_few o m n sound few, length-put names_order n o.names fresh)
 
-known-join : (o : OrderValue) (n : List ℕ) (m : ℕ) → IsSound o → length (put_key name_cmp n (known_names o)) ≤ m → length (known_names (order_with o (Joined n))) ≤ m
+known-join : (o : OrderValue) (n : List ℕ) (m : ℕ) → IsSoundOrder o → length (put_key name_cmp n (known_names o)) ≤ m → length (known_names (order_with o (Joined n))) ≤ m
 known-join o n m sound few =
     let after = known_names (order_with o (Joined n)) in
     let within : length after ≤ length (put_key name_cmp n (known_names o)) = names_few after (put_key name_cmp n (known_names o)) (rises-in_order names_order (o.chosen ++ put_key name_cmp n o.names)) (λ k a. among-put names_order k n (known_names o) ∙ known k (in_either _ _ (sym (among-append k o.chosen (put_key name_cmp n o.names)) ∙ sym (among-in_order names_order k (o.chosen ++ put_key name_cmp n o.names)) ∙ a))) in
@@ -184,7 +184,7 @@ known-join o n m sound few =
       | Second b ↦ knew k (known_name o k b)
     ]
 
-pub sound-join : (o : OrderValue) (n : List ℕ) → IsSound o → length (put_key name_cmp n (known_names o)) ≤ MAX_OTHERS → IsSound (order_with o (Joined n))
+pub sound-join : (o : OrderValue) (n : List ℕ) → IsSoundOrder o → length (put_key name_cmp n (known_names o)) ≤ MAX_OTHERS → IsSoundOrder (order_with o (Joined n))
 sound-join o n sound few = record {
   names_rise = rises-put names_order n o.names sound.names_rise;
   chosen_rise = sound.chosen_rise;
@@ -192,7 +192,7 @@ sound-join o n sound few = record {
 }
 
 -- a member that leaves
-pub sound-leave : (o : OrderValue) (n : List ℕ) → IsSound o → IsSound (order_with o (Left n))
+pub sound-leave : (o : OrderValue) (n : List ℕ) → IsSoundOrder o → IsSoundOrder (order_with o (Left n))
 sound-leave o n sound = record {
   names_rise = rises-filter names_order (λ m. not (is_same name_cmp m n)) o.names sound.names_rise;
   chosen_rise = sound.chosen_rise;

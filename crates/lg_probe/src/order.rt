@@ -11,7 +11,7 @@ ghost use Rattle.lg_probe.specs.Meaning.Order.{choice_after, ever_joined, known_
 ghost use Rattle.lg_probe.specs.Meaning.Order.{OrderFact, Joined, Left, Chose, order_after, order_with};
 ghost use Rattle.lg_probe.specs.Meaning.Order.{EachInWindows, choices_after, names_after, window};
 ghost use Rattle.lg_probe.specs.Meaning.Helpers.{left_by};
-ghost use Rattle.lg_probe.specs.Support.Order.{IsKept};
+ghost use Rattle.lg_probe.specs.Support.Order.{IsOrderKept};
 
 use crate::names::{is_among, push_all, put, take_out};
 use arrayvec::ArrayVec;
@@ -56,7 +56,7 @@ fn choose_among(
     word: u32,
 ) -> Option<Name>
     requires few { length names.now ≤ MAX_OTHERS }
-    requires kept { IsKept names.now chosen.old.items remaining.old.items }
+    requires kept { IsOrderKept names.now chosen.old.items remaining.old.items }
     ensures chosen { result ≡ choice names.now chosen.old.items word }
     ensures round { let named = choice names.now chosen.old.items word in
         chosen.new.items ≡ put_choice named (current_round names.now chosen.old.items) }
@@ -87,9 +87,9 @@ impl Model for Order {
 
     ghost view = { λ o. record { names = o.names.items; chosen = o.chosen.items } };
 
-    ghost use Rattle.lg_probe.specs.Support.Order.{IsKept};
+    ghost use Rattle.lg_probe.specs.Support.Order.{IsOrderKept};
 
-    ghost invariant = { λ o. IsKept o.names.items o.chosen.items o.remaining.items };
+    ghost invariant = { λ o. IsOrderKept o.names.items o.chosen.items o.remaining.items };
 }
 
 impl Order {

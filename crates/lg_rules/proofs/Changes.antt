@@ -12,7 +12,8 @@ use Rattle.lg_rules.specs.Meaning.Beats.{beats_of}
 use Rattle.lg_rules.specs.Meaning.Claim.{name_of}
 use Rattle.lg_rules.specs.Meaning.Rows.{name_cmp, is_same, row_at}
 use Rattle.lg_rules.specs.Meaning.View.{is_same_status, is_same_addr, is_same_claim, is_row, changed}
-use Rattle.lg_rules.specs.Support.Standing.{Standing, standing_of, view, hear_claim, hear_claims, changes_record, changed_names}
+use Rattle.lg_rules.specs.Support.Standing.{Standing, standing_of, standing_view, hear_claim, standing_after}
+use Rattle.lg_rules.specs.Support.Standing.{changes_record, changed_names}
 use Rattle.lg_rules.proofs.Cases.{held_once}
 use Rattle.lg_rules.proofs.KeyOrder.{names_order, same_key, key_is, cases_key}
 use Rattle.lg_rules.proofs.Ranks.{ranked}
@@ -26,9 +27,9 @@ abbrev pub after_claims : List Claim → List Claim → List Claim
 after_claims past [] = past
 after_claims past (c ∷ cs) = after_claims (c ∷ past) cs
 
-pub hear_claims-standing : (name : List ℕ) (addr : Addr) (past cs : List Claim) → hear_claims (standing_of name addr past) cs ≡ standing_of name addr (after_claims past cs)
+pub hear_claims-standing : (name : List ℕ) (addr : Addr) (past cs : List Claim) → standing_after (standing_of name addr past) cs ≡ standing_of name addr (after_claims past cs)
 hear_claims-standing name addr past [] = refl
-hear_claims-standing name addr past (c ∷ cs) = ap (λ m. hear_claims m cs) (hear_claim-standing name addr past c) ∙ hear_claims-standing name addr (c ∷ past) cs
+hear_claims-standing name addr past (c ∷ cs) = ap (λ m. standing_after m cs) (hear_claim-standing name addr past c) ∙ hear_claims-standing name addr (c ∷ past) cs
 
 -- the names whose records claims change after a past
 abbrev pub names_after : List ℕ → Addr → List Claim → List Claim → List (List ℕ)
@@ -161,19 +162,19 @@ length-changed_names m (c ∷ cs) = elim (cases_Bool (changes_record m c)) [
 
 -- Once claims are heard after a past, the records that differ are those of the names that they changed,
 pub changed-heard : (name : List ℕ) (addr : Addr) (past cs : List Claim) (m : Standing) → m ≡ standing_of name addr past
-    → changed (view m) (view (hear_claims m cs)) ≡ filter (λ r. is_known r.name (changed_names m cs)) (view (hear_claims m cs))
+    → changed (standing_view m) (standing_view (standing_after m cs)) ≡ filter (λ r. is_known r.name (changed_names m cs)) (standing_view (standing_after m cs))
 changed-heard name addr past cs m is =
-    subst (λ (k : Standing). changed (view k) (view (hear_claims k cs)) ≡ filter (λ r. is_known r.name (changed_names k cs)) (view (hear_claims k cs))) (sym is)
-    (subst (λ (k : Standing). changed (view_after name addr past) (view k) ≡ filter (λ r. is_known r.name (names_after name addr past cs)) (view k)) (sym (hear_claims-standing name addr past cs)) (changed-past name addr past cs))
+    subst (λ (k : Standing). changed (standing_view k) (standing_view (standing_after k cs)) ≡ filter (λ r. is_known r.name (changed_names k cs)) (standing_view (standing_after k cs))) (sym is)
+    (subst (λ (k : Standing). changed (view_after name addr past) (standing_view k) ≡ filter (λ r. is_known r.name (names_after name addr past cs)) (standing_view k)) (sym (hear_claims-standing name addr past cs)) (changed-past name addr past cs))
 
 -- and they are no more than the claims.
 pub length-changed_records : (name : List ℕ) (addr : Addr) (past cs : List Claim) (m : Standing) → m ≡ standing_of name addr past
-    → length (filter (λ r. is_known r.name (changed_names m cs)) (view (hear_claims m cs))) ≤ length cs
+    → length (filter (λ r. is_known r.name (changed_names m cs)) (standing_view (standing_after m cs))) ≤ length cs
 length-changed_records name addr past cs m is =
-    let few = subst (λ (k : Standing). length (filter (λ r. is_known r.name (changed_names m cs)) (view k)) ≤ length (changed_names m cs))
-    (sym (ap (λ k. hear_claims k cs) is ∙ hear_claims-standing name addr past cs))
+    let few = subst (λ (k : Standing). length (filter (λ r. is_known r.name (changed_names m cs)) (standing_view k)) ≤ length (changed_names m cs))
+    (sym (ap (λ k. standing_after k cs) is ∙ hear_claims-standing name addr past cs))
     (few_among names_order name_of (changed_names m cs) (view_after name addr (after_claims past cs)) (rises-view name addr (after_claims past cs))) in
     omega (arith, few, length-changed_names m cs)
 
-pub length-changed : (name : List ℕ) (addr : Addr) (past cs : List Claim) (m : Standing) → m ≡ standing_of name addr past → length (changed (view m) (view (hear_claims m cs))) ≤ length cs
+pub length-changed : (name : List ℕ) (addr : Addr) (past cs : List Claim) (m : Standing) → m ≡ standing_of name addr past → length (changed (standing_view m) (standing_view (standing_after m cs))) ≤ length cs
 length-changed name addr past cs m is = subst (λ xs. length xs ≤ length cs) (sym (changed-heard name addr past cs m is)) (length-changed_records name addr past cs m is)

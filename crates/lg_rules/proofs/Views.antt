@@ -10,11 +10,12 @@ use Rattle.lg_rules.specs.declared.own.OwnHeard.{OwnHeard}
 use Rattle.lg_rules.specs.declared.own.OwnHeard.TheVariants.{Refuted, Raised, Ousted, Ignored}
 use Rattle.lg_rules.specs.Meaning.Beats.{beats_of}
 use Rattle.lg_rules.specs.Meaning.Claim.{name_of}
-use Rattle.lg_rules.specs.Meaning.Own.{Oneself, beyond, own_hearing, own_hearing_at, changed_by, own_heard, own_of, own_record}
+use Rattle.lg_rules.specs.Meaning.Own.{Oneself, beyond, own_hearing, own_hearing_at, oneself_changed, own_heard, own_of}
+use Rattle.lg_rules.specs.Meaning.Own.{own_record}
 use Rattle.lg_rules.specs.Meaning.Rows.{name_cmp, is_same, put_row, row_at, Rises}
 use Rattle.lg_rules.specs.Meaning.Table.{record_of, roster, table_of, takes, heard}
 use Rattle.lg_rules.specs.Meaning.View.{view_of}
-use Rattle.lg_rules.specs.Support.Standing.{Standing, standing_of, view, hear_claim, is_rise, changes_record}
+use Rattle.lg_rules.specs.Support.Standing.{Standing, standing_of, standing_view, hear_claim, is_rise, changes_record}
 use Rattle.lg_rules.proofs.Cases.{Missing, Holding, held}
 use Rattle.lg_rules.proofs.KeyOrder.{names_order, same_key, other_key, cases_key}
 use Rattle.lg_rules.proofs.OwnLaws.{own-same, own-other, own_of_name, own_hearing-same, own_hearing-other}
@@ -51,7 +52,7 @@ changes_record-other m c d = ap (λ b. cond b (is_rise (own_hearing m.own c)) (t
 
 -- The view after a past: the own record at the own name, and the table elsewhere.
 abbrev pub view_after : List ℕ → Addr → List Claim → List Claim
-view_after name addr past = view (standing_of name addr past)
+view_after name addr past = standing_view (standing_of name addr past)
 
 pub row_at-view : (name : List ℕ) (addr : Addr) (past : List Claim) (m : List ℕ)
     → row_at name_cmp name_of m (view_after name addr past) ≡ cond (is_same name_cmp name m) (Some (own_record (own_of name addr past))) (row_at name_cmp name_of m (table_of name past))
@@ -94,19 +95,19 @@ pub data ViewHearing (name : List ℕ) (addr : Addr) (c : Claim) (past : List Cl
   Leaves : changes_record (standing_of name addr past) c ≡ false → view_after name addr (c ∷ past) ≡ view_after name addr past → ViewHearing name addr c past
 
 -- the own record changes where the own number rises, and nowhere else
-stays : (o : OwnHeard) (i : ℕ) (me : Oneself) → is_rise o ≡ false → own_record (changed_by o i me) ≡ own_record me
+stays : (o : OwnHeard) (i : ℕ) (me : Oneself) → is_rise o ≡ false → own_record (oneself_changed o i me) ≡ own_record me
 stays Refuted i me f = absurd (false≢true (sym f))
 stays Raised i me f = absurd (false≢true (sym f))
 stays Ousted i me f = refl
 stays Ignored i me f = refl
 
-beyond_rises : (o : OwnHeard) (i : ℕ) (me : Oneself) → ((j : ℕ) → (changed_by o j me).number ≡ j + 1) → me.number ≤ i → is_rise (beyond i o) ≡ true → me.number < (changed_by (beyond i o) i me).number
+beyond_rises : (o : OwnHeard) (i : ℕ) (me : Oneself) → ((j : ℕ) → (oneself_changed o j me).number ≡ j + 1) → me.number ≤ i → is_rise (beyond i o) ≡ true → me.number < (oneself_changed (beyond i o) i me).number
 beyond_rises o i me h l t = elim (cases_Bool (ltb i 1000000000)) [
   | inl few ↦ rw few (omega (arith, h i, l))
   | inr many ↦ absurd (false≢true (sym (ap is_rise (ap (λ b. cond b o Ousted) many)) ∙ t))
 ]
 
-rises : (s : Status) (i : ℕ) (me : Oneself) → is_rise (own_hearing_at s i me.number) ≡ true → me.number < (changed_by (own_hearing_at s i me.number) i me).number
+rises : (s : Status) (i : ℕ) (me : Oneself) → is_rise (own_hearing_at s i me.number) ≡ true → me.number < (oneself_changed (own_hearing_at s i me.number) i me).number
 rises Alive i me t = elim (cases_Bool (ltb me.number i)) [
   | inl l ↦ (
       let less : me.number < i = ltb-true me.number i l in

@@ -4,7 +4,8 @@
 //! Tested in: `lg_detector_tests/src/rules.rt`.
 ghost use Rattle.std.specs.Prelude.{◌≡◌, ◌≢◌, List, [], ◌∷◌, true};
 ghost use Rattle.lg_rules.specs.declared.claim.Claim.{Claim as Said};
-ghost use Rattle.lg_rules.specs.Meaning.Own.{changed_by, own_hearing, own_hearing_at, own_heard, own_of, own_record};
+ghost use Rattle.lg_rules.specs.Meaning.Own.{oneself_changed, own_hearing, own_hearing_at, own_heard, own_of};
+ghost use Rattle.lg_rules.specs.Meaning.Own.{own_record};
 
 use crate::addr::Addr;
 use crate::claim::{Claim, Record, Status};
@@ -149,7 +150,7 @@ impl Own {
     fn hear_status(&mut self, status: Status, incarnation: Incarnation) -> OwnHeard
         ensures hearing { result ≡ own_hearing_at status incarnation self.old.number }
         ensures own { let hearing = own_hearing_at status incarnation self.old.number in
-            self.new ≡ changed_by hearing incarnation self.old }
+            self.new ≡ oneself_changed hearing incarnation self.old }
     {
         let hearing = match status {
             Status::Suspect(_) if incarnation.number() >= self.number.number() => OwnHeard::Refuted,

@@ -46,7 +46,7 @@ use Rattle.std.proofs.lemmas.Option.{get_or_from_slice_get, same_Some, slice_get
 use Rattle.lg_rules.specs.declared.addr.Addr.{Addr}
 use Rattle.lg_rules.proofs.KeyOrder.{names_equal}
 use Rattle.lg_rules.proofs.Tests.{both}
-use Rattle.lg_detector.specs.Meaning.Step.{is_open, opens_well, reply_after}
+use Rattle.lg_detector.specs.Meaning.Step.{is_open_event, opens_well, reply_after}
 use Rattle.lg_detector.specs.Support.Step.{accepts_of, accepts_at, state_after}
 use Rattle.lg_detector.specs.declared.event.Event.{Event}
 use Rattle.lg_detector.proofs.Accepting.{events-after}
@@ -66,13 +66,13 @@ use Rattle.lg_sim.specs.Meaning.Members.{
 }
 use Rattle.lg_script.specs.declared.fault.ScriptFault.TheVariants as fault
 use Rattle.lg_sim.specs.Meaning.Outcome.{naming_fault}
-use Rattle.lg_sim.specs.Meaning.Past.{at_named, delivered, happening_after, heard, happenings, opened}
+use Rattle.lg_sim.specs.Meaning.Past.{at_named, delivered, happening_after, arrival, happenings, opened}
 use Rattle.lg_sim.specs.Support.After.{
   IsCluster,
-  IsReached,
+  IsClusterReached,
   LedOn,
   delivery_of,
-  have_distinct_names,
+  are_distinct_members,
   host_after,
   is_begun,
 }
@@ -133,18 +133,18 @@ among (x ∷ xs) (suc at) m test is none = among xs at m test is (or_false (test
 same_cons : {X : Type 0} (x y : X) (xs ys : List X) → x ≡ y → xs ≡ ys → x ∷ xs ≡ y ∷ ys
 same_cons {X = X} x y xs ys e es = ap (λ (z : X). z ∷ xs) e ∙ ap (λ (zs : List X). y ∷ zs) es
 
-pub hosts_led : (past : List Happening) (members : List Member) (at : ℕ) (m : Member) (e : Event) → slice_get members at ≡ Some m → have_distinct_names members ≡ true
+pub hosts_led : (past : List Happening) (members : List Member) (at : ℕ) (m : Member) (e : Event) → slice_get members at ≡ Some m → are_distinct_members members ≡ true
     → set (map (host_after past) members) at (host_after (record { member = m; event = e } ∷ past) m) ≡ map (host_after (record { member = m; event = e } ∷ past)) members
 hosts_led past [] at m e is distinct = absurd cc
 hosts_led past (x ∷ xs) zero m e is distinct =
     let h : Happening = record { member = m; event = e } in
     let same : x ≡ m = cc in
-    let parts = both (not (list_any (is_named x.name) xs)) (have_distinct_names xs) distinct in
+    let parts = both (not (list_any (is_named x.name) xs)) (are_distinct_members xs) distinct in
     let none : list_any (is_named m.name) xs ≡ false = ap (λ (y : Member). list_any (is_named y.name) xs) (sym same) ∙ not_true _ parts.0 in
     same_cons _ _ _ _ (ap (λ (y : Member). host_after (h ∷ past) y) (sym same)) (hosts_same past h xs none)
 hosts_led past (x ∷ xs) (suc at) m e is distinct =
     let h : Happening = record { member = m; event = e } in
-    let parts = both (not (list_any (is_named x.name) xs)) (have_distinct_names xs) distinct in
+    let parts = both (not (list_any (is_named x.name) xs)) (are_distinct_members xs) distinct in
     let other : is_named x.name m ≡ false = among xs at m (is_named x.name) is (not_true _ parts.0) in
     rw (host_same past h x other, hosts_led past xs at m e is parts.1) refl
 
@@ -206,7 +206,7 @@ pub few_happenings : (before : List Command) → length (happenings before) ≤ 
 few_happenings [] = omega arith
 few_happenings (command ∷ before) = few_more (happening_after command before (happenings before)) (happenings before) (length before) (few_happenings before)
 
-pub accepts_next : (cluster : Cluster) (at : ℕ) (x : Host) (e : Event) → IsReached cluster → at < length cluster.hosts.items → x ≡ get_or cluster.hosts.items at x → is_open e ≡ false
+pub accepts_next : (cluster : Cluster) (at : ℕ) (x : Host) (e : Event) → IsClusterReached cluster → at < length cluster.hosts.items → x ≡ get_or cluster.hosts.items at x → is_open_event e ≡ false
     → IsTrue (accepts_of x.detector e)
 accepts_next cluster at x e reached within read later =
     let before = reached.before in
@@ -219,7 +219,7 @@ accepts_next cluster at x e reached within read later =
     let few : length f < 4000000000 = omega (arith, few_events place.0.name past, few_happenings before, reached.few) in
     ap (λ (y : Host). accepts_of y.detector e) same
     ∙ ap (λ (n : ℕ). accepts_at n e) (events-after f)
-    ∙ accepted (length f) (opens_well e) (is_open e) some few later
+    ∙ accepted (length f) (opens_well e) (is_open_event e) some few later
 
 -- ---- a cluster goes on by an event at the member in a place
 
@@ -348,7 +348,7 @@ delivers : (now : ℕ) (o : Option SentPacket) (to : Addr) (e : Event) (members 
     → delivered now o members ≡ option_map (λ (m : Member). record { member = m; event = e }) (member_at to members)
 delivers now None to e members is = absurd cc
 delivers now (Some p) to e members is =
-    let pair : ◌≡◌ {A = Addr × Event} (p.outgoing.to, heard now p) (to, e) = same_Some _ _ is in
+    let pair : ◌≡◌ {A = Addr × Event} (p.outgoing.to, arrival now p) (to, e) = same_Some _ _ is in
     ap (λ (d : Addr × Event). option_map (λ (m : Member). record { member = m; event = d.1 }) (member_at d.0 members)) pair
 
 pub leads_nobody : (cluster : Cluster) (text longer : List ℕ) (members : List Member) (past : List Happening) (packet now : ℕ) (to : Addr) (e : Event)

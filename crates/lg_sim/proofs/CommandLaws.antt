@@ -11,15 +11,15 @@ use Rattle.lg_sim.specs.Meaning.Members.{Happening}
 use Rattle.lg_sim.specs.Meaning.Outcome.{happening_text, text_of}
 use Rattle.lg_sim.specs.Meaning.Past.{happenings, opened, settings, with_number}
 use Rattle.lg_sim.specs.Meaning.Text.{fault_said, line_fault, text_said, with_said}
-use Rattle.lg_sim.specs.Support.After.{IsAfter, IsCluster, LedOn, Ran, RanLine, StopsAt}
+use Rattle.lg_sim.specs.Support.After.{IsClusterAfter, IsCluster, LedOn, RanCommand, RanLine, StopsAt}
 use Rattle.lg_sim.specs.declared.cluster.Cluster.{Cluster}
 use Rattle.lg_sim.specs.declared.cluster.Stop.{Stop}
 use Rattle.lg_sim.specs.declared.host.Member.{Member}
 
 pub ran : (old new : Cluster) (text longer : List ℕ) (before : List Command) (command : Command) (members : List Member) (h : Option Happening)
-    → IsAfter old before → opened (command ∷ before) ≡ members → happenings (command ∷ before) ≡ cons_option h (happenings before)
+    → IsClusterAfter old before → opened (command ∷ before) ≡ members → happenings (command ∷ before) ≡ cons_option h (happenings before)
     → settings (command ∷ before) ≡ settings before → text_of command before ≡ happening_text h (happenings before)
-    → LedOn old new text longer members (happenings before) h → Ran new text longer before command
+    → LedOn old new text longer members (happenings before) h → RanCommand new text longer before command
 ran old new text longer before command members h after who what numbers lines led = record {
   after = record {
     settings_are = led.settings_stay ∙ after.settings_are ∙ sym numbers;
@@ -30,19 +30,19 @@ ran old new text longer before command members h after who what numbers lines le
   writes = led.writes ∙ ap (λ (more : List ℕ). text ++ more) (sym lines);
 }
 
-pub ran_set : (old new : Cluster) (text : List ℕ) (before : List Command) (key : Key) (number : ℕ) → IsAfter old before
-    → new ≡ record old { settings = with_number key number old.settings } → Ran new text text before (Set key number)
+pub ran_set : (old new : Cluster) (text : List ℕ) (before : List Command) (key : Key) (number : ℕ) → IsClusterAfter old before
+    → new ≡ record old { settings = with_number key number old.settings } → RanCommand new text text before (Set key number)
 ran_set old new text before key number after changed = record {
   after =
-      subst (λ (cluster : Cluster). IsAfter cluster (Set key number ∷ before)) (sym changed) (record {
+      subst (λ (cluster : Cluster). IsClusterAfter cluster (Set key number ∷ before)) (sym changed) (record {
         settings_are = ap (λ (numbers : Config). with_number key number numbers) after.settings_are;
         is = after.is;
       });
   writes = sym (append-nil text);
 }
 
-pub ran_table : (cluster : Cluster) (text longer : List ℕ) (before : List Command) (name : List ℕ) → IsAfter cluster before
-    → longer ≡ text ++ text_of (Table name) before → Ran cluster text longer before (Table name)
+pub ran_table : (cluster : Cluster) (text longer : List ℕ) (before : List Command) (name : List ℕ) → IsClusterAfter cluster before
+    → longer ≡ text ++ text_of (Table name) before → RanCommand cluster text longer before (Table name)
 ran_table cluster text longer before name after lines = record {
   after = record { settings_are = after.settings_are; is = after.is };
   writes = lines;
@@ -50,16 +50,16 @@ ran_table cluster text longer before name after lines = record {
 
 -- ---- lines
 
-pub passed_over : (cluster : Cluster) (text : List ℕ) (before : List Command) (line : List ℕ) → IsAfter cluster before → command_of line ≡ Ok None → RanLine cluster text text before line
+pub passed_over : (cluster : Cluster) (text : List ℕ) (before : List Command) (line : List ℕ) → IsClusterAfter cluster before → command_of line ≡ Ok None → RanLine cluster text text before line
 passed_over cluster text before line after said = record {
-  after = subst (λ (s : Result (Option Command) ScriptFault). IsAfter cluster (with_said s before)) (sym said) after;
+  after = subst (λ (s : Result (Option Command) ScriptFault). IsClusterAfter cluster (with_said s before)) (sym said) after;
   writes = sym (append-nil text) ∙ ap (λ (s : Result (Option Command) ScriptFault). text ++ text_said s before) (sym said);
 }
 
 pub ran_line : (cluster : Cluster) (text longer : List ℕ) (before : List Command) (line : List ℕ) (command : Command) → command_of line ≡ Ok (Some command)
-    → Ran cluster text longer before command → RanLine cluster text longer before line
+    → RanCommand cluster text longer before command → RanLine cluster text longer before line
 ran_line cluster text longer before line command said it = record {
-  after = subst (λ (s : Result (Option Command) ScriptFault). IsAfter cluster (with_said s before)) (sym said) it.after;
+  after = subst (λ (s : Result (Option Command) ScriptFault). IsClusterAfter cluster (with_said s before)) (sym said) it.after;
   writes = it.writes ∙ ap (λ (s : Result (Option Command) ScriptFault). text ++ text_said s before) (sym said);
 }
 

@@ -60,7 +60,7 @@ use Rattle.lg_sim.specs.Meaning.Members.{
   sent_from,
 }
 use Rattle.lg_sim.specs.Meaning.Outcome.{opening_fault}
-use Rattle.lg_sim.specs.Support.After.{IsCluster, LedOn, fault_in, have_distinct_names, host_after, is_begun}
+use Rattle.lg_sim.specs.Support.After.{IsCluster, LedOn, fault_in, are_distinct_members, host_after, is_begun}
 use Rattle.lg_sim.proofs.ClusterLaws.{
   begun_more,
   events_of-other,
@@ -152,10 +152,10 @@ none_named (x ∷ xs) name none = either (is_named name x) refl (λ rest. none_n
     either true it rest = let some : Some x ≡ None = sym (ap (λ (c : Bool). cond c (Some x) (member_named name xs)) it) ∙ none in absurd cc
     either false it rest = rw it (rest (sym (ap (λ (c : Bool). cond c (Some x) (member_named name xs)) it) ∙ none))
 
-distinct_more : (members : List Member) (m : Member) → have_distinct_names members ≡ true → list_any (is_named m.name) members ≡ false → have_distinct_names (members ++ m ∷ []) ≡ true
+distinct_more : (members : List Member) (m : Member) → are_distinct_members members ≡ true → list_any (is_named m.name) members ≡ false → are_distinct_members (members ++ m ∷ []) ≡ true
 distinct_more [] m distinct none = refl
 distinct_more (x ∷ xs) m distinct none =
-    let parts = both (not (list_any (is_named x.name) xs)) (have_distinct_names xs) distinct in
+    let parts = both (not (list_any (is_named x.name) xs)) (are_distinct_members xs) distinct in
     let new = or_false (is_named m.name x) (list_any (is_named m.name) xs) none in
     let rest = distinct_more xs m parts.1 new.1 in
     let differs : is_named x.name m ≡ false = names_swap m.name x.name ∙ new.0 in

@@ -41,7 +41,7 @@ use Rattle.lg_sim.specs.Meaning.Text.{
   with_line,
   with_said,
 }
-use Rattle.lg_sim.specs.Support.After.{IsAfter, IsReached, RanLine}
+use Rattle.lg_sim.specs.Support.After.{IsClusterAfter, IsClusterReached, RanLine}
 use Rattle.lg_sim.specs.declared.cluster.Cluster.{Cluster}
 
 -- ---- one line more
@@ -71,7 +71,7 @@ few_said (Err fault) before = omega arith
 -- are those so far and those of the lines that are left.
 pub record HasRun (cluster : Cluster) (input rest text : List ℕ) (number : ℕ) : Type 0 where
   pub before : List Command
-  pub after : IsAfter cluster before
+  pub after : IsClusterAfter cluster before
   pub few : length before < number
   pub left : number + length rest ≤ length input + 1
   pub writes : text ++ text_from number before (lines_of rest) ≡ script_text input
@@ -91,7 +91,7 @@ run_none cluster input numbers hosts packets = record {
   ends = refl;
 }
 
-pub run_reached : (cluster : Cluster) (input rest text : List ℕ) (number : ℕ) → length input ≤ 1048576 → HasRun cluster input rest text number → IsReached cluster
+pub run_reached : (cluster : Cluster) (input rest text : List ℕ) (number : ℕ) → length input ≤ 1048576 → HasRun cluster input rest text number → IsClusterReached cluster
 run_reached cluster input rest text number few has = record {
   before = has.before;
   few = omega (arith, has.few, has.left);

@@ -6,13 +6,14 @@ ghost use Rattle.std.specs.Prelude.{◌≡◌, ◌≢◌, ◌<◌, ◌∷◌};
 ghost use Rattle.std.specs.Prelude.{◌++◌, [], List, IfErr, None, OnOk, Some, false};
 ghost use Rattle.std.specs.Prelude.{slice_get, vec_len};
 ghost use Rattle.std.specs.List.{position};
-ghost use Rattle.lg_detector.specs.Meaning.Step.{is_open, view_after};
+ghost use Rattle.lg_detector.specs.Meaning.Step.{is_open_event, view_after};
 ghost use Rattle.lg_report.specs.Meaning.Records.{table_text};
 ghost use Rattle.lg_sim.specs.Meaning.Members.{Happening, events_of, is_at, is_named, member_named};
 ghost use Rattle.lg_sim.specs.Meaning.Members.{packet_number, sent};
 ghost use Rattle.lg_sim.specs.Meaning.Outcome.{naming_fault, opening_fault, packet_fault};
-ghost use Rattle.lg_sim.specs.Meaning.Past.{at_named, delivered, heard, new_member, opening_config, unset, with_number};
-ghost use Rattle.lg_sim.specs.Support.After.{IsCluster, IsReached, LedOn, StopsAt, delivery_of, fault_in};
+ghost use Rattle.lg_sim.specs.Meaning.Past.{at_named, delivered, arrival, new_member, opening_config, unset};
+ghost use Rattle.lg_sim.specs.Meaning.Past.{with_number};
+ghost use Rattle.lg_sim.specs.Support.After.{IsCluster, IsClusterReached, LedOn, StopsAt, delivery_of, fault_in};
 ghost use Rattle.lg_detector.specs.declared.event.Event.TheVariants as Happened;
 ghost use Rattle.lg_timing.specs.Meaning.Config.{IsChecked};
 ghost use Rattle.lg_sim.specs.declared.host.Member.{Member as OfMember};
@@ -116,8 +117,8 @@ impl Cluster {
         text: &mut Vec<u8>,
     ) -> Result<(), NoMemory>
         requires place { at < vec_len self.old.hosts }
-        requires reached { IsReached self.old }
-        requires later { is_open event.now ≡ false }
+        requires reached { IsClusterReached self.old }
+        requires later { is_open_event event.now ≡ false }
         ensures { OnOk result ((members : List OfMember) (past : List Happening) (m : OfMember)
             → IsCluster self.old.hosts.items self.old.sent.items members past → slice_get members at ≡ Some m
             → LedOn self.old self.new text.old.items text.new.items members past
@@ -136,8 +137,8 @@ impl Cluster {
         row: &mut Row,
         text: &mut Vec<u8>,
     ) -> Result<(), Stop>
-        requires reached { IsReached self.old }
-        requires later { is_open event.now ≡ false }
+        requires reached { IsClusterReached self.old }
+        requires later { is_open_event event.now ≡ false }
         ensures stops { (members : List OfMember) (past : List Happening)
             → IsCluster self.old.hosts.items self.old.sent.items members past
             → StopsAt result (naming_fault name.now members) }
@@ -271,7 +272,7 @@ impl Cluster {
         row: &mut Row,
         text: &mut Vec<u8>,
     ) -> Result<(), Stop>
-        requires reached { IsReached self.old }
+        requires reached { IsClusterReached self.old }
         ensures stops { (members : List OfMember) (past : List Happening)
             → IsCluster self.old.hosts.items self.old.sent.items members past
             → StopsAt result (packet_fault packet past) }

@@ -5,7 +5,7 @@
 ghost use Rattle.std.specs.Prelude.{◌≡◌, ◌≢◌, IfErr, List, OnOk};
 ghost use Rattle.lg_script.specs.declared.command.Command.{Command as Commanded};
 ghost use Rattle.lg_sim.specs.Meaning.Outcome.{command_fault};
-ghost use Rattle.lg_sim.specs.Support.After.{IsAfter, IsReached, Ran, StopsAt};
+ghost use Rattle.lg_sim.specs.Support.After.{IsClusterAfter, IsClusterReached, RanCommand, StopsAt};
 
 use crate::cluster::{Cluster, Stop};
 use crate::host::Row;
@@ -25,13 +25,13 @@ pub fn run_command(
     row: &mut Row,
     text: &mut Vec<u8>,
 ) -> Result<(), Stop>
-    requires { IsReached cluster.old }
-    ensures stops { (before : List Commanded) → IsAfter cluster.old before
+    requires { IsClusterReached cluster.old }
+    ensures stops { (before : List Commanded) → IsClusterAfter cluster.old before
         → StopsAt result (command_fault command before) }
     ensures unchanged { IfErr result (λ stop. stop ≢ Stop.NoMemory
         → (cluster.new ≡ cluster.old) × (text.new.items ≡ text.old.items)) }
-    ensures runs { OnOk result ((before : List Commanded) → IsAfter cluster.old before
-        → Ran cluster.new text.old.items text.new.items before command) }
+    ensures runs { OnOk result ((before : List Commanded) → IsClusterAfter cluster.old before
+        → RanCommand cluster.new text.old.items text.new.items before command) }
 {
     match command {
         Command::Set { key, number } => {

@@ -5,7 +5,7 @@
 ghost use Rattle.std.specs.Prelude.{◌≡◌, ◌≢◌, ◌≤◌, ◌++◌, IfErr, IfOk, List, OnOk, length};
 ghost use Rattle.lg_script.specs.declared.command.Command.{Command as Commanded};
 ghost use Rattle.lg_sim.specs.Meaning.Text.{fault_line, line_fault, script_end, script_text};
-ghost use Rattle.lg_sim.specs.Support.After.{IsAfter, IsReached, RanLine, StopsAt};
+ghost use Rattle.lg_sim.specs.Support.After.{IsClusterAfter, IsClusterReached, RanLine, StopsAt};
 
 use crate::cluster::{Cluster, Stop};
 use crate::command::run_command;
@@ -48,12 +48,12 @@ fn run_line(
     row: &mut Row,
     text: &mut Vec<u8>,
 ) -> Result<(), Stop>
-    requires { IsReached cluster.old }
-    ensures stops { (before : List Commanded) → IsAfter cluster.old before
+    requires { IsClusterReached cluster.old }
+    ensures stops { (before : List Commanded) → IsClusterAfter cluster.old before
         → StopsAt result (line_fault line.now before) }
     ensures unchanged { IfErr result (λ stop. stop ≢ Stop.NoMemory
         → (cluster.new ≡ cluster.old) × (text.new.items ≡ text.old.items)) }
-    ensures runs { OnOk result ((before : List Commanded) → IsAfter cluster.old before
+    ensures runs { OnOk result ((before : List Commanded) → IsClusterAfter cluster.old before
         → RanLine cluster.new text.old.items text.new.items before line.now) }
 {
     match command_in(line) {

@@ -10,7 +10,7 @@ use Rattle.lg_rules.proofs.KeyOrder.{names_order, same_key, other_key}
 use Rattle.lg_timers.specs.declared.timer.Timer.{Timer}
 use Rattle.lg_timers.specs.declared.timer.TimerId.{TimerId}
 use Rattle.lg_timers.specs.declared.timer.TimerId.TheVariants.{Suspicion, RelayNack, RelayEnd}
-use Rattle.lg_timers.specs.Meaning.Timers.{kind_of, id_key, has_id, is_set, with_timer, without_timer, in_turn}
+use Rattle.lg_timers.specs.Meaning.Timers.{kind_number, id_key, has_id, is_set, with_timer, without_timer, in_turn}
 use Rattle.lg_timers.proofs.Pending.{NoSuspicion, without-in_turn, length_in_turn-le, firsts-put, firsts-without}
 use Rattle.lg_timers.proofs.RowOrder.{in_turn-permutation}
 
@@ -45,10 +45,10 @@ pub map-same : {R S : Type 0} (f g : R → S) (rows : List R) → ((x : R) → f
 map-same f g rows same = λ i. map (λ x. same x i) rows
 
 -- a timer of another kind has another id
-pub other_kind : (id : TimerId) (t : Timer) → kind_of t.id ≢ kind_of id → has_id id t ≡ false
+pub other_kind : (id : TimerId) (t : Timer) → kind_number t.id ≢ kind_number id → has_id id t ≡ false
 other_kind id t other = other_key names_order (id_key t.id) (id_key id) (λ keys. other (same_kind keys))
   where
-    same_kind : id_key t.id ≡ id_key id → kind_of t.id ≡ kind_of id
+    same_kind : id_key t.id ≡ id_key id → kind_number t.id ≡ kind_number id
     same_kind keys = cc
 
 -- the timers of rows, without those of an id: those of the rows that a test doesn't find
@@ -69,8 +69,8 @@ is_set-map_other id f [] other = refl
 is_set-map_other id f (r ∷ rows) other = rw (other r) (is_set-map_other id f rows other)
 
 -- the same where each has a kind that isn't the id's: where both kinds are written out, `λ r. refl` shows it
-pub without-kind : {R : Type 0} (id : TimerId) (f : R → Timer) (rows : List R) → ((r : R) → eqb (kind_of (f r).id) (kind_of id) ≡ false) → without_timer id (map f rows) ≡ map f rows
-without-kind id f rows other = without-map id f rows (λ r. other_kind id (f r) (eqb-false (kind_of (f r).id) (kind_of id) (other r)))
+pub without-kind : {R : Type 0} (id : TimerId) (f : R → Timer) (rows : List R) → ((r : R) → eqb (kind_number (f r).id) (kind_number id) ≡ false) → without_timer id (map f rows) ≡ map f rows
+without-kind id f rows other = without-map id f rows (λ r. other_kind id (f r) (eqb-false (kind_number (f r).id) (kind_number id) (other r)))
 
 -- two lists of a kind and a number
 same_numbers : (kind j k : ℕ) → is_same name_cmp (kind ∷ j ∷ []) (kind ∷ k ∷ []) ≡ (j == k)

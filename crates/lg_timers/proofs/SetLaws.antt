@@ -13,20 +13,20 @@ use Rattle.lg_rules.proofs.RowsFound.{filter-none}
 use Rattle.lg_timers.specs.declared.timer.Timer.{Timer}
 use Rattle.lg_timers.specs.declared.timer.TimerId.{TimerId}
 use Rattle.lg_timers.specs.Meaning.Timers.{has_id, is_set, have_distinct_ids, with_timer, without_timer, in_turn, least_of}
-use Rattle.lg_timers.specs.Support.InTurn.{IsTimerSet, AreApart, earlier}
+use Rattle.lg_timers.specs.Support.InTurn.{IsTimerSet, AreTimersApart, earlier}
 use Rattle.lg_timers.proofs.KeyLaws.{has_id-is}
 use Rattle.lg_timers.proofs.Pending.{without-in_turn}
 use Rattle.lg_timers.proofs.RowOrder.{in_turn-permutation, distinct-permutation}
 use Rattle.lg_timers.proofs.TurnLaws.{any-in_turn, length-in_turn, rises-in_turn, distinct-in_turn, apart_first, distinct_rest, least-with_timer}
 
 -- they are a set
-pub row_set : (timers : List Timer) → AreApart timers → IsTimerSet (in_turn timers)
+pub row_set : (timers : List Timer) → AreTimersApart timers → IsTimerSet (in_turn timers)
 row_set timers apart = record { rises = rises-in_turn timers; distinct = distinct-in_turn timers apart.distinct }
 
-pub length-row : (timers : List Timer) → AreApart timers → length (in_turn timers) ≡ length timers
+pub length-row : (timers : List Timer) → AreTimersApart timers → length (in_turn timers) ≡ length timers
 length-row timers apart = length-in_turn timers apart.distinct
 
-pub set-row : (id : TimerId) (timers : List Timer) → AreApart timers → is_set id (in_turn timers) ≡ is_set id timers
+pub set-row : (id : TimerId) (timers : List Timer) → AreTimersApart timers → is_set id (in_turn timers) ≡ is_set id timers
 set-row id timers apart = any-in_turn (has_id id) timers apart.distinct
 
 -- one more comes last
@@ -34,7 +34,7 @@ pub in_turn-push : (t : Timer) (timers : List Timer) → in_turn (timers ++ t �
 unfolding in_turn
 in_turn-push t timers = in_turn-permutation (timers ++ t ∷ []) (t ∷ timers) (IsPermutation-to_front timers t)
 
-pub apart-push : (t : Timer) (timers : List Timer) → AreApart timers → is_set t.id (in_turn timers) ≡ false → AreApart (timers ++ t ∷ [])
+pub apart-push : (t : Timer) (timers : List Timer) → AreTimersApart timers → is_set t.id (in_turn timers) ≡ false → AreTimersApart (timers ++ t ∷ [])
 apart-push t timers apart other =
     let alone : is_set t.id timers ≡ false = sym (set-row t.id timers apart) ∙ other in
     let front : IsTrue (have_distinct_ids (t ∷ timers)) = rw alone apart.distinct in
@@ -49,20 +49,20 @@ first_gone : (id : TimerId) (t : Timer) (others : List Timer) → has_id id t �
 first_gone id t others e = rw e
 
 module _ (id : TimerId) (t : Timer) (others timers : List Timer) where
-  front_distinct : AreApart timers → IsBefore id t others timers → IsTrue (have_distinct_ids (t ∷ others))
+  front_distinct : AreTimersApart timers → IsBefore id t others timers → IsTrue (have_distinct_ids (t ∷ others))
   front_distinct apart b = distinct-permutation timers (t ∷ others) b.moved apart.distinct
 
   -- none of the others has the id
-  pub others-lack : AreApart timers → IsBefore id t others timers → is_set id others ≡ false
+  pub others-lack : AreTimersApart timers → IsBefore id t others timers → is_set id others ≡ false
   others-lack apart b =
       subst (λ (i : TimerId). is_set i others ≡ false) (has_id-is id t b.named) (apart_first t others (front_distinct apart b))
 
   -- the others are those that are left without it
-  pub others_left : AreApart timers → IsBefore id t others timers → in_turn others ≡ without_timer id (in_turn timers)
+  pub others_left : AreTimersApart timers → IsBefore id t others timers → in_turn others ≡ without_timer id (in_turn timers)
   others_left apart b =
       sym (ap (without_timer id) (in_turn-permutation timers (t ∷ others) b.moved) ∙ without-in_turn id (t ∷ others) ∙ ap in_turn (first_gone id t others b.named ∙ filter-none (has_id id) others (others-lack apart b)))
 
-  pub others_apart : AreApart timers → IsBefore id t others timers → AreApart others
+  pub others_apart : AreTimersApart timers → IsBefore id t others timers → AreTimersApart others
   others_apart apart b = record { distinct = distinct_rest t others (front_distinct apart b) }
 
 -- a place that is found, or none
@@ -91,15 +91,15 @@ none_at id (t ∷ timers) far = elim (cases_Bool (has_id id t)) [
   | inr lacks ↦ rw lacks (none_at id timers (let further = rw lacks at far in omega arith))
 ]
 
-pub place_set : (id : TimerId) (timers : List Timer) (i : ℕ) → AreApart timers → position (has_id id) timers ≡ Some i → is_set id (in_turn timers) ≡ true
+pub place_set : (id : TimerId) (timers : List Timer) (i : ℕ) → AreTimersApart timers → position (has_id id) timers ≡ Some i → is_set id (in_turn timers) ≡ true
 place_set id timers i apart e =
     let f = found id timers i e in
     set-row id timers apart ∙ list_any_at (has_id id) timers i (record { deadline = 0; id = id }) f.within (f.named (record { deadline = 0; id = id }))
 
-pub no_place : (id : TimerId) (timers : List Timer) → AreApart timers → position (has_id id) timers ≡ None → is_set id (in_turn timers) ≡ false
+pub no_place : (id : TimerId) (timers : List Timer) → AreTimersApart timers → position (has_id id) timers ≡ None → is_set id (in_turn timers) ≡ false
 no_place id timers apart e = set-row id timers apart ∙ none_at id timers (unplaced id timers e)
 
-pub placed : (id : TimerId) (timers : List Timer) → AreApart timers → is_some (position (has_id id) timers) ≡ is_set id (in_turn timers)
+pub placed : (id : TimerId) (timers : List Timer) → AreTimersApart timers → is_some (position (has_id id) timers) ≡ is_set id (in_turn timers)
 placed id timers apart = step (position (has_id id) timers) refl
   where
     step : (o : Option ℕ) → position (has_id id) timers ≡ o → is_some o ≡ is_set id (in_turn timers)
@@ -117,7 +117,7 @@ taken_before id t timers i e read =
 remove-set : (t : Timer) (timers : List Timer) (i : ℕ) → remove (set timers i t) i ≡ remove timers i
 remove-set t timers i = rw (take-set timers i t, drop-set-lt (suc i) timers i t (omega arith))
 
-module _ (t : Timer) (timers : List Timer) (i : ℕ) (apart : AreApart timers) (e : position (has_id t.id) timers ≡ Some i) where
+module _ (t : Timer) (timers : List Timer) (i : ℕ) (apart : AreTimersApart timers) (e : position (has_id t.id) timers ≡ Some i) where
   within : i < length timers
   within = (found t.id timers i e).within
 
@@ -135,7 +135,7 @@ module _ (t : Timer) (timers : List Timer) (i : ℕ) (apart : AreApart timers) (
       subst (λ (ts : List Timer). IsPermutation (set timers i t) (t ∷ ts)) (remove-set t timers i)
       (IsPermutation-remove (set timers i t) i t (rw (length-set timers i t) within) (sym (get_or-set_same timers i t t within)))
 
-  pub apart-set : AreApart (set timers i t)
+  pub apart-set : AreTimersApart (set timers i t)
   apart-set =
       let none : is_set t.id (remove timers i) ≡ false = others-lack t.id (get_or timers i t) (remove timers i) timers apart other_before in
       let rest = others_apart t.id (get_or timers i t) (remove timers i) timers apart other_before in

@@ -7,7 +7,7 @@ use Rattle.lg_rules.proofs.KeyOrder.{names_order}
 use Rattle.lg_rules.proofs.Rises.{rises-put, same_members}
 use Rattle.lg_timers.specs.declared.timer.Timer.{Timer}
 use Rattle.lg_timers.specs.declared.timer.TimerId.{TimerId}
-use Rattle.lg_timers.specs.Meaning.Timers.{timer_key, has_id, is_set, with_timer, without_timer, left_by}
+use Rattle.lg_timers.specs.Meaning.Timers.{timer_key, has_id, is_set, with_timer, without_timer, timers_left}
 use Rattle.lg_timers.specs.Support.InTurn.{IsTimerSet}
 use Rattle.lg_timers.proofs.KeyLaws.{not_set, timer_is}
 use Rattle.lg_timers.proofs.TurnLaws.{IsFresh, map-with_timer, any-with_timer, distinct-with_timer}
@@ -41,7 +41,7 @@ set-without id timers s =
     let p : Timer → Bool = λ t. not (has_id id t) in
     record { rises = rises_filter p timers s.rises; distinct = distinct-filter p timers s.distinct }
 
-pub set-left_by : (taken : Option Timer) (timers : List Timer) → IsTimerSet timers → IsTimerSet (left_by taken timers)
+pub set-left_by : (taken : Option Timer) (timers : List Timer) → IsTimerSet timers → IsTimerSet (timers_left taken timers)
 set-left_by None timers s = s
 set-left_by (Some t) timers s = set-without t.id timers s
 

@@ -37,11 +37,11 @@ pub struct Timer {
 
 impl TimerId {
     ghost use Rattle.std.specs.Prelude.{◌≡◌};
-    ghost use Rattle.lg_timers.specs.Meaning.Timers.{kind_of};
+    ghost use Rattle.lg_timers.specs.Meaning.Timers.{kind_number};
 
     /// Its kind as a number, 1 to 6 in the order in which the kinds stand above.
     fn kind(&self) -> u8
-        ensures { result ≡ kind_of self.now }
+        ensures { result ≡ kind_number self.now }
     {
         match self {
             TimerId::RoundEnd => 1,
@@ -57,12 +57,12 @@ impl TimerId {
 impl Timer {
     ghost use Rattle.std.specs.Prelude.{◌≡◌};
     ghost use Rattle.std.specs.Ordering.{is_lt};
-    ghost use Rattle.lg_timers.specs.Meaning.Timers.{kind_of, timer_cmp, has_id};
+    ghost use Rattle.lg_timers.specs.Meaning.Timers.{kind_number, timer_cmp, has_id};
 
     /// Its kind as a number: the end of a round 1, a suspicion 2, asking helpers 3, the nack of a relay 4, the end of
     /// a relay 5, the start of a round 6.
     pub fn kind(&self) -> u8
-        ensures { result ≡ kind_of self.now.id }
+        ensures { result ≡ kind_number self.now.id }
     {
         self.id.kind()
     }

@@ -7,7 +7,7 @@ ghost use Rattle.std.specs.Prelude.{false, List, [], length, position, slice_set
 ghost use Rattle.std.specs.Option.{option_copied};
 ghost use Rattle.arrayvec.specs.ArrayVec.{array_vec_len};
 ghost use Rattle.lg_timers.specs.Meaning.Timers.{in_turn, has_id, is_set, with_timer, without_timer};
-ghost use Rattle.lg_timers.specs.Meaning.Timers.{least_of, due_of, left_by};
+ghost use Rattle.lg_timers.specs.Meaning.Timers.{least_of, due_of, timers_left};
 ghost use Rattle.lg_timers.specs.Support.InTurn.{IsTimerSet, earlier};
 
 use crate::timer::{Timer, TimerId};
@@ -31,13 +31,13 @@ impl Model for Timers {
     ghost use Rattle.std.specs.Prelude.{List};
     ghost use Rattle.lg_timers.specs.declared.timer.Timer.{Timer as OneTimer};
     ghost use Rattle.lg_timers.specs.Meaning.Timers.{in_turn};
-    ghost use Rattle.lg_timers.specs.Support.InTurn.{AreApart};
+    ghost use Rattle.lg_timers.specs.Support.InTurn.{AreTimersApart};
 
     ghost Value = { List OneTimer };
 
     ghost view = { λ t. in_turn t.timers.items };
 
-    ghost invariant = { λ t. AreApart t.timers.items };
+    ghost invariant = { λ t. AreTimersApart t.timers.items };
 }
 
 impl Default for Timers {
@@ -175,7 +175,7 @@ impl Timers {
     /// `now`. If none is due, returns `None` and changes nothing.
     pub fn take_due(&mut self, now: Moment) -> Option<Timer>
         ensures due { result ≡ due_of now self.old }
-        ensures left { self.new ≡ left_by result self.old }
+        ensures left { self.new ≡ timers_left result self.old }
     {
         let timer = self.due(now)?;
         self.cancel(&timer.id);

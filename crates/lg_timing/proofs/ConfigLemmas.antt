@@ -5,7 +5,8 @@ use Rattle.std.proofs.lemmas.Bool.{leb-true}
 use Rattle.std.proofs.lemmas.List.Folds.{list_all_at}
 use Rattle.lg_rules.proofs.Tests.{both}
 use Rattle.lg_timing.specs.declared.config.Config.{Config}
-use Rattle.lg_timing.specs.Meaning.Config.{is_within, is_seed, are_good_seeds, first_broken, fault_of, check_of, IsChecked}
+use Rattle.lg_timing.specs.Meaning.Config.{is_within, is_seed, are_good_seeds, first_broken, fault_checked, check_of}
+use Rattle.lg_timing.specs.Meaning.Config.{IsChecked}
 use Rattle.lg_timing.specs.Meaning.Keys.{is_in_range, keys}
 use Rattle.lg_timing.specs.declared.keys.Key.{Key}
 use Rattle.lg_timing.specs.declared.keys.Key.TheVariants.{IntervalMs}
@@ -29,7 +30,7 @@ in_place c ks i within h = step (is_in_range c (get_or ks i IntervalMs)) refl
     step false k = let bad : list_all (is_in_range c) ks ≡ false = list_all_at (is_in_range c) ks i IntervalMs within k in absurd cc
 
 -- a fault is none only if no key is out of its range, and the seeds are good
-no_fault : (broken : Option Key) (good : Bool) → fault_of broken good ≡ Ok tt → (broken ≡ None) × (good ≡ true)
+no_fault : (broken : Option Key) (good : Bool) → fault_checked broken good ≡ Ok tt → (broken ≡ None) × (good ≡ true)
 no_fault None true e = (refl, refl)
 no_fault None false e = absurd cc
 no_fault (Some key) good e = absurd cc

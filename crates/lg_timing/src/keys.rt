@@ -3,7 +3,7 @@
 //! Defined in: `specs/Meaning/Keys.antt`.
 //! Tested in: `lg_detector_tests/src/timing.rt`, `cases/config_probes.case`, `cases/sim_commands.case`.
 ghost use Rattle.std.specs.Prelude.{◌≡◌};
-ghost use Rattle.lg_timing.specs.Meaning.Keys.{has_key_name, is_allowed, key_named, key_name, row_of};
+ghost use Rattle.lg_timing.specs.Meaning.Keys.{has_key_name, allows_number, key_named, key_name, row_of};
 
 use crate::config::{
     ConfigFault, MAX_CONFIRMATIONS, MAX_FACTOR, MAX_HISTORY_LIMIT, MAX_INDIRECT, MAX_INTERVAL_MS,
@@ -131,7 +131,7 @@ impl Key {
 
     /// Whether a number is in the key's range, whatever the other numbers are.
     pub fn allows(self, number: u64) -> bool
-        ensures { result ≡ is_allowed self number }
+        ensures { result ≡ allows_number self number }
     {
         let row = self.row();
         is_within(row.least, row.most, number)

@@ -17,7 +17,7 @@
 ghost use Rattle.std.specs.Prelude.{◌≡◌, ◌≤◌, ◌++◌, ◌∷◌, [], length, drop, fold, true};
 ghost use Rattle.std.specs.Prelude.{Some, MatchResult};
 ghost use Rattle.lg_detector.specs.Meaning.Step.{is_accepted};
-ghost use Rattle.lg_view.specs.Support.Updates.{taken};
+ghost use Rattle.lg_view.specs.Support.Updates.{taken_events};
 ghost use mathlib.Core.List.{IsPrefix};
 
 use crate::book::{Book, PairName};
@@ -59,7 +59,7 @@ where
 {
     ghost use Rattle.std.specs.Prelude.{◌≡◌, ◌++◌, ◌∷◌, [], drop, fold, MatchOption};
     ghost use Rattle.lg_view.specs.Meaning.Views.{Stream};
-    ghost use Rattle.lg_view.specs.Support.Updates.{waiting_of, taken};
+    ghost use Rattle.lg_view.specs.Support.Updates.{waiting_of, taken_events};
 
     ghost Value = { Stream };
 
@@ -67,7 +67,7 @@ where
 
     ghost invariant = { λ f. (f.front ≡ f.writer.desk.shown.value)
         × MatchOption f.waiting (Unit {0}) (λ a. a.events ≡ f.front ++ a.event ∷ [])
-        × (fold taken f.writer.desk.shown.value (drop f.writer.behind f.writer.log.items)
+        × (fold taken_events f.writer.desk.shown.value (drop f.writer.behind f.writer.log.items)
         ≡ f.writer.desk.shown.value) };
 }
 
@@ -176,7 +176,7 @@ fn put<P: PairName, R: Wait>(rt: &R, writer: &mut FeedWriter<P>, added: Added<P>
 /// Publishes all that was put.
 fn publish_all<P: PairName, R: Wait>(rt: &R, writer: FeedWriter<P>) -> FeedWriter<P>
     ensures value { result.desk.shown.value
-        ≡ fold taken writer.desk.shown.value (drop writer.behind writer.log.items) }
+        ≡ fold taken_events writer.desk.shown.value (drop writer.behind writer.log.items) }
     ensures none { drop result.behind result.log.items ≡ [] }
 {
     writer.publish_as::<Unruled, R>(rt).0

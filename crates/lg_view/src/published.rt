@@ -6,7 +6,7 @@ ghost use Rattle.std.specs.Prelude.{◌≡◌, [], IfOk, Some};
 ghost use Rattle.lg_rules.specs.Meaning.Claim.{name_of};
 ghost use Rattle.lg_rules.specs.Meaning.Rows.{name_cmp, row_at};
 ghost use Rattle.lg_detector.specs.Meaning.Step.{view_after, deadline_after};
-ghost use Rattle.lg_view.specs.Support.Updates.{taken};
+ghost use Rattle.lg_view.specs.Support.Updates.{taken_events};
 
 use crate::book::PairName;
 use crate::front::Front;
@@ -87,7 +87,7 @@ impl<P: PairName> Published<P> {
 
     /// Advances by an event that was added, if it is the next one.
     fn advance(&mut self, added: &Added<P>)
-        ensures { self.new ≡ taken self.old (Some added.now) }
+        ensures { self.new ≡ taken_events self.old (Some added.now) }
     {
         if self.front.len() + 1 == added.front.len() {
             self.front.begins(&added.front);
@@ -98,14 +98,14 @@ impl<P: PairName> Published<P> {
 }
 
 impl<P: PairName> Absorb<Update<P>> for Published<P> {
-    ghost use Rattle.lg_view.specs.Support.Updates.{taken};
+    ghost use Rattle.lg_view.specs.Support.Updates.{taken_events};
 
     // A state, as contracts see it, is a list of events. No value of this type is made.
     type State = [Event; 0];
 
     ghost state = { λ published. published };
 
-    ghost applied = { λ events update. taken events update };
+    ghost applied = { λ events update. taken_events events update };
 
     ghost never_fails = { Unit {0} };
 

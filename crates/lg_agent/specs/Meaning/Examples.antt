@@ -14,7 +14,8 @@ use Rattle.lg_agent.specs.declared.refusal.Refusal.TheVariants.{HistoryFull, NoP
 use Rattle.lg_agent.specs.declared.refusal.CloseFault.TheVariants.{Missing, Foreign, Differs}
 use Rattle.lg_agent.specs.Meaning.Ledger.{Ledger, Own, own_name}
 use Rattle.lg_agent.specs.Meaning.Calls.{refusal_of}
-use Rattle.lg_agent.specs.Meaning.Closing.{first_difference, close_fault, IsLegalLedger, IsRefusedClosing, LacksOne, IsMisplaced}
+use Rattle.lg_agent.specs.Meaning.Closing.{first_difference, close_fault, IsLegalLedger, IsRefusedClosing, LacksOne}
+use Rattle.lg_agent.specs.Meaning.Closing.{IsMisplaced}
 
 abbrev asked : ℕ → Entry
 asked seat = entry seat (Health 20) (nothing 0)

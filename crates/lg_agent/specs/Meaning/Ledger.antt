@@ -38,9 +38,9 @@ pub record Waiting : Type 0 where
   pub told : List (List Event)
 
 -- the name that an opening gives
-abbrev pub name_in : Event → List ℕ
-name_in (Open now config) = config.name
-name_in _ = []
+abbrev pub name_opened : Event → List ℕ
+name_opened (Open now config) = config.name
+name_opened _ = []
 
 -- the most entries that an opening allows
 abbrev pub limit_in : Event → ℕ
@@ -55,4 +55,4 @@ own_limit (e ∷ f) = limit_in e
 -- the name of the member whose events these are: that of its opening
 abbrev pub own_name : List Event → List ℕ
 own_name [] = []
-own_name (e ∷ f) = name_in e
+own_name (e ∷ f) = name_opened e

@@ -44,8 +44,8 @@ abbrev pub word_of : List ℕ → Option ℕ
 word_of part = if is_word part then Some (digits_value 10 part) else None
 
 -- the words that a text lists, or None if they are bad
-unfoldable pub words_in : List ℕ → Option (List ℕ)
-words_in text = if list_all is_word (word_parts text) then Some (map (digits_value 10) (word_parts text)) else None
+unfoldable pub words_of_text : List ℕ → Option (List ℕ)
+words_of_text text = if list_all is_word (word_parts text) then Some (map (digits_value 10) (word_parts text)) else None
 
 -- some names, a line each
 abbrev pub name_lines : List (List ℕ) → List ℕ
@@ -60,4 +60,4 @@ choices_of (Some names) (Some words) = Ok (name_lines (picks names words))
 
 -- what is written for a text of names and a text of words, or which of the two is bad
 unfoldable pub order_text : List ℕ → List ℕ → Result (List ℕ) BadList
-order_text names words = choices_of (names_in names) (words_in words)
+order_text names words = choices_of (names_in names) (words_of_text words)

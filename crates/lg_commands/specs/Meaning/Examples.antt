@@ -15,8 +15,9 @@ use Rattle.lg_timing.specs.Meaning.Tables.{log10_of, ratio_of}
 use Rattle.lg_timing.specs.Meaning.Timeouts.{range_of, timeout_of}
 use Rattle.lg_text.specs.Meaning.Lines.{lines_of, newline}
 use Rattle.lg_text.specs.declared.end.End.TheVariants.{Done}
-use Rattle.lg_commands.specs.Meaning.Answering.{answer_end, answer_text, events_of, heard, local, opening, sent_text}
-use Rattle.lg_commands.specs.Meaning.Choosing.{are_names, comma_parts, names_in, order_text, words_in}
+use Rattle.lg_commands.specs.Meaning.Answering.{answer_end, answer_text, events_of_lines, heard_event, local_addr}
+use Rattle.lg_commands.specs.Meaning.Answering.{opening, sent_text}
+use Rattle.lg_commands.specs.Meaning.Choosing.{are_names, comma_parts, names_in, order_text, words_of_text}
 use Rattle.lg_commands.specs.Meaning.Spelled.{packet_in}
 use Rattle.lg_commands.specs.Meaning.Timeouts.{timeouts_text}
 use Rattle.lg_commands.specs.declared.order.BadList.TheVariants.{Names, Words}
@@ -28,8 +29,8 @@ ping = codes "534c0101016100000007016200"
 pinged : Packet
 pinged = record { sender = 97 ∷ []; body = Ping 7 (98 ∷ []); claims = record { items = [] } }
 
-heard-ping : events_of (codes "b") (lines_of (ping ++ 10 ∷ [])) ≡ opening (98 ∷ []) ∷ heard pinged ∷ []
-unfolding events_of packet_in hex_on_literals packet_of packet_at head_at name_at body_at claims_at pinged
+heard-ping : events_of_lines (codes "b") (lines_of (ping ++ 10 ∷ [])) ≡ opening (98 ∷ []) ∷ heard_event pinged ∷ []
+unfolding events_of_lines packet_in hex_on_literals packet_of packet_at head_at name_at body_at claims_at pinged
 heard-ping = refl
 
 acked : sent_text record { sender = 98 ∷ []; body = Ack 7; claims = record { items = [] } }
@@ -43,7 +44,7 @@ done = refl
 
 -- the claim that c is alive, with the incarnation 0
 c-alive : Claim
-c-alive = record { name = 99 ∷ []; addr = local 7003; status = Alive; incarnation = 0 }
+c-alive = record { name = 99 ∷ []; addr = local_addr 7003; status = Alive; incarnation = 0 }
 
 heard-claim : packet_in (codes "534c01010161000000070163010101637f0000011b5b00000000")
     ≡ Ok record { sender = 97 ∷ []; body = Ping 7 (99 ∷ []); claims = record { items = c-alive ∷ [] } }
@@ -58,18 +59,18 @@ acked-with-claim = refl
 
 -- a Ping for another isn't answered
 for-another : answer_text (codes "b") (codes "534c01010161000000070163010101637f0000011b5b00000000" ++ 10 ∷ []) ≡ []
-unfolding answer_text events_of packet_in hex_on_literals packet_of packet_at head_at name_at body_at claims_at
+unfolding answer_text events_of_lines packet_in hex_on_literals packet_of packet_at head_at name_at body_at claims_at
     claim_at addr_at incarnation_at status_at
 for-another = refl
 
 past-greatest : answer_text (codes "b") (codes "534c01010161000000010162010201627f0000011b583b9aca010161" ++ 10 ∷ [])
     ≡ codes "fault 8 Incarnation" ++ 10 ∷ []
-unfolding answer_text events_of packet_in hex_on_literals packet_of packet_at head_at name_at body_at claims_at
+unfolding answer_text events_of_lines packet_in hex_on_literals packet_of packet_at head_at name_at body_at claims_at
     claim_at addr_at incarnation_at status_at
 past-greatest = refl
 
 trailing : answer_text (codes "b") (ping ++ codes "00") ≡ codes "fault 9 Trailing" ++ 10 ∷ []
-unfolding answer_text events_of packet_in hex_on_literals packet_of packet_at head_at name_at body_at claims_at
+unfolding answer_text events_of_lines packet_in hex_on_literals packet_of packet_at head_at name_at body_at claims_at
 trailing = refl
 
 -- some lines, each with its newline
@@ -99,33 +100,33 @@ empty-parts = refl
 -- the two choices of a are three apart
 two-to-choose : order_text (codes "a,b") (codes "0,0,1,0")
     ≡ Ok (lines (codes "a" ∷ codes "b" ∷ codes "b" ∷ codes "a" ∷ []))
-unfolding order_text names_in words_in
+unfolding order_text names_in words_of_text
 two-to-choose = refl
 
 three-to-choose :
     order_text (codes "b,c,d") (codes "4,0,5") ≡ Ok (lines (codes "c" ∷ codes "b" ∷ codes "d" ∷ []))
-unfolding order_text names_in words_in
+unfolding order_text names_in words_of_text
 three-to-choose = refl
 
 -- the names may stand in any order
 in-any-order : order_text (codes "d,b,c") (codes "4,0,5") ≡ Ok (lines (codes "c" ∷ codes "b" ∷ codes "d" ∷ []))
-unfolding order_text names_in words_in
+unfolding order_text names_in words_of_text
 in-any-order = refl
 
 one-to-choose : order_text (codes "a") (codes "9,9") ≡ Ok (lines (codes "a" ∷ codes "a" ∷ []))
-unfolding order_text names_in words_in
+unfolding order_text names_in words_of_text
 one-to-choose = refl
 
 no-words : order_text (codes "a,b") [] ≡ Ok []
-unfolding order_text names_in words_in
+unfolding order_text names_in words_of_text
 no-words = refl
 
 name-twice : order_text (codes "a,a") (codes "0") ≡ Err Names
-unfolding order_text names_in words_in
+unfolding order_text names_in words_of_text
 name-twice = refl
 
 no-names : order_text [] (codes "0") ≡ Err Names
-unfolding order_text names_in words_in
+unfolding order_text names_in words_of_text
 no-names = refl
 
 -- 256 names, each of two letters out of sixteen: one name more than a list may have.
@@ -142,27 +143,27 @@ too-many-names : are_names two-letter-names ≡ false
 too-many-names = refl
 
 greatest-word : order_text (codes "a") (codes "4294967295") ≡ Ok (lines (codes "a" ∷ []))
-unfolding order_text names_in words_in
+unfolding order_text names_in words_of_text
 greatest-word = refl
 
 past-greatest-word : order_text (codes "a") (codes "4294967296") ≡ Err Words
-unfolding order_text names_in words_in
+unfolding order_text names_in words_of_text
 past-greatest-word = refl
 
 -- leading zeros count as digits
 seventeen-digits : order_text (codes "a") (codes "0000000000000001,00000000000000001") ≡ Err Words
-unfolding order_text names_in words_in
+unfolding order_text names_in words_of_text
 seventeen-digits = refl
 
 signed-word : order_text (codes "a") (codes "+1") ≡ Err Words
-unfolding order_text names_in words_in
+unfolding order_text names_in words_of_text
 signed-word = refl
 
 two-empty-words : order_text (codes "a") (codes ",") ≡ Err Words
-unfolding order_text names_in words_in
+unfolding order_text names_in words_of_text
 two-empty-words = refl
 
 -- the names are judged first
 both-bad : order_text (codes "a,a") (codes "x") ≡ Err Names
-unfolding order_text names_in words_in
+unfolding order_text names_in words_of_text
 both-bad = refl

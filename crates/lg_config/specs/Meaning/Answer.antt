@@ -31,13 +31,13 @@ unless_config node (Ok passed) = Ok node
 unless_config node (Err broken) = Err (fault.Config broken)
 
 -- settings, or their fault: a value is out of its form, or their check finds a fault
-abbrev pub unless_value : Option NodeConfig → Result NodeConfig FileFault
-unless_value None = Err fault.Value
-unless_value (Some node) = unless_config node (check_of node.config)
+abbrev pub unless_node : Option NodeConfig → Result NodeConfig FileFault
+unless_node None = Err fault.Value
+unless_node (Some node) = unless_config node (check_of node.config)
 
 -- what a document means, or the fault Key if its keys are wrong
 abbrev pub meaning_of : Members → Result NodeConfig FileFault
-meaning_of members = if are_right_keys members then unless_value (settings_of members) else Err fault.Key
+meaning_of members = if are_right_keys members then unless_node (settings_of members) else Err fault.Key
 
 -- what a file means, or the fault Syntax if it is no document
 abbrev pub unless_syntax : Option Members → Result NodeConfig FileFault

@@ -12,17 +12,17 @@ use Rattle.lg_config.specs.declared.fault.FileFault.{FileFault}
 use Rattle.lg_config.specs.declared.fault.FileFault.TheVariants as fault
 use Rattle.lg_config.specs.declared.node.NodeConfig.{NodeConfig}
 use Rattle.lg_config.specs.Meaning.Answer.{answer_of}
-use Rattle.lg_config.specs.Meaning.Keys.{kind_of}
+use Rattle.lg_config.specs.Meaning.Keys.{kind_of_key}
 use Rattle.lg_config.specs.Meaning.Settings.{addr_in, dice_in, name_in, settings_of, with_numbers}
-use Rattle.lg_config.specs.Meaning.Texts.{before, behind, octets_of, address_of, seed_of}
+use Rattle.lg_config.specs.Meaning.Texts.{before, behind, octets_of, address_of, seed_of_text}
 
 -- what the rows of texts, and those of files, have to unfold
 unfoldable on_texts : ⊤
-unfolding is_utf8 chars before behind octets_of address_of seed_of
+unfolding is_utf8 chars before behind octets_of address_of seed_of_text
 on_texts = tt
 
 unfoldable on_files : ⊤
-unfolding toml_on_literals on_texts answer_of kind_of settings_of name_in addr_in dice_in with_numbers check_of
+unfolding toml_on_literals on_texts answer_of kind_of_key settings_of name_in addr_in dice_in with_numbers check_of
 on_files = tt
 
 -- a file of the member b that also has these lines
@@ -212,19 +212,19 @@ empty-number : octets_of (codes "1..3.4") ≡ None
 unfolding on_texts
 empty-number = refl
 
-c-at-65535 : seed_of (codes "c@1.2.3.4:65535")
+c-at-65535 : seed_of_text (codes "c@1.2.3.4:65535")
     ≡ Some record { name = 99 ∷ []; addr = record { octets = 1 ∷ 2 ∷ 3 ∷ 4 ∷ []; port = 65535 } }
 unfolding on_texts
 c-at-65535 = refl
 
-port-65536 : seed_of (codes "c@1.2.3.4:65536") ≡ None
+port-65536 : seed_of_text (codes "c@1.2.3.4:65536") ≡ None
 unfolding on_texts
 port-65536 = refl
 
-two-at-signs : seed_of (codes "c@d@1.2.3.4:1") ≡ None
+two-at-signs : seed_of_text (codes "c@d@1.2.3.4:1") ≡ None
 unfolding on_texts
 two-at-signs = refl
 
-no-at-sign : seed_of (codes "1.2.3.4:1") ≡ None
+no-at-sign : seed_of_text (codes "1.2.3.4:1") ≡ None
 unfolding on_texts
 no-at-sign = refl

@@ -28,8 +28,8 @@ abbrev pub is_among : List (List ℕ) → List ℕ → Bool
 is_among keys key = list_any (λ known. bytes_eq key known) keys
 
 -- the kind of a key's value; None if the key is unknown
-unfoldable pub kind_of : List ℕ → Option Kind
-kind_of key =
+unfoldable pub kind_of_key : List ℕ → Option Kind
+kind_of_key key =
     if is_among text_keys key then Some Text
     else if is_among number_keys key then Some Number
     else if bytes_eq key texts_key then Some Texts
@@ -61,7 +61,7 @@ is_of_kind (Some Texts) value = is_array_of_texts (as_array value)
 -- whether each key is known, and its value is of its kind
 abbrev pub are_known : Members → Bool
 are_known no_members = true
-are_known (member key value others) = is_of_kind (kind_of key) value && are_known others
+are_known (member key value others) = is_of_kind (kind_of_key key) value && are_known others
 
 -- whether that is so, and the name isn't missing
 abbrev pub are_right_keys : Members → Bool

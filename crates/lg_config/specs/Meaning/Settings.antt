@@ -10,7 +10,7 @@ use Rattle.lg_timing.specs.declared.config.Seed.{Seed}
 use Rattle.lg_config.specs.declared.node.NodeConfig.{NodeConfig}
 use Rattle.lg_config.specs.Meaning.Bounds.{out_of_range, default_address, default_port, default_dice}
 use Rattle.lg_config.specs.Meaning.Keys.{texts_key}
-use Rattle.lg_config.specs.Meaning.Texts.{◌>>=◌, port_among, octets_of, member_name_of, seed_of}
+use Rattle.lg_config.specs.Meaning.Texts.{◌>>=◌, port_among, octets_of, name_of_setting, seed_of_text}
 
 -- the text at a key, and the whole number at a key, if there is one
 abbrev pub text_at : List ℕ → Members → Option (List ℕ)
@@ -25,19 +25,19 @@ natural (pos n) = n
 natural (negsuc n) = out_of_range
 
 -- the number at a key, or its default
-abbrev pub number_at : List ℕ → ℕ → Members → ℕ
-number_at key default members = unwrap_or (option_map natural (integer_at key members)) default
+abbrev pub number_at_key : List ℕ → ℕ → Members → ℕ
+number_at_key key default members = unwrap_or (option_map natural (integer_at key members)) default
 
 -- the seed that an element of an array spells, if it is a text
 abbrev pub seed_of_value : Data → Option Seed
-seed_of_value value = option_and_then seed_of (as_str value)
+seed_of_value value = option_and_then seed_of_text (as_str value)
 
 -- the seeds that the elements of an array spell, in their order; None if one of them is no seed
-abbrev pub seeds_of : Items → Option (List Seed)
-seeds_of no_items = Some []
-seeds_of (item value others) = do
+abbrev pub seeds_of_items : Items → Option (List Seed)
+seeds_of_items no_items = Some []
+seeds_of_items (item value others) = do
   seed ← seed_of_value value
-  seeds ← seeds_of others
+  seeds ← seeds_of_items others
   Some (seed ∷ seeds)
 
 -- the elements of the array at the key of the seeds, if there are any
@@ -46,13 +46,13 @@ seeds_at members = unwrap_or (option_and_then as_array (get_member texts_key mem
 
 -- this member's name
 unfoldable pub name_in : Members → Option (List ℕ)
-name_in members = member_name_of (unwrap_or (text_at (codes "name") members) [])
+name_in members = name_of_setting (unwrap_or (text_at (codes "name") members) [])
 
 -- this member's address
 unfoldable pub addr_in : Members → Option Addr
 addr_in members = do
   octets ← octets_of (unwrap_or (text_at (codes "address") members) default_address)
-  port ← port_among (number_at (codes "port") default_port members)
+  port ← port_among (number_at_key (codes "port") default_port members)
   Some record { octets = octets; port = port }
 
 -- a whole number, if it isn't negative
@@ -68,16 +68,16 @@ dice_in members = unless_negative (unwrap_or (integer_at (codes "dice") members)
 unfoldable pub with_numbers : Members → Config → Config
 with_numbers members usual =
     record usual {
-      interval_ms = number_at (codes "interval_ms") usual.interval_ms members;
-      timeout_ms = number_at (codes "timeout_ms") usual.timeout_ms members;
-      indirect = number_at (codes "indirect") usual.indirect members;
-      max_score = number_at (codes "max_score") usual.max_score members;
-      alpha = number_at (codes "alpha") usual.alpha members;
-      beta = number_at (codes "beta") usual.beta members;
-      confirmations = number_at (codes "confirmations") usual.confirmations members;
-      lambda = number_at (codes "lambda") usual.lambda members;
-      nack_thousandths = number_at (codes "nack_thousandths") usual.nack_thousandths members;
-      history_limit = number_at (codes "history_limit") usual.history_limit members;
+      interval_ms = number_at_key (codes "interval_ms") usual.interval_ms members;
+      timeout_ms = number_at_key (codes "timeout_ms") usual.timeout_ms members;
+      indirect = number_at_key (codes "indirect") usual.indirect members;
+      max_score = number_at_key (codes "max_score") usual.max_score members;
+      alpha = number_at_key (codes "alpha") usual.alpha members;
+      beta = number_at_key (codes "beta") usual.beta members;
+      confirmations = number_at_key (codes "confirmations") usual.confirmations members;
+      lambda = number_at_key (codes "lambda") usual.lambda members;
+      nack_thousandths = number_at_key (codes "nack_thousandths") usual.nack_thousandths members;
+      history_limit = number_at_key (codes "history_limit") usual.history_limit members;
     }
 
 -- a configuration with these seeds
@@ -90,5 +90,5 @@ settings_of members = do
   name ← name_in members
   addr ← addr_in members
   dice ← dice_in members
-  seeds ← seeds_of (seeds_at members)
+  seeds ← seeds_of_items (seeds_at members)
   Some record { config = with_seeds seeds (with_numbers members (defaults name addr)); dice = dice }

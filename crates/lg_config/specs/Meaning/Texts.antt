@@ -38,8 +38,8 @@ abbrev pub port_among : ℕ → Option ℕ
 port_among number = if is_within least_port most_port number then Some number else None
 
 -- the port that a text of 1 to 16 digits spells
-abbrev pub port_of : List ℕ → Option ℕ
-port_of text = do
+abbrev pub port_of_text : List ℕ → Option ℕ
+port_of_text text = do
   number ← number_of text
   port_among number
 
@@ -64,15 +64,15 @@ octets_of text = do
 unfoldable pub address_of : List ℕ → Option Addr
 address_of text = do
   octets ← octets_of (before colon text)
-  port ← port_of (behind colon text)
+  port ← port_of_text (behind colon text)
   Some record { octets = octets; port = port }
 
-abbrev pub member_name_of : List ℕ → Option (List ℕ)
-member_name_of text = result_ok (name_of_text text)
+abbrev pub name_of_setting : List ℕ → Option (List ℕ)
+name_of_setting text = result_ok (name_of_text text)
 
 -- a seed, cut at its first `@`: a name stands before it, and an address with its port after it
-unfoldable pub seed_of : List ℕ → Option Seed
-seed_of text = do
-  name ← member_name_of (before at_sign text)
+unfoldable pub seed_of_text : List ℕ → Option Seed
+seed_of_text text = do
+  name ← name_of_setting (before at_sign text)
   addr ← address_of (behind at_sign text)
   Some record { name = name; addr = addr }

@@ -14,11 +14,11 @@ use Rattle.lg_config.specs.declared.fault.ReadFault.{ReadFault}
 use Rattle.lg_config.specs.declared.fault.ReadFault.TheVariants.{NoMemory, File}
 use Rattle.lg_config.specs.declared.node.NodeConfig.{NodeConfig}
 use Rattle.lg_config.specs.Meaning.Answer.{is_text_file, document_of, TakesMemory}
-use Rattle.lg_config.specs.Meaning.Settings.{seeds_of, with_seeds}
+use Rattle.lg_config.specs.Meaning.Settings.{seeds_of_items, with_seeds}
 
 -- the text that bytes spell, if they spell one
-abbrev pub text_of : List ℕ → Option (List ℕ)
-text_of bytes = if is_text_file bytes then Some bytes else None
+abbrev pub file_text : List ℕ → Option (List ℕ)
+file_text bytes = if is_text_file bytes then Some bytes else None
 
 -- what parsing bytes gives
 abbrev pub IsParsed : List ℕ → Result (BTreeMap (String Global) Value) ReadFault → Type 0
@@ -31,7 +31,7 @@ abbrev pub kept : List Seed → List Seed
 kept seeds = take most_seeds seeds
 
 abbrev pub first_seeds : Items → Option (List Seed)
-first_seeds values = option_map kept (seeds_of values)
+first_seeds values = option_map kept (seeds_of_items values)
 
 -- a configuration with only the first of its seeds
 abbrev pub with_first_seeds : NodeConfig → NodeConfig

@@ -3,6 +3,7 @@ use Rattle.std.specs.Prelude.{ℕ, List}
 use Rattle.lg_rules.specs.Meaning.Claim.{name_of}
 use Rattle.lg_rules.specs.Meaning.Rows.{name_cmp, row_at}
 use Rattle.lg_membership.specs.Meaning.Log as group
+use Rattle.lg_membership.specs.Meaning.Log.{group_view}
 use Rattle.lg_detector.specs.declared.reply.Answer.{Answer}
 use Rattle.lg_detector.specs.declared.reply.Answer.TheVariants.{Status, Health}
 use Rattle.lg_detector.specs.Meaning.Log.{Log, group_log}
@@ -14,7 +15,7 @@ ask now log = come now log
 
 -- the answer is the record of the name, if it is known
 abbrev pub status : List ℕ → Log → Answer
-status name log = Status (row_at name_cmp name_of name (group.view (group_log log)))
+status name log = Status (row_at name_cmp name_of name (group_view (group_log log)))
 
 -- or the score, this member's incarnation, and how many members haven't failed
 abbrev pub health : Log → Answer

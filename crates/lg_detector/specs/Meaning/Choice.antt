@@ -28,8 +28,8 @@ choice_by None first = None
 choice_by (Some timer) first = if is_round_start timer.id then pinged first else None
 
 -- by a reply
-abbrev pub choice : Reply → Option (List ℕ)
-choice reply = choice_by reply.fired (first_body reply.sends.items)
+abbrev pub choice_of_reply : Reply → Option (List ℕ)
+choice_of_reply reply = choice_by reply.fired (first_body reply.sends.items)
 
 -- by a list of events, the earliest first: the targets that its starts of rounds chose, in the order in which they did
 abbrev pub targets_after : List Event → List (List ℕ)

@@ -9,6 +9,7 @@ use Rattle.lg_rules.specs.Meaning.Own.{own_record}
 use Rattle.lg_packet.specs.declared.packet.Body.{Body}
 use Rattle.lg_packet.specs.declared.packet.Body.TheVariants.{Pull, Page}
 use Rattle.lg_membership.specs.Meaning.Log as group
+use Rattle.lg_membership.specs.Meaning.Log.{group_view}
 use Rattle.lg_membership.specs.Meaning.Pages.{page_of}
 use Rattle.lg_detector.specs.declared.reply.Outgoing.{Outgoing}
 use Rattle.lg_detector.specs.Meaning.Log.{Log, group_log}
@@ -29,7 +30,7 @@ pull_after to after log =
 abbrev pub page_behind : Addr → Option (List ℕ) → Log → Outgoing
 page_behind to after log =
     let members = group_log log in
-    with_claims to (group.me members) Page (page_of after (group.view members))
+    with_claims to (group.me members) Page (page_of after (group_view members))
 
 -- A Page of `most_claims` claims is full. It is answered by a Pull for the records after its last claim, the sixth,
 -- whether or not that one was known.

@@ -5,7 +5,7 @@ use Rattle.lg_packet.specs.declared.packet.Body.TheVariants.{Pull, Page}
 use Rattle.lg_detector.specs.declared.event.Event.TheVariants.{Pull as Pulls}
 use Rattle.lg_detector.specs.Meaning.Joining.{sixth_of}
 use Rattle.lg_detector.specs.Meaning.Step.{is_accepted, reply_after}
-use Rattle.lg_detector.specs.Meaning.Log.{events}
+use Rattle.lg_detector.specs.Meaning.Log.{event_count}
 use Rattle.lg_detector.specs.Meaning.Examples.{by_computing, a, b, c, d, at, alive, suspect, opening, says, nothing}
 use Rattle.lg_detector.specs.Meaning.Examples.{sent}
 use Rattle.lg_detector.specs.Meaning.Examples.{log_after, suspects_c}
@@ -17,7 +17,7 @@ it_asks_a_peer :
 unfolding by_computing
 it_asks_a_peer = refl
 
-it_is_an_event : events (log_after (opening 0 ∷ Pulls 5 (at 7002) ∷ [])) ≡ 2
+it_is_an_event : event_count (log_after (opening 0 ∷ Pulls 5 (at 7002) ∷ [])) ≡ 2
 unfolding by_computing
 it_is_an_event = refl
 

@@ -3,6 +3,7 @@
 use Rattle.std.specs.Prelude.{ℕ, ◌+◌, max, List, [], ◌∷◌}
 use Rattle.lg_rules.specs.declared.addr.Addr.{Addr}
 use Rattle.lg_membership.specs.Meaning.Log as group
+use Rattle.lg_membership.specs.Meaning.Log.{GroupFact, GroupLog}
 use Rattle.lg_timers.specs.declared.timer.Timer.{Timer}
 
 -- The facts:
@@ -19,16 +20,16 @@ pub data Fact : Type 0 where
   AckHeard : ℕ → List ℕ → Fact
   NackHeard : ℕ → List ℕ → Fact
   Relayed : List ℕ → Addr → ℕ → Fact
-  OfGroup : group.Fact → Fact
+  OfGroup : GroupFact → Fact
 
 abbrev pub Log : Type 0
 Log = List Fact
 
 -- how many events came
-abbrev pub events : Log → ℕ
-events [] = 0
-events (Came now ∷ log) = events log + 1
-events (_ ∷ log) = events log
+abbrev pub event_count : Log → ℕ
+event_count [] = 0
+event_count (Came now ∷ log) = event_count log + 1
+event_count (_ ∷ log) = event_count log
 
 -- the greatest moment handed in (this project's choice)
 abbrev pub moment : Log → ℕ
@@ -37,7 +38,7 @@ moment (Came now ∷ log) = max now (moment log)
 moment (_ ∷ log) = moment log
 
 -- what concerns the group: known members, records, suspicions and queue are functions of it
-abbrev pub group_log : Log → group.Log
+abbrev pub group_log : Log → GroupLog
 group_log [] = []
 group_log (OfGroup fact ∷ log) = fact ∷ group_log log
 group_log (_ ∷ log) = group_log log

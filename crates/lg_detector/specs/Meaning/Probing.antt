@@ -37,13 +37,13 @@ round_names (_ ∷ log) = round_names log
 
 -- The candidates of the next start of a round: the others that aren't among these names, or all of the others if each
 -- is.
-abbrev pub candidates : Log → List (List ℕ)
-candidates log = order.candidates (others log) (order.current_round (others log) (round_names log))
+abbrev pub round_candidates : Log → List (List ℕ)
+round_candidates log = order.candidates (others log) (order.current_round (others log) (round_names log))
 
 -- whom a start of a round with these words chooses: the candidate at the index that is the first word modulo their
 -- number
 abbrev pub chosen : List ℕ → Log → Option (List ℕ)
-chosen words log = candidate (first_word words) (candidates log)
+chosen words log = candidate (first_word words) (round_candidates log)
 
 -- Whether a start of a round with these words starts a probe.
 abbrev pub starts : TimerId → List ℕ → Log → Bool

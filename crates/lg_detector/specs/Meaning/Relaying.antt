@@ -46,11 +46,11 @@ abbrev pub is_nack_of : ℕ → TimerId → Bool
 is_nack_of k (RelayNack j) = k == j
 is_nack_of k _ = false
 
-abbrev pub has_nacked : Log → ℕ → Bool
-has_nacked [] k = false
-has_nacked (Fired timer words ∷ log) k = is_nack_of k timer.id || has_nacked log k
-has_nacked (Relayed target asker asked ∷ log) k = if number log == k then false else has_nacked log k
-has_nacked (_ ∷ log) k = has_nacked log k
+abbrev pub relay_has_nacked : Log → ℕ → Bool
+relay_has_nacked [] k = false
+relay_has_nacked (Fired timer words ∷ log) k = is_nack_of k timer.id || relay_has_nacked log k
+relay_has_nacked (Relayed target asker asked ∷ log) k = if number log == k then false else relay_has_nacked log k
+relay_has_nacked (_ ∷ log) k = relay_has_nacked log k
 
 -- whether as many relays are open as are allowed
 abbrev pub is_full : List Relay → Bool

@@ -24,6 +24,7 @@ use Rattle.lg_rules.specs.Meaning.View.{changed}
 use Rattle.lg_timing.specs.Meaning.Config.{check_of}
 use Rattle.lg_timers.specs.declared.timer.Timer.{Timer}
 use Rattle.lg_membership.specs.Meaning.Log as group
+use Rattle.lg_membership.specs.Meaning.Log.{group_view}
 use Rattle.lg_detector.specs.declared.event.Event.{Event}
 use Rattle.lg_detector.specs.declared.event.Event.TheVariants.{Open, Tick, Heard, Ask, Health, Pull}
 use Rattle.lg_detector.specs.declared.reply.Answer.{Answer}
@@ -67,7 +68,7 @@ sends_by _ log = []
 
 -- the records of the member table that weren't in it before, except for the opening;
 abbrev pub view : Log → List Claim
-view log = group.view (group_log log)
+view log = group_view (group_log log)
 
 abbrev pub changed_by : Event → Log → List Claim
 changed_by (Heard now source packet) log = changed (view log) (view (hear_claims now packet log))
@@ -108,14 +109,14 @@ deadline_after f = deadline_in (pending (log_of (reverse f)))
 abbrev pub most_events : ℕ
 most_events = 4000000000
 
-abbrev pub is_open : Event → Bool
-is_open (Open now opening) = true
-is_open _ = false
+abbrev pub is_open_event : Event → Bool
+is_open_event (Open now opening) = true
+is_open_event _ = false
 
 -- whether a list of events begins with an opening
 abbrev pub begins_open : List Event → Bool
 begins_open [] = false
-begins_open (e ∷ es) = is_open e
+begins_open (e ∷ es) = is_open_event e
 
 abbrev pub opens_well : Event → Bool
 opens_well (Open now opening) = is_ok (check_of opening)
@@ -125,4 +126,4 @@ opens_well _ = false
 -- configuration that passes its check, no later one is an opening, and it has at most `most_events` events.
 abbrev pub is_accepted : List Event → Bool
 is_accepted [] = true
-is_accepted (e ∷ es) = opens_well e && (not (list_any is_open es) && nat_le (length es + 1) most_events)
+is_accepted (e ∷ es) = opens_well e && (not (list_any is_open_event es) && nat_le (length es + 1) most_events)

@@ -16,6 +16,7 @@ use Rattle.lg_probe.specs.Meaning.Relays.{asker_at}
 use Rattle.lg_probe.specs.Meaning.Round.{RoundValue}
 use Rattle.lg_membership.specs.declared.origin.Origin.TheVariants.{Group}
 use Rattle.lg_membership.specs.Meaning.Log as group
+use Rattle.lg_membership.specs.Meaning.Log.{group_view}
 use Rattle.lg_detector.specs.declared.message.Message.{Message}
 use Rattle.lg_detector.specs.declared.reply.Outgoing.{Outgoing}
 use Rattle.lg_detector.specs.Meaning.Log.{Log, group_log}
@@ -57,7 +58,7 @@ fired_claims _ me r rows = []
 abbrev pub claims_said : TimerId → Log → List Claim
 claims_said id log =
     let g = group_log log in
-    fired_claims id (group.me g) (round log) (group.view g)
+    fired_claims id (group.me g) (round log) (group_view g)
 
 -- The packets that a timer sends. A start of a round pings the chosen member at the address of its record. If no Ack
 -- came in time, the helpers are asked to ping the target (PingReq), in the order in which they were picked. A relay
@@ -86,8 +87,8 @@ nack_to None = []
 nack_to (Some asker) = record { to = asker.0; body = Nack asker.1 } ∷ []
 
 abbrev pub messages : TimerId → List ℕ → Log → List Message
-messages RoundStart words log = ping_to (number log) (group.view (group_log log)) (chosen words log)
-messages Direct words log = requests (round log) (group.view (group_log log)) (helpers words log)
+messages RoundStart words log = ping_to (number log) (group_view (group_log log)) (chosen words log)
+messages Direct words log = requests (round log) (group_view (group_log log)) (helpers words log)
 messages (RelayNack k) words log = nack_to (asker_at k (relays log))
 messages _ words log = []
 

@@ -15,23 +15,23 @@ use Rattle.lg_timers.specs.declared.timer.TimerId.{TimerId}
 use Rattle.lg_timers.specs.declared.timer.TimerId.TheVariants.{RoundEnd, Suspicion, Direct}
 use Rattle.lg_timers.specs.declared.timer.TimerId.TheVariants.{RelayNack, RelayEnd, RoundStart}
 use Rattle.lg_timers.specs.Meaning.Timers.{in_turn, least_of, due_of}
-use Rattle.lg_probe.specs.Meaning.Round.{RoundFact, RoundValue, Asked, is_acked, is_first_ack, mark_of as mark_of_round}
+use Rattle.lg_probe.specs.Meaning.Round.{RoundFact, RoundValue, Asked, is_acked, is_first_ack, mark_of}
 use Rattle.lg_membership.specs.declared.suspected.Suspected.{Suspected}
 use Rattle.lg_membership.specs.Meaning.Log as group
 use Rattle.lg_membership.specs.Meaning.Suspicions.{suspicions}
 use Rattle.lg_detector.specs.Meaning.Log.{Log, Fired, AckHeard, OfGroup, moment, group_log}
 use Rattle.lg_detector.specs.Meaning.Probing.{Probe, is_round_start, chosen, probe, since_start, round}
-use Rattle.lg_detector.specs.Meaning.Relaying.{relays, opened_at, has_nacked}
+use Rattle.lg_detector.specs.Meaning.Relaying.{relays, opened_at, relay_has_nacked}
 
 -- The marks that were earned since the opening, the latest first. Each refuted suspicion of this member earns 1. The
 -- first Ack that counts for a probe earns -1. The end of a round without such an Ack earns 1, or 2 if a helper that
 -- was asked sent no Nack.
-abbrev pub mark_of : OwnHeard → List ℤ → List ℤ
-mark_of Refuted past = pos 1 ∷ past
-mark_of _ past = past
+abbrev pub marks_of_hearing : OwnHeard → List ℤ → List ℤ
+marks_of_hearing Refuted past = pos 1 ∷ past
+marks_of_hearing _ past = past
 
 abbrev pub mark_of_end : RoundValue → List ℤ → List ℤ
-mark_of_end r past = if r.acked then past else mark_of_round false r.silent ∷ past
+mark_of_end r past = if r.acked then past else mark_of false r.silent ∷ past
 
 abbrev pub mark_of_fired : TimerId → Option RoundValue → List ℤ → List ℤ
 mark_of_fired RoundEnd (Some r) past = mark_of_end r past
@@ -47,7 +47,8 @@ mark_of_ack first past = if first then negsuc 0 ∷ past else past
 abbrev pub earned : Log → List ℤ
 earned [] = []
 earned (OfGroup (group.Opened opening) ∷ log) = []
-earned (OfGroup (group.Said now origin c) ∷ log) = mark_of (own_hearing (group.own (group_log log)) c) (earned log)
+earned (OfGroup (group.Said now origin c) ∷ log) =
+    marks_of_hearing (own_hearing (group.own (group_log log)) c) (earned log)
 earned (Fired timer words ∷ log) = mark_of_fired timer.id (round log) (earned log)
 earned (AckHeard k sender ∷ log) = mark_of_ack (is_first k sender (round log)) (earned log)
 earned (_ ∷ log) = earned log
@@ -157,7 +158,7 @@ relay_timer deadline k = record { deadline = deadline; id = RelayEnd k }
 abbrev pub nack_timers : Log → List Timer
 nack_timers log =
     let later = nack_time (group.config (group_log log)) in
-    let silent = filter (λ r. not (has_nacked log r.number)) (relays log) in
+    let silent = filter (λ r. not (relay_has_nacked log r.number)) (relays log) in
     map (λ r. nack_timer (opened_at log r.number + later) r.number) silent
 
 abbrev pub relay_timers : Log → List Timer

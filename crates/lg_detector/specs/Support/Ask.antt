@@ -6,13 +6,13 @@ use Rattle.lg_rules.specs.Meaning.Table.{live_in}
 use Rattle.lg_membership.specs.Support.State.{shown}
 use Rattle.lg_detector.specs.declared.reply.Answer.{Answer}
 use Rattle.lg_detector.specs.declared.reply.Answer.TheVariants.{Status, Health}
-use Rattle.lg_detector.specs.Support.State.{State, come}
+use Rattle.lg_detector.specs.Support.State.{State, come_state}
 
-abbrev pub ask : ℕ → State → State
-ask now s = come now s
+abbrev pub ask_state : ℕ → State → State
+ask_state now s = come_state now s
 
-abbrev pub status : List ℕ → State → Answer
-status name s = Status (row_at name_cmp name_of name (shown s.membership))
+abbrev pub status_state : List ℕ → State → Answer
+status_state name s = Status (row_at name_cmp name_of name (shown s.membership))
 
-abbrev pub health : State → Answer
-health s = Health s.score.value s.membership.own.number (live_in s.membership.members.table)
+abbrev pub health_state : State → Answer
+health_state s = Health s.score.value s.membership.own.number (live_in s.membership.members.table)

@@ -8,20 +8,20 @@ use Rattle.lg_membership.specs.Meaning.Pages.{page_of}
 use Rattle.lg_membership.specs.Support.State.{shown}
 use Rattle.lg_detector.specs.declared.reply.Outgoing.{Outgoing}
 use Rattle.lg_detector.specs.Meaning.Joining.{with_claims}
-use Rattle.lg_detector.specs.Support.State.{State, come}
+use Rattle.lg_detector.specs.Support.State.{State, come_state}
 
-abbrev pub pull_after : Addr → Option (List ℕ) → State → Outgoing
-pull_after to after s = with_claims to s.membership.own.name (Pull after) (own_record s.membership.own ∷ [])
+abbrev pub pull_after_state : Addr → Option (List ℕ) → State → Outgoing
+pull_after_state to after s = with_claims to s.membership.own.name (Pull after) (own_record s.membership.own ∷ [])
 
-abbrev pub page_behind : Addr → Option (List ℕ) → State → Outgoing
-page_behind to after s = with_claims to s.membership.own.name Page (page_of after (shown s.membership))
+abbrev pub page_behind_state : Addr → Option (List ℕ) → State → Outgoing
+page_behind_state to after s = with_claims to s.membership.own.name Page (page_of after (shown s.membership))
 
-abbrev pub next_pull : Addr → Option Claim → State → List Outgoing
-next_pull to None s = []
-next_pull to (Some sixth) s = pull_after to (Some sixth.name) s ∷ []
+abbrev pub next_pull_state : Addr → Option Claim → State → List Outgoing
+next_pull_state to None s = []
+next_pull_state to (Some sixth) s = pull_after_state to (Some sixth.name) s ∷ []
 
-abbrev pub pull : ℕ → State → State
-pull now s = come now s
+abbrev pub pull_state : ℕ → State → State
+pull_state now s = come_state now s
 
-abbrev pub pulls : ℕ → Addr → State → List Outgoing
-pulls now peer s = pull_after peer None (come now s) ∷ []
+abbrev pub pulls_state : ℕ → Addr → State → List Outgoing
+pulls_state now peer s = pull_after_state peer None (come_state now s) ∷ []

@@ -8,35 +8,35 @@ use Rattle.lg_detector.specs.declared.reply.Outgoing.{Outgoing}
 use Rattle.lg_detector.specs.declared.message.Message.{Message}
 use Rattle.lg_detector.specs.Support.State.{State, send_taken}
 
-abbrev pub claims_of : Body → State → List Claim
-claims_of (Ping number target) s = fill_in (Some target) s.membership
-claims_of (PingReq number target addr) s = fill_in None s.membership
-claims_of (Ack number) s = fill_in None s.membership
-claims_of (Nack number) s = []
-claims_of (Pull after) s = []
-claims_of Page s = []
+abbrev pub claims_of_state : Body → State → List Claim
+claims_of_state (Ping number target) s = fill_in (Some target) s.membership
+claims_of_state (PingReq number target addr) s = fill_in None s.membership
+claims_of_state (Ack number) s = fill_in None s.membership
+claims_of_state (Nack number) s = []
+claims_of_state (Pull after) s = []
+claims_of_state Page s = []
 
-abbrev pub outgoing : Message → State → Outgoing
-outgoing message s =
-    let claims = claims_of message.body s in
+abbrev pub outgoing_state : Message → State → Outgoing
+outgoing_state message s =
+    let claims = claims_of_state message.body s in
     let sender = s.membership.own.name in
     record {
       to = message.to;
       packet = record { sender = sender; body = message.body; claims = record { items = claims } };
     }
 
-abbrev pub send : Body → State → State
-send (Ping number target) s = send_taken (taken_in (Some target) s.membership) s
-send (PingReq number target addr) s = send_taken (taken_in None s.membership) s
-send (Ack number) s = send_taken (taken_in None s.membership) s
-send (Nack number) s = s
-send (Pull after) s = s
-send Page s = s
+abbrev pub send_state : Body → State → State
+send_state (Ping number target) s = send_taken (taken_in (Some target) s.membership) s
+send_state (PingReq number target addr) s = send_taken (taken_in None s.membership) s
+send_state (Ack number) s = send_taken (taken_in None s.membership) s
+send_state (Nack number) s = s
+send_state (Pull after) s = s
+send_state Page s = s
 
-abbrev pub send_all : List Message → State → State
-send_all [] s = s
-send_all (m ∷ ms) s = send_all ms (send m.body s)
+abbrev pub send_all_state : List Message → State → State
+send_all_state [] s = s
+send_all_state (m ∷ ms) s = send_all_state ms (send_state m.body s)
 
-abbrev pub packets : List Message → State → List Outgoing
-packets [] s = []
-packets (m ∷ ms) s = outgoing m s ∷ packets ms (send m.body s)
+abbrev pub packets_state : List Message → State → List Outgoing
+packets_state [] s = []
+packets_state (m ∷ ms) s = outgoing_state m s ∷ packets_state ms (send_state m.body s)

@@ -22,7 +22,8 @@ use Rattle.lg_membership.specs.declared.applied.Presence.{Presence}
 use Rattle.lg_membership.specs.declared.applied.Presence.TheVariants as presence
 use Rattle.lg_membership.specs.declared.origin.Origin.{Origin}
 use Rattle.lg_membership.specs.Support.State as group
-use Rattle.lg_detector.specs.Meaning.Log.{Log, events, moment, group_log}
+use Rattle.lg_membership.specs.Support.State.{GroupState, apply_to_group, group_state_of, open_group, send_from_group}
+use Rattle.lg_detector.specs.Meaning.Log.{Log, event_count, moment, group_log}
 use Rattle.lg_detector.specs.Meaning.Probing as probing
 use Rattle.lg_detector.specs.Meaning.Probing.{first_word, indirect_in, helpers_of}
 use Rattle.lg_detector.specs.Meaning.Relaying as relaying
@@ -39,7 +40,7 @@ pub record State : Type 0 where
   pub number : ℕ
   pub round : Option RoundValue
   pub relays : List Relay
-  pub membership : group.State
+  pub membership : GroupState
 
 -- each part by its definition
 abbrev pub order_of : Log → OrderValue
@@ -47,7 +48,7 @@ order_of log = record { names = probing.others log; chosen = in_order name_cmp (
 
 abbrev pub state_of : Log → State
 state_of log = record {
-  events = events log;
+  events = event_count log;
   moment = moment log;
   score = score log;
   timers = pending log;
@@ -55,12 +56,12 @@ state_of log = record {
   number = probing.number log;
   round = probing.round log;
   relays = relaying.relays log;
-  membership = group.state_of (group_log log);
+  membership = group_state_of (group_log log);
 }
 
 -- an event comes
-abbrev pub come : ℕ → State → State
-come now s = record s { events = s.events + 1; moment = max now s.moment }
+abbrev pub come_state : ℕ → State → State
+come_state now s = record s { events = s.events + 1; moment = max now s.moment }
 
 -- the member is opened
 abbrev pub begin : Config → State → State
@@ -71,7 +72,7 @@ begin opening s = record s {
   number = 1;
   round = None;
   relays = [];
-  membership = group.open_with opening s.membership;
+  membership = open_group opening s.membership;
 }
 
 -- once a claim is applied: the score, the timer of the member's suspicion by what became of its deadline, and the
@@ -92,23 +93,23 @@ reorder m presence.Joins order = order_with order (Joined m)
 reorder m presence.Leaves order = order_with order (Left m)
 
 -- a claim is applied
-unfoldable pub apply : Origin → Claim → State → State
-apply origin c s =
+unfoldable pub apply_state : Origin → Claim → State → State
+apply_state origin c s =
     let applied = group.applied s.moment c s.membership in
     record s {
       score = marked_if applied.refuted s.score;
       timers = follow c.name applied.deadline s.timers;
       order = reorder c.name applied.presence s.order;
-      membership = group.apply s.moment origin c s.membership;
+      membership = apply_to_group s.moment origin c s.membership;
     }
 
-abbrev pub apply_all : Origin → List Claim → State → State
-apply_all origin [] s = s
-apply_all origin (c ∷ cs) s = apply_all origin cs (apply origin c s)
+abbrev pub apply_all_state : Origin → List Claim → State → State
+apply_all_state origin [] s = s
+apply_all_state origin (c ∷ cs) s = apply_all_state origin cs (apply_state origin c s)
 
 -- A round starts: the order chooses, and the timers of the round are set anew.
-abbrev pub chosen : List ℕ → State → Option (List ℕ)
-chosen words s = choice s.order.names s.order.chosen (first_word words)
+abbrev pub chosen_state : List ℕ → State → Option (List ℕ)
+chosen_state words s = choice s.order.names s.order.chosen (first_word words)
 
 abbrev pub with_start : ℕ → List Timer → List Timer
 with_start deadline timers =
@@ -121,11 +122,11 @@ with_probe end direct timers =
     without_timer RoundEnd (
     with_timer (direct_timer direct) (without_timer Direct (without_timer RoundStart timers))))
 
-abbrev pub interval_later : State → ℕ
-interval_later s = s.moment + scaled_interval s.membership.config s.score
+abbrev pub interval_later_state : State → ℕ
+interval_later_state s = s.moment + scaled_interval s.membership.config s.score
 
-abbrev pub timeout_later : State → ℕ
-timeout_later s = s.moment + scaled_timeout s.membership.config s.score
+abbrev pub timeout_later_state : State → ℕ
+timeout_later_state s = s.moment + scaled_timeout s.membership.config s.score
 
 abbrev pub with_round : Option (List ℕ) → ℕ → ℕ → List Timer → List Timer
 with_round None end direct timers = with_start end timers
@@ -141,20 +142,21 @@ abbrev pub start_probe : Option (List ℕ) → State → State
 start_probe target s = record s {
   round = round_of_choice s.number target;
   number = number_after s.number target;
-  timers = with_round target (interval_later s) (timeout_later s) s.timers;
+  timers = with_round target (interval_later_state s) (timeout_later_state s) s.timers;
 }
 
 abbrev pub start_round : List ℕ → State → State
-start_round words s = start_probe (chosen words s) (record s { order = order_with s.order (Chose (first_word words)) })
+start_round words s =
+    start_probe (chosen_state words s) (record s { order = order_with s.order (Chose (first_word words)) })
 
 -- helpers are asked
-abbrev pub helpers : List ℕ → State → List (List ℕ)
-helpers words s =
+abbrev pub helpers_state : List ℕ → State → List (List ℕ)
+helpers_state words s =
     helpers_of (indirect_in s.membership.config) words s.order.names (option_map (λ r. r.target) s.round)
 
 abbrev pub ask_helpers : List ℕ → State → State
 ask_helpers words s = record s {
-  round = option_map (λ r. round_with r (Asked (helpers words s))) s.round;
+  round = option_map (λ r. round_with r (Asked (helpers_state words s))) s.round;
   timers = without_timer Direct s.timers;
 }
 
@@ -189,8 +191,8 @@ fire_id (RelayNack k) words s = nack_relay k s
 fire_id (RelayEnd k) words s = close_relay k s
 fire_id RoundStart words s = start_round words s
 
-unfoldable pub fire : Timer → List ℕ → State → State
-fire timer words s = fire_id timer.id words s
+unfoldable pub fire_state : Timer → List ℕ → State → State
+fire_state timer words s = fire_id timer.id words s
 
 -- an Ack or a Nack comes
 abbrev pub marked_ack : Bool → ScoreValue → ScoreValue
@@ -244,4 +246,4 @@ open_relay target asker asked s = record s {
 
 -- a packet is sent that took these claims of the queue
 abbrev pub send_taken : List Claim → State → State
-send_taken taken s = record s { membership = group.send taken s.membership }
+send_taken taken s = record s { membership = send_from_group taken s.membership }

@@ -11,47 +11,47 @@ use Rattle.lg_membership.specs.Support.State.{shown}
 use Rattle.lg_detector.specs.declared.reply.Outgoing.{Outgoing}
 use Rattle.lg_detector.specs.declared.message.Message.{Message}
 use Rattle.lg_detector.specs.Meaning.Tick.{fired_claims, ping_to, requests, nack_to}
-use Rattle.lg_detector.specs.Support.State.{State, come, apply_all, fire, chosen, helpers}
-use Rattle.lg_detector.specs.Support.Send.{send_all, packets}
+use Rattle.lg_detector.specs.Support.State.{State, come_state, apply_all_state, fire_state, chosen_state, helpers_state}
+use Rattle.lg_detector.specs.Support.Send.{send_all_state, packets_state}
 
 -- the first of the timers that are due
-abbrev pub due : State → Option Timer
-due s = due_of s.moment s.timers
+abbrev pub due_state : State → Option Timer
+due_state s = due_of s.moment s.timers
 
 -- the claims that it makes, and the packets that it sends
-abbrev pub claims_said : TimerId → State → List Claim
-claims_said id s = fired_claims id s.membership.own.name s.round (shown s.membership)
+abbrev pub claims_said_state : TimerId → State → List Claim
+claims_said_state id s = fired_claims id s.membership.own.name s.round (shown s.membership)
 
-abbrev pub messages : TimerId → List ℕ → State → List Message
-messages RoundStart words s = ping_to s.number (shown s.membership) (chosen words s)
-messages Direct words s = requests s.round (shown s.membership) (helpers words s)
-messages (RelayNack k) words s = nack_to (asker_at k s.relays)
-messages _ words s = []
+abbrev pub messages_state : TimerId → List ℕ → State → List Message
+messages_state RoundStart words s = ping_to s.number (shown s.membership) (chosen_state words s)
+messages_state Direct words s = requests s.round (shown s.membership) (helpers_state words s)
+messages_state (RelayNack k) words s = nack_to (asker_at k s.relays)
+messages_state _ words s = []
 
 -- it fires, if there is one
 abbrev pub fire_due : Option Timer → List ℕ → State → State
 fire_due None words s = s
-fire_due (Some timer) words s = fire timer words s
+fire_due (Some timer) words s = fire_state timer words s
 
 abbrev pub claims_by : Option Timer → State → List Claim
 claims_by None s = []
-claims_by (Some timer) s = claims_said timer.id s
+claims_by (Some timer) s = claims_said_state timer.id s
 
 abbrev pub messages_by : Option Timer → List ℕ → State → List Message
 messages_by None words s = []
-messages_by (Some timer) words s = messages timer.id words s
+messages_by (Some timer) words s = messages_state timer.id words s
 
 abbrev pub said_by : Option Timer → List ℕ → State → State
-said_by timer words s = apply_all Group (claims_by timer s) (fire_due timer words s)
+said_by timer words s = apply_all_state Group (claims_by timer s) (fire_due timer words s)
 
-abbrev pub expire : Option Timer → List ℕ → State → State
-expire timer words s = send_all (messages_by timer words s) (said_by timer words s)
+abbrev pub expire_state : Option Timer → List ℕ → State → State
+expire_state timer words s = send_all_state (messages_by timer words s) (said_by timer words s)
 
-abbrev pub tick : ℕ → List ℕ → State → State
-tick now words s = expire (due (come now s)) words (come now s)
+abbrev pub tick_state : ℕ → List ℕ → State → State
+tick_state now words s = expire_state (due_state (come_state now s)) words (come_state now s)
 
-abbrev pub expire_sends : Option Timer → List ℕ → State → List Outgoing
-expire_sends timer words s = packets (messages_by timer words s) (said_by timer words s)
+abbrev pub expire_sends_state : Option Timer → List ℕ → State → List Outgoing
+expire_sends_state timer words s = packets_state (messages_by timer words s) (said_by timer words s)
 
-abbrev pub sends_at : ℕ → List ℕ → State → List Outgoing
-sends_at now words s = expire_sends (due (come now s)) words (come now s)
+abbrev pub sends_at_state : ℕ → List ℕ → State → List Outgoing
+sends_at_state now words s = expire_sends_state (due_state (come_state now s)) words (come_state now s)

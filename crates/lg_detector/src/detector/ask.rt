@@ -3,7 +3,7 @@
 //! Defined in: `specs/Meaning/Ask.antt`, `specs/Support/Ask.antt`.
 //! Tested in: `lg_detector_tests/src/detector/ask.rt`.
 ghost use Rattle.std.specs.Prelude.{◌≡◌, ◌<◌, [], None, Some};
-ghost use Rattle.lg_detector.specs.Support.Ask.{ask, status, health};
+ghost use Rattle.lg_detector.specs.Support.Ask.{ask_state, status_state, health_state};
 
 use super::{Detector, MAX_EVENTS};
 use crate::reply::{Answer, Reply};
@@ -14,11 +14,11 @@ impl Detector {
     /// Answers with the record of a name.
     pub(super) fn ask(&mut self, now: Moment, name: &Name, reply: &mut Reply)
         requires { self.old.events < MAX_EVENTS }
-        ensures state { self.new ≡ ask now self.old }
+        ensures state { self.new ≡ ask_state now self.old }
         ensures fired { reply.new.fired ≡ None }
         ensures sends { reply.new.sends.items ≡ [] }
         ensures differing { reply.new.changed.items ≡ [] }
-        ensures answer { reply.new.answer ≡ Some (status name.now self.old) }
+        ensures answer { reply.new.answer ≡ Some (status_state name.now self.old) }
     {
         reply.say_nothing();
         reply.answer = Some(Answer::Status(self.record_of(name)));
@@ -28,11 +28,11 @@ impl Detector {
     /// Answers with the health score, this member's incarnation and the number of members.
     pub(super) fn ask_health(&mut self, now: Moment, reply: &mut Reply)
         requires { self.old.events < MAX_EVENTS }
-        ensures state { self.new ≡ ask now self.old }
+        ensures state { self.new ≡ ask_state now self.old }
         ensures fired { reply.new.fired ≡ None }
         ensures sends { reply.new.sends.items ≡ [] }
         ensures differing { reply.new.changed.items ≡ [] }
-        ensures answer { reply.new.answer ≡ Some (health self.old) }
+        ensures answer { reply.new.answer ≡ Some (health_state self.old) }
     {
         reply.say_nothing();
         reply.answer = Some(self.health());
@@ -41,7 +41,7 @@ impl Detector {
 
     /// The health score, this member's incarnation, and how many members haven't failed.
     fn health(&self) -> Answer
-        ensures { result ≡ health self.now }
+        ensures { result ≡ health_state self.now }
     {
         Answer::Health {
             score: self.parts.score.value(),

@@ -14,7 +14,8 @@ ghost use Rattle.lg_membership.specs.declared.applied.Presence.TheVariants.{Join
 ghost use Rattle.lg_membership.specs.declared.origin.Origin.TheVariants.{Group};
 ghost use Rattle.lg_membership.specs.Support.State.{applied, standing};
 ghost use Rattle.lg_detector.specs.Meaning.Timing.{start_timer};
-ghost use Rattle.lg_detector.specs.Support.State.{come, begin, marked_if, follow, reorder, apply, apply_all};
+ghost use Rattle.lg_detector.specs.Support.State.{come_state, begin, marked_if, follow, reorder, apply_state};
+ghost use Rattle.lg_detector.specs.Support.State.{apply_all_state};
 
 use super::{Detector, MAX_EVENTS};
 use arrayvec::ArrayVec;
@@ -66,7 +67,7 @@ impl Detector {
     /// Counts an event, and moves the moment on to that of the event if it is later.
     pub(super) fn come(&mut self, now: Moment)
         requires { self.old.events < MAX_EVENTS }
-        ensures state { self.new ≡ come now self.old }
+        ensures state { self.new ≡ come_state now self.old }
         ensures numbered { self.new.number ≤ self.new.events }
     {
         let parts = &mut *self.parts;
@@ -97,7 +98,7 @@ impl Detector {
     /// Applies a claim. Returns whether the record of its member changed.
     #[tactic(auto, unfolding(crate::specs::Support::State::apply))]
     pub(super) fn apply(&mut self, origin: Origin, claim: &Claim) -> bool
-        ensures state { self.new ≡ apply origin claim.now self.old }
+        ensures state { self.new ≡ apply_state origin claim.now self.old }
         ensures changes { result ≡ (applied self.old.moment claim.now self.old.membership).changed }
     {
         let parts = &mut *self.parts;
@@ -112,7 +113,7 @@ impl Detector {
     /// Applies the claims of a packet or a timer, one after another. Returns the names of those whose records changed.
     pub(super) fn apply_all(&mut self, claims: &[Claim]) -> ArrayVec<Name, MAX_CLAIMS>
         requires { length claims.now ≤ MAX_CLAIMS }
-        ensures state { self.new ≡ apply_all Group claims.now self.old }
+        ensures state { self.new ≡ apply_all_state Group claims.now self.old }
         ensures names { result.items ≡ changed_names (standing self.old.membership) claims.now }
     {
         let mut names = ArrayVec::new();

@@ -21,9 +21,10 @@ ghost use Rattle.lg_membership.specs.declared.origin.Origin.TheVariants.{Group};
 ghost use Rattle.lg_packet.specs.declared.packet.Body.TheVariants.{Ping, PingReq};
 ghost use Rattle.lg_probe.specs.Meaning.Relays.{ended_asker};
 ghost use Rattle.lg_detector.specs.Meaning.Hear.{pass_on};
-ghost use Rattle.lg_detector.specs.Support.Hear.{hear, hear_claims, note, respond, response, sends_to};
-ghost use Rattle.lg_detector.specs.Support.State.{apply_all, hear_ack, hear_nack};
-ghost use Rattle.lg_detector.specs.Support.Step.{view_in};
+ghost use Rattle.lg_detector.specs.Support.Hear.{hear_state, hear_claims_state, note_state, respond_state};
+ghost use Rattle.lg_detector.specs.Support.Hear.{response_state, sends_to_state};
+ghost use Rattle.lg_detector.specs.Support.State.{apply_all_state, hear_ack, hear_nack};
+ghost use Rattle.lg_detector.specs.Support.Step.{view_state};
 
 use super::{Detector, MAX_EVENTS, relay, round};
 use crate::message::{Message, one};
@@ -38,13 +39,13 @@ impl Detector {
     /// Hears a packet from a source: applies its claims, and handles its body.
     pub(super) fn hear(&mut self, now: Moment, source: Addr, packet: &Packet, reply: &mut Reply)
         requires { self.old.events < MAX_EVENTS }
-        ensures state { self.new ≡ hear now source packet.now self.old }
+        ensures state { self.new ≡ hear_state now source packet.now self.old }
         ensures fired { reply.new.fired ≡ None }
         ensures sends { reply.new.sends.items
-            ≡ sends_to source packet.now.sender packet.now.body packet.now.claims.items
-            (hear_claims now packet.now self.old) }
+            ≡ sends_to_state source packet.now.sender packet.now.body packet.now.claims.items
+            (hear_claims_state now packet.now self.old) }
         ensures differing { reply.new.changed.items
-            ≡ changed (view_in self.old) (view_in (hear_claims now packet.now self.old)) }
+            ≡ changed (view_state self.old) (view_state (hear_claims_state now packet.now self.old)) }
         ensures answer { reply.new.answer ≡ None }
     {
         // The other parts are overwritten, not cleared first.
@@ -59,9 +60,9 @@ impl Detector {
     /// body, notes what it means for the probe that runs and for the relays, and sends the packet that responds to it.
     fn answer(&mut self, source: Addr, packet: &Packet, sends: &mut ArrayVec<Outgoing, MAX_SENDS>)
         requires { self.old.number ≤ self.old.events }
-        ensures state { self.new ≡ respond source packet.now.sender packet.now.body self.old }
+        ensures state { self.new ≡ respond_state source packet.now.sender packet.now.body self.old }
         ensures sends { sends.new.items
-            ≡ sends_to source packet.now.sender packet.now.body packet.now.claims.items self.old }
+            ≡ sends_to_state source packet.now.sender packet.now.body packet.now.claims.items self.old }
     {
         match &packet.body {
             Body::Ping { .. } | Body::PingReq { .. } | Body::Ack { .. } | Body::Nack { .. } => {
@@ -76,9 +77,9 @@ impl Detector {
     /// Applies claims one after another. Overwrites `differing` with the records that changed by them.
     pub(super) fn say(&mut self, claims: &[Claim], differing: &mut ArrayVec<Record, MAX_CHANGED>)
         requires { length claims.now ≤ MAX_CLAIMS }
-        ensures state { self.new ≡ apply_all Group claims.now self.old }
+        ensures state { self.new ≡ apply_all_state Group claims.now self.old }
         ensures differing { differing.new.items
-            ≡ changed (view_in self.old) (view_in (apply_all Group claims.now self.old)) }
+            ≡ changed (view_state self.old) (view_state (apply_all_state Group claims.now self.old)) }
     {
         // The end of the proof needs what the invariant says of the state at the start.
         let _ = &self.parts;
@@ -90,8 +91,8 @@ impl Detector {
     /// there is one.
     fn respond(&mut self, source: Addr, sender: &Name, body: &Body) -> ArrayVec<Message, MAX_SENDS>
         requires { self.old.number ≤ self.old.events }
-        ensures state { self.new ≡ note source sender.now body.now self.old }
-        ensures messages { result.items ≡ response source sender.now body.now self.old }
+        ensures state { self.new ≡ note_state source sender.now body.now self.old }
+        ensures messages { result.items ≡ response_state source sender.now body.now self.old }
     {
         match body {
             Body::Ping { number, target } => self.hear_ping(source, *number, target),
@@ -118,7 +119,7 @@ impl Detector {
 
     /// Acks a Ping for this member.
     fn hear_ping(&self, source: Addr, number: u32, target: &Name) -> ArrayVec<Message, MAX_SENDS>
-        ensures { result.items ≡ response source [] (Ping number target.now) self.now }
+        ensures { result.items ≡ response_state source [] (Ping number target.now) self.now }
     {
         if self.is_own(target) {
             one(source, Body::Ack { number })
@@ -137,8 +138,8 @@ impl Detector {
         addr: Addr,
     ) -> ArrayVec<Message, MAX_SENDS>
         requires { self.old.number ≤ self.old.events }
-        ensures state { self.new ≡ note source [] (PingReq number target.now addr) self.old }
-        ensures messages { result.items ≡ response source [] (PingReq number target.now addr) self.old }
+        ensures state { self.new ≡ note_state source [] (PingReq number target.now addr) self.old }
+        ensures messages { result.items ≡ response_state source [] (PingReq number target.now addr) self.old }
     {
         if self.is_own(target) {
             one(source, Body::Ack { number })

@@ -7,7 +7,8 @@
 //! Tested in: `lg_detector_tests/src/detector/joining.rt`.
 ghost use Rattle.std.specs.Prelude.{◌≡◌, ◌<◌, [], ◌∷◌, None};
 ghost use Rattle.lg_detector.specs.Meaning.Joining.{sixth_of};
-ghost use Rattle.lg_detector.specs.Support.Joining.{next_pull, page_behind, pull, pull_after, pulls};
+ghost use Rattle.lg_detector.specs.Support.Joining.{next_pull_state, page_behind_state, pull_state, pull_after_state};
+ghost use Rattle.lg_detector.specs.Support.Joining.{pulls_state};
 
 use super::send::make_places;
 use super::{Detector, MAX_EVENTS};
@@ -21,9 +22,9 @@ impl Detector {
     /// Asks another member for its table: sends a Pull for its first records.
     pub(super) fn pull(&mut self, now: Moment, peer: Addr, reply: &mut Reply)
         requires { self.old.events < MAX_EVENTS }
-        ensures state { self.new ≡ pull now self.old }
+        ensures state { self.new ≡ pull_state now self.old }
         ensures fired { reply.new.fired ≡ None }
-        ensures sends { reply.new.sends.items ≡ pulls now peer self.old }
+        ensures sends { reply.new.sends.items ≡ pulls_state now peer self.old }
         ensures differing { reply.new.changed.items ≡ [] }
         ensures answer { reply.new.answer ≡ None }
     {
@@ -39,7 +40,7 @@ impl Detector {
         after: &Option<Name>,
         sends: &mut ArrayVec<Outgoing, MAX_SENDS>,
     )
-        ensures { sends.new.items ≡ page_behind to after.now self.now ∷ [] }
+        ensures { sends.new.items ≡ page_behind_state to after.now self.now ∷ [] }
     {
         make_places(sends, 1);
         self.write_page(to, after, &mut sends[0]);
@@ -52,7 +53,7 @@ impl Detector {
         claims: &[Claim],
         sends: &mut ArrayVec<Outgoing, MAX_SENDS>,
     )
-        ensures { sends.new.items ≡ next_pull to (sixth_of claims.now) self.now }
+        ensures { sends.new.items ≡ next_pull_state to (sixth_of claims.now) self.now }
     {
         match claims.get(MAX_CLAIMS - 1) {
             Some(sixth) => self.send_pull(to, Some(sixth.name), sends),
@@ -62,7 +63,7 @@ impl Detector {
 
     /// Sends one Pull, and nothing else.
     fn send_pull(&self, to: Addr, after: Option<Name>, sends: &mut ArrayVec<Outgoing, MAX_SENDS>)
-        ensures { sends.new.items ≡ pull_after to after self.now ∷ [] }
+        ensures { sends.new.items ≡ pull_after_state to after self.now ∷ [] }
     {
         make_places(sends, 1);
         self.write_pull(to, after, &mut sends[0]);
@@ -70,7 +71,7 @@ impl Detector {
 
     /// Overwrites a packet with a Page.
     fn write_page(&self, to: Addr, after: &Option<Name>, place: &mut Outgoing)
-        ensures { place.new ≡ page_behind to after.now self.now }
+        ensures { place.new ≡ page_behind_state to after.now self.now }
     {
         place.to = to;
         place.packet.sender = self.name();
@@ -82,7 +83,7 @@ impl Detector {
 
     /// Overwrites a packet with a Pull, whose only claim is this member's record.
     fn write_pull(&self, to: Addr, after: Option<Name>, place: &mut Outgoing)
-        ensures { place.new ≡ pull_after to after self.now }
+        ensures { place.new ≡ pull_after_state to after self.now }
     {
         place.to = to;
         place.packet.sender = self.name();

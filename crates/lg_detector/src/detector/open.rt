@@ -7,8 +7,8 @@ ghost use Rattle.std.specs.Prelude.{◌≡◌, ◌<◌, [], None, map};
 ghost use Rattle.lg_timing.specs.Meaning.Config.{IsChecked};
 ghost use Rattle.lg_membership.specs.declared.origin.Origin.TheVariants.{Seed as OfSeed};
 ghost use Rattle.lg_detector.specs.Meaning.Open.{alive_seed};
-ghost use Rattle.lg_detector.specs.Support.Open.{open_with};
-ghost use Rattle.lg_detector.specs.Support.State.{apply_all};
+ghost use Rattle.lg_detector.specs.Support.Open.{open_with_state};
+ghost use Rattle.lg_detector.specs.Support.State.{apply_all_state};
 
 use super::{Detector, MAX_EVENTS};
 use crate::reply::Reply;
@@ -33,7 +33,7 @@ impl Detector {
     pub(super) fn open_with(&mut self, now: Moment, config: &Config, reply: &mut Reply)
         requires room { self.old.events < MAX_EVENTS }
         requires good { IsChecked config.now }
-        ensures state { self.new ≡ open_with now config.now self.old }
+        ensures state { self.new ≡ open_with_state now config.now self.old }
         ensures fired { reply.new.fired ≡ None }
         ensures sends { reply.new.sends.items ≡ [] }
         ensures differing { reply.new.changed.items ≡ [] }
@@ -47,7 +47,7 @@ impl Detector {
 
     /// Applies the claims of the seeds.
     fn apply_seeds(&mut self, seeds: &[Seed])
-        ensures { self.new ≡ apply_all OfSeed (map alive_seed seeds.now) self.old }
+        ensures { self.new ≡ apply_all_state OfSeed (map alive_seed seeds.now) self.old }
     {
         for seed in seeds {
             self.apply(Origin::Seed, &alive(seed));

@@ -8,7 +8,7 @@ ghost use Rattle.lg_rules.specs.Meaning.Rows.{name_cmp, is_among, row_at};
 ghost use Rattle.lg_detector.specs.declared.event.Event.{Event as Happened};
 ghost use Rattle.lg_detector.specs.Meaning.Step.{view_after, deadline_after};
 ghost use Rattle.lg_detector.specs.Meaning.Timing.{or_zero};
-ghost use Rattle.lg_detector.specs.Support.Step.{state_after, deadline_of, view_in};
+ghost use Rattle.lg_detector.specs.Support.Step.{state_after, deadline_state, view_state};
 
 use super::{Detector, NoMemory};
 use crate::reply::MAX_CHANGED;
@@ -19,7 +19,7 @@ use std::alloc::Global;
 impl Detector {
     /// The record of a name, this member's included, if it is known. Allocates nothing.
     pub fn record_of(&self, name: &Name) -> Option<Record>
-        ensures state { result ≡ row_at name_cmp name_of name.now (view_in self.now) }
+        ensures state { result ≡ row_at name_cmp name_of name.now (view_state self.now) }
         // After any list of events: the record in the table after the list.
         ensures list { (f : List Happened) → self.now ≡ state_after f
             → result ≡ row_at name_cmp name_of name.now (view_after f) }
@@ -30,7 +30,7 @@ impl Detector {
     /// Overwrites `row` with the records of all members, this one included, in the order of their names. Nothing is
     /// known before the opening. Allocates nothing.
     pub fn put_table(&self, row: &mut ArrayVec<Record, MAX_MEMBERS>)
-        ensures state { row.new.items ≡ view_in self.now }
+        ensures state { row.new.items ≡ view_state self.now }
         ensures list { (f : List Happened) → self.now ≡ state_after f → row.new.items ≡ view_after f }
     {
         self.parts.membership.put_table(row);
@@ -39,7 +39,7 @@ impl Detector {
     /// Overwrites `row` with the records of these names, of which this member's may be one.
     pub(super) fn put_records(&self, names: &[Name], row: &mut ArrayVec<Record, MAX_CHANGED>)
         requires { length names.now ≤ MAX_CHANGED }
-        ensures { row.new.items ≡ filter (λ r. is_among name_cmp r.name names.now) (view_in self.now) }
+        ensures { row.new.items ≡ filter (λ r. is_among name_cmp r.name names.now) (view_state self.now) }
     {
         self.parts.membership.put_records(names, row);
     }
@@ -47,7 +47,7 @@ impl Detector {
     /// The records of all members, this one included, in the order of their names. Allocates the list alone, of at
     /// most [`MAX_MEMBERS`] records; the only error is that memory was refused.
     pub fn table(&self, alloc: Global) -> Result<Vec<Record>, NoMemory>
-        ensures state { IfOk result (λ table. table.items ≡ view_in self.now) }
+        ensures state { IfOk result (λ table. table.items ≡ view_state self.now) }
         ensures list { (f : List Happened) → self.now ≡ state_after f
             → IfOk result (λ table. table.items ≡ view_after f) }
     {
@@ -58,7 +58,7 @@ impl Detector {
 
     /// The least deadline of the timers that are set, in milliseconds. There is none before the opening.
     pub fn next_deadline(&self) -> Option<u64>
-        ensures state { result ≡ deadline_of self.now }
+        ensures state { result ≡ deadline_state self.now }
         ensures list { (f : List Happened) → self.now ≡ state_after f → result ≡ deadline_after f }
     {
         match self.parts.timers.least() {
@@ -69,7 +69,7 @@ impl Detector {
 
     /// The same, with 0 for none.
     pub(super) fn next(&self) -> u64
-        ensures { result ≡ or_zero (deadline_of self.now) }
+        ensures { result ≡ or_zero (deadline_state self.now) }
     {
         match self.parts.timers.least() {
             Some(timer) => timer.deadline,

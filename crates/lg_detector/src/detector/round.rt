@@ -20,10 +20,11 @@ ghost use Rattle.lg_detector.specs.Meaning.Timing.{scaled_interval, scaled_timeo
 ghost use Rattle.lg_detector.specs.Meaning.Probing.{indirect_in};
 ghost use Rattle.lg_detector.specs.Meaning.Tick.{ping_at, ping_to, requests, requests_of};
 ghost use Rattle.lg_detector.specs.Meaning.Tick.{failure_of, suspect_of, accusation, found};
-ghost use Rattle.lg_detector.specs.Support.State.{start_round, ask_helpers, end_round, chosen, helpers, with_start};
+ghost use Rattle.lg_detector.specs.Support.State.{start_round, ask_helpers, end_round, chosen_state, helpers_state};
+ghost use Rattle.lg_detector.specs.Support.State.{with_start};
 ghost use Rattle.lg_detector.specs.Support.State.{with_round, round_of_choice, number_after};
 ghost use Rattle.lg_detector.specs.Support.State.{with_probe, marked_end, marked_ack, without_direct};
-ghost use Rattle.lg_detector.specs.Support.Step.{view_in};
+ghost use Rattle.lg_detector.specs.Support.Step.{view_state};
 
 use super::{Detector, MAX_EVENTS};
 use crate::message::Message;
@@ -218,7 +219,7 @@ fn accusation(me: &Name, current: &Record) -> ArrayVec<Claim, MAX_CLAIMS>
 impl Detector {
     /// The claim that the end of the round makes if no Ack counted: its target is suspected.
     pub(super) fn failure(&self) -> ArrayVec<Claim, MAX_CLAIMS>
-        ensures { result.items ≡ failure_of self.now.membership.own.name self.now.round (view_in self.now) }
+        ensures { result.items ≡ failure_of self.now.membership.own.name self.now.round (view_state self.now) }
     {
         match &self.parts.round {
             Some(round) if !round.is_acked() => self.suspicion_of(&round.target()),
@@ -228,7 +229,7 @@ impl Detector {
 
     /// The claim that a member is suspected, if it has a record that isn't Failed.
     fn suspicion_of(&self, member: &Name) -> ArrayVec<Claim, MAX_CLAIMS>
-        ensures { result.items ≡ suspect_of self.now.membership.own.name (found member.now (view_in self.now)) }
+        ensures { result.items ≡ suspect_of self.now.membership.own.name (found member.now (view_state self.now)) }
     {
         match self.record_of(member) {
             Some(record) => accusation(&self.name(), &record),
@@ -240,7 +241,8 @@ impl Detector {
     pub(super) fn start_round(&mut self, words: &[u32; 8]) -> ArrayVec<Message, MAX_SENDS>
         requires { self.old.number ≤ self.old.events }
         ensures state { self.new ≡ start_round words.now self.old }
-        ensures messages { result.items ≡ ping_to self.old.number (view_in self.old) (chosen words.now self.old) }
+        ensures messages { result.items
+            ≡ ping_to self.old.number (view_state self.old) (chosen_state words.now self.old) }
     {
         let number = self.parts.number;
         match self.choose(words) {
@@ -253,7 +255,7 @@ impl Detector {
     fn choose(&mut self, words: &[u32; 8]) -> Option<Name>
         requires { self.old.number ≤ self.old.events }
         ensures state { self.new ≡ start_round words.now self.old }
-        ensures chosen { result ≡ chosen words.now self.old }
+        ensures chosen { result ≡ chosen_state words.now self.old }
     {
         let parts = &mut *self.parts;
         let now = parts.moment.milliseconds();
@@ -272,7 +274,7 @@ impl Detector {
     pub(super) fn ask_helpers(&mut self, words: &[u32; 8]) -> ArrayVec<Message, MAX_SENDS>
         ensures state { self.new ≡ ask_helpers words.now self.old }
         ensures messages { result.items
-            ≡ requests self.old.round (view_in self.old) (helpers words.now self.old) }
+            ≡ requests self.old.round (view_state self.old) (helpers_state words.now self.old) }
     {
         let helpers = self.pick(words);
         let messages = self.requests(&helpers);
@@ -284,7 +286,7 @@ impl Detector {
 
     /// The helpers that the words pick.
     fn pick(&self, words: &[u32; 8]) -> Helpers
-        ensures { result ≡ helpers words.now self.now }
+        ensures { result ≡ helpers_state words.now self.now }
     {
         let mut helpers = Helpers::new();
         if let Some(round) = &self.parts.round {
@@ -296,7 +298,7 @@ impl Detector {
 
     /// The PingReqs for helpers. Each asks its helper to ping the target at the address of the target's record.
     fn requests(&self, helpers: &Helpers) -> ArrayVec<Message, MAX_SENDS>
-        ensures { result.items ≡ requests self.now.round (view_in self.now) helpers.now }
+        ensures { result.items ≡ requests self.now.round (view_state self.now) helpers.now }
     {
         match &self.parts.round {
             Some(round) => {
@@ -318,7 +320,7 @@ impl Detector {
         names: &[Name],
     ) -> ArrayVec<Message, MAX_SENDS>
         requires { length names.now ≤ MAX_SENDS }
-        ensures { result.items ≡ requests_of number target.now (view_in self.now) names.now }
+        ensures { result.items ≡ requests_of number target.now (view_state self.now) names.now }
     {
         let mut messages = ArrayVec::new();
         let Some(target) = target else {

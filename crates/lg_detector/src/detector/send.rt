@@ -7,7 +7,7 @@
 //! Tested in: `lg_detector_tests/src/detector/hear.rt`.
 ghost use Rattle.std.specs.Prelude.{◌≡◌, ◌≤◌, [], length};
 ghost use Rattle.arrayvec.specs.ArrayVec.{array_vec_len};
-ghost use Rattle.lg_detector.specs.Support.Send.{outgoing, packets, send, send_all};
+ghost use Rattle.lg_detector.specs.Support.Send.{outgoing_state, packets_state, send_state, send_all_state};
 
 use super::Detector;
 use crate::message::Message;
@@ -34,8 +34,8 @@ impl Detector {
         sends: &mut ArrayVec<Outgoing, MAX_SENDS>,
     )
         requires { length messages.now ≤ MAX_SENDS }
-        ensures state { self.new ≡ send_all messages.now self.old }
-        ensures sends { sends.new.items ≡ packets messages.now self.old }
+        ensures state { self.new ≡ send_all_state messages.now self.old }
+        ensures sends { sends.new.items ≡ packets_state messages.now self.old }
     {
         make_places(sends, messages.len());
         for (index, message) in messages.iter().enumerate() {
@@ -45,8 +45,8 @@ impl Detector {
 
     /// Overwrites a packet. The claims that it takes of the queue count as sent.
     fn put_packet(&mut self, message: &Message, place: &mut Outgoing)
-        ensures state { self.new ≡ send message.now.body self.old }
-        ensures sent { place.new ≡ outgoing message.now self.old }
+        ensures state { self.new ≡ send_state message.now.body self.old }
+        ensures sent { place.new ≡ outgoing_state message.now self.old }
     {
         place.to = message.to;
         place.packet.sender = self.name();

@@ -20,10 +20,11 @@
 ghost use Rattle.std.specs.Prelude.{◌≡◌, ◌<◌, ◌≤◌, [], None};
 ghost use Rattle.lg_rules.specs.Meaning.View.{changed};
 ghost use Rattle.lg_detector.specs.Meaning.Tick.{failed_of};
-ghost use Rattle.lg_detector.specs.Support.State.{come, fire};
-ghost use Rattle.lg_detector.specs.Support.Step.{view_in};
-ghost use Rattle.lg_detector.specs.Support.Tick.{due, fire_due, claims_by, claims_said, messages, messages_by};
-ghost use Rattle.lg_detector.specs.Support.Tick.{tick, sends_at};
+ghost use Rattle.lg_detector.specs.Support.State.{come_state, fire_state};
+ghost use Rattle.lg_detector.specs.Support.Step.{view_state};
+ghost use Rattle.lg_detector.specs.Support.Tick.{due_state, fire_due, claims_by, claims_said_state, messages_state};
+ghost use Rattle.lg_detector.specs.Support.Tick.{messages_by};
+ghost use Rattle.lg_detector.specs.Support.Tick.{tick_state, sends_at_state};
 
 use super::{Detector, MAX_EVENTS};
 use crate::message::Message;
@@ -51,11 +52,11 @@ impl Detector {
     /// Time has passed: fires the first of the timers that are due.
     pub(super) fn tick(&mut self, now: Moment, words: &[u32; 8], reply: &mut Reply)
         requires { self.old.events < MAX_EVENTS }
-        ensures state { self.new ≡ tick now words.now self.old }
-        ensures fired { reply.new.fired ≡ due (come now self.old) }
-        ensures sends { reply.new.sends.items ≡ sends_at now words.now self.old }
+        ensures state { self.new ≡ tick_state now words.now self.old }
+        ensures fired { reply.new.fired ≡ due_state (come_state now self.old) }
+        ensures sends { reply.new.sends.items ≡ sends_at_state now words.now self.old }
         ensures differing { reply.new.changed.items
-            ≡ changed (view_in self.old) (view_in (tick now words.now self.old)) }
+            ≡ changed (view_state self.old) (view_state (tick_state now words.now self.old)) }
         ensures answer { reply.new.answer ≡ None }
     {
         reply.answer = None;
@@ -69,7 +70,7 @@ impl Detector {
 
     /// The first of the timers that are due, if one is.
     fn due(&self) -> Option<Timer>
-        ensures { result ≡ due self.now }
+        ensures { result ≡ due_state self.now }
     {
         self.parts.timers.due(self.parts.moment)
     }
@@ -87,7 +88,7 @@ impl Detector {
 
     /// The claims that a timer makes when it fires.
     fn claims_said(&self, id: &TimerId) -> ArrayVec<Claim, MAX_CLAIMS>
-        ensures { result.items ≡ claims_said id.now self.now }
+        ensures { result.items ≡ claims_said_state id.now self.now }
     {
         match id {
             TimerId::RoundEnd => self.failure(),
@@ -112,8 +113,8 @@ impl Detector {
     #[tactic(auto, unfolding(crate::specs::Support::State::fire))]
     fn fire(&mut self, timer: &Timer, words: &[u32; 8]) -> ArrayVec<Message, MAX_SENDS>
         requires { self.old.number ≤ self.old.events }
-        ensures state { self.new ≡ fire timer.now words.now self.old }
-        ensures messages { result.items ≡ messages timer.now.id words.now self.old }
+        ensures state { self.new ≡ fire_state timer.now words.now self.old }
+        ensures messages { result.items ≡ messages_state timer.now.id words.now self.old }
     {
         match &timer.id {
             TimerId::RoundEnd => {

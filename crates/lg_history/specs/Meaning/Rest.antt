@@ -3,7 +3,7 @@ use Rattle.std.specs.Prelude.{◌≡◌, ℕ, ◌<◌, ◌==◌, List, [], ◌�
 use Rattle.std.specs.List.{count_by, sum_by}
 use Rattle.lg_detector.specs.declared.event.Event.{Event}
 use Rattle.lg_detector.specs.Support.State.{State}
-use Rattle.lg_detector.specs.Support.Step.{reply, step}
+use Rattle.lg_detector.specs.Support.Step.{reply_state, step_state}
 use Rattle.lg_detector.specs.Support.Summary.{IsSummary}
 use Rattle.lg_history.specs.Meaning.History.{Entry, events, IsLegal}
 
@@ -31,7 +31,7 @@ pub record IsRest (places : ℕ) (past : List Event) (cut : List ℕ) (h : List 
 -- each reply is the one that follows from the summary through the events before it
 abbrev pub AnsweredFrom : State → List Entry → Type 0
 AnsweredFrom s [] = Unit {0}
-AnsweredFrom s (x ∷ h) = (x.reply ≡ reply s x.event) × AnsweredFrom (step s x.event) h
+AnsweredFrom s (x ∷ h) = (x.reply ≡ reply_state s x.event) × AnsweredFrom (step_state s x.event) h
 
 -- What is known of the counts of entries that were cut off. If there are any, the opening's seat has 1. No seat above
 -- `places` has any. The counts add up to the number of events that were cut off.

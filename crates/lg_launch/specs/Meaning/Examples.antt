@@ -17,8 +17,8 @@ use Rattle.lg_node.specs.declared.ending.Why.TheVariants.{Stopped, Ousted, LinkF
 use Rattle.lg_node.specs.declared.node.NodeEnd.{NodeEnd}
 use Rattle.lg_node.specs.declared.node.NodeFault.TheVariants as node
 use Rattle.lg_launch.specs.declared.told.Told.TheVariants as told
-use Rattle.lg_launch.specs.Meaning.Running.{table_of}
-use Rattle.lg_launch.specs.Meaning.Telling.{ending, line_of, run_told, status_of}
+use Rattle.lg_launch.specs.Meaning.Running.{table_at_end}
+use Rattle.lg_launch.specs.Meaning.Telling.{ending, line_of, run_told, status_told}
 
 -- what is seen of two ends, if nothing went wrong after them: status, line, and whether the members are written
 record Seen : Type 0 where
@@ -29,7 +29,7 @@ record Seen : Type 0 where
 abbrev seen : Why → Why → Seen
 seen received ticked =
     let ends = ending received ticked in
-    record { status = status_of ends.told; line = line_of ends.told; writes = ends.writes }
+    record { status = status_told ends.told; line = line_of ends.told; writes = ends.writes }
 
 abbrev row : ℕ → List ℕ → Bool → Seen
 row status line writes = record { status = status; line = line; writes = writes }
@@ -100,14 +100,14 @@ refused_members e closed written = refl
 
 no_table :
     (e : NodeEnd) (closed : Result Left CloseFault)
-    → table_of (Ok (left e Ousted Stopped (Err refusal.NoView) closed)) ≡ None
+    → table_at_end (Ok (left e Ousted Stopped (Err refusal.NoView) closed)) ≡ None
 no_table e closed = refl
 
 -- Otherwise its members are the table. Why that wasn't written is told before a closing that was refused, and that
 -- before the ousting.
 the_table :
     (e : NodeEnd) (records : Members) (closed : Result Left CloseFault)
-    → table_of (Ok (left e Stopped Ousted (Ok records) closed)) ≡ Some records.items
+    → table_at_end (Ok (left e Stopped Ousted (Ok records) closed)) ≡ Some records.items
 the_table e records closed = refl
 
 unwritten :
@@ -128,7 +128,7 @@ nothing_else e records whole = refl
 -- If the link failed, no table is written, and nothing else is told.
 link_without_table :
     (e : NodeEnd) (members : Result Members Refusal) (closed : Result Left CloseFault)
-    → table_of (Ok (left e Stopped LinkFailed members closed)) ≡ None
+    → table_at_end (Ok (left e Stopped LinkFailed members closed)) ≡ None
 link_without_table e members closed = refl
 
 link_alone :
@@ -153,7 +153,7 @@ faulty_file : line_of (told.Config Value) ≡ codes "lg: config 14\n"
 unfolding digits
 faulty_file = refl
 
-faulty_file_status : status_of (told.Config Value) ≡ 3
+faulty_file_status : status_told (told.Config Value) ≡ 3
 faulty_file_status = refl
 
 no_file : line_of told.Read ≡ codes "lg: read\n"

@@ -20,12 +20,12 @@ use Rattle.lg_node.specs.Meaning.Turns.{Line}
 use Rattle.lg_node.specs.Meaning.Words.{seeded, DrawsEight}
 use Rattle.lg_launch.specs.declared.told.Told.{Told}
 use Rattle.lg_launch.specs.declared.told.Told.TheVariants.{Config, Memory, Read}
-use Rattle.lg_launch.specs.Meaning.Telling.{ending, line_of, run_told, status_of}
+use Rattle.lg_launch.specs.Meaning.Telling.{ending, line_of, run_told, status_told}
 
 -- the records of the table that is to be written, if one is to be
-abbrev pub table_of : Result NodeEnd NodeFault → Option (List Claim)
-table_of (Err fault) = None
-table_of (Ok e) =
+abbrev pub table_at_end : Result NodeEnd NodeFault → Option (List Claim)
+table_at_end (Err fault) = None
+table_at_end (Ok e) =
     if (ending e.received.why e.ticked.why).writes then option_map (λ v. v.items) (result_ok e.members) else None
 
 -- A table is written whole, if there is one. If the writing failed, nothing says how much was written. If memory for
@@ -54,26 +54,26 @@ pub record RunsNode
   pub ran : Result NodeEnd NodeFault
   pub written : Result (Unit {0}) RunFault
   pub run : MatchResult ran (HasRun n until) IsEarly
-  pub table : Writes before after held holds (table_of ran) written
+  pub table : Writes before after held holds (table_at_end ran) written
   pub line : AppendsFront reported reports (line_of (run_told ran written))
-  pub is : status ≡ status_of (run_told ran written)
+  pub is : status ≡ status_told (run_told ran written)
 
 -- Nothing is written, and this is told, as far as the report is taken.
 pub record TellsAlone
     {W : Type 0} (before after : W) (reported reports : Option (List ℕ)) (told : Told) (status : ℕ) : Type 0 where
   pub unwritten : after ≡ before
   pub line : AppendsFront reported reports (line_of told)
-  pub is : status ≡ status_of told
+  pub is : status ≡ status_told told
 
 -- A configuration that was read is run. If none was read, the reason is told.
-abbrev pub RunsAnswer :
+abbrev pub RunsConfig :
     {W : Type 0} → (before after : W) (held holds reported reports : Option (List ℕ))
     → Result NodeConfig ReadFault → (until status : ℕ) → Type 0
-RunsAnswer before after held holds reported reports (Ok n) until status =
+RunsConfig before after held holds reported reports (Ok n) until status =
     RunsNode before after held holds reported reports n until status
-RunsAnswer before after held holds reported reports (Err NoMemory) until status =
+RunsConfig before after held holds reported reports (Err NoMemory) until status =
     TellsAlone before after reported reports Memory status
-RunsAnswer before after held holds reported reports (Err (File fault)) until status =
+RunsConfig before after held holds reported reports (Err (File fault)) until status =
     TellsAlone before after reported reports (Config fault) status
 
 -- The bytes of a file are read as a configuration, and the configuration is run.
@@ -83,7 +83,7 @@ pub record RunsBytes
     : Type 0 where
   pub answer : Result NodeConfig ReadFault
   pub read : IsAnswer bytes answer
-  pub runs : RunsAnswer before after held holds reported reports answer until status
+  pub runs : RunsConfig before after held holds reported reports answer until status
 
 -- A file gives some bytes, and these are run. Or it can't be read, or memory is refused for it, and that is told.
 abbrev pub RunsFile :

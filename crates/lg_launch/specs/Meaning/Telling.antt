@@ -17,40 +17,40 @@ use Rattle.lg_launch.specs.declared.told.Told.TheVariants.{Done, Memory, Read, W
 use Rattle.lg_launch.specs.declared.told.Told.TheVariants.{Config, Ousted, Link}
 
 -- the exit status
-abbrev pub status_of : Told → ℕ
-status_of Done = 0
-status_of (Config fault) = 3
-status_of Ousted = 4
-status_of Link = 5
-status_of Memory = 1
-status_of Read = 1
-status_of Write = 1
-status_of History = 1
-status_of Turns = 1
-status_of Refused = 1
-status_of Close = 1
+abbrev pub status_told : Told → ℕ
+status_told Done = 0
+status_told (Config fault) = 3
+status_told Ousted = 4
+status_told Link = 5
+status_told Memory = 1
+status_told Read = 1
+status_told Write = 1
+status_told History = 1
+status_told Turns = 1
+status_told Refused = 1
+status_told Close = 1
 
 -- `lg: ` and a word or two, as a line
-abbrev pub said : List ℕ → List ℕ
-said words = codes "lg: " ++ words ++ newline
+abbrev pub said_line : List ℕ → List ℕ
+said_line words = codes "lg: " ++ words ++ newline
 
 -- the line of a faulty configuration file, by the number of the fault
 abbrev pub config_line : ℕ → List ℕ
-config_line number = said (codes "config " ++ decimal number)
+config_line number = said_line (codes "config " ++ decimal number)
 
 -- the line on standard error
 abbrev pub line_of : Told → List ℕ
 line_of Done = []
-line_of Memory = said (codes "memory")
-line_of Read = said (codes "read")
-line_of Write = said (codes "write")
-line_of History = said (codes "history")
-line_of Turns = said (codes "turns")
-line_of Refused = said (codes "refused")
-line_of Close = said (codes "close")
+line_of Memory = said_line (codes "memory")
+line_of Read = said_line (codes "read")
+line_of Write = said_line (codes "write")
+line_of History = said_line (codes "history")
+line_of Turns = said_line (codes "turns")
+line_of Refused = said_line (codes "refused")
+line_of Close = said_line (codes "close")
 line_of (Config fault) = config_line (fault_number fault)
-line_of Ousted = said (codes "ousted")
-line_of Link = said (codes "link")
+line_of Ousted = said_line (codes "ousted")
+line_of Link = said_line (codes "link")
 
 -- what is told of a refusal, and of a fault of memory, reading or writing
 abbrev pub refusal_told : Refusal → Told

@@ -16,15 +16,15 @@ use Rattle.lg_membership.specs.declared.applied.Presence.{Presence}
 use Rattle.lg_membership.specs.declared.applied.Presence.TheVariants.{Stays as Remains, Joins, Leaves}
 use Rattle.lg_membership.specs.declared.origin.Origin.{Origin}
 use Rattle.lg_membership.specs.declared.suspected.Suspected.{Suspected}
-use Rattle.lg_membership.specs.Meaning.Log.{Log, Said, own, table, live_others}
+use Rattle.lg_membership.specs.Meaning.Log.{GroupLog, Said, own, table, live_others}
 use Rattle.lg_membership.specs.Meaning.Suspicions.{suspicions, suspected_name}
 
 -- The record of a member, which may be this member itself. From the opening on it is the one of the view.
-abbrev pub record_in : Log → List ℕ → Option Claim
+abbrev pub record_in : GroupLog → List ℕ → Option Claim
 record_in log m = row_at name_cmp name_of m (view_of (own_record (own log)) (table log))
 
 -- the suspicion of another member
-abbrev pub suspicion_in : Log → List ℕ → Option Suspected
+abbrev pub suspicion_in : GroupLog → List ℕ → Option Suspected
 suspicion_in log m = row_at name_cmp suspected_name m (suspicions log)
 
 -- whether a claim about this member is a suspicion that this member refutes
@@ -46,7 +46,7 @@ IsDeadlineChange before after Ends = (before ≢ None) × (after ≡ None)
 IsDeadlineChange before after (Stands deadline) = option_map (λ r. deadline_of r.suspicion) after ≡ Some deadline
 
 -- whether a member is among the others that haven't failed
-abbrev pub is_live : Log → List ℕ → Bool
+abbrev pub is_live : GroupLog → List ℕ → Bool
 is_live log m = is_among name_cmp m (live_others log)
 
 -- A member is among them or not, as before; or it is and wasn't; or it was and isn't.
@@ -61,7 +61,7 @@ presence_of true false = Leaves
 --     refuted     whether it is a suspicion of this member, and this member refutes it
 --     deadline    what becomes of the deadline of its member's suspicion
 --     presence    whether its member joins the others that haven't failed, or leaves them
-pub record IsApplied (now : ℕ) (origin : Origin) (c : Claim) (log : Log) (applied : Applied) : Type 0 where
+pub record IsApplied (now : ℕ) (origin : Origin) (c : Claim) (log : GroupLog) (applied : Applied) : Type 0 where
   pub changed : (let after = Said now origin c ∷ log in
       IsRecordChange (record_in log c.name) (record_in after c.name) applied.changed)
   pub refuted : applied.refuted ≡ is_refuted (own_hearing (own log) c)

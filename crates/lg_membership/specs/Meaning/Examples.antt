@@ -18,7 +18,8 @@ use Rattle.lg_membership.specs.declared.applied.Presence.{Presence}
 use Rattle.lg_membership.specs.declared.applied.Presence.TheVariants.{Stays as Remains, Joins, Leaves}
 use Rattle.lg_membership.specs.declared.origin.Origin.TheVariants.{Seed, Group}
 use Rattle.lg_membership.specs.declared.suspected.Suspected.{Suspected}
-use Rattle.lg_membership.specs.Meaning.Log.{Fact, Log, Opened, Said, Sent, own, table, live, live_others, view}
+use Rattle.lg_membership.specs.Meaning.Log.{GroupFact, GroupLog, Opened, Said, Sent, own, table, live, live_others}
+use Rattle.lg_membership.specs.Meaning.Log.{group_view}
 use Rattle.lg_membership.specs.Meaning.Suspicions.{suspicions, suspected}
 use Rattle.lg_membership.specs.Meaning.Gossip.{put_by, queued, queue_rows, queue, target_record, taken, fill}
 use Rattle.lg_membership.specs.Meaning.Applied.{is_live, presence_of}
@@ -50,14 +51,14 @@ abbrev on : ℕ → Status → ℕ → Claim
 on letter status i = record { name = letter ∷ []; addr = here; status = status; incarnation = i }
 
 -- The member is opened with the default numbers. The group says a claim at a moment.
-abbrev opened : Fact
+abbrev opened : GroupFact
 opened = Opened (defaults (b ∷ []) here)
 
-abbrev says : ℕ → Claim → Fact
+abbrev says : ℕ → Claim → GroupFact
 says now claim = Said now Group claim
 
 -- b knows that a, c, d and e are alive
-abbrev others : Log
+abbrev others : GroupLog
 others = says 0 (on e Alive 0) ∷ says 0 (on d Alive 0) ∷ says 0 (on c Alive 0) ∷ says 0 (on a Alive 0) ∷ opened
     ∷ []
 
@@ -66,10 +67,10 @@ unfolding table_of record_of roster
 five_live = refl
 
 -- c is suspected by d at 2000, then by d again, and then by e
-abbrev by_d : Log
+abbrev by_d : GroupLog
 by_d = says 2000 (on c (accused_by d) 0) ∷ others
 
-abbrev by_d_and_e : Log
+abbrev by_d_and_e : GroupLog
 by_d_and_e = says 2600 (on c (accused_by e) 0) ∷ says 2500 (on c (accused_by d) 0) ∷ by_d
 
 abbrev of_c : List (List ℕ) → Suspected
@@ -85,7 +86,7 @@ suspected_by_d_and_e : suspicions by_d_and_e ≡ of_c ((d ∷ []) ∷ (e ∷ [])
 unfolding table_of record_of roster suspicions suspected range_of log10_of counted_accusers
 suspected_by_d_and_e = refl
 
-abbrev deadlines : Log → List ℕ
+abbrev deadlines : GroupLog → List ℕ
 deadlines log = map (λ r. deadline_of r.suspicion) (suspicions log)
 
 deadline_by_d : deadlines by_d ≡ 32000 ∷ []
@@ -126,23 +127,23 @@ four_live = refl
 
 -- a joins the others that haven't failed, and stays among them while it is suspected. When it fails it leaves them. It
 -- joins them again when it is alive at a greater incarnation.
-abbrev begun : Log
+abbrev begun : GroupLog
 begun = opened ∷ []
 
-abbrev with_a : Log
+abbrev with_a : GroupLog
 with_a = says 0 (on a Alive 0) ∷ begun
 
-abbrev suspected_a : Log
+abbrev suspected_a : GroupLog
 suspected_a = says 2000 (on a (accused_by c) 0) ∷ with_a
 
-abbrev failed_a : Log
+abbrev failed_a : GroupLog
 failed_a = says 7000 (on a Failed 0) ∷ suspected_a
 
 a_is_live : live_others suspected_a ≡ (a ∷ []) ∷ []
 unfolding table_of record_of roster
 a_is_live = refl
 
-abbrev back_a : Log
+abbrev back_a : GroupLog
 back_a = says 8000 (on a Alive 1) ∷ failed_a
 
 none_is_live : live_others (says 8000 (on a Alive 0) ∷ failed_a) ≡ []
@@ -153,7 +154,7 @@ a_is_live_again : live_others back_a ≡ (a ∷ []) ∷ []
 unfolding table_of record_of roster
 a_is_live_again = refl
 
-abbrev presence_of_a : Log → Log → Presence
+abbrev presence_of_a : GroupLog → GroupLog → Presence
 presence_of_a before after = presence_of (is_live before (a ∷ [])) (is_live after (a ∷ []))
 
 a_joins : presence_of_a begun with_a ≡ Joins
@@ -173,7 +174,7 @@ unfolding table_of record_of roster
 a_joins_again = refl
 
 -- b is suspected by a and then by c, both at 0. It refutes that once.
-abbrev refuted : Log
+abbrev refuted : GroupLog
 refuted = says 0 (on b (accused_by c) 0) ∷ says 0 (on b (accused_by a) 0) ∷ opened ∷ []
 
 own_number : own refuted ≡ record { name = b ∷ []; addr = here; number = 1; ousted = false }
@@ -185,7 +186,7 @@ unfolding own_of table_of record_of roster takes put_by queued queue_rows suspic
 refutation_is_queued = refl
 
 -- Two claims say that b failed at 0. b raises its incarnation once, and that is queued.
-abbrev raised_by_failing : Log
+abbrev raised_by_failing : GroupLog
 raised_by_failing = says 0 (on b Failed 0) ∷ says 0 (on b Failed 0) ∷ opened ∷ []
 
 number_after_failing : own raised_by_failing ≡ record { name = b ∷ []; addr = here; number = 1; ousted = false }
@@ -198,10 +199,10 @@ unfolding own_of table_of record_of roster takes put_by queued queue_rows suspic
 raised_number_is_queued = refl
 
 -- A seed is known, but isn't queued. A claim that overrides it is queued.
-abbrev seeded : Log
+abbrev seeded : GroupLog
 seeded = Said 0 Seed (on c Alive 0) ∷ opened ∷ []
 
-seed_is_known : view seeded ≡ on b Alive 0 ∷ on c Alive 0 ∷ []
+seed_is_known : group_view seeded ≡ on b Alive 0 ∷ on c Alive 0 ∷ []
 unfolding own_of table_of record_of roster
 seed_is_known = refl
 
@@ -214,17 +215,17 @@ unfolding table_of record_of roster takes put_by queued queue_rows suspicions
 overridden_seed = refl
 
 -- Nobody is known before the opening.
-unopened : view [] ≡ []
+unopened : group_view [] ≡ []
 unopened = refl
 
 -- A claim is sent four times among fewer than ten members.
 abbrev alive-c : Claim
 alive-c = on c Alive 0
 
-abbrev sent : Log → Log
+abbrev sent : GroupLog → GroupLog
 sent log = Sent (alive-c ∷ []) ∷ log
 
-abbrev heard : Log
+abbrev heard : GroupLog
 heard = says 0 alive-c ∷ opened ∷ []
 
 fourth_packet : fill_of (queue (sent (sent (sent heard)))) None 2 ≡ alive-c ∷ []
@@ -253,7 +254,7 @@ suspected-c = on c (accused_by a) 2
 abbrev alive-d : Claim
 alive-d = on d Alive 0
 
-abbrev two_heard : Log
+abbrev two_heard : GroupLog
 two_heard = says 0 alive-d ∷ says 0 suspected-c ∷ opened ∷ []
 
 ping_begins_with_buddy : fill (Some (c ∷ [])) two_heard ≡ suspected-c ∷ alive-d ∷ []
@@ -274,7 +275,7 @@ unfolding table_of record_of roster takes put_by queued queue_rows suspicions
 after_that_ping = refl
 
 -- A packet other than a Ping has no buddy. The claim that was sent least often comes first, here that about d.
-abbrev sent_c : Log
+abbrev sent_c : GroupLog
 sent_c = Sent (suspected-c ∷ []) ∷ two_heard
 
 no_ping_has_a_buddy : fill None sent_c ≡ alive-d ∷ suspected-c ∷ []
@@ -302,7 +303,7 @@ unfolding table_of record_of roster
 target_is_oneself = refl
 
 -- A claim of a new accuser that counts is queued. A claim of one that counts already isn't.
-abbrev queued_about : ℕ → Log → Option Queued
+abbrev queued_about : ℕ → GroupLog → Option Queued
 queued_about letter log = queued log (letter ∷ [])
 
 confirmation_is_queued : queued_about c by_d_and_e ≡ Some record { claim = on c (accused_by e) 0; sends = 0 }

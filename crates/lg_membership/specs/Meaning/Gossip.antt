@@ -15,7 +15,7 @@ use Rattle.lg_gossip.specs.Meaning.Queue.{GossipQueue, taken_of, fill_of}
 use Rattle.lg_membership.specs.declared.origin.Origin.{Origin}
 use Rattle.lg_membership.specs.declared.origin.Origin.TheVariants.{Seed, Group}
 use Rattle.lg_membership.specs.declared.suspected.Suspected.{Suspected}
-use Rattle.lg_membership.specs.Meaning.Log.{Log, Opened, Said, Sent, config, me, own, table, live, known}
+use Rattle.lg_membership.specs.Meaning.Log.{GroupLog, Opened, Said, Sent, config, me, own, table, live, known}
 use Rattle.lg_membership.specs.Meaning.Suspicions.{suspicions, confirms}
 
 -- What a claim puts into the queue when it is said. A claim about another member puts itself there if it makes or
@@ -34,7 +34,7 @@ put_if Group counts c = if counts then Some c else None
 abbrev pub put_of_other : Origin → List Claim → List Suspected → Claim → Option Claim
 put_of_other origin rows suspects c = put_if origin (takes rows c || confirms rows suspects c) c
 
-unfoldable pub put_by : Origin → Log → Claim → Option Claim
+unfoldable pub put_by : Origin → GroupLog → Claim → Option Claim
 put_by origin log c =
     if is_same name_cmp c.name (me log)
     then put_of_own (own_hearing (own log) c) (own_heard (own log) c)
@@ -45,7 +45,7 @@ abbrev pub put_or : Option Claim → List ℕ → Option Claim → Option Claim
 put_or None m before = before
 put_or (Some c) m before = if is_same name_cmp c.name m then Some c else before
 
-abbrev pub put_last : Log → List ℕ → Option Claim
+abbrev pub put_last : GroupLog → List ℕ → Option Claim
 put_last [] m = None
 put_last (Opened opening ∷ log) m = None
 put_last (Said now origin c ∷ log) m = put_or (put_by origin log c) m (put_last log m)
@@ -56,24 +56,24 @@ abbrev pub since_put : Option Claim → List ℕ → ℕ → ℕ
 since_put None m before = before
 since_put (Some c) m before = if is_same name_cmp c.name m then 0 else before
 
-abbrev pub sends : Log → List ℕ → ℕ
+abbrev pub sends : GroupLog → List ℕ → ℕ
 sends [] m = 0
 sends (Opened opening ∷ log) m = 0
 sends (Said now origin c ∷ log) m = since_put (put_by origin log c) m (sends log m)
 sends (Sent taken ∷ log) m = if is_among name_cmp m (map name_of taken) then sends log m + 1 else sends log m
 
 -- the claim about a member that is queued, with its sends; and the queue, in the order of names
-unfoldable pub queued : Log → List ℕ → Option Queued
+unfoldable pub queued : GroupLog → List ℕ → Option Queued
 queued log m = option_map (λ c. record { claim = c; sends = sends log m }) (put_last log m)
 
-unfoldable pub queue_rows : Log → List Queued
+unfoldable pub queue_rows : GroupLog → List Queued
 queue_rows log = filter_map (queued log) (known log)
 
 abbrev pub lambda_in : Option Config → ℕ
 lambda_in None = 1
 lambda_in (Some opening) = opening.lambda
 
-abbrev pub queue : Log → GossipQueue
+abbrev pub queue : GroupLog → GossipQueue
 queue log = record { lambda = lambda_in (config log); rows = queue_rows log }
 
 -- The record of the member that a Ping goes to, if that is another member that is known. If the record is Suspect, it
@@ -83,9 +83,9 @@ target_record None rows = None
 target_record (Some target) rows = row_at name_cmp name_of target rows
 
 -- The claims that a packet takes from the queue. It is a Ping to the target, or another packet if no target is given.
-abbrev pub taken : Option (List ℕ) → Log → List Claim
+abbrev pub taken : Option (List ℕ) → GroupLog → List Claim
 taken target log = taken_of (queue log) (target_record target (table log)) (live log)
 
 -- all claims of that packet: its buddy, if it has one, and then those taken
-abbrev pub fill : Option (List ℕ) → Log → List Claim
+abbrev pub fill : Option (List ℕ) → GroupLog → List Claim
 fill target log = fill_of (queue log) (target_record target (table log)) (live log)

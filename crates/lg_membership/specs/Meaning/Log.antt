@@ -12,49 +12,49 @@ use Rattle.lg_membership.specs.declared.origin.Origin.{Origin}
 
 -- A log says what happened, as facts with the latest first. The member was opened. Or a claim was said at a moment,
 -- as a seed of the opening or by the group. Or a packet was sent that took these claims from the queue.
-pub data Fact : Type 0 where
-  Opened : Config → Fact
-  Said : ℕ → Origin → Claim → Fact
-  Sent : List Claim → Fact
+pub data GroupFact : Type 0 where
+  Opened : Config → GroupFact
+  Said : ℕ → Origin → Claim → GroupFact
+  Sent : List Claim → GroupFact
 
-abbrev pub Log : Type 0
-Log = List Fact
+abbrev pub GroupLog : Type 0
+GroupLog = List GroupFact
 
 -- the configuration that the member was opened with
-abbrev pub config : Log → Option Config
+abbrev pub config : GroupLog → Option Config
 config [] = None
 config (Opened opening ∷ log) = Some opening
 config (_ ∷ log) = config log
 
 -- the claims said since the opening, the latest first
-abbrev pub said : Log → List Claim
+abbrev pub said : GroupLog → List Claim
 said [] = []
 said (Opened opening ∷ log) = []
 said (Said now origin c ∷ log) = c ∷ said log
 said (Sent taken ∷ log) = said log
 
 -- This member's name and address. Before the opening these are placeholders.
-abbrev pub name_in : Option Config → List ℕ
-name_in None = 97 ∷ []
-name_in (Some opening) = opening.name
+abbrev pub opening_name : Option Config → List ℕ
+opening_name None = 97 ∷ []
+opening_name (Some opening) = opening.name
 
-abbrev pub addr_in : Option Config → Addr
-addr_in None = record { octets = 0 ∷ 0 ∷ 0 ∷ 0 ∷ []; port = 0 }
-addr_in (Some opening) = opening.addr
+abbrev pub opening_addr : Option Config → Addr
+opening_addr None = record { octets = 0 ∷ 0 ∷ 0 ∷ 0 ∷ []; port = 0 }
+opening_addr (Some opening) = opening.addr
 
-abbrev pub me : Log → List ℕ
-me log = name_in (config log)
+abbrev pub me : GroupLog → List ℕ
+me log = opening_name (config log)
 
 -- what this member knows of itself: its incarnation, and whether it was ousted
-abbrev pub own : Log → Oneself
-own log = own_of (me log) (addr_in (config log)) (said log)
+abbrev pub own : GroupLog → Oneself
+own log = own_of (me log) (opening_addr (config log)) (said log)
 
 -- the records of the others
-abbrev pub table : Log → List Claim
+abbrev pub table : GroupLog → List Claim
 table log = table_of (me log) (said log)
 
 -- how many members haven't failed, this member included (n)
-abbrev pub live : Log → ℕ
+abbrev pub live : GroupLog → ℕ
 live log = live_in (table log)
 
 -- of some records, the names of the members that haven't failed
@@ -62,11 +62,11 @@ abbrev pub live_names : List Claim → List (List ℕ)
 live_names rows = map name_of (filter (λ r. not (is_failed r.status)) rows)
 
 -- the others that haven't failed, in the order of names
-abbrev pub live_others : Log → List (List ℕ)
+abbrev pub live_others : GroupLog → List (List ℕ)
 live_others log = live_names (table log)
 
 -- the names that are known, this member's among them, in the order of names
-abbrev pub known : Log → List (List ℕ)
+abbrev pub known : GroupLog → List (List ℕ)
 known log = put_key name_cmp (me log) (roster (me log) (said log))
 
 -- the member table, this member included, in the order of names; empty before the opening
@@ -74,5 +74,5 @@ abbrev pub view_in : Option Config → Oneself → List Claim → List Claim
 view_in None oneself rows = []
 view_in (Some opening) oneself rows = view_of (own_record oneself) rows
 
-abbrev pub view : Log → List Claim
-view log = view_in (config log) (own log) (table log)
+abbrev pub group_view : GroupLog → List Claim
+group_view log = view_in (config log) (own log) (table log)

@@ -14,7 +14,7 @@ use Rattle.lg_timing.specs.Meaning.Timeouts.{range_of}
 use Rattle.lg_suspicion.specs.Meaning.Accusers.{suspicion_after, accuser_counts}
 use Rattle.lg_gossip.specs.Meaning.Queue.{is_suspect}
 use Rattle.lg_membership.specs.declared.suspected.Suspected.{Suspected}
-use Rattle.lg_membership.specs.Meaning.Log.{Log, Opened, Said, Sent, config, me, said, live}
+use Rattle.lg_membership.specs.Meaning.Log.{GroupLog, Opened, Said, Sent, config, me, said, live}
 
 -- whether a claim accuses a member at an incarnation: it says that the member is Suspect, at that incarnation
 abbrev pub accuses : List ℕ → ℕ → Claim → Bool
@@ -25,7 +25,7 @@ abbrev pub accusers_in : List ℕ → ℕ → List Claim → List (List ℕ)
 accusers_in m i past = filter_map (λ c. accuser_of c.status) (filter (accuses m i) past)
 
 -- the log up to the first such claim, including it
-abbrev pub raise_of : List ℕ → ℕ → Log → Option Log
+abbrev pub raise_of : List ℕ → ℕ → GroupLog → Option GroupLog
 raise_of m i [] = None
 raise_of m i (Opened opening ∷ log) = None
 raise_of m i (Said now origin c ∷ log) =
@@ -33,19 +33,19 @@ raise_of m i (Said now origin c ∷ log) =
 raise_of m i (Sent taken ∷ log) = raise_of m i log
 
 -- the moment at which the latest fact of that log was said
-abbrev pub said_at : Log → ℕ
+abbrev pub said_at : GroupLog → ℕ
 said_at (Said now origin c ∷ log) = now
 said_at _ = 0
 
 -- The suspicion that the first such claim raises, at its moment. Its timeouts are those for the number of members
 -- that haven't failed once the claim was taken. Its accusers are all who accuse the member at this incarnation.
-abbrev pub suspicion_since : Config → List ℕ → List (List ℕ) → Option Log → Option Suspected
+abbrev pub suspicion_since : Config → List ℕ → List (List ℕ) → Option GroupLog → Option Suspected
 suspicion_since opening m accusers None = None
 suspicion_since opening m accusers (Some front) =
     Some record { name = m; suspicion = suspicion_after (said_at front) (range_of (live front) opening) accusers }
 
 -- a member is suspected while its record is Suspect, at the incarnation of that record
-abbrev pub suspected_by : Config → Log → List ℕ → Option Claim → Option Suspected
+abbrev pub suspected_by : Config → GroupLog → List ℕ → Option Claim → Option Suspected
 suspected_by opening log m None = None
 suspected_by opening log m (Some r) =
     if is_suspect r.status
@@ -53,15 +53,15 @@ suspected_by opening log m (Some r) =
     else None
 
 -- nobody is suspected before the opening
-abbrev pub suspected_in : Option Config → Log → List ℕ → Option Suspected
+abbrev pub suspected_in : Option Config → GroupLog → List ℕ → Option Suspected
 suspected_in None log m = None
 suspected_in (Some opening) log m = suspected_by opening log m (record_of (said log) m)
 
-unfoldable pub suspected : Log → List ℕ → Option Suspected
+unfoldable pub suspected : GroupLog → List ℕ → Option Suspected
 suspected log m = suspected_in (config log) log m
 
 -- the suspicions of the other members, in the order of names
-unfoldable pub suspicions : Log → List Suspected
+unfoldable pub suspicions : GroupLog → List Suspected
 suspicions log = filter_map (suspected log) (roster (me log) (said log))
 
 abbrev pub suspected_name : Suspected → List ℕ

@@ -79,10 +79,10 @@ suspicions_after Nothing rows = rows
 suspicions_after (Ending m) rows = without_row name_cmp suspected_name m rows
 suspicions_after (Putting r) rows = put_row name_cmp suspected_name r rows
 
-abbrev pub deadline_after : Change → Deadline
-deadline_after Nothing = Stays
-deadline_after (Ending m) = Ends
-deadline_after (Putting r) = Stands (deadline_of r.suspicion)
+abbrev pub deadline_of_change : Change → Deadline
+deadline_of_change Nothing = Stays
+deadline_of_change (Ending m) = Ends
+deadline_of_change (Putting r) = Stands (deadline_of r.suspicion)
 
 -- whether a suspicion was raised or has one more accuser
 abbrev pub stands : Deadline → Bool

@@ -12,7 +12,7 @@ use Rattle.lg_gossip.specs.Meaning.Queue.{GossipQueue, queued_name}
 use Rattle.lg_membership.specs.declared.origin.Origin.{Origin}
 use Rattle.lg_membership.specs.declared.suspected.Suspected.{Suspected}
 use Rattle.lg_membership.specs.Meaning.Suspicions.{suspected_name}
-use Rattle.lg_membership.specs.Support.State.{State, put_in}
+use Rattle.lg_membership.specs.Support.State.{GroupState, put_in}
 
 abbrev pub HasPlace : Option Claim → GossipQueue → Type 0
 HasPlace None waiting = Unit {0}
@@ -22,13 +22,13 @@ HasPlace (Some c) waiting =
 abbrev pub HasSeat : List ℕ → List Suspected → Type 0
 HasSeat m rows = row_at name_cmp suspected_name m rows ≡ None → length rows < MAX_OTHERS
 
-pub record HasRoom (origin : Origin) (c : Claim) (s : State) : Type 0 where
+pub record HasRoom (origin : Origin) (c : Claim) (s : GroupState) : Type 0 where
   pub place : HasPlace (put_in origin c s) s.queue
   pub seat : c.name ≢ s.members.own → takes s.members.table c ≡ true → HasSeat c.name s.suspicions
 
 -- what holds of each state: the records of the others and their suspicions are in the order of names, and no record
 -- there is about this member
-pub record IsOrdered (s : State) : Type 0 where
+pub record IsOrdered (s : GroupState) : Type 0 where
   pub one_name : s.own.name ≡ s.members.own
   pub rises : Rises name_cmp (map name_of s.members.table)
   pub others : row_at name_cmp name_of s.own.name s.members.table ≡ None

@@ -14,14 +14,14 @@ use Rattle.lg_membership.specs.declared.applied.Deadline.TheVariants.{Stays}
 use Rattle.lg_membership.specs.declared.applied.Presence.TheVariants.{Stays as Remains}
 use Rattle.lg_membership.specs.declared.origin.Origin.{Origin}
 use Rattle.lg_membership.specs.declared.suspected.Suspected.{Suspected}
-use Rattle.lg_membership.specs.Meaning.Log.{Log, config, me, said, own, live_names, view_in}
+use Rattle.lg_membership.specs.Meaning.Log.{GroupLog, config, me, said, own, live_names, view_in}
 use Rattle.lg_membership.specs.Meaning.Suspicions.{suspicions}
 use Rattle.lg_membership.specs.Meaning.Gossip.{queue, put_of_own, put_of_other, target_record}
 use Rattle.lg_membership.specs.Meaning.Applied.{is_refuted}
 use Rattle.lg_membership.specs.Meaning.Pages.{is_behind}
-use Rattle.lg_membership.specs.Support.Changes.{Change, change_of, suspicions_after, deadline_after, presence_heard}
+use Rattle.lg_membership.specs.Support.Changes.{Change, change_of, suspicions_after, deadline_of_change, presence_heard}
 
-pub record State : Type 0 where
+pub record GroupState : Type 0 where
   pub config : Option Config
   pub own : Oneself
   pub members : Known
@@ -29,8 +29,8 @@ pub record State : Type 0 where
   pub queue : GossipQueue
 
 -- the state after a log: each part by its definition
-abbrev pub state_of : Log → State
-state_of log = record {
+abbrev pub group_state_of : GroupLog → GroupState
+group_state_of log = record {
   config = config log;
   own = own log;
   members = known_of (me log) (said log);
@@ -39,8 +39,8 @@ state_of log = record {
 }
 
 -- the state once the member was opened
-abbrev pub open_with : Config → State → State
-open_with opening s = record {
+abbrev pub open_group : Config → GroupState → GroupState
+open_group opening s = record {
   config = Some opening;
   own = own_of opening.name opening.addr [];
   members = known_of opening.name [];
@@ -49,15 +49,15 @@ open_with opening s = record {
 }
 
 -- what this member knows of itself, and the records of the others
-abbrev pub standing : State → Standing
+abbrev pub standing : GroupState → Standing
 standing s = record { own = s.own; table = s.members.table }
 
 -- the others that haven't failed
-abbrev pub live_others_in : State → List (List ℕ)
+abbrev pub live_others_in : GroupState → List (List ℕ)
 live_others_in s = live_names s.members.table
 
 -- the member table, this member included
-abbrev pub shown : State → List Claim
+abbrev pub shown : GroupState → List Claim
 shown s = view_in s.config s.own s.members.table
 
 -- the records with one more, if one was found
@@ -70,15 +70,15 @@ abbrev pub with_behind : Option (List ℕ) → Claim → List Claim → List Cla
 with_behind after r rows = if is_behind after r then put_row name_cmp name_of r rows else rows
 
 -- what a claim at a moment changes of the suspicions
-abbrev pub change_in : ℕ → Claim → State → Change
+abbrev pub change_in : ℕ → Claim → GroupState → Change
 change_in now c s = change_of s.config now s.members.table s.suspicions c
 
 -- what hearing a claim about this member does
-abbrev pub own_hearing_in : Claim → State → OwnHeard
+abbrev pub own_hearing_in : Claim → GroupState → OwnHeard
 own_hearing_in c s = own_hearing s.own c
 
 -- what a claim puts into the queue, and the queue then
-abbrev pub put_in : Origin → Claim → State → Option Claim
+abbrev pub put_in : Origin → Claim → GroupState → Option Claim
 put_in origin c s =
     if is_same name_cmp c.name s.own.name
     then put_of_own (own_hearing_in c s) (own_heard s.own c)
@@ -89,49 +89,50 @@ queue_with None waiting = waiting
 queue_with (Some c) waiting = put_of c waiting
 
 -- the state once a claim was applied
-abbrev pub apply_own : Claim → State → State
+abbrev pub apply_own : Claim → GroupState → GroupState
 apply_own c s = record s {
   own = own_heard s.own c;
   queue = queue_with (put_of_own (own_hearing_in c s) (own_heard s.own c)) s.queue;
 }
 
-abbrev pub apply_other : ℕ → Origin → Claim → State → State
+abbrev pub apply_other : ℕ → Origin → Claim → GroupState → GroupState
 apply_other now origin c s = record s {
   members = record { own = s.members.own; table = heard s.members.table c };
   suspicions = suspicions_after (change_in now c s) s.suspicions;
   queue = queue_with (put_of_other origin s.members.table s.suspicions c) s.queue;
 }
 
-unfoldable pub apply : ℕ → Origin → Claim → State → State
-apply now origin c s = if is_same name_cmp c.name s.own.name then apply_own c s else apply_other now origin c s
+unfoldable pub apply_to_group : ℕ → Origin → Claim → GroupState → GroupState
+apply_to_group now origin c s = if is_same name_cmp c.name s.own.name then apply_own c s else apply_other now origin c s
 
 -- what applying a claim returns
-abbrev pub applied_own : Claim → State → Applied
+abbrev pub applied_own : Claim → GroupState → Applied
 applied_own c s =
     let hearing = own_hearing_in c s in
     record { changed = is_rise hearing; refuted = is_refuted hearing; deadline = Stays; presence = Remains }
 
-abbrev pub applied_other : ℕ → Claim → State → Applied
+abbrev pub applied_other : ℕ → Claim → GroupState → Applied
 applied_other now c s =
     let table = s.members.table in
-    let deadline = deadline_after (change_in now c s) in
+    let deadline = deadline_of_change (change_in now c s) in
     record { changed = takes table c; refuted = false; deadline = deadline; presence = presence_heard table c }
 
-unfoldable pub applied : ℕ → Claim → State → Applied
+unfoldable pub applied : ℕ → Claim → GroupState → Applied
 applied now c s = if is_same name_cmp c.name s.own.name then applied_own c s else applied_other now c s
 
 -- the state once claims were applied, one after another
-abbrev pub apply_all : ℕ → Origin → List Claim → State → State
-apply_all now origin [] s = s
-apply_all now origin (c ∷ cs) s = apply_all now origin cs (apply now origin c s)
+abbrev pub apply_all_to_group : ℕ → Origin → List Claim → GroupState → GroupState
+apply_all_to_group now origin [] s = s
+apply_all_to_group now origin (c ∷ cs) s = apply_all_to_group now origin cs (apply_to_group now origin c s)
 
 -- the claims that a packet to this target takes from the queue, and all its claims
-abbrev pub taken_in : Option (List ℕ) → State → List Claim
+abbrev pub taken_in : Option (List ℕ) → GroupState → List Claim
 taken_in target s = taken_of s.queue (target_record target s.members.table) (live_in s.members.table)
 
-abbrev pub fill_in : Option (List ℕ) → State → List Claim
+abbrev pub fill_in : Option (List ℕ) → GroupState → List Claim
 fill_in target s = fill_of s.queue (target_record target s.members.table) (live_in s.members.table)
 
 -- the state once a packet was sent that took these claims from the queue
-abbrev pub send : List Claim → State → State
-send taken s = record s { queue = record { lambda = s.queue.lambda; rows = map (sent_once taken) s.queue.rows } }
+abbrev pub send_from_group : List Claim → GroupState → GroupState
+send_from_group taken s =
+    record s { queue = record { lambda = s.queue.lambda; rows = map (sent_once taken) s.queue.rows } }

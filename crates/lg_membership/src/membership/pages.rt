@@ -6,9 +6,9 @@ ghost use Rattle.std.specs.Prelude.{◌≡◌, ◌≤◌, [], map, option_copied
 ghost use Rattle.arrayvec.specs.ArrayVec.{array_vec_len};
 ghost use Rattle.lg_rules.specs.Meaning.Claim.{name_of};
 ghost use Rattle.lg_rules.specs.Meaning.Rows.{name_cmp, Rises};
-ghost use Rattle.lg_membership.specs.Meaning.Log.{Log, view};
+ghost use Rattle.lg_membership.specs.Meaning.Log.{GroupLog, group_view};
 ghost use Rattle.lg_membership.specs.Meaning.Pages.{is_behind, page_of};
-ghost use Rattle.lg_membership.specs.Support.State.{state_of, shown, with_behind};
+ghost use Rattle.lg_membership.specs.Support.State.{group_state_of, shown, with_behind};
 
 use super::Membership;
 use arrayvec::ArrayVec;
@@ -26,8 +26,8 @@ impl Membership {
     /// one with fewer records. Before the opening nobody is known. Allocates no memory.
     pub fn put_page(&self, after: Option<&Name>, row: &mut ArrayVec<Record, MAX_CLAIMS>)
         ensures state { row.new.items ≡ page_of (option_copied after.entry) (shown self.now) }
-        ensures log { (log : Log) → self.now ≡ state_of log
-            → row.new.items ≡ page_of (option_copied after.entry) (view log) }
+        ensures log { (log : GroupLog) → self.now ≡ group_state_of log
+            → row.new.items ≡ page_of (option_copied after.entry) (group_view log) }
     {
         row.clear();
         if self.config.is_some() {

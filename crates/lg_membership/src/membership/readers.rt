@@ -8,8 +8,8 @@ ghost use Rattle.lg_rules.specs.Meaning.Claim.{name_of};
 ghost use Rattle.lg_rules.specs.Meaning.Own.{own_record};
 ghost use Rattle.lg_rules.specs.Meaning.Rows.{name_cmp, is_among, row_at, Rises};
 ghost use Rattle.lg_rules.specs.Meaning.Table.{live_in};
-ghost use Rattle.lg_membership.specs.Meaning.Log.{Log, config, own, view, live};
-ghost use Rattle.lg_membership.specs.Support.State.{state_of, shown, with_found};
+ghost use Rattle.lg_membership.specs.Meaning.Log.{GroupLog, config, own, group_view, live};
+ghost use Rattle.lg_membership.specs.Support.State.{group_state_of, shown, with_found};
 
 use super::{Membership, is_same_name};
 use arrayvec::ArrayVec;
@@ -20,7 +20,7 @@ impl Membership {
     /// The configuration that the member was opened with, or `None` before the opening.
     pub fn config(&self) -> Option<&Config>
         ensures state { option_copied result ≡ self.now.config }
-        ensures log { (log : Log) → self.now ≡ state_of log → option_copied result ≡ config log }
+        ensures log { (log : GroupLog) → self.now ≡ group_state_of log → option_copied result ≡ config log }
     {
         self.config.as_ref()
     }
@@ -28,7 +28,7 @@ impl Membership {
     /// This member's name. Before the opening it is a placeholder.
     pub fn name(&self) -> Name
         ensures state { result ≡ self.now.own.name }
-        ensures log { (log : Log) → self.now ≡ state_of log → result ≡ (own log).name }
+        ensures log { (log : GroupLog) → self.now ≡ group_state_of log → result ≡ (own log).name }
     {
         self.own.name()
     }
@@ -36,7 +36,7 @@ impl Membership {
     /// This member's own record: Alive at its incarnation and its address.
     pub fn own_record(&self) -> Record
         ensures state { result ≡ own_record self.now.own }
-        ensures log { (log : Log) → self.now ≡ state_of log → result ≡ own_record (own log) }
+        ensures log { (log : GroupLog) → self.now ≡ group_state_of log → result ≡ own_record (own log) }
     {
         self.own.record()
     }
@@ -44,7 +44,7 @@ impl Membership {
     /// This member's incarnation.
     pub fn number(&self) -> Incarnation
         ensures state { result ≡ self.now.own.number }
-        ensures log { (log : Log) → self.now ≡ state_of log → result ≡ (own log).number }
+        ensures log { (log : GroupLog) → self.now ≡ group_state_of log → result ≡ (own log).number }
     {
         self.own.number()
     }
@@ -52,7 +52,7 @@ impl Membership {
     /// Whether a claim about this member came that nothing can refute.
     pub fn is_ousted(&self) -> bool
         ensures state { result ≡ self.now.own.ousted }
-        ensures log { (log : Log) → self.now ≡ state_of log → result ≡ (own log).ousted }
+        ensures log { (log : GroupLog) → self.now ≡ group_state_of log → result ≡ (own log).ousted }
     {
         self.own.ousted()
     }
@@ -61,7 +61,7 @@ impl Membership {
     pub fn live(&self) -> usize
         ensures count { result ≡ live_in self.now.members.table }
         ensures few { result ≤ MAX_MEMBERS }
-        ensures log { (log : Log) → self.now ≡ state_of log → result ≡ live log }
+        ensures log { (log : GroupLog) → self.now ≡ group_state_of log → result ≡ live log }
     {
         self.members.live()
     }
@@ -69,8 +69,8 @@ impl Membership {
     /// The record of the member with this name, which may be this member itself, or `None` if it isn't known.
     pub fn record_of(&self, name: &Name) -> Option<Record>
         ensures state { result ≡ row_at name_cmp name_of name.now (shown self.now) }
-        ensures log { (log : Log) → self.now ≡ state_of log
-            → result ≡ row_at name_cmp name_of name.now (view log) }
+        ensures log { (log : GroupLog) → self.now ≡ group_state_of log
+            → result ≡ row_at name_cmp name_of name.now (group_view log) }
     {
         if self.config.is_none() {
             return None;
@@ -87,8 +87,8 @@ impl Membership {
     pub fn put_records(&self, names: &[Name], row: &mut ArrayVec<Record, MAX_CLAIMS>)
         requires { length names.now ≤ MAX_CLAIMS }
         ensures state { row.new.items ≡ filter (λ r. is_among name_cmp r.name names.now) (shown self.now) }
-        ensures log { (log : Log) → self.now ≡ state_of log
-            → row.new.items ≡ filter (λ r. is_among name_cmp r.name names.now) (view log) }
+        ensures log { (log : GroupLog) → self.now ≡ group_state_of log
+            → row.new.items ≡ filter (λ r. is_among name_cmp r.name names.now) (group_view log) }
     {
         // This tells the checker what the invariant says of the order of names.
         let _ = &self.config;
@@ -129,7 +129,7 @@ impl Membership {
     /// the opening nobody is known.
     pub fn put_table(&self, row: &mut ArrayVec<Record, MAX_MEMBERS>)
         ensures state { row.new.items ≡ shown self.now }
-        ensures log { (log : Log) → self.now ≡ state_of log → row.new.items ≡ view log }
+        ensures log { (log : GroupLog) → self.now ≡ group_state_of log → row.new.items ≡ group_view log }
     {
         row.clear();
         if self.config.is_some() {

@@ -17,7 +17,7 @@ use Rattle.lg_node.specs.declared.node.NodeEnd.{NodeEnd}
 use Rattle.lg_node.specs.declared.node.NodeFault.{NodeFault}
 use Rattle.lg_node.specs.declared.node.NodeFault.TheVariants.{Refused}
 use Rattle.lg_node.specs.Meaning.Turns.{Turn, Line, Made, Ran, HadNoThread, Threw}
-use Rattle.lg_node.specs.Meaning.Turns.{pulls, receives, ticks_before, losses, peers_in, words_in}
+use Rattle.lg_node.specs.Meaning.Turns.{is_pull, receives, ticks_before, losses, peers_in, words_in}
 
 -- the addresses of the seeds
 abbrev pub addrs : List Seed → List Addr
@@ -26,13 +26,13 @@ addrs seeds = map (λ s. s.addr) seeds
 -- Seeds were asked for their tables, each once and in order. `unsent` of the packets weren't sent.
 pub record Asked (tells : Bool) (seeds : List Seed) (k k' : Line) (p q : Own) (unsent : ℕ) : Type 0 where
   pub turns : List Turn
-  pub made : Made pulls tells turns k k' p q
+  pub made : Made is_pull tells turns k k' p q
   pub each : flat_map peers_in turns ≡ addrs seeds
   pub unsent_is : unsent ≡ sum_by losses turns
 
 -- the pass with this seat of an agent that was opened at a moment: it has seen the opening, and made no call
-abbrev pub fresh : Config → ℕ → ℕ → Own
-fresh config start place =
+abbrev pub fresh_own : Config → ℕ → ℕ → Own
+fresh_own config start place =
     record { name = config.name; seat = place; seen = Open start config ∷ []; gone = 0; mine = [] }
 
 -- the end of a loop that makes no turn
@@ -49,12 +49,12 @@ pub record HasServed
   -- how many packets weren't sent to the seeds, and how many later
   pub unsent : ℕ
   pub later : ℕ
-  pub asked : Asked tells config.seeds.items sends between (fresh config start 3) asker unsent
-  pub received_so : Ran receives tells bound hears hears' (fresh config start 1) receiver received
-      ⊎ (HadNoThread receives tells bound hears hears' (fresh config start 1) receiver received
+  pub asked : Asked tells config.seeds.items sends between (fresh_own config start 3) asker unsent
+  pub received_so : Ran receives tells bound hears hears' (fresh_own config start 1) receiver received
+      ⊎ (HadNoThread receives tells bound hears hears' (fresh_own config start 1) receiver received
       × (record ticked { unsent = later } ≡ unstarted))
   pub ticked_so :
-      (ran : Ran (ticks_before until) tells bound between sends' (fresh config start 2) ticker
+      (ran : Ran (ticks_before until) tells bound between sends' (fresh_own config start 2) ticker
       (record ticked { unsent = later }))
       × ((rest : D) × Threw throws dice (flat_map words_in ran.turns) rest)
   pub counted : later + unsent < 2 ^ 64 → ticked.unsent ≡ later + unsent

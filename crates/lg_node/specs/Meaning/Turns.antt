@@ -63,9 +63,9 @@ ticks_before until (Unseen e) = true
 ticks_before until _ = false
 
 -- a turn of asking
-abbrev pub pulls : Turn → Bool
-pulls (Pulled now peer r sent) = true
-pulls _ = false
+abbrev pub is_pull : Turn → Bool
+is_pull (Pulled now peer r sent) = true
+is_pull _ = false
 
 -- What the link did in a turn. First the datagram is received. Then the packets of the reply are handed over, once
 -- each and in order, to the addresses that the reply gives them.

@@ -36,15 +36,15 @@ abbrev pub own_hearing : Oneself → Claim → OwnHeard
 own_hearing me c = if is_same name_cmp c.name me.name then own_hearing_at c.status c.incarnation me.number else Ignored
 
 -- this member, changed as a claim with incarnation i changes it
-abbrev pub changed_by : OwnHeard → ℕ → Oneself → Oneself
-changed_by Refuted i me = record me { number = i + 1 }
-changed_by Raised i me = record me { number = i + 1 }
-changed_by Ousted i me = record me { ousted = true }
-changed_by Ignored i me = me
+abbrev pub oneself_changed : OwnHeard → ℕ → Oneself → Oneself
+oneself_changed Refuted i me = record me { number = i + 1 }
+oneself_changed Raised i me = record me { number = i + 1 }
+oneself_changed Ousted i me = record me { ousted = true }
+oneself_changed Ignored i me = me
 
 -- this member once it heard a claim
 abbrev pub own_heard : Oneself → Claim → Oneself
-own_heard me c = changed_by (own_hearing me c) c.incarnation me
+own_heard me c = oneself_changed (own_hearing me c) c.incarnation me
 
 -- this member after claims that are all about it, from incarnation 0 on
 abbrev pub own_after : List ℕ → Addr → List Claim → Oneself

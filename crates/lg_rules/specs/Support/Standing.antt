@@ -19,8 +19,8 @@ abbrev pub standing_of : List ℕ → Addr → List Claim → Standing
 standing_of name addr past = record { own = own_of name addr past; table = table_of name past }
 
 -- the member table, with this member's own record
-abbrev pub view : Standing → List Claim
-view m = view_of (own_record m.own) m.table
+abbrev pub standing_view : Standing → List Claim
+standing_view m = view_of (own_record m.own) m.table
 
 -- what a member knows once it heard a claim about anyone
 unfoldable pub hear_claim : Standing → Claim → Standing
@@ -40,9 +40,9 @@ unfoldable pub changes_record : Standing → Claim → Bool
 changes_record m c = if is_same name_cmp c.name m.own.name then is_rise (own_hearing m.own c) else takes m.table c
 
 -- what a member knows once it heard these claims, the first one first; and the names whose records they changed
-abbrev pub hear_claims : Standing → List Claim → Standing
-hear_claims m [] = m
-hear_claims m (c ∷ cs) = hear_claims (hear_claim m c) cs
+abbrev pub standing_after : Standing → List Claim → Standing
+standing_after m [] = m
+standing_after m (c ∷ cs) = standing_after (hear_claim m c) cs
 
 abbrev pub changed_names : Standing → List Claim → List (List ℕ)
 changed_names m [] = []

@@ -70,13 +70,13 @@ abbrev pub at_named : List ℕ → Event → List Member → Option Happening
 at_named name e members = option_map (λ m. record { member = m; event = e }) (member_named name members)
 
 -- A packet is heard from the address of its sender. The member at its destination hears it, if there is one.
-abbrev pub heard : ℕ → SentPacket → Event
-heard now packet = event.Heard now packet.from packet.outgoing.packet
+abbrev pub arrival : ℕ → SentPacket → Event
+arrival now packet = event.Heard now packet.from packet.outgoing.packet
 
 abbrev pub delivered : ℕ → Option SentPacket → List Member → Option Happening
 delivered now None members = None
 delivered now (Some packet) members =
-    option_map (λ m. record { member = m; event = heard now packet }) (member_at packet.outgoing.to members)
+    option_map (λ m. record { member = m; event = arrival now packet }) (member_at packet.outgoing.to members)
 
 -- what a command makes happen, after the earlier ones and what they made happen
 abbrev pub happening_after : Command → List Command → List Happening → Option Happening

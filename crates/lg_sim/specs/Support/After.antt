@@ -40,7 +40,7 @@ use Rattle.lg_script.specs.declared.fault.ScriptFault.{ScriptFault}
 use Rattle.lg_script.specs.declared.fault.ScriptFault.TheVariants as fault
 use Rattle.lg_sim.specs.Meaning.Members.{Happening, events_of, is_at, is_named, member_named, sent}
 use Rattle.lg_sim.specs.Meaning.Outcome.{happening_text, most_opened, text_of}
-use Rattle.lg_sim.specs.Meaning.Past.{happenings, heard, opened, settings}
+use Rattle.lg_sim.specs.Meaning.Past.{happenings, arrival, opened, settings}
 use Rattle.lg_sim.specs.Meaning.Text.{line_text, with_line}
 use Rattle.lg_sim.specs.declared.cluster.Cluster.{Cluster}
 use Rattle.lg_sim.specs.declared.cluster.Stop.{Stop}
@@ -54,9 +54,9 @@ abbrev pub host_after : List Happening → Member → Host
 host_after past m = record { member = m; detector = state_after (events_of m.name past) }
 
 -- whether no two members have the same name
-abbrev pub have_distinct_names : List Member → Bool
-have_distinct_names [] = true
-have_distinct_names (m ∷ ms) = not (list_any (is_named m.name) ms) && have_distinct_names ms
+abbrev pub are_distinct_members : List Member → Bool
+are_distinct_members [] = true
+are_distinct_members (m ∷ ms) = not (list_any (is_named m.name) ms) && are_distinct_members ms
 
 abbrev pub is_begun : List Event → Bool
 is_begun [] = false
@@ -68,19 +68,19 @@ pub record IsCluster (hosts : List Host) (packets : List SentPacket) (members : 
     : Type 0 where
   pub hosts_are : hosts ≡ map (host_after past) members
   pub packets_are : packets ≡ sent past
-  pub distinct : have_distinct_names members ≡ true
+  pub distinct : are_distinct_members members ≡ true
   pub begun : (name : List ℕ) → is_some (member_named name members) ≡ is_begun (events_of name past)
 
 -- A cluster is after some commands, the latest first.
-pub record IsAfter (cluster : Cluster) (before : List Command) : Type 0 where
+pub record IsClusterAfter (cluster : Cluster) (before : List Command) : Type 0 where
   pub settings_are : cluster.settings ≡ settings before
   pub is : IsCluster cluster.hosts.items cluster.sent.items (opened before) (happenings before)
 
 -- A cluster is after some commands, so few that each detector accepts one more event.
-pub record IsReached (cluster : Cluster) : Type 0 where
+pub record IsClusterReached (cluster : Cluster) : Type 0 where
   pub before : List Command
   pub few : length before < most_events
-  pub after : IsAfter cluster before
+  pub after : IsClusterAfter cluster before
 
 -- What a command makes happen, if anything, happened in a cluster, and its lines were appended to a text.
 pub record LedOn (old new : Cluster) (text longer : List ℕ) (members : List Member) (past : List Happening)
@@ -105,14 +105,15 @@ fault_in config hosts =
 
 -- where a packet goes, and what happens there when it is delivered
 abbrev pub delivery_of : ℕ → Option SentPacket → Option (Addr × Event)
-delivery_of now packet = option_map (λ p. (p.outgoing.to, heard now p)) packet
+delivery_of now packet = option_map (λ p. (p.outgoing.to, arrival now p)) packet
 
 -- A command was carried out after some others: the cluster is after it too, and what it gives was appended to a text.
-pub record Ran (cluster : Cluster) (text longer : List ℕ) (before : List Command) (command : Command) : Type 0 where
-  pub after : IsAfter cluster (command ∷ before)
+pub record RanCommand (cluster : Cluster) (text longer : List ℕ) (before : List Command) (command : Command)
+    : Type 0 where
+  pub after : IsClusterAfter cluster (command ∷ before)
   pub writes : longer ≡ text ++ text_of command before
 
 -- The same for a line, which may have no command.
 pub record RanLine (cluster : Cluster) (text longer : List ℕ) (before : List Command) (line : List ℕ) : Type 0 where
-  pub after : IsAfter cluster (with_line line before)
+  pub after : IsClusterAfter cluster (with_line line before)
   pub writes : longer ≡ text ++ line_text line before

@@ -10,7 +10,7 @@ use Rattle.lg_timers.specs.declared.timer.TimerId.TheVariants.{
   RelayEnd,
   RoundStart,
 }
-use Rattle.lg_timers.specs.Meaning.Timers.{is_set, in_turn, due_of, without_timer, left_by}
+use Rattle.lg_timers.specs.Meaning.Timers.{is_set, in_turn, due_of, without_timer, timers_left}
 
 abbrev at : ℕ → TimerId → Timer
 at deadline id = record { deadline = deadline; id = id }
@@ -55,12 +55,12 @@ another_number_is_not_set = refl
 another_kind_is_not_set : is_set Direct of_a_relay ≡ false
 another_kind_is_not_set = refl
 
-no_end_left : is_set (RelayEnd 1) (left_by (Some (at 9 (RelayEnd 1))) of_a_relay) ≡ false
+no_end_left : is_set (RelayEnd 1) (timers_left (Some (at 9 (RelayEnd 1))) of_a_relay) ≡ false
 no_end_left = refl
 
 -- what is set once the first of the timers that are due was taken out, or none was due
-end_is_left : left_by (due_of 9 of_a_relay) of_a_relay ≡ at 9 (RelayEnd 1) ∷ []
+end_is_left : timers_left (due_of 9 of_a_relay) of_a_relay ≡ at 9 (RelayEnd 1) ∷ []
 end_is_left = refl
 
-all_left : left_by (due_of 7 of_a_relay) of_a_relay ≡ of_a_relay
+all_left : timers_left (due_of 7 of_a_relay) of_a_relay ≡ of_a_relay
 all_left = refl

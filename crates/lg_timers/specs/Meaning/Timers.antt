@@ -29,13 +29,13 @@ use Rattle.lg_timers.specs.declared.timer.TimerId.TheVariants.{
 }
 
 -- the kind of a timer as a number
-abbrev pub kind_of : TimerId → ℕ
-kind_of RoundEnd = 1
-kind_of (Suspicion member) = 2
-kind_of Direct = 3
-kind_of (RelayNack number) = 4
-kind_of (RelayEnd number) = 5
-kind_of RoundStart = 6
+abbrev pub kind_number : TimerId → ℕ
+kind_number RoundEnd = 1
+kind_number (Suspicion member) = 2
+kind_number Direct = 3
+kind_number (RelayNack number) = 4
+kind_number (RelayEnd number) = 5
+kind_number RoundStart = 6
 
 -- whom a timer is about: the bytes of its member's name, or its relay's number; nothing for the timers of a round
 abbrev pub subject_of : TimerId → List ℕ
@@ -48,7 +48,7 @@ subject_of RoundStart = []
 
 -- an id as a list of numbers
 abbrev pub id_key : TimerId → List ℕ
-id_key id = kind_of id ∷ subject_of id
+id_key id = kind_number id ∷ subject_of id
 
 -- A timer as a list of numbers: its deadline, and then its id. Timers are ordered by these lists, number by number.
 abbrev pub timer_key : Timer → List ℕ
@@ -97,6 +97,6 @@ abbrev pub due_of : ℕ → List Timer → Option Timer
 due_of now timers = least_of (filter (is_due now) timers)
 
 -- the timers that are left once this one was taken out, or all of them if none was
-abbrev pub left_by : Option Timer → List Timer → List Timer
-left_by None timers = timers
-left_by (Some t) timers = without_timer t.id timers
+abbrev pub timers_left : Option Timer → List Timer → List Timer
+timers_left None timers = timers
+timers_left (Some t) timers = without_timer t.id timers

@@ -11,7 +11,7 @@ pub record IsTimerSet (timers : List Timer) : Type 0 where
   pub distinct : IsTrue (have_distinct_ids timers)
 
 -- timers in any order, at most one with each id
-pub record AreApart (timers : List Timer) : Type 0 where
+pub record AreTimersApart (timers : List Timer) : Type 0 where
   pub distinct : IsTrue (have_distinct_ids timers)
 
 -- the one that fires first of two timers, of which the first may be missing

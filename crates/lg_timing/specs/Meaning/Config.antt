@@ -76,15 +76,16 @@ are_good_seeds own seeds = nat_le (length seeds) most_seeds && (have_distinct_na
 abbrev pub first_broken : Config → Option Key
 first_broken c = find (λ key. not (is_in_range c key)) keys
 
--- what a check returns for that key, and for whether the seeds are good: the fault of the key, or else that of the seeds
-abbrev pub fault_of : Option Key → Bool → Result (Unit {0}) ConfigFault
-fault_of (Some key) good = Err (row_of key).fault
-fault_of None false = Err Seeds
-fault_of None true = Ok tt
+-- what a check returns for that key, and for whether the seeds are good: the fault of the key, or else that of the
+-- seeds
+abbrev pub fault_checked : Option Key → Bool → Result (Unit {0}) ConfigFault
+fault_checked (Some key) good = Err (row_of key).fault
+fault_checked None false = Err Seeds
+fault_checked None true = Ok tt
 
 -- what checking a configuration returns
 unfoldable pub check_of : Config → Result (Unit {0}) ConfigFault
-check_of c = fault_of (first_broken c) (are_good_seeds c.name c.seeds.items)
+check_of c = fault_checked (first_broken c) (are_good_seeds c.name c.seeds.items)
 
 -- a configuration that passes its check
 abbrev pub IsChecked : Config → Type 0

@@ -13,6 +13,6 @@ waiting_of None = []
 waiting_of (Some a) = a.event ∷ []
 
 -- the list after an update, which counts only if it goes on by one event
-abbrev pub taken : List Event → Option Addition → List Event
-taken f None = f
-taken f (Some a) = if length f + 1 == length a.events then a.events else f
+abbrev pub taken_events : List Event → Option Addition → List Event
+taken_events f None = f
+taken_events f (Some a) = if length f + 1 == length a.events then a.events else f

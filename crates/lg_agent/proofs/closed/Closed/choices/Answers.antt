@@ -1,7 +1,7 @@
 use Rattle.std.proofs.Common.{rules, ◌≡◌, ◌<◌, ◌≤◌, take, min, length-append, ◌+◌, ◌-◌, ◌++◌, ◌∷◌, [], List, ℕ, length, ap, sym, ◌∙◌, arith, append-nil, get_or}
 use Rattle.std.specs.Prelude.{Option, Bool, true, is_ok, if◌then◌else◌, max}
 use Rattle.std.specs.Option.{option_to_list}
-use Rattle.lg_detector.specs.Meaning.Choice.{choice, targets_after}
+use Rattle.lg_detector.specs.Meaning.Choice.{choice_of_reply, targets_after}
 use Rattle.lg_detector.specs.declared.event.Event.{Event}
 use Rattle.lg_detector.specs.Meaning.Step.{is_accepted}
 use Rattle.lg_history.specs.Meaning.History.{Entry, events}
@@ -23,7 +23,7 @@ loop-place-preserved c =
     let names : List (List ℕ) = c.loop-place.names.items in
     let long : c.count.result ≡ length h + c.self.inside.base = c.count.ensures ∙ ap (λ (l : Left). length l.history + l.base) (sym c.self.view_is) in
     let low : i < length h = omega (arith, c.min-place-end.ensures, long, c.loop-place-test.true, above) in
-    let is : c.chosen.result ≡ choice (get_or h i c.index.result.now).reply = c.chosen.ensures ∙ ap (λ (x : Entry). choice x.reply) c.index.ensures in
+    let is : c.chosen.result ≡ choice_of_reply (get_or h i c.index.result.now).reply = c.chosen.ensures ∙ ap (λ (x : Entry). choice_of_reply x.reply) c.index.ensures in
     let grown : c.match-chosen.names.items ≡ names ++ option_to_list c.chosen.result = elim c.match-chosen.branch [
       | in-Some+in_ok-push w ↦
           let pushed : is_ok w.push.result ≡ true = search rules in

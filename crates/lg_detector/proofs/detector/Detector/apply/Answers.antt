@@ -2,7 +2,7 @@ use Rattle.std.proofs.Common.{ap, sym, subst, ◌∙◌, arith}
 use Rattle.lg_membership.specs.declared.applied.Applied.{Applied}
 use Rattle.lg_detector.specs.Support.Kept.{state_in}
 use Rattle.lg_detector.specs.Support.Reached.{IsReached}
-use Rattle.lg_detector.specs.Support.State.{marked_if, follow, reorder, apply}
+use Rattle.lg_detector.specs.Support.State.{marked_if, follow, reorder, apply_state}
 use Rattle.lg_detector.proofs.OrderLaws.{room_joined}
 use Rattle.lg_detector.proofs.Reaching.{few_timers, reached-apply}
 use Rattle.lg_detector.proofs.detector.Detector.apply.Goals as goal
@@ -20,7 +20,7 @@ reorder-requires c = λ joins.
     room_joined (state_in parts) before.log c.args.claim.now before.is (sym (ap (λ (a : Applied). a.presence) c.apply-applied.ensures.applied) ∙ joins)
 
 pub invariant_of-self : goal.invariant_of-self
-unfolding apply
+unfolding apply_state
 invariant_of-self c =
     let parts = c.deref_mut-parts.result.now in
     let before : IsReached (state_in parts) = subst IsReached (sym (ap state_in c.deref_mut-parts.ensures.value)) c.self.invariant in

@@ -1,7 +1,7 @@
 use Rattle.std.proofs.Common.{◌+◌, Option, ap, sym, subst, arith, option_map, ◌∙◌}
 use Rattle.lg_rules.specs.declared.claim.Claim.{Claim}
 use Rattle.lg_detector.specs.Meaning.Tick.{request_to, requests_of}
-use Rattle.lg_detector.specs.Support.Step.{view_in}
+use Rattle.lg_detector.specs.Support.Step.{view_state}
 use Rattle.lg_detector.proofs.Sending.{HaveAsked, asked_none, asked_some, all_asked}
 use Rattle.lg_detector.proofs.detector.Detector.requests_for.Goals as goal
 use Rattle.lg_detector.proofs.detector.Detector.requests_for.Goals.{in-Some-record_of, in-None}
@@ -12,7 +12,7 @@ push-requires c = (omega arith, omega (arith, c.loop-name.invariant.few, c.loop-
 pub loop-name-preserved : goal.loop-name-preserved
 loop-name-preserved c =
     let target = c.in-Some.target in
-    let rows = view_in c.args.self.now in
+    let rows = view_state c.args.self.now in
     let have = c.loop-name.invariant in
     let is = sym c.record_of.ensures.state in
     let map = λ (o : Option Claim). option_map (request_to c.args.number target) o in
@@ -28,6 +28,6 @@ loop-name-preserved c =
 
 pub returns : goal.returns
 returns c =
-    let rows = view_in c.args.self.now in
+    let rows = view_state c.args.self.now in
     all_asked c.args.number c.in-Some.target rows c.args.names.now c.loop-name.name-index c.loop-name.messages.items c.loop-name.invariant (omega (arith, c.loop-name-test.false))
     ∙ ap (λ t. requests_of c.args.number t rows c.args.names.now) (sym c.in-Some.is)

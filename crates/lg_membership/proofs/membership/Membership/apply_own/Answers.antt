@@ -2,21 +2,21 @@ use Rattle.std.proofs.Common.{Option, ap, sym, subst, ◌∙◌}
 use Rattle.lg_rules.specs.declared.claim.Claim.{Claim}
 use Rattle.lg_membership.specs.Meaning.Gossip.{put_of_own}
 use Rattle.lg_membership.specs.Support.Room.{HasPlace}
-use Rattle.lg_membership.specs.Support.State.{State, queue_with}
+use Rattle.lg_membership.specs.Support.State.{GroupState, queue_with}
 use Rattle.lg_membership.proofs.Reaching.{reached-own}
 use Rattle.lg_membership.proofs.Rooms.{own_place}
 use Rattle.lg_membership.proofs.membership.Membership.apply_own.Goals as goal
 
 pub put-requires : goal.put-requires
 put-requires c =
-    let same = c.requires ∙ ap (λ (s : State). s.own.name) (sym c.self.view_is) in
+    let same = c.requires ∙ ap (λ (s : GroupState). s.own.name) (sym c.self.view_is) in
     let puts = c.put_of_own.ensures ∙ (λ i. put_of_own (c.hear-heard.ensures.hearing i) (c.hear-heard.ensures.own i)) in
     subst (λ (o : Option Claim). HasPlace o c.self.inside.queue) (sym puts) (own_place c.args.claim.now _ c.self.invariant same)
 
 pub invariant_of-self : goal.invariant_of-self
 invariant_of-self c =
     let inside = c.self.inside in
-    let same = c.requires ∙ ap (λ (s : State). s.own.name) (sym c.self.view_is) in
+    let same = c.requires ∙ ap (λ (s : GroupState). s.own.name) (sym c.self.view_is) in
     let puts = c.put_of_own.ensures ∙ (λ i. put_of_own (c.hear-heard.ensures.hearing i) (c.hear-heard.ensures.own i)) in
     let queue = c.put.ensures ∙ ap (λ (o : Option Claim). queue_with o inside.queue) puts in
     reached-own _ _ c.args.claim.now same

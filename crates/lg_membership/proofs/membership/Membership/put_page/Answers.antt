@@ -5,7 +5,7 @@ use Rattle.lg_rules.specs.Meaning.Bounds.{most_claims}
 use Rattle.lg_rules.specs.Meaning.Claim.{name_of}
 use Rattle.lg_rules.specs.Meaning.Rows.{name_cmp, Rises}
 use Rattle.lg_membership.specs.Meaning.Pages.{page_of}
-use Rattle.lg_membership.specs.Support.State.{State, shown, with_behind}
+use Rattle.lg_membership.specs.Support.State.{GroupState, shown, with_behind}
 use Rattle.lg_membership.proofs.Paging.{rises-page, page-shown}
 use Rattle.lg_membership.proofs.membership.Membership.put_page.Goals as goal
 
@@ -24,8 +24,8 @@ returns-then-is_some-clause-state c =
     let cut = c.as_slice.ensures.value ∙ c.truncate.ensures.items ∙ ap (take most_claims) gathered in
     copied ∙ cut
     ∙ page-shown after _ c.self.invariant (sym c.is_some.ensures ∙ c.if-is_some.true)
-    ∙ ap (λ (s : State). page_of after (shown s)) c.self.view_is
+    ∙ ap (λ (s : GroupState). page_of after (shown s)) c.self.view_is
 
 pub returns-then-is_some-clause-log : goal.returns-then-is_some-clause-log
 returns-then-is_some-clause-log c = λ log is.
-    returns-then-is_some-clause-state c ∙ ap (λ (s : State). page_of (option_copied c.args.after) (shown s)) is
+    returns-then-is_some-clause-state c ∙ ap (λ (s : GroupState). page_of (option_copied c.args.after) (shown s)) is

@@ -6,7 +6,7 @@ use Rattle.lg_rules.specs.Meaning.Rows.{name_cmp, row_at, Rises}
 use Rattle.lg_rules.proofs.Cases.{Missing, Holding, held}
 use Rattle.lg_rules.proofs.KeyOrder.{names_order}
 use Rattle.lg_rules.proofs.RowsFound.{few_among}
-use Rattle.lg_membership.specs.Support.State.{State, shown, with_found}
+use Rattle.lg_membership.specs.Support.State.{GroupState, shown, with_found}
 use Rattle.lg_membership.proofs.Chosen.{with_keys, chosen-none, chosen-missing, chosen-put, rises-chosen, found_key}
 use Rattle.lg_membership.proofs.Shown.{rises-shown}
 use Rattle.lg_membership.proofs.membership.Membership.put_records.Goals as goal
@@ -14,8 +14,8 @@ use Rattle.lg_membership.proofs.membership.Membership.put_records.Goals as goal
 pub loop-name-init : goal.loop-name-init
 loop-name-init c = c.clear.ensures ∙ sym (chosen-none names_order name_of (shown c.args.self.now))
 
-rising : (s t : State) → s ≡ t → Rises name_cmp (map name_of (shown s)) → Rises name_cmp (map name_of (shown t))
-rising s t e rise = subst (λ (u : State). Rises name_cmp (map name_of (shown u))) e rise
+rising : (s t : GroupState) → s ≡ t → Rises name_cmp (map name_of (shown s)) → Rises name_cmp (map name_of (shown t))
+rising s t e rise = subst (λ (u : GroupState). Rises name_cmp (map name_of (shown u))) e rise
 
 pub put_record-requires-clause-room : goal.put_record-requires-clause-room
 put_record-requires-clause-room c =

@@ -1,6 +1,6 @@
 use Rattle.std.proofs.Common.{◌≡◌, sym, ◌∙◌, ap, subst, ℕ, List}
 use Rattle.lg_probe.specs.Meaning.Order.{OrderValue, Chose, candidates, choice, put_choice, current_round, order_with}
-use Rattle.lg_probe.specs.Support.Order.{IsSound}
+use Rattle.lg_probe.specs.Support.Order.{IsSoundOrder}
 use Rattle.lg_probe.proofs.OrderLaws.{sound-choice, chosen_after, choice_after-is}
 use Rattle.lg_probe.proofs.order.Order.choose.Goals as goal
 
@@ -9,7 +9,7 @@ invariant_of-self c =
     let order : OrderValue = record { names = c.self.inside.names.items; chosen = c.self.inside.chosen.items } in
     let round = c.choose_among.ensures.round ∙ ap (λ ns. put_choice (choice ns order.chosen c.args.word) (current_round ns order.chosen)) c.as_slice.ensures.value in
     record {
-      sound = subst (λ (ns : List (List ℕ)). IsSound record { names = order.names; chosen = ns }) (sym round) (sound-choice order c.args.word c.self.invariant.sound);
+      sound = subst (λ (ns : List (List ℕ)). IsSoundOrder record { names = order.names; chosen = ns }) (sym round) (sound-choice order c.args.word c.self.invariant.sound);
       rest = c.choose_among.ensures.remaining ∙ ap (λ ns. candidates ns c.choose_among.new.chosen.items) c.as_slice.ensures.value;
     }
 

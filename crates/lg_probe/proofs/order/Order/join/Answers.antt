@@ -4,7 +4,7 @@ use Rattle.lg_rules.specs.Meaning.Rows.{name_cmp, is_among, put_key, Rises}
 use Rattle.lg_rules.proofs.KeyOrder.{names_order}
 use Rattle.lg_rules.proofs.Rises.{rises-filter}
 use Rattle.lg_probe.specs.Meaning.Order.{OrderValue, candidates, known_names}
-use Rattle.lg_probe.specs.Support.Order.{IsSound}
+use Rattle.lg_probe.specs.Support.Order.{IsSoundOrder}
 use Rattle.lg_probe.proofs.OrderLaws.{join_few, join_room, sound-join}
 use Rattle.lg_probe.proofs.Candidates.{candidates-joined, candidates-still, remaining_room}
 use Rattle.lg_probe.proofs.order.Order.join.Goals as goal
@@ -37,7 +37,7 @@ invariant_of-self c =
     let few = subst (λ (o : OrderValue). length (put_key name_cmp name (known_names o)) ≤ MAX_OTHERS) (sym c.self.view_is) c.requires in
     let fresh = ap (is_among name_cmp name) (sym c.as_slice.ensures.value) ∙ sym c.is_among.ensures ∙ c.if-not-is_among.true in
     record {
-      sound = subst (λ (ns : List (List ℕ)). IsSound record { names = ns; chosen = chosen }) (sym c.put.ensures) (sound-join order name c.self.invariant.sound few);
+      sound = subst (λ (ns : List (List ℕ)). IsSoundOrder record { names = ns; chosen = chosen }) (sym c.put.ensures) (sound-join order name c.self.invariant.sound few);
       rest = c.put-then-not-is_among.ensures ∙ ap (put_key name_cmp name) c.self.invariant.rest ∙ candidates-joined names chosen name c.self.invariant.sound.names_rise fresh ∙ ap (λ ns. candidates ns chosen) (sym c.put.ensures);
     }
 
@@ -50,6 +50,6 @@ invariant_of-self-else-not-is_among c =
     let few = subst (λ (o : OrderValue). length (put_key name_cmp name (known_names o)) ≤ MAX_OTHERS) (sym c.self.view_is) c.requires in
     let there = ap (is_among name_cmp name) (sym c.as_slice.ensures.value) ∙ sym c.is_among.ensures ∙ c.if-not-is_among.false in
     record {
-      sound = subst (λ (ns : List (List ℕ)). IsSound record { names = ns; chosen = chosen }) (sym c.put.ensures) (sound-join order name c.self.invariant.sound few);
+      sound = subst (λ (ns : List (List ℕ)). IsSoundOrder record { names = ns; chosen = chosen }) (sym c.put.ensures) (sound-join order name c.self.invariant.sound few);
       rest = c.self.invariant.rest ∙ candidates-still names chosen name c.self.invariant.sound.names_rise there ∙ ap (λ ns. candidates ns chosen) (sym c.put.ensures);
     }

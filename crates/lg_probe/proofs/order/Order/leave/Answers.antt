@@ -3,7 +3,7 @@ use Rattle.lg_rules.specs.Meaning.Rows.{name_cmp, is_among, Rises}
 use Rattle.lg_rules.proofs.KeyOrder.{names_order}
 use Rattle.lg_rules.proofs.Rises.{rises-filter}
 use Rattle.lg_probe.specs.Meaning.Order.{candidates, without}
-use Rattle.lg_probe.specs.Support.Order.{IsSound}
+use Rattle.lg_probe.specs.Support.Order.{IsSoundOrder}
 use Rattle.lg_probe.proofs.OrderLaws.{sound-leave}
 use Rattle.lg_probe.proofs.Candidates.{candidates-left}
 use Rattle.lg_probe.proofs.order.Order.leave.Goals as goal
@@ -17,6 +17,6 @@ invariant_of-self c =
     let chosen = c.self.inside.chosen.items in
     let name = c.args.name.now in
     record {
-      sound = subst (λ (ns : List (List ℕ)). IsSound record { names = ns; chosen = chosen }) (sym c.take_out.ensures) (sound-leave record { names = names; chosen = chosen } name c.self.invariant.sound);
+      sound = subst (λ (ns : List (List ℕ)). IsSoundOrder record { names = ns; chosen = chosen }) (sym c.take_out.ensures) (sound-leave record { names = names; chosen = chosen } name c.self.invariant.sound);
       rest = c.take_out-2.ensures ∙ ap (without name) c.self.invariant.rest ∙ candidates-left names chosen name ∙ ap (λ ns. candidates ns chosen) (sym c.take_out.ensures);
     }

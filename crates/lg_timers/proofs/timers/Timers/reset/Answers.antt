@@ -3,7 +3,7 @@ use Rattle.std.specs.Prelude.{position}
 use Rattle.lg_rules.proofs.RowsFound.{filter-none}
 use Rattle.lg_timers.specs.declared.timer.Timer.{Timer}
 use Rattle.lg_timers.specs.declared.timer.TimerId.{TimerId}
-use Rattle.lg_timers.specs.Support.InTurn.{AreApart}
+use Rattle.lg_timers.specs.Support.InTurn.{AreTimersApart}
 use Rattle.lg_timers.specs.Meaning.Timers.{has_id, is_set, in_turn, with_timer}
 use Rattle.lg_timers.proofs.SetLaws.{length-row, in_turn-push, apart-push, no_place, apart-set, in_turn-set}
 use Rattle.lg_timers.proofs.timers.Timers.reset.Goals as goal
@@ -20,7 +20,7 @@ returns-in-Some c =
     rw (← c.self.view_is, c.put_at.ensures) (in_turn-set c.args.timer c.self.inside.timers.items c.in-Some.index c.self.invariant (index c))
 
 -- none of its id is set
-none_set : (id : TimerId) (timers read : List Timer) (index : Option ℕ) → AreApart timers → read ≡ timers → index ≡ position (has_id id) read → index ≡ None → is_set id (in_turn timers) ≡ false
+none_set : (id : TimerId) (timers read : List Timer) (index : Option ℕ) → AreTimersApart timers → read ≡ timers → index ≡ position (has_id id) read → index ≡ None → is_set id (in_turn timers) ≡ false
 none_set id timers read index apart same answered none = no_place id timers apart (ap (position (has_id id)) (sym same) ∙ sym answered ∙ none)
 
 pub push-requires : goal.push-requires
