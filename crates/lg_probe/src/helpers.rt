@@ -12,11 +12,11 @@ ghost use Rattle.lg_probe.specs.Support.Helpers.{left_at, AreTaken};
 
 use crate::order::Order;
 use arrayvec::ArrayVec;
-use lg_rules::{MAX_OTHERS, Name, index_of};
+use lg_rules::{MAX_OTHERS, Name, RANDOM_WORDS, index_of};
 use std::marker::Model;
 
-/// The most helpers of a probe: 8 (this project's choice).
-pub const MAX_HELPERS: usize = 8;
+/// The most helpers of a probe: 8, one for each random word (this project's choice).
+pub const MAX_HELPERS: usize = RANDOM_WORDS;
 
 /// The most names that a pick takes out: those of the helpers and of the target.
 const MAX_PLACES: usize = MAX_HELPERS + 1;
@@ -128,7 +128,7 @@ impl Helpers {
     ///
     /// They are picked one after another, until `k` are picked or no name remains. Each word picks the name whose
     /// index in the order of names, from 0, is the word modulo the number of remaining names.
-    pub fn pick(&mut self, others: &Order, target: &Name, k: usize, words: &[u32; 8])
+    pub fn pick(&mut self, others: &Order, target: &Name, k: usize, words: &[u32; RANDOM_WORDS])
         requires { k ≤ MAX_HELPERS }
         ensures picked { self.new ≡ picked k words.now (without target.now others.now.names) }
         // If the order is the one after some facts (the latest first), they are picked from the names that joined and

@@ -9,6 +9,7 @@ mod members;
 mod name;
 mod overriding;
 mod own;
+mod random;
 mod rows;
 
 pub use addr::Addr;
@@ -18,4 +19,5 @@ pub use members::{Heard, MAX_MEMBERS, MAX_OTHERS, Members};
 pub use name::{MAX_NAME, Name, NameFault, is_name_byte};
 pub use overriding::beats;
 pub use own::{Own, OwnHeard};
+pub use random::RANDOM_WORDS;
 pub use rows::{Keyed, index_of, put_row};

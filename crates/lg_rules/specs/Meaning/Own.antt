@@ -1,5 +1,5 @@
 -- What a member knows of itself: its incarnation, by which it refutes suspicions, and whether it was ousted, which
--- means that the others gave it up. A past has the latest claim first.
+-- means that a claim came that it can't outdo by a greater incarnation. A past has the latest claim first.
 use Rattle.std.specs.Prelude.{ℕ, ◌+◌, Bool, true, false, List, [], ◌∷◌, nat_lt, nat_le, if◌then◌else◌}
 use Rattle.lg_rules.specs.declared.addr.Addr.{Addr}
 use Rattle.lg_rules.specs.declared.claim.Claim.{Claim}

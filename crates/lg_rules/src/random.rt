@@ -1,0 +1,5 @@
+//! How many random words an event brings.
+
+/// The random words of an event that may need chance: 8 (this project's choice). One word chooses a target, or each
+/// picks one helper.
+pub const RANDOM_WORDS: usize = 8;
