@@ -52,6 +52,9 @@ pub type NoMemory = AllocError;
 /// The most events that a detector accepts: 4,000,000,000 (this project's choice).
 pub const MAX_EVENTS: u64 = 4_000_000_000;
 
+/// The sequence number of the first probe or relay after an opening (this project's choice).
+const FIRST_NUMBER: u32 = 1;
+
 /// The failure detector of one member (SWIM, sections 3 and 4; Lifeguard).
 ///
 /// A contract sees it as its state, which is a function of the list of the events that it has accepted.
@@ -109,7 +112,7 @@ impl Detector {
                 score: Score::new(0),
                 timers: Timers::new(),
                 order: Order::new(),
-                number: 1,
+                number: FIRST_NUMBER,
                 round: None,
                 relays: Relays::new(),
                 membership: Membership::blank(),

@@ -49,10 +49,14 @@ chosen words log = candidate (first_word words) (round_candidates log)
 abbrev pub starts : TimerId → List ℕ → Log → Bool
 starts id words log = is_round_start id && is_some (chosen words log)
 
--- the next sequence number: one more than how many probes and relays were started
+-- the first sequence number (this project's choice)
+abbrev pub first_number : ℕ
+first_number = 1
+
+-- the next sequence number: each probe and each relay that was started since the opening took one
 abbrev pub number : Log → ℕ
-number [] = 1
-number (OfGroup (group.Opened opening) ∷ log) = 1
+number [] = first_number
+number (OfGroup (group.Opened opening) ∷ log) = first_number
 number (Fired timer words ∷ log) = if starts timer.id words log then number log + 1 else number log
 number (Relayed target asker asked ∷ log) = number log + 1
 number (_ ∷ log) = number log

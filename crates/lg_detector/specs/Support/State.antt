@@ -25,7 +25,7 @@ use Rattle.lg_membership.specs.Support.State as group
 use Rattle.lg_membership.specs.Support.State.{GroupState, apply_to_group, group_state_of, open_group, send_from_group}
 use Rattle.lg_detector.specs.Meaning.Log.{Log, event_count, moment, group_log}
 use Rattle.lg_detector.specs.Meaning.Probing as probing
-use Rattle.lg_detector.specs.Meaning.Probing.{first_word, indirect_in, helpers_of}
+use Rattle.lg_detector.specs.Meaning.Probing.{first_number, first_word, indirect_in, helpers_of}
 use Rattle.lg_detector.specs.Meaning.Relaying as relaying
 use Rattle.lg_detector.specs.Meaning.Relaying.{new_relay}
 use Rattle.lg_detector.specs.Meaning.Timing.{score, pending, scaled_interval, scaled_timeout, nack_time, relay_time}
@@ -69,7 +69,7 @@ begin opening s = record s {
   score = record { value = 0; max = opening.max_score };
   timers = start_timer s.moment ∷ [];
   order = record { names = []; chosen = [] };
-  number = 1;
+  number = first_number;
   round = None;
   relays = [];
   membership = open_group opening s.membership;

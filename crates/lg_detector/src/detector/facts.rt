@@ -17,7 +17,7 @@ ghost use Rattle.lg_detector.specs.Meaning.Timing.{start_timer};
 ghost use Rattle.lg_detector.specs.Support.State.{come_state, begin, marked_if, follow, reorder, apply_state};
 ghost use Rattle.lg_detector.specs.Support.State.{apply_all_state};
 
-use super::{Detector, MAX_EVENTS};
+use super::{Detector, FIRST_NUMBER, MAX_EVENTS};
 use arrayvec::ArrayVec;
 use lg_membership::{Deadline, Origin, Presence};
 use lg_probe::{Order, Relays};
@@ -89,7 +89,7 @@ impl Detector {
             id: TimerId::RoundStart,
         });
         parts.order = Order::new();
-        parts.number = 1;
+        parts.number = FIRST_NUMBER;
         parts.round = None;
         parts.relays = Relays::new();
         parts.membership.open_with(config);
