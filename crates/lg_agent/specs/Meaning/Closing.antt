@@ -53,7 +53,7 @@ difference l s =
     let calls = s.gone + below base s.mine in
     if calls == cut
     then option_map (λ i. Differs s.seat i)
-        (first_difference calls (drop (below base s.mine) s.mine) (positions s.seat base l.history))
+    (first_difference calls (drop (below base s.mine) s.mine) (positions s.seat base l.history))
     else Some (Differs s.seat (if nat_lt calls cut then calls else cut))
 
 abbrev pub difference_at : Ledger → Option Own → Option CloseFault

@@ -24,14 +24,14 @@ abbrev pub texts_key : List ℕ
 texts_key = codes "seeds"
 
 -- whether a key is one of these
-abbrev pub is_among : List (List ℕ) → List ℕ → Bool
-is_among keys key = list_any (λ known. bytes_eq key known) keys
+abbrev pub is_listed : List (List ℕ) → List ℕ → Bool
+is_listed keys key = list_any (λ known. bytes_eq key known) keys
 
 -- the kind of a key's value; None if the key is unknown
 unfoldable pub kind_of_key : List ℕ → Option Kind
 kind_of_key key =
-    if is_among text_keys key then Some Text
-    else if is_among number_keys key then Some Number
+    if is_listed text_keys key then Some Text
+    else if is_listed number_keys key then Some Number
     else if bytes_eq key texts_key then Some Texts
     else None
 
