@@ -19,10 +19,10 @@ ghost use Rattle.lg_timing.specs.Meaning.Config.{IsChecked};
 ghost use Rattle.lg_sim.specs.declared.host.Member.{Member as OfMember};
 ghost use Rattle.lg_sim.specs.declared.cluster.Stop.TheVariants.{NoMemory};
 
-use crate::host::{Host, Member, Row, SentPacket, lead};
+use crate::host::{Host, Member, SentPacket, lead};
 use arrayvec::ArrayVec;
 use lg_detector::{Detector, Event, NoMemory, Reply};
-use lg_report::put_table;
+use lg_report::{Row, put_table};
 use lg_rules::{Addr, Name};
 use lg_script::{Key, ScriptFault, local};
 use lg_timing::{Config, MAX_SEEDS, Moment, Seed};

@@ -8,8 +8,8 @@ ghost use Rattle.lg_sim.specs.Meaning.Outcome.{command_fault};
 ghost use Rattle.lg_sim.specs.Support.After.{IsClusterAfter, IsClusterReached, RanCommand, StopsAt};
 
 use crate::cluster::{Cluster, Stop};
-use crate::host::Row;
 use lg_detector::{Event, Reply};
+use lg_report::Row;
 use lg_script::{Command, local};
 use std::alloc::Global;
 

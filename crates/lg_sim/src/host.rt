@@ -9,14 +9,9 @@ ghost use Rattle.lg_detector.specs.declared.event.Event.{Event as Happened};
 ghost use Rattle.lg_report.specs.Meaning.Replies.{reply_text};
 ghost use Rattle.lg_sim.specs.Meaning.Members.{is_at, is_named, sent_from};
 
-use arrayvec::ArrayVec;
 use lg_detector::{Detector, Event, NoMemory, Outgoing, Reply};
-use lg_packet::MAX_PACKET;
-use lg_report::put_reply;
+use lg_report::{Row, put_reply};
 use lg_rules::{Addr, Name};
-
-/// A buffer for the bytes of a packet that is written.
-pub type Row = ArrayVec<u8, MAX_PACKET>;
 
 /// A member of the cluster.
 #[derive(Clone, Copy, Debug, PartialEq, Eq)]

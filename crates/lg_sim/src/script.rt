@@ -9,10 +9,10 @@ ghost use Rattle.lg_sim.specs.Support.After.{IsClusterAfter, IsClusterReached, R
 
 use crate::cluster::{Cluster, Stop};
 use crate::command::run_command;
-use crate::host::Row;
 use arrayvec::ArrayVec;
 use itoa::Buffer;
 use lg_detector::{NoMemory, Reply};
+use lg_report::Row;
 use lg_script::{ScriptFault, command_in};
 use lg_text::{End, MAX_INPUT, cut_line};
 use std::alloc::{AllocError, Global};
