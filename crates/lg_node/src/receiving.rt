@@ -12,6 +12,7 @@ use crate::calling;
 use crate::clock::Clock;
 use crate::ending::{End, Ended, Why};
 use crate::link::{Link, MAX_DATAGRAM};
+use crate::shared::MAX_TURNS;
 use crate::turned::Turned;
 use lg_agent::{AgentName, Pass, Refusal};
 use lg_rules::Addr;
@@ -86,7 +87,7 @@ fn receive_turns<A: AgentName, R: Wait, L: Link, C: Clock>(
     stop: &AtomicBool,
     bound: u64,
 ) -> End
-    requires { bound ≤ 1_000_000_000 }
+    requires { bound ≤ MAX_TURNS }
     ensures { Ran receives L.tells bound (line (L.log link.old) (L.failed link.old))
         (line (L.log link.new) (L.failed link.new)) pass.old pass.new result }
 {
@@ -126,7 +127,7 @@ pub fn receive_loop<A: AgentName, R: Wait, L: Link, C: Clock>(
     stop: &AtomicBool,
     bound: u64,
 ) -> Ended<L, A>
-    requires { bound ≤ 1_000_000_000 }
+    requires { bound ≤ MAX_TURNS }
     ensures { Ran receives L.tells bound (line (L.log link) (L.failed link))
         (line (L.log result.link) (L.failed result.link)) pass.entry result.spent result.end }
 {

@@ -13,31 +13,15 @@ use crate::dice::Dice;
 use crate::ending::{End, Ended, Why};
 use crate::link::Link;
 use crate::receiving::receive_loop;
+use crate::shared::{MAX_TURNS, Shared, Side};
 use crate::ticking::tick_loop;
-use left_right::Absorb;
-use lg_agent::{AgentName, Pass, Refusal};
-use lg_detector::Event;
+use lg_agent::{AgentName, Refusal};
 use lg_timing::Moment;
-use lg_view::{Published, Update};
-use std::alloc::Global;
 use std::marker::{Brand, PhantomData};
 use std::sync::Wait;
-use std::sync::atomic::AtomicBool;
 use std::sync::atomic::Ordering::SeqCst;
 use std::thread;
 use std::thread::{Promise, Threads};
-
-/// What a loop works with: the pass that it calls, and its link.
-#[derive(Drop)]
-pub struct Side<'a, L, A: AgentName>
-where
-    Published<A>: Absorb<Update<A>, State = [Event; 0]>,
-{
-    /// The pass.
-    pub pass: Pass<'a, A>,
-    /// The link.
-    pub link: L,
-}
 
 /// Names the state in which a loop starts, and how many turns it may make.
 trait Start {
@@ -87,16 +71,12 @@ fn unstarted<L: Link, A: AgentName>(side: Side<'_, L, A>) -> Ended<L, A>
     }
 }
 
-fn run_from<S, A, R, L, C, D>(
-    rt: &R,
-    alloc: Global,
+fn spawn_and_tick<S, A, R, L, C, D>(
+    shared: &Shared<'_, R, C>,
     receiver: Side<'_, L, A>,
     ticker: Side<'_, L, A>,
-    clock: &C,
     dice: D,
     until: Moment,
-    stop: &AtomicBool,
-    bound: u64,
 ) -> (Ended<L, A>, Ended<L, A>)
 where
     S: Start,
@@ -105,25 +85,32 @@ where
     L: Link + Send + Drop,
     C: Clock + Sync,
     D: Dice + Drop,
-    requires bound { (bound ≤ 1_000_000_000) × (bound ≡ S.bound) }
+    requires bound { (shared.now.bound ≤ MAX_TURNS) × (shared.now.bound ≡ S.bound) }
     requires start { (receiver.pass ≡ S.own) × (line (L.log receiver.link) (L.failed receiver.link) ≡ S.line) }
     ensures received { Ran receives L.tells S.bound S.line (line (L.log result.0.link) (L.failed result.0.link))
         S.own result.0.spent result.0.end
         ⊎ (HadNoThread receives L.tells S.bound S.line (line (L.log result.0.link) (L.failed result.0.link))
         S.own result.0.spent result.0.end
         × (result.1.end ≡ record { why = Stopped; dropped = 0; unsent = 0; turns = 0 })) }
-    ensures ticked { (ran : Ran (ticks_before until) L.tells bound
+    ensures ticked { (ran : Ran (ticks_before until) L.tells shared.now.bound
         (line (L.log ticker.entry.link) (L.failed ticker.entry.link))
         (line (L.log result.1.link) (L.failed result.1.link)) ticker.entry.pass result.1.spent result.1.end)
         × ((rest : D) × Threw D.throws dice (flat_map words_in ran.turns) rest) }
 {
     let promise: Receives<S> = Receives { start: PhantomData };
+    let (rt, alloc, clock, stop, bound) = (
+        shared.rt,
+        shared.alloc,
+        shared.clock,
+        shared.stop,
+        shared.bound,
+    );
     let Side { pass, link } = receiver;
     thread::scope(
         thread::scope_env(),
         rt,
         move |scope| -> (Ended<L, A>, Ended<L, A>)
-            requires bound { (bound ≤ 1_000_000_000) × (bound ≡ S.bound) }
+            requires bound { (bound ≤ MAX_TURNS) × (bound ≡ S.bound) }
             requires start { (pass ≡ S.own) × (line (L.log link) (L.failed link) ≡ S.line) }
             ensures received { Ran receives L.tells S.bound S.line
                 (line (L.log result.0.link) (L.failed result.0.link)) S.own result.0.spent result.0.end
@@ -138,7 +125,7 @@ where
             let spawned = scope.spawn_with(
                 promise,
                 move || -> Ended<L, A>
-                    requires { bound ≤ 1_000_000_000 }
+                    requires { bound ≤ MAX_TURNS }
                     ensures { Ran receives L.tells bound (line (L.log link) (L.failed link))
                         (line (L.log result.link) (L.failed result.link)) pass.entry result.spent result.end }
                 { receive_loop(rt, alloc, pass, link, clock, stop, bound) },
@@ -166,15 +153,11 @@ where
 /// begins. The receiving loop then ends with [`Why::Refused`], since memory was refused. The ticking one makes no
 /// turn and ends with [`Why::Stopped`].
 pub fn run_loops<A, R, L, C, D>(
-    rt: &R,
-    alloc: Global,
+    shared: &Shared<'_, R, C>,
     receiver: Side<'_, L, A>,
     ticker: Side<'_, L, A>,
-    clock: &C,
     dice: D,
     until: Moment,
-    stop: &AtomicBool,
-    bound: u64,
 ) -> (Ended<L, A>, Ended<L, A>)
 where
     A: AgentName + Send + Sync,
@@ -182,18 +165,18 @@ where
     L: Link + Send + Drop,
     C: Clock + Sync,
     D: Dice + Drop,
-    requires { bound ≤ 1_000_000_000 }
-    ensures received { Ran receives L.tells bound
+    requires { shared.now.bound ≤ MAX_TURNS }
+    ensures received { Ran receives L.tells shared.now.bound
         (line (L.log receiver.entry.link) (L.failed receiver.entry.link))
         (line (L.log result.0.link) (L.failed result.0.link)) receiver.entry.pass result.0.spent result.0.end
-        ⊎ (HadNoThread receives L.tells bound
+        ⊎ (HadNoThread receives L.tells shared.now.bound
         (line (L.log receiver.entry.link) (L.failed receiver.entry.link))
         (line (L.log result.0.link) (L.failed result.0.link)) receiver.entry.pass result.0.spent result.0.end
         × (result.1.end ≡ record { why = Stopped; dropped = 0; unsent = 0; turns = 0 })) }
-    ensures ticked { (ran : Ran (ticks_before until) L.tells bound
+    ensures ticked { (ran : Ran (ticks_before until) L.tells shared.now.bound
         (line (L.log ticker.entry.link) (L.failed ticker.entry.link))
         (line (L.log result.1.link) (L.failed result.1.link)) ticker.entry.pass result.1.spent result.1.end)
         × ((rest : D) × Threw D.throws dice (flat_map words_in ran.turns) rest) }
 {
-    run_from::<Brand, A, R, L, C, D>(rt, alloc, receiver, ticker, clock, dice, until, stop, bound)
+    spawn_and_tick::<Brand, A, R, L, C, D>(shared, receiver, ticker, dice, until)
 }

@@ -12,6 +12,7 @@ use crate::clock::Clock;
 use crate::dice::Dice;
 use crate::ending::{End, Ended, Why};
 use crate::link::Link;
+use crate::shared::MAX_TURNS;
 use crate::turned::Turned;
 use lg_agent::{AgentName, Pass};
 use lg_timing::Moment;
@@ -80,7 +81,7 @@ fn tick_turns<A: AgentName, R: Wait, L: Link, C: Clock, D: Dice>(
     stop: &AtomicBool,
     bound: u64,
 ) -> End
-    requires { bound ≤ 1_000_000_000 }
+    requires { bound ≤ MAX_TURNS }
     ensures { (ran : Ran (ticks_before until) L.tells bound (line (L.log link.old) (L.failed link.old))
         (line (L.log link.new) (L.failed link.new)) pass.old pass.new result)
         × Threw D.throws dice.old (flat_map words_in ran.turns) dice.new }
@@ -122,7 +123,7 @@ pub fn tick_loop<A: AgentName, R: Wait, L: Link, C: Clock, D: Dice + Drop>(
     stop: &AtomicBool,
     bound: u64,
 ) -> Ended<L, A>
-    requires { bound ≤ 1_000_000_000 }
+    requires { bound ≤ MAX_TURNS }
     ensures { (ran : Ran (ticks_before until) L.tells bound (line (L.log link) (L.failed link))
         (line (L.log result.link) (L.failed result.link)) pass.entry result.spent result.end)
         × ((rest : D) × Threw D.throws dice (flat_map words_in ran.turns) rest) }

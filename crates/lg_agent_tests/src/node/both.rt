@@ -7,7 +7,7 @@ use super::clocks::FixedDice;
 use super::links::{PING_7, put};
 use crate::playing::{Case, Ending, Left, Outcome, Play, Shown, told};
 use lg_agent::{AgentName, Pass, Spent};
-use lg_node::{Clock, End, Link, LinkFault, MAX_DATAGRAM, Side, Why, run_loops};
+use lg_node::{Clock, End, Link, LinkFault, MAX_DATAGRAM, Shared, Side, Why, run_loops};
 use lg_rules::Addr;
 use lg_testing::{at, local};
 use lg_timing::{MAX_MOMENT, Moment};
@@ -189,10 +189,14 @@ where
     };
     let clock = StandingClock { rt };
     let dice = FixedDice { word: 0 };
-    let (until, stop) = (at(MAX_MOMENT), &meeting.stop);
-    let (received, ticked) = run_loops(
-        rt, alloc, receiver, ticker, &clock, dice, until, stop, BOUND,
-    );
+    let shared = Shared {
+        rt,
+        alloc,
+        clock: &clock,
+        stop: &meeting.stop,
+        bound: BOUND,
+    };
+    let (received, ticked) = run_loops(&shared, receiver, ticker, dice, at(MAX_MOMENT));
     let seen = BothSeen {
         receiving: received.end,
         ticking: ticked.end,

@@ -1,7 +1,7 @@
 use Rattle.std.proofs.Common.{inr, refl}
 use Rattle.lg_node.specs.Meaning.Turns.{line, ticks_before}
 use Rattle.lg_node.proofs.TurnLaws.{none_yet, stopped}
-use Rattle.lg_node.proofs.running.fn.run_from.scope.Goals as goal
+use Rattle.lg_node.proofs.running.fn.spawn_and_tick.scope.Goals as goal
 
 pub returns-in-Err : goal.returns-in-Err
 unfolding none_yet stopped

@@ -1,0 +1,21 @@
+use Rattle.lg_node.proofs.start.open_and_serve.Goals as goal
+
+pub returns-in-Ok-serve-clause-ran : goal.returns-in-Ok-serve-clause-ran
+returns-in-Ok-serve-clause-ran g c =
+    let config = c.copy.ensures in
+    let l = c.in-Ok-serve.ensures.left c.now.result (rw config at c.in-Ok-open.ensures.name) (rw config at c.in-Ok-open.ensures.told.1) in (
+      l.0,
+      l.1,
+      l.2,
+      l.3,
+      record {
+        start = c.now.result;
+        receiver = c.in-Ok-serve.left.receiver;
+        ticker = c.in-Ok-serve.left.ticker;
+        asker = l.4;
+        reader = c.in-Ok-serve.left.reader;
+        served = rw (c.close.ensures.received, c.close.ensures.ticked) l.5;
+        members = rw c.close.ensures.members l.6;
+        closed = rw (← c.requires.places) c.close.ensures.closed;
+      },
+    )

@@ -1,0 +1,27 @@
+use Rattle.std.proofs.Common.{◌≡◌, [], arith}
+use Rattle.lg_node.specs.Meaning.Turns.{line}
+use Rattle.lg_node.proofs.start.serve.Goals as goal
+
+pub returns-in_default-clause-refused : goal.returns-in_default-clause-refused
+returns-in_default-clause-refused g c = (record { name = []; seat = 0; seen = []; gone = 0; mine = [] }, tt)
+
+pub returns-clause-left : goal.returns-clause-left
+returns-clause-left g c = λ start name told.
+    let ready = c.in-Some.ensures _ start name told in
+    let seeds : c.deref.result.now ≡ c.args.config.now.seeds.items = cc in (
+      line [] c.new-hears.result.failures,
+      line [] c.run_loops-received.result.0.link.failures,
+      line [] c.new-sends.result.failures,
+      line [] c.run_loops-received.result.1.link.failures,
+      c.ask_each.new.pass,
+      record {
+        between = line [] c.ask_each.new.link.failures;
+        unsent = c.in_ok-unsent.unsent;
+        later = c.run_loops-received.result.1.end.unsent;
+        asked = rw (ready.2, seeds) at c.in_ok-unsent.ensures.asked;
+        received_so = rw ready.0 at c.run_loops-received.ensures.received;
+        ticked_so = rw (ready.1, c.new-dice.ensures) at c.run_loops-received.ensures.ticked;
+        counted = λ low. omega (arith, low);
+      },
+      rw c.finish.ensures c.members-members.ensures,
+    )

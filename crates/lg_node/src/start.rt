@@ -1,0 +1,252 @@
+//! The start of a node, from its socket to its loops, and its end.
+//!
+//! [`open_and_serve`] binds the socket, reads the clock, opens the agent and closes it. Between these [`serve`] hands
+//! out the passes, asks the seeds, runs both loops and reads the members.
+//!
+//! Defined in: `specs/Meaning/Nodes.antt`, `specs/Meaning/Turns.antt`, `specs/Meaning/Words.antt`.
+//! Tested in: `lg_agent_tests/src/node/asking.rt`, `cases/nodes`.
+ghost use Rattle.std.specs.Prelude.{◌≡◌, ◌≤◌, ◌⊎◌, ◌∷◌, [], ℕ, false};
+ghost use Rattle.std.specs.Prelude.{All, IfOk, IfErr, IfSome, MatchResult, length};
+ghost use Rattle.std.specs.Vec.{vec_capacity};
+ghost use Rattle.lg_timing.specs.Meaning.Config.{IsChecked};
+ghost use Rattle.lg_timing.specs.declared.config.Config.{Config as Opened};
+ghost use Rattle.lg_detector.specs.declared.event.Event.TheVariants.{Open};
+ghost use Rattle.lg_detector.specs.Meaning.Step.{view_after};
+ghost use Rattle.lg_agent.specs.declared.refusal.Refusal.TheVariants.{NoMemory, NoView};
+ghost use Rattle.lg_agent.specs.Meaning.Ledger.{Own};
+ghost use Rattle.lg_agent.specs.Meaning.Calls.{IsLook, IsRefusal};
+ghost use Rattle.lg_agent.specs.Meaning.Closing.{IsClosed, IsRefusedClosing};
+ghost use Rattle.lg_node.specs.Meaning.Nodes.{HasServed, IsRun, IsEarly, fresh};
+ghost use Rattle.lg_node.specs.Meaning.Turns.{Line};
+ghost use Rattle.lg_node.specs.Meaning.Words.{seeded, DrawsEight};
+
+use crate::asking::ask_each;
+use crate::clock::{Clock, MachineClock};
+use crate::dice::PcgDice;
+use crate::ending::End;
+use crate::node::{NodeEnd, NodeFault};
+use crate::running::run_loops;
+use crate::shared::{MAX_TURNS, Shared, Side};
+use crate::udp::UdpLink;
+use lg_agent::{Agent, AgentName, Pass, Refusal, Spent, Unclosed};
+use lg_rules::Record;
+use lg_timing::{Config, Moment};
+use lg_view::UnnamedBook;
+use std::alloc::Global;
+use std::net::{Ipv4Addr, Net, UdpSocket};
+use std::rt;
+use std::sync::Wait;
+use std::sync::atomic::AtomicBool;
+use std::thread::Threads;
+
+/// How many passes a node has: one for the receiving loop, one for the ticking loop, and one that asks the seeds.
+const PLACES: usize = 3;
+
+/// Opens a node at its configured address, serves until one of its loops ends, and closes it.
+pub(crate) fn open_and_serve<A, R>(
+    rt: &R,
+    alloc: Global,
+    book: UnnamedBook,
+    config: &Config,
+    dice: u64,
+    until: Moment,
+) -> Result<NodeEnd, NodeFault>
+where
+    A: AgentName + Send + Sync,
+    R: Wait + Threads + Net + rt::Clock + Sync,
+    requires book { book.seen.book ≡ A.book }
+    requires places { A.places ≡ PLACES }
+    requires config { IsChecked config.now }
+    ensures ran { IfOk result (λ e. (hears : Line) × (hears' : Line) × (sends : Line) × (sends' : Line)
+        × IsRun DrawsEight (seeded dice) false MAX_TURNS config.now until hears hears' sends sends' e) }
+    ensures refused { IfErr result IsEarly }
+{
+    let address = (Ipv4Addr::from_octets(config.addr.octets), config.addr.port);
+    let Ok(socket) = UdpSocket::bind(rt, address) else {
+        return Err(NodeFault::Socket);
+    };
+    let Ok(clock) = MachineClock::new(rt) else {
+        return Err(NodeFault::Clock);
+    };
+    let Ok(room) = Vec::with_capacity(alloc, PLACES) else {
+        return Err(NodeFault::Refused(Refusal::NoMemory));
+    };
+    let mut agent = match Agent::<A>::open(rt, alloc, book, clock.now(), config.copy(), PLACES) {
+        Ok(agent) => agent,
+        Err(refusal) => return Err(NodeFault::Refused(refusal)),
+    };
+    let stop = AtomicBool::new(false);
+    let shared = Shared {
+        rt,
+        alloc,
+        clock: &clock,
+        stop: &stop,
+        bound: MAX_TURNS,
+    };
+    match serve(&shared, &mut agent, &socket, config, dice, until) {
+        Ok(left) => Ok(close(rt, agent, left, room)),
+        Err(refusal) => {
+            agent.abandon(rt);
+            Err(NodeFault::Refused(refusal))
+        }
+    }
+}
+
+/// What the passes of a node leave, its ends, and the members.
+#[derive(Drop)]
+struct Left<A: AgentName> {
+    received: End,
+    ticked: End,
+    members: Result<Vec<Record>, Refusal>,
+    receiver: Spent<A>,
+    ticker: Spent<A>,
+    reader: Spent<A>,
+}
+
+/// Hands out the passes of a fresh agent, asks the seeds, runs both loops over the socket until one of them ends, and
+/// reads the members.
+fn serve<A, R, C>(
+    shared: &Shared<'_, R, C>,
+    agent: &mut Agent<A>,
+    socket: &UdpSocket,
+    config: &Config,
+    dice: u64,
+    until: Moment,
+) -> Result<Left<A>, Refusal>
+where
+    A: AgentName + Send + Sync,
+    R: Wait + Threads + Sync,
+    C: Clock + Sync,
+    requires places { length agent.old.told ≡ PLACES }
+    requires bound { shared.now.bound ≤ MAX_TURNS }
+    ensures left { (start : ℕ) → agent.old.name ≡ config.now.name
+        → All (λ seen. seen ≡ Open start config.now ∷ []) agent.old.told
+        → IfOk result (λ l. (hears : Line) × (hears' : Line) × (sends : Line) × (sends' : Line) × (asker : Own)
+        × HasServed DrawsEight (seeded dice) false shared.now.bound config.now until start hears hears' sends sends'
+        l.received l.ticked l.receiver l.ticker asker
+        × MatchResult l.members (λ records. (records.items ≡ view_after l.reader.seen) × IsLook asker l.reader)
+        (λ r. ((r ≡ NoView) ⊎ (r ≡ NoMemory)) × (l.reader ≡ asker))) }
+    ensures refused { IfErr result (λ e. (p : Own) × IsRefusal p.seen e) }
+{
+    let Some(passes) = passes_of(shared.alloc, agent) else {
+        return Err(Refusal::NoMemory);
+    };
+    let Passes {
+        receiver,
+        ticker,
+        asker,
+    } = passes;
+    let mut asker = asker;
+    let mut sends = UdpLink::new(socket);
+    let unsent = ask_each(
+        shared.rt,
+        shared.alloc,
+        &mut asker,
+        &mut sends,
+        shared.clock,
+        &config.seeds,
+    )?;
+    let hears = UdpLink::new(socket);
+    let receiver = Side {
+        pass: receiver,
+        link: hears,
+    };
+    let ticker = Side {
+        pass: ticker,
+        link: sends,
+    };
+    let dice = PcgDice::new(dice);
+    let (received, ticked) = run_loops(shared, receiver, ticker, dice, until);
+    let mut ticked = ticked;
+    ticked.end.unsent = ticked.end.unsent.saturating_add(unsent);
+    let members = asker.members(shared.alloc);
+    Ok(Left {
+        received: received.end,
+        ticked: ticked.end,
+        members,
+        receiver: received.spent,
+        ticker: ticked.spent,
+        reader: asker.finish(),
+    })
+}
+
+/// The three passes of a node.
+#[derive(Drop)]
+struct Passes<'a, A: AgentName> {
+    receiver: Pass<'a, A>,
+    ticker: Pass<'a, A>,
+    /// It asks the seeds, and reads the members.
+    asker: Pass<'a, A>,
+}
+
+/// The passes of a fresh agent, or none if memory was refused.
+fn passes_of<'a, A: AgentName>(alloc: Global, agent: &'a mut Agent<A>) -> Option<Passes<'a, A>>
+    requires { length agent.old.told ≡ PLACES }
+    ensures { (config : Opened) → (start : ℕ) → agent.old.name ≡ config.name
+        → All (λ seen. seen ≡ Open start config ∷ []) agent.old.told
+        → IfSome result (λ passes. (passes.receiver ≡ fresh config start 1)
+        × (passes.ticker ≡ fresh config start 2) × (passes.asker ≡ fresh config start 3)) }
+{
+    let Ok(passes) = agent.passes(alloc) else {
+        return None;
+    };
+    let mut passes = passes;
+    let asker = passes.pop();
+    let ticker = passes.pop();
+    let receiver = passes.pop();
+    match (receiver, ticker, asker) {
+        (Some(receiver), Some(ticker), Some(asker)) => Some(Passes {
+            receiver,
+            ticker,
+            asker,
+        }),
+        _ => None,
+    }
+}
+
+/// Closes the agent of a node, with a list that has enough capacity for what its passes leave.
+fn close<A: AgentName, R: Wait>(
+    rt: &R,
+    agent: Agent<A>,
+    left: Left<A>,
+    room: Vec<Spent<A>>,
+) -> NodeEnd
+    requires { (room.items ≡ []) × (PLACES ≤ vec_capacity room) }
+    ensures received { result.received ≡ left.received }
+    ensures ticked { result.ticked ≡ left.ticked }
+    ensures members { result.members ≡ left.members }
+    ensures closed { MatchResult result.closed
+        (λ c. IsClosed A.places c (left.receiver ∷ left.ticker ∷ left.reader ∷ []))
+        (λ f. IsRefusedClosing A.places (left.receiver ∷ left.ticker ∷ left.reader ∷ []) f) }
+{
+    let Left {
+        received,
+        ticked,
+        members,
+        receiver,
+        ticker,
+        reader,
+    } = left;
+    let mut spents = room;
+    spents.push_reserved(receiver);
+    spents.push_reserved(ticker);
+    spents.push_reserved(reader);
+    let closed = match agent.close(rt, spents) {
+        Ok(closed) => Ok(closed),
+        Err(unclosed) => {
+            let Unclosed {
+                fault,
+                agent,
+                spents: _,
+            } = unclosed;
+            agent.abandon(rt);
+            Err(fault)
+        }
+    };
+    NodeEnd {
+        received,
+        ticked,
+        members,
+        closed,
+    }
+}
