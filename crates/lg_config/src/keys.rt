@@ -27,7 +27,7 @@ pub(crate) const NAME: &str = "name";
 pub(crate) const SEEDS: &str = "seeds";
 
 /// The kind of a key's value. None if the key is unknown.
-#[tactic(auto, unfolding(crate::specs::Meaning::Keys::kind_of))]
+#[tactic(auto, unfolding(crate::specs::Meaning::Keys::kind_of_key))]
 fn kind_of(key: &str) -> Option<Kind>
     ensures { result ≡ kind_of_key key.now }
 {

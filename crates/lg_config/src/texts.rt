@@ -88,7 +88,7 @@ pub(crate) fn name_in(text: &[u8]) -> Option<Name>
 }
 
 /// The seed that a text spells: NAME@A.B.C.D:PORT.
-#[tactic(auto, unfolding(crate::specs::Meaning::Texts::seed_of))]
+#[tactic(auto, unfolding(crate::specs::Meaning::Texts::seed_of_text))]
 pub(crate) fn seed_in(text: &[u8]) -> Option<Seed>
     ensures { result ≡ seed_of_text text.now }
 {

@@ -211,7 +211,7 @@ impl Membership {
     /// Applies a claim that is said at a moment, and returns what that did (SWIM, section 4.2; Lifeguard, local
     /// health aware suspicion). At most 256 names are known, this member's included. A claim about one more does
     /// nothing.
-    #[tactic(auto, unfolding(crate::specs::Support::State::apply, crate::specs::Support::State::applied))]
+    #[tactic(auto, unfolding(crate::specs::Support::State::apply_to_group, crate::specs::Support::State::applied))]
     pub fn apply(&mut self, now: Moment, origin: Origin, claim: &Claim) -> Applied
         ensures state { self.new ≡ apply_to_group now origin claim.now self.old }
         ensures applied { result ≡ applied now claim.now self.old }

@@ -16,7 +16,7 @@ ghost use Rattle.lg_agent.specs.declared.refusal.Refusal.TheVariants.{NoMemory, 
 ghost use Rattle.lg_agent.specs.Meaning.Ledger.{Own};
 ghost use Rattle.lg_agent.specs.Meaning.Calls.{IsLook, IsRefusal};
 ghost use Rattle.lg_agent.specs.Meaning.Closing.{IsClosed, IsRefusedClosing};
-ghost use Rattle.lg_node.specs.Meaning.Nodes.{HasServed, IsRun, IsEarly, fresh};
+ghost use Rattle.lg_node.specs.Meaning.Nodes.{HasServed, IsRun, IsEarly, fresh_own};
 ghost use Rattle.lg_node.specs.Meaning.Turns.{Line};
 ghost use Rattle.lg_node.specs.Meaning.Words.{seeded, DrawsEight};
 
@@ -184,8 +184,8 @@ fn passes_of<'a, A: AgentName>(alloc: Global, agent: &'a mut Agent<A>) -> Option
     requires { length agent.old.told ≡ PLACES }
     ensures { (config : Opened) → (start : ℕ) → agent.old.name ≡ config.name
         → All (λ seen. seen ≡ Open start config ∷ []) agent.old.told
-        → IfSome result (λ passes. (passes.receiver ≡ fresh config start 1)
-        × (passes.ticker ≡ fresh config start 2) × (passes.asker ≡ fresh config start 3)) }
+        → IfSome result (λ passes. (passes.receiver ≡ fresh_own config start 1)
+        × (passes.ticker ≡ fresh_own config start 2) × (passes.asker ≡ fresh_own config start 3)) }
 {
     let Ok(passes) = agent.passes(alloc) else {
         return None;

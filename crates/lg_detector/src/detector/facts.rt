@@ -96,7 +96,7 @@ impl Detector {
     }
 
     /// Applies a claim. Returns whether the record of its member changed.
-    #[tactic(auto, unfolding(crate::specs::Support::State::apply))]
+    #[tactic(auto, unfolding(crate::specs::Support::State::apply_state))]
     pub(super) fn apply(&mut self, origin: Origin, claim: &Claim) -> bool
         ensures state { self.new ≡ apply_state origin claim.now self.old }
         ensures changes { result ≡ (applied self.old.moment claim.now self.old.membership).changed }

@@ -110,7 +110,7 @@ impl Detector {
     }
 
     /// Fires a timer. Returns the packets that it sends.
-    #[tactic(auto, unfolding(crate::specs::Support::State::fire))]
+    #[tactic(auto, unfolding(crate::specs::Support::State::fire_state))]
     fn fire(&mut self, timer: &Timer, words: &[u32; 8]) -> ArrayVec<Message, MAX_SENDS>
         requires { self.old.number ≤ self.old.events }
         ensures state { self.new ≡ fire_state timer.now words.now self.old }
