@@ -1,35 +1,10 @@
 //! The commands of a script.
 use arrayvec::ArrayVec;
 use lg_rules::Name;
-use lg_timing::{MAX_SEEDS, Moment, Seed};
+use lg_timing::{Key, MAX_SEEDS, Moment, Seed};
 
 /// How many random words a tick has: 8 (this project's choice).
 pub const RANDOM_WORDS: usize = 8;
-
-/// One of the ten numbers of a configuration, by the name of its field in `lg_timing::Config`.
-#[derive(Clone, Copy, Debug, PartialEq, Eq)]
-pub enum Key {
-    /// `interval_ms`.
-    IntervalMs,
-    /// `timeout_ms`.
-    TimeoutMs,
-    /// `indirect`.
-    Indirect,
-    /// `max_score`.
-    MaxScore,
-    /// `alpha`.
-    Alpha,
-    /// `beta`.
-    Beta,
-    /// `confirmations`.
-    Confirmations,
-    /// `lambda`.
-    Lambda,
-    /// `nack_thousandths`.
-    NackThousandths,
-    /// `history_limit`.
-    HistoryLimit,
-}
 
 /// A command of a script (this project's choice).
 #[derive(Debug, PartialEq, Eq, Drop)]

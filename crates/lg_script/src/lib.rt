@@ -17,7 +17,8 @@ mod values;
 mod verb;
 mod words;
 
-pub use command::{Command, Key, RANDOM_WORDS};
+pub use command::{Command, RANDOM_WORDS};
 pub use fault::ScriptFault;
+pub use lg_timing::Key;
 pub use line::command_in;
 pub use values::{LOCALHOST, local};

@@ -1,7 +1,8 @@
 //! Reads the words after the name of each command. There are as many as the command takes. A word past the end is
 //! read as an empty word, which is no value.
 //!
-//! Defined in: `specs/Meaning/Commands.antt`, `specs/Meaning/Values.antt`, `specs/Meaning/Bounds.antt`.
+//! Defined in: `specs/Meaning/Commands.antt`, `specs/Meaning/Values.antt`, `specs/Meaning/Bounds.antt`,
+//! `lg_timing/specs/Meaning/Keys.antt`.
 //! Tested in: `cases/sim_commands.case`, `cases/sim_lines.case`.
 ghost use Rattle.std.specs.Prelude.{◌≡◌, ◌≤◌, length};
 ghost use Rattle.std.specs.Option.{option_map};
@@ -13,12 +14,12 @@ ghost use Rattle.lg_script.specs.Meaning.Bounds.{random_words};
 ghost use Rattle.lg_script.specs.Support.Cutting.{words_left};
 
 use crate::command::{Command, RANDOM_WORDS};
-use crate::values::{key_of, moment_in, name_in, port_in, random_word_in, seed_in};
+use crate::values::{moment_in, name_in, port_in, random_word_in, seed_in};
 use crate::verb::Verb;
 use crate::words::{cut_part, cut_word};
 use arrayvec::ArrayVec;
 use lg_text::number_in;
-use lg_timing::{MAX_SEEDS, Seed};
+use lg_timing::{Key, MAX_SEEDS, Seed};
 
 /// `set KEY NUMBER`.
 #[tactic(auto, unfolding(crate::specs::Meaning::Commands::set_command))]
@@ -27,7 +28,7 @@ fn set_in(words: Option<&[u8]>) -> Option<Command>
 {
     let (key, words) = cut_word(words);
     let (number, _) = cut_word(words);
-    let key = key_of(key)?;
+    let key = Key::named(key)?;
     let number = number_in(number)?;
     Some(Command::Set { key, number })
 }

@@ -3,10 +3,9 @@
 //! Defined in: `specs/Meaning/Values.antt`.
 //! Tested in: `cases/sim_commands.case`, `cases/sim_lines.case`.
 ghost use Rattle.std.specs.Prelude.{◌≡◌};
-ghost use Rattle.lg_script.specs.Meaning.Values.{key_of, local, moment_of, member_name_of};
+ghost use Rattle.lg_script.specs.Meaning.Values.{local, moment_of, member_name_of};
 ghost use Rattle.lg_script.specs.Meaning.Values.{number_within, port_of, random_word_of, seed_of};
 
-use crate::command::Key;
 use crate::words::cut_at;
 use lg_rules::{Addr, Name};
 use lg_text::number_in;
@@ -71,34 +70,4 @@ pub(crate) fn seed_in(word: &[u8]) -> Option<Seed>
         name,
         addr: local(port),
     })
-}
-
-/// The key that a word names.
-#[tactic(auto, unfolding(crate::specs::Meaning::Values::key_of))]
-pub(crate) fn key_of(word: &[u8]) -> Option<Key>
-    ensures { result ≡ key_of word.now }
-{
-    if word == b"interval_ms".as_slice() {
-        Some(Key::IntervalMs)
-    } else if word == b"timeout_ms".as_slice() {
-        Some(Key::TimeoutMs)
-    } else if word == b"indirect".as_slice() {
-        Some(Key::Indirect)
-    } else if word == b"max_score".as_slice() {
-        Some(Key::MaxScore)
-    } else if word == b"alpha".as_slice() {
-        Some(Key::Alpha)
-    } else if word == b"beta".as_slice() {
-        Some(Key::Beta)
-    } else if word == b"confirmations".as_slice() {
-        Some(Key::Confirmations)
-    } else if word == b"lambda".as_slice() {
-        Some(Key::Lambda)
-    } else if word == b"nack_thousandths".as_slice() {
-        Some(Key::NackThousandths)
-    } else if word == b"history_limit".as_slice() {
-        Some(Key::HistoryLimit)
-    } else {
-        None
-    }
 }

@@ -5,11 +5,12 @@ use Rattle.lg_timing.specs.declared.config.Config.{Config}
 use Rattle.lg_script.specs.Meaning.Lines.{command_of}
 use Rattle.lg_script.specs.declared.command.Command.{Command}
 use Rattle.lg_script.specs.declared.command.Command.TheVariants.{Set, Table}
-use Rattle.lg_script.specs.declared.command.Key.{Key}
+use Rattle.lg_timing.specs.declared.keys.Key.{Key}
+use Rattle.lg_timing.specs.Meaning.Keys.{with_number}
 use Rattle.lg_script.specs.declared.fault.ScriptFault.{ScriptFault}
 use Rattle.lg_sim.specs.Meaning.Members.{Happening}
 use Rattle.lg_sim.specs.Meaning.Outcome.{happening_text, text_of}
-use Rattle.lg_sim.specs.Meaning.Past.{happenings, opened, settings, with_number}
+use Rattle.lg_sim.specs.Meaning.Past.{happenings, opened, settings}
 use Rattle.lg_sim.specs.Meaning.Text.{fault_said, line_fault, text_said, with_said}
 use Rattle.lg_sim.specs.Support.After.{IsClusterAfter, IsCluster, LedOn, RanCommand, RanLine, StopsAt}
 use Rattle.lg_sim.specs.declared.cluster.Cluster.{Cluster}

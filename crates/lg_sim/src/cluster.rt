@@ -11,9 +11,9 @@ ghost use Rattle.lg_report.specs.Meaning.Records.{table_text};
 ghost use Rattle.lg_sim.specs.Meaning.Members.{Happening, events_of, is_at, is_named, member_named};
 ghost use Rattle.lg_sim.specs.Meaning.Members.{packet_number, sent};
 ghost use Rattle.lg_sim.specs.Meaning.Outcome.{naming_fault, opening_fault, packet_fault};
-ghost use Rattle.lg_sim.specs.Meaning.Past.{at_named, delivered, arrival, new_member, opening_config, unset};
-ghost use Rattle.lg_sim.specs.Meaning.Past.{with_number};
-ghost use Rattle.lg_sim.specs.Support.After.{IsCluster, IsClusterReached, LedOn, StopsAt, delivery_of, fault_in};
+ghost use Rattle.lg_sim.specs.Meaning.Past.{at_named, delivered, heard, new_member, opening_config, unset};
+ghost use Rattle.lg_timing.specs.Meaning.Keys.{with_number};
+ghost use Rattle.lg_sim.specs.Support.After.{IsCluster, IsReached, LedOn, StopsAt, delivery_of, fault_in};
 ghost use Rattle.lg_detector.specs.declared.event.Event.TheVariants as Happened;
 ghost use Rattle.lg_timing.specs.Meaning.Config.{IsChecked};
 ghost use Rattle.lg_sim.specs.declared.host.Member.{Member as OfMember};
@@ -24,8 +24,8 @@ use arrayvec::ArrayVec;
 use lg_detector::{Detector, Event, NoMemory, Reply};
 use lg_report::{Row, put_table};
 use lg_rules::{Addr, Name};
-use lg_script::{Key, ScriptFault, local};
-use lg_timing::{Config, MAX_SEEDS, Moment, Seed};
+use lg_script::{ScriptFault, local};
+use lg_timing::{Config, Key, MAX_SEEDS, Moment, Seed};
 use std::alloc::{AllocError, Global};
 
 /// The most members of a cluster: 16 (this project's choice).
@@ -77,18 +77,7 @@ impl Cluster {
     pub fn set(&mut self, key: Key, number: u64)
         ensures { self.new ≡ record self.old { settings = with_number key number self.old.settings } }
     {
-        match key {
-            Key::IntervalMs => self.settings.interval_ms = number,
-            Key::TimeoutMs => self.settings.timeout_ms = number,
-            Key::Indirect => self.settings.indirect = number,
-            Key::MaxScore => self.settings.max_score = number,
-            Key::Alpha => self.settings.alpha = number,
-            Key::Beta => self.settings.beta = number,
-            Key::Confirmations => self.settings.confirmations = number,
-            Key::Lambda => self.settings.lambda = number,
-            Key::NackThousandths => self.settings.nack_thousandths = number,
-            Key::HistoryLimit => self.settings.history_limit = number,
-        }
+        self.settings.set(key, number);
     }
 
     /// The place of the member with a name, if there is one.

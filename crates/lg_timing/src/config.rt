@@ -162,7 +162,7 @@ fn are_good_seeds(own: &Name, seeds: &[Seed]) -> bool
 impl Config {
     ghost use Rattle.std.specs.Prelude.{find, not};
     ghost use Rattle.lg_timing.specs.Meaning.Config.{defaults, check_of, IsChecked};
-    ghost use Rattle.lg_timing.specs.Meaning.Keys.{greatest, is_in_range, number_of_key, with_key};
+    ghost use Rattle.lg_timing.specs.Meaning.Keys.{greatest, is_in_range, number_of_key, with_number};
 
     /// Makes the configuration of a member with the default numbers and no seeds. It passes its check.
     #[tactic(auto, unfolding(crate::specs::Meaning::Config::check_of))]
@@ -216,7 +216,7 @@ impl Config {
 
     /// Sets the number of a key. The number may be out of its range, which a check finds.
     pub fn set(&mut self, key: Key, number: u64)
-        ensures { self.new ≡ with_key key number self.old }
+        ensures { self.new ≡ with_number key number self.old }
     {
         match key {
             Key::IntervalMs => self.interval_ms = number,

@@ -1,7 +1,8 @@
 -- What the words after the name of a command say. It is None if one of them is out of its form or range.
 use Rattle.std.specs.Prelude.{ℕ, List, [], Option, Some, slice_index_or, drop}
+use Rattle.lg_timing.specs.Meaning.Keys.{key_named}
 use Rattle.lg_text.specs.Meaning.Numbers.{number_of}
-use Rattle.lg_script.specs.Meaning.Values.{◌>>=◌, moment_of, port_of, member_name_of, key_of}
+use Rattle.lg_script.specs.Meaning.Values.{◌>>=◌, moment_of, port_of, member_name_of}
 use Rattle.lg_script.specs.Meaning.Values.{random_words_of, seeds_of}
 use Rattle.lg_script.specs.declared.command.Command.{Command}
 use Rattle.lg_script.specs.declared.command.Command.TheVariants.{Set, Open, Tick, Deliver, Ask, Health, Pull, Table}
@@ -15,7 +16,7 @@ word_at words place = slice_index_or words place []
 -- set KEY NUMBER
 unfoldable pub set_command : List (List ℕ) → Option Command
 set_command words = do
-  key ← key_of (word_at words 0)
+  key ← key_named (word_at words 0)
   number ← number_of (word_at words 1)
   Some (Set key number)
 

@@ -5,13 +5,13 @@ use Rattle.std.specs.List.{flat_map}
 use Rattle.lg_timing.specs.declared.config.Seed.{Seed}
 use Rattle.lg_script.specs.declared.command.Command.{Command}
 use Rattle.lg_script.specs.declared.command.Command.TheVariants.{Set, Open, Tick, Deliver, Ask, Health, Pull, Table}
-use Rattle.lg_script.specs.declared.command.Key.TheVariants.{IntervalMs, Lambda, HistoryLimit}
+use Rattle.lg_timing.specs.declared.keys.Key.TheVariants.{IntervalMs, Lambda, HistoryLimit}
 use Rattle.lg_script.specs.declared.fault.ScriptFault.{ScriptFault}
 use Rattle.lg_script.specs.declared.fault.ScriptFault.TheVariants as fault
 use Rattle.lg_script.specs.Meaning.Commands.{set_command, open_command, tick_command, deliver_command}
 use Rattle.lg_script.specs.Meaning.Commands.{ask_command, health_command, pull_command, table_command}
 use Rattle.lg_script.specs.Meaning.Lines.{command_of}
-use Rattle.lg_script.specs.Meaning.Values.{key_of, local}
+use Rattle.lg_script.specs.Meaning.Values.{local}
 use Rattle.lg_script.specs.Meaning.Words.{verb_of}
 
 -- a line that gives a command
@@ -21,15 +21,15 @@ gives command = Ok (Some command)
 -- ---- each command
 
 set-lambda : command_of (codes "set lambda 99999") ≡ gives (Set Lambda 99999)
-unfolding command_of verb_of set_command key_of
+unfolding command_of verb_of set_command
 set-lambda = refl
 
 set-interval : command_of (codes "set interval_ms 0000000000000007") ≡ gives (Set IntervalMs 7)
-unfolding command_of verb_of set_command key_of
+unfolding command_of verb_of set_command
 set-interval = refl
 
 set-history : command_of (codes "set history_limit 9999999999999999") ≡ gives (Set HistoryLimit 9999999999999999)
-unfolding command_of verb_of set_command key_of
+unfolding command_of verb_of set_command
 set-history = refl
 
 opens-alone : command_of (codes "open a 7001 0") ≡ gives (Open (97 ∷ []) 7001 0 record { items = [] })
@@ -208,7 +208,7 @@ unfolding command_of verb_of open_command b-at-1
 seeds-16 = refl
 
 unknown-key : command_of (codes "set seeds 1") ≡ Err fault.Value
-unfolding command_of verb_of set_command key_of
+unfolding command_of verb_of set_command
 unknown-key = refl
 
 tab-in-word : command_of (codes "table a" ++ 9 ∷ []) ≡ Err fault.Value

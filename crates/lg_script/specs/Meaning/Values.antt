@@ -1,19 +1,16 @@
--- What one word of a line says: a number, a moment, a port, a random word, a name, a seed, a key.
+-- What one word of a line says: a number, a moment, a port, a random word, a name, a seed. What key it names is said
+-- by `key_named` of `lg_timing`.
 use Rattle.std.specs.Prelude.{ℕ, ◌-◌, ◌==◌, Bool, nat_le, List, []}
-use Rattle.std.specs.Prelude.{◌∷◌, ◌++◌, length, replicate, codes}
+use Rattle.std.specs.Prelude.{◌∷◌, ◌++◌, length, replicate}
 use Rattle.std.specs.Prelude.{Option, Some, None, option_and_then, if◌then◌else◌}
 use Rattle.std.specs.List.{before_first, after_first}
 use Rattle.std.specs.Option.{option_map}
-use Rattle.std.specs.Str.{bytes_eq}
 use Rattle.lg_rules.specs.Meaning.Name.{is_name}
 use Rattle.lg_rules.specs.declared.addr.Addr.{Addr}
 use Rattle.lg_timing.specs.Meaning.Bounds.{most_seeds}
 use Rattle.lg_timing.specs.Meaning.Config.{is_within}
 use Rattle.lg_timing.specs.declared.config.Seed.{Seed}
 use Rattle.lg_text.specs.Meaning.Numbers.{number_of}
-use Rattle.lg_script.specs.declared.command.Key.{Key}
-use Rattle.lg_script.specs.declared.command.Key.TheVariants.{IntervalMs, TimeoutMs, Indirect, MaxScore, Alpha}
-use Rattle.lg_script.specs.declared.command.Key.TheVariants.{Beta, Confirmations, Lambda, NackThousandths, HistoryLimit}
 use Rattle.lg_script.specs.Meaning.Bounds.{greatest_moment, greatest_port}
 use Rattle.lg_script.specs.Meaning.Bounds.{random_words, greatest_random_word}
 
@@ -78,18 +75,3 @@ random_words_of words = option_map with_missing (at_most_of random_words random_
 -- the seeds that some words spell, at most sixteen
 abbrev pub seeds_of : List (List ℕ) → Option (List Seed)
 seeds_of words = at_most_of most_seeds seed_of words
-
--- the key that a word names
-unfoldable pub key_of : List ℕ → Option Key
-key_of word =
-    if bytes_eq word (codes "interval_ms") then Some IntervalMs
-    else if bytes_eq word (codes "timeout_ms") then Some TimeoutMs
-    else if bytes_eq word (codes "indirect") then Some Indirect
-    else if bytes_eq word (codes "max_score") then Some MaxScore
-    else if bytes_eq word (codes "alpha") then Some Alpha
-    else if bytes_eq word (codes "beta") then Some Beta
-    else if bytes_eq word (codes "confirmations") then Some Confirmations
-    else if bytes_eq word (codes "lambda") then Some Lambda
-    else if bytes_eq word (codes "nack_thousandths") then Some NackThousandths
-    else if bytes_eq word (codes "history_limit") then Some HistoryLimit
-    else None

@@ -15,7 +15,7 @@ use Rattle.lg_script.specs.Meaning.Values.{local}
 use Rattle.lg_script.specs.Meaning.Words.{verb_of}
 use Rattle.lg_script.specs.declared.command.Command.{Command}
 use Rattle.lg_script.specs.declared.command.Command.TheVariants.{Set, Open, Tick, Deliver, Health, Pull, Table}
-use Rattle.lg_script.specs.declared.command.Key.TheVariants.{Alpha, Beta, IntervalMs}
+use Rattle.lg_timing.specs.declared.keys.Key.TheVariants.{Alpha, Beta, IntervalMs}
 use Rattle.lg_script.specs.declared.fault.ScriptFault.TheVariants as fault
 use Rattle.lg_text.specs.Meaning.Lines.{newline}
 use Rattle.lg_text.specs.declared.end.End.TheVariants.{Done, Faulty}

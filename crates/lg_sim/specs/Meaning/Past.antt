@@ -5,6 +5,7 @@ use Rattle.std.specs.List.{cons_option}
 use Rattle.std.specs.Option.{option_map}
 use Rattle.arrayvec.specs.ArrayVec.{ArrayVec}
 use Rattle.lg_timing.specs.Meaning.Config.{defaults}
+use Rattle.lg_timing.specs.Meaning.Keys.{with_number}
 use Rattle.lg_timing.specs.declared.config.Config.{Config}
 use Rattle.lg_timing.specs.declared.config.Seed.{Seed}
 use Rattle.lg_detector.specs.declared.event.Event.{Event}
@@ -12,35 +13,9 @@ use Rattle.lg_detector.specs.declared.event.Event.TheVariants as event
 use Rattle.lg_script.specs.Meaning.Values.{local}
 use Rattle.lg_script.specs.declared.command.Command.{Command}
 use Rattle.lg_script.specs.declared.command.Command.TheVariants.{Set, Open, Tick, Deliver, Ask, Health, Pull, Table}
-use Rattle.lg_script.specs.declared.command.Key.{Key}
-use Rattle.lg_script.specs.declared.command.Key.TheVariants.{
-  IntervalMs,
-  TimeoutMs,
-  Indirect,
-  MaxScore,
-  Alpha,
-  Beta,
-  Confirmations,
-  Lambda,
-  NackThousandths,
-  HistoryLimit,
-}
 use Rattle.lg_sim.specs.Meaning.Members.{Happening, member_at, member_named, packet_number, sent}
 use Rattle.lg_sim.specs.declared.host.Member.{Member}
 use Rattle.lg_sim.specs.declared.host.SentPacket.{SentPacket}
-
--- a configuration with one number changed
-abbrev pub with_number : Key → ℕ → Config → Config
-with_number IntervalMs n c = record c { interval_ms = n }
-with_number TimeoutMs n c = record c { timeout_ms = n }
-with_number Indirect n c = record c { indirect = n }
-with_number MaxScore n c = record c { max_score = n }
-with_number Alpha n c = record c { alpha = n }
-with_number Beta n c = record c { beta = n }
-with_number Confirmations n c = record c { confirmations = n }
-with_number Lambda n c = record c { lambda = n }
-with_number NackThousandths n c = record c { nack_thousandths = n }
-with_number HistoryLimit n c = record c { history_limit = n }
 
 -- The defaults. Their name and address are placeholders.
 abbrev pub unset : Config

@@ -64,17 +64,17 @@ number_of_key NackThousandths c = c.nack_thousandths
 number_of_key HistoryLimit c = c.history_limit
 
 -- a configuration with the number of one key changed
-abbrev pub with_key : Key → ℕ → Config → Config
-with_key IntervalMs n c = record c { interval_ms = n }
-with_key TimeoutMs n c = record c { timeout_ms = n }
-with_key Indirect n c = record c { indirect = n }
-with_key MaxScore n c = record c { max_score = n }
-with_key Alpha n c = record c { alpha = n }
-with_key Beta n c = record c { beta = n }
-with_key Confirmations n c = record c { confirmations = n }
-with_key Lambda n c = record c { lambda = n }
-with_key NackThousandths n c = record c { nack_thousandths = n }
-with_key HistoryLimit n c = record c { history_limit = n }
+abbrev pub with_number : Key → ℕ → Config → Config
+with_number IntervalMs n c = record c { interval_ms = n }
+with_number TimeoutMs n c = record c { timeout_ms = n }
+with_number Indirect n c = record c { indirect = n }
+with_number MaxScore n c = record c { max_score = n }
+with_number Alpha n c = record c { alpha = n }
+with_number Beta n c = record c { beta = n }
+with_number Confirmations n c = record c { confirmations = n }
+with_number Lambda n c = record c { lambda = n }
+with_number NackThousandths n c = record c { nack_thousandths = n }
+with_number HistoryLimit n c = record c { history_limit = n }
 
 -- whether a number is in a key's range, whatever the other numbers are
 abbrev pub allows_number : Key → ℕ → Bool
