@@ -1,12 +1,13 @@
 //! The keys of a file, and the TOML type of each key's value.
 //!
-//! Defined in: `specs/Meaning/Keys.antt`.
+//! Defined in: `specs/Meaning/Keys.antt`, `lg_timing/specs/Meaning/Keys.antt`.
 //! Tested in: `cases/config.case`, `cases/config_types.case`.
 ghost use Rattle.std.specs.Prelude.{◌≡◌};
 ghost use Rattle.std.specs.List.{list_all};
 ghost use Rattle.toml.specs.View.{view, items_view, table_view};
 ghost use Rattle.lg_config.specs.Meaning.Keys.{are_right_keys, are_texts, is_of_kind, kind_of_key};
 
+use lg_timing::Key;
 use toml::{Table, Value};
 
 /// The kind of a key's value.
@@ -33,19 +34,9 @@ fn kind_of(key: &str) -> Option<Kind>
 {
     match key {
         "name" | "address" => Some(Kind::Text),
-        "port"
-        | "dice"
-        | "interval_ms"
-        | "timeout_ms"
-        | "indirect"
-        | "max_score"
-        | "alpha"
-        | "beta"
-        | "confirmations"
-        | "lambda"
-        | "nack_thousandths"
-        | "history_limit" => Some(Kind::Number),
+        "port" | "dice" => Some(Kind::Number),
         "seeds" => Some(Kind::Texts),
+        _ if Key::named(key.as_bytes()).is_some() => Some(Kind::Number),
         _ => None,
     }
 }

@@ -5,7 +5,8 @@
 ghost use Rattle.std.specs.Prelude.{◌≡◌};
 ghost use Rattle.std.specs.Option.{option_map};
 ghost use Rattle.toml.specs.View.{table_view};
-ghost use Rattle.lg_config.specs.Meaning.Settings.{addr_in, dice_in, name_in, settings_of, with_numbers};
+ghost use Rattle.lg_config.specs.Meaning.Settings.{addr_in, dice_in, name_in, settings_of};
+ghost use Rattle.lg_config.specs.Meaning.Settings.{with_keys, with_numbers};
 ghost use Rattle.lg_config.specs.Support.Reading.{with_first_seeds};
 
 use crate::keys::NAME;
@@ -14,7 +15,7 @@ use crate::node::NodeConfig;
 use crate::seeds::first_seeds;
 use crate::texts::{name_in, octets_in, port_among};
 use lg_rules::{Addr, Name};
-use lg_timing::Config;
+use lg_timing::{Config, KEYS, Key};
 use toml::Table;
 
 /// The address of a member, if its file doesn't give one (this project's choice).
@@ -56,24 +57,25 @@ fn dice_at(table: &Table) -> Option<u64>
     }
 }
 
+/// A configuration with the numbers that a table gives for some keys. It has its own numbers for the other keys, and
+/// for the keys that the table lacks.
+fn with_keys(table: &Table, keys: &[Key], usual: Config) -> Config
+    ensures { result ≡ with_keys keys.now (table_view table.now) usual }
+{
+    let mut config = usual;
+    for key in keys {
+        let number = number_at(table, key.name(), config.number(*key));
+        config.set(*key, number);
+    }
+    config
+}
+
 /// A configuration with the numbers that a table gives, and with its own numbers for the keys that the table lacks.
 #[tactic(auto, unfolding(crate::specs::Meaning::Settings::with_numbers))]
 fn with_numbers(table: &Table, usual: Config) -> Config
     ensures { result ≡ with_numbers (table_view table.now) usual }
 {
-    Config {
-        interval_ms: number_at(table, "interval_ms", usual.interval_ms),
-        timeout_ms: number_at(table, "timeout_ms", usual.timeout_ms),
-        indirect: number_at(table, "indirect", usual.indirect),
-        max_score: number_at(table, "max_score", usual.max_score),
-        alpha: number_at(table, "alpha", usual.alpha),
-        beta: number_at(table, "beta", usual.beta),
-        confirmations: number_at(table, "confirmations", usual.confirmations),
-        lambda: number_at(table, "lambda", usual.lambda),
-        nack_thousandths: number_at(table, "nack_thousandths", usual.nack_thousandths),
-        history_limit: number_at(table, "history_limit", usual.history_limit),
-        ..usual
-    }
+    with_keys(table, &KEYS, usual)
 }
 
 /// All that a table says, but only the first 16 seeds. None if a value is out of its form.

@@ -61,7 +61,7 @@ all-keys :
     answer_of (b-with (addressed ++ timed ++ counted))
     ≡ Ok record {
       config =
-          record {
+          record (defaults (98 ∷ []) (record { octets = 10 ∷ 0 ∷ 0 ∷ 7 ∷ []; port = 1 })) {
             interval_ms = 200;
             timeout_ms = 50;
             indirect = 0;
@@ -73,8 +73,6 @@ all-keys :
             nack_thousandths = 6;
             history_limit = 7;
             seeds = record { items = record { name = 99 ∷ []; addr = local 7001 } ∷ [] };
-            name = 98 ∷ [];
-            addr = record { octets = 10 ∷ 0 ∷ 0 ∷ 7 ∷ []; port = 1 };
           };
       dice = 9223372036854775807;
     }

@@ -5,6 +5,7 @@ use Rattle.std.specs.List.{list_any}
 use Rattle.std.specs.Str.{bytes_eq}
 use Rattle.toml.specs.Data.{Data, Items, no_items, item, Members, no_members, member, get_member}
 use Rattle.toml.specs.Data.{as_str, as_integer, as_array}
+use Rattle.lg_timing.specs.Meaning.Keys.{key_named}
 use Rattle.lg_config.specs.declared.keys.Kind.{Kind}
 use Rattle.lg_config.specs.declared.keys.Kind.TheVariants.{Text, Number, Texts}
 
@@ -12,12 +13,9 @@ use Rattle.lg_config.specs.declared.keys.Kind.TheVariants.{Text, Number, Texts}
 abbrev pub text_keys : List (List ℕ)
 text_keys = codes "name" ∷ codes "address" ∷ []
 
--- the keys whose value is a whole number
+-- the keys whose value is a whole number, besides those of the configuration's numbers
 abbrev pub number_keys : List (List ℕ)
-number_keys =
-    codes "port" ∷ codes "dice" ∷ codes "interval_ms" ∷ codes "timeout_ms" ∷ codes "indirect"
-    ∷ codes "max_score" ∷ codes "alpha" ∷ codes "beta" ∷ codes "confirmations" ∷ codes "lambda"
-    ∷ codes "nack_thousandths" ∷ codes "history_limit" ∷ []
+number_keys = codes "port" ∷ codes "dice" ∷ []
 
 -- the key whose value is an array of texts
 abbrev pub texts_key : List ℕ
@@ -33,6 +31,7 @@ kind_of_key key =
     if is_listed text_keys key then Some Text
     else if is_listed number_keys key then Some Number
     else if bytes_eq key texts_key then Some Texts
+    else if is_some (key_named key) then Some Number
     else None
 
 abbrev pub is_text : Data → Bool

@@ -5,8 +5,10 @@ use Rattle.std.specs.Option.{option_map}
 use Rattle.toml.specs.Data.{Data, Items, no_items, item, Members, get_member, as_str, as_integer, as_array}
 use Rattle.lg_rules.specs.declared.addr.Addr.{Addr}
 use Rattle.lg_timing.specs.Meaning.Config.{defaults}
+use Rattle.lg_timing.specs.Meaning.Keys.{key_name, keys, number_of_key, with_number}
 use Rattle.lg_timing.specs.declared.config.Config.{Config}
 use Rattle.lg_timing.specs.declared.config.Seed.{Seed}
+use Rattle.lg_timing.specs.declared.keys.Key.{Key}
 use Rattle.lg_config.specs.declared.node.NodeConfig.{NodeConfig}
 use Rattle.lg_config.specs.Meaning.Bounds.{out_of_range, default_address, default_port, default_dice}
 use Rattle.lg_config.specs.Meaning.Keys.{texts_key}
@@ -64,21 +66,18 @@ unless_negative (negsuc n) = None
 unfoldable pub dice_in : Members → Option ℕ
 dice_in members = unless_negative (unwrap_or (integer_at (codes "dice") members) (pos default_dice))
 
--- a configuration with the numbers that a document gives, and with its own numbers for the keys that are missing
+-- a configuration with the number that a document gives for a key, and with its own number if the key is missing
+abbrev pub with_key : Key → Members → Config → Config
+with_key key members usual = with_number key (number_at (key_name key) (number_of_key key usual) members) usual
+
+-- the same for each of some keys
+abbrev pub with_keys : List Key → Members → Config → Config
+with_keys [] _ usual = usual
+with_keys (key ∷ others) members usual = with_keys others members (with_key key members usual)
+
+-- the same for all keys
 unfoldable pub with_numbers : Members → Config → Config
-with_numbers members usual =
-    record usual {
-      interval_ms = number_at_key (codes "interval_ms") usual.interval_ms members;
-      timeout_ms = number_at_key (codes "timeout_ms") usual.timeout_ms members;
-      indirect = number_at_key (codes "indirect") usual.indirect members;
-      max_score = number_at_key (codes "max_score") usual.max_score members;
-      alpha = number_at_key (codes "alpha") usual.alpha members;
-      beta = number_at_key (codes "beta") usual.beta members;
-      confirmations = number_at_key (codes "confirmations") usual.confirmations members;
-      lambda = number_at_key (codes "lambda") usual.lambda members;
-      nack_thousandths = number_at_key (codes "nack_thousandths") usual.nack_thousandths members;
-      history_limit = number_at_key (codes "history_limit") usual.history_limit members;
-    }
+with_numbers members usual = with_keys keys members usual
 
 -- a configuration with these seeds
 abbrev pub with_seeds : List Seed → Config → Config
