@@ -68,7 +68,7 @@ dice_in members = unless_negative (unwrap_or (integer_at (codes "dice") members)
 
 -- a configuration with the number that a document gives for a key, and with its own number if the key is missing
 abbrev pub with_key : Key → Members → Config → Config
-with_key key members usual = with_number key (number_at (key_name key) (number_of_key key usual) members) usual
+with_key key members usual = with_number key (number_at_key (key_name key) (number_of_key key usual) members) usual
 
 -- the same for each of some keys
 abbrev pub with_keys : List Key → Members → Config → Config
