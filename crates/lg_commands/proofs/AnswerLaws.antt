@@ -14,8 +14,8 @@ use Rattle.lg_detector.specs.declared.event.Event.{Event}
 use Rattle.lg_detector.proofs.Accepting.{accepts-after}
 use Rattle.lg_text.specs.Meaning.Lines.{lines_of}
 use Rattle.lg_commands.specs.Meaning.Spelled.{packet_in}
-use Rattle.lg_commands.specs.Meaning.Answering.{local_addr, opening, heard_event, event_of, events_of_lines}
-use Rattle.lg_commands.specs.Meaning.Answering.{line_answer, answers_from, answer_text, answer_end, is_faulty}
+use Rattle.lg_script.specs.Meaning.Values.{local}
+use Rattle.lg_commands.specs.Meaning.Answering.{opening, heard, event_of, events_of, line_text, text_from, answer_text, answer_end, is_faulty}
 use Rattle.lg_timing.specs.Meaning.Config.{defaults}
 use Rattle.lg_commands.specs.Support.Hearing.{with_heard, AcceptsHeard}
 use Rattle.lg_text.specs.declared.end.End.{End}

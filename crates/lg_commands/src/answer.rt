@@ -18,13 +18,11 @@ use arrayvec::ArrayVec;
 use lg_detector::{Detector, Event, NoMemory, Outgoing, Reply};
 use lg_packet::Packet;
 use lg_report::{Row, put_hex};
-use lg_rules::{Addr, Name};
+use lg_rules::Name;
+use lg_script::local;
 use lg_text::{End, MAX_INPUT, cut_line};
 use lg_timing::{Config, Moment};
 use std::alloc::Global;
-
-/// The address of the machine itself.
-const LOCALHOST: [u8; 4] = [127, 0, 0, 1];
 
 /// What a run over an input writes, and how it ends.
 #[derive(Debug, Drop)]
@@ -41,7 +39,7 @@ fn open_event(name: &Name) -> Event
 {
     Event::Open {
         now: Moment::default(),
-        config: Config::new(*name, Addr::new(LOCALHOST, 7000)),
+        config: Config::new(*name, local(7000)),
     }
 }
 
@@ -103,7 +101,7 @@ fn answer_line(
             // A packet is large, so the event is made here, where it needn't be passed on.
             let event = Event::Heard {
                 now: Moment::default(),
-                source: Addr::new(LOCALHOST, 1),
+                source: local(1),
                 packet,
             };
             detector.step(&event, reply);

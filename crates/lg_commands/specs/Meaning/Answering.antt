@@ -4,7 +4,6 @@ use Rattle.std.specs.Prelude.{Some, None, Result, Ok, Err, if◌then◌else◌}
 use Rattle.std.specs.List.{flat_map, filter_map, list_any}
 use Rattle.std.specs.Result.{is_err}
 use Rattle.hex.specs.Hex.{encode_lower}
-use Rattle.lg_rules.specs.declared.addr.Addr.{Addr}
 use Rattle.lg_packet.specs.Meaning.Spelling.{spelling}
 use Rattle.lg_packet.specs.declared.packet.Packet.{Packet}
 use Rattle.lg_detector.specs.Meaning.Step.{reply_after}
@@ -12,14 +11,12 @@ use Rattle.lg_detector.specs.declared.event.Event.{Event}
 use Rattle.lg_detector.specs.declared.event.Event.TheVariants.{Open, Heard}
 use Rattle.lg_detector.specs.declared.reply.Outgoing.{Outgoing}
 use Rattle.lg_timing.specs.Meaning.Config.{defaults}
+use Rattle.lg_script.specs.Meaning.Values.{local}
 use Rattle.lg_text.specs.Meaning.Lines.{lines_of, newline}
 use Rattle.lg_text.specs.declared.end.End.{End}
 use Rattle.lg_text.specs.declared.end.End.TheVariants.{Done, Faulty}
 use Rattle.lg_commands.specs.Meaning.Spelled.{fault_text, packet_in}
 use Rattle.lg_commands.specs.declared.line.LineFault.{LineFault}
-
-abbrev pub local_addr : ℕ → Addr
-local_addr port = record { octets = 127 ∷ 0 ∷ 0 ∷ 1 ∷ []; port = port }
 
 -- the opening of the detector, with the defaults and at 127.0.0.1:7000
 abbrev pub opening : List ℕ → Event

@@ -15,9 +15,9 @@ use Rattle.lg_timing.specs.Meaning.Tables.{log10_of, ratio_of}
 use Rattle.lg_timing.specs.Meaning.Timeouts.{range_of, timeout_of}
 use Rattle.lg_text.specs.Meaning.Lines.{lines_of, newline}
 use Rattle.lg_text.specs.declared.end.End.TheVariants.{Done}
-use Rattle.lg_commands.specs.Meaning.Answering.{answer_end, answer_text, events_of_lines, heard_event, local_addr}
-use Rattle.lg_commands.specs.Meaning.Answering.{opening, sent_text}
-use Rattle.lg_commands.specs.Meaning.Choosing.{are_names, comma_parts, names_in, order_text, words_of_text}
+use Rattle.lg_commands.specs.Meaning.Answering.{answer_end, answer_text, events_of, heard, opening, sent_text}
+use Rattle.lg_script.specs.Meaning.Values.{local}
+use Rattle.lg_commands.specs.Meaning.Choosing.{are_names, comma_parts, names_in, order_text, words_in}
 use Rattle.lg_commands.specs.Meaning.Spelled.{packet_in}
 use Rattle.lg_commands.specs.Meaning.Timeouts.{timeouts_text}
 use Rattle.lg_commands.specs.declared.order.BadList.TheVariants.{Names, Words}
