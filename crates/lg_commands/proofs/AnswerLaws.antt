@@ -15,7 +15,8 @@ use Rattle.lg_detector.proofs.Accepting.{accepts-after}
 use Rattle.lg_text.specs.Meaning.Lines.{lines_of}
 use Rattle.lg_commands.specs.Meaning.Spelled.{packet_in}
 use Rattle.lg_script.specs.Meaning.Values.{local}
-use Rattle.lg_commands.specs.Meaning.Answering.{opening, heard, event_of, events_of, line_text, text_from, answer_text, answer_end, is_faulty}
+use Rattle.lg_commands.specs.Meaning.Answering.{opening, heard_event, event_of, events_of_lines, line_answer}
+use Rattle.lg_commands.specs.Meaning.Answering.{answers_from, answer_text, answer_end, is_faulty}
 use Rattle.lg_timing.specs.Meaning.Config.{defaults}
 use Rattle.lg_commands.specs.Support.Hearing.{with_heard, AcceptsHeard}
 use Rattle.lg_text.specs.declared.end.End.{End}
@@ -67,7 +68,7 @@ defaults_are_checked name addr = refl
 
 -- so the opening is good
 pub opens_with_defaults : (name : List ℕ) → opens_well (opening name) ≡ true
-opens_with_defaults name = ap is_ok (defaults_are_checked name (local_addr 7000))
+opens_with_defaults name = ap is_ok (defaults_are_checked name (local 7000))
 
 accepted : (well any : Bool) (n : ℕ) → well ≡ true → any ≡ false → n + 1 ≤ 4000000000 → (well && (not any && leb (n + 1) 4000000000)) ≡ true
 accepted well any n good none few = grind arith

@@ -20,11 +20,11 @@ use Rattle.lg_commands.specs.declared.line.LineFault.{LineFault}
 
 -- the opening of the detector, with the defaults and at 127.0.0.1:7000
 abbrev pub opening : List ℕ → Event
-opening name = Open 0 (defaults name (local_addr 7000))
+opening name = Open 0 (defaults name (local 7000))
 
 -- a packet is heard from 127.0.0.1:1
 abbrev pub heard_event : Packet → Event
-heard_event packet = Heard 0 (local_addr 1) packet
+heard_event packet = Heard 0 (local 1) packet
 
 -- the event of a line that spells a packet: the packet is heard
 abbrev pub event_of : Result Packet LineFault → Option Event

@@ -15,9 +15,10 @@ use Rattle.lg_timing.specs.Meaning.Tables.{log10_of, ratio_of}
 use Rattle.lg_timing.specs.Meaning.Timeouts.{range_of, timeout_of}
 use Rattle.lg_text.specs.Meaning.Lines.{lines_of, newline}
 use Rattle.lg_text.specs.declared.end.End.TheVariants.{Done}
-use Rattle.lg_commands.specs.Meaning.Answering.{answer_end, answer_text, events_of, heard, opening, sent_text}
+use Rattle.lg_commands.specs.Meaning.Answering.{answer_end, answer_text, events_of_lines, heard_event, opening}
+use Rattle.lg_commands.specs.Meaning.Answering.{sent_text}
 use Rattle.lg_script.specs.Meaning.Values.{local}
-use Rattle.lg_commands.specs.Meaning.Choosing.{are_names, comma_parts, names_in, order_text, words_in}
+use Rattle.lg_commands.specs.Meaning.Choosing.{are_names, comma_parts, names_in, order_text, words_of_text}
 use Rattle.lg_commands.specs.Meaning.Spelled.{packet_in}
 use Rattle.lg_commands.specs.Meaning.Timeouts.{timeouts_text}
 use Rattle.lg_commands.specs.declared.order.BadList.TheVariants.{Names, Words}
@@ -44,7 +45,7 @@ done = refl
 
 -- the claim that c is alive, with the incarnation 0
 c-alive : Claim
-c-alive = record { name = 99 ∷ []; addr = local_addr 7003; status = Alive; incarnation = 0 }
+c-alive = record { name = 99 ∷ []; addr = local 7003; status = Alive; incarnation = 0 }
 
 heard-claim : packet_in (codes "534c01010161000000070163010101637f0000011b5b00000000")
     ≡ Ok record { sender = 97 ∷ []; body = Ping 7 (99 ∷ []); claims = record { items = c-alive ∷ [] } }

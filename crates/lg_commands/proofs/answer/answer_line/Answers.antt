@@ -38,14 +38,14 @@ returns-then-is_err-clause-end c =
 
 pub step-requires : goal.step-requires
 step-requires c =
-    let is : ◌≡◌ {A = Happened} (Heard c.default.result c.local.result c.in-Ok.packet) (heard c.in-Ok.packet) = ap₂ (λ m (a : Addr). Heard m a c.in-Ok.packet) c.default.ensures c.local.ensures in
+    let is : ◌≡◌ {A = Happened} (Heard c.default.result c.local.result c.in-Ok.packet) (heard_event c.in-Ok.packet) = ap₂ (λ m (a : Addr). Heard m a c.in-Ok.packet) c.default.ensures c.local.ensures in
     subst (λ (e : Happened). IsTrue (accepts_of c.args.detector.now e)) (sym is) (c.requires.accepts.accepts c.in-Ok.packet)
 
 pub returns-in_err-put_sends-in-Ok-clause-after : goal.returns-in_err-put_sends-in-Ok-clause-after
 returns-in_err-put_sends-in-Ok-clause-after c =
     let half = length-take-le (length c.args.line.now / 2) c.args.bytes.now (omega arith) in
     let is : Ok c.in-Ok.packet ≡ packet_in c.args.line.now = spelled _ _ c.decode_to_slice.result _ half c.decode_to_slice.ensures.value (sym c.if-is_err.ensures.value) _ (sym c.decode.ensures.exact ∙ c.in-Ok.is) in
-    let event : ◌≡◌ {A = Happened} (Heard c.default.result c.local.result c.in-Ok.packet) (heard c.in-Ok.packet) = ap₂ (λ m (a : Addr). Heard m a c.in-Ok.packet) c.default.ensures c.local.ensures in
+    let event : ◌≡◌ {A = Happened} (Heard c.default.result c.local.result c.in-Ok.packet) (heard_event c.in-Ok.packet) = ap₂ (λ m (a : Addr). Heard m a c.in-Ok.packet) c.default.ensures c.local.ensures in
     after_packet _ _ is _ event _ _ c.step.ensures.after
 
 pub returns-in_err-put_fault-in-Err-clause-after : goal.returns-in_err-put_fault-in-Err-clause-after
@@ -58,7 +58,7 @@ pub returns-in_ok-put_sends-in-Ok-clause-text : goal.returns-in_ok-put_sends-in-
 returns-in_ok-put_sends-in-Ok-clause-text c =
     let half = length-take-le (length c.args.line.now / 2) c.args.bytes.now (omega arith) in
     let is : Ok c.in-Ok.packet ≡ packet_in c.args.line.now = spelled _ _ c.decode_to_slice.result _ half c.decode_to_slice.ensures.value (sym c.if-is_err.ensures.value) _ (sym c.decode.ensures.exact ∙ c.in-Ok.is) in
-    let event : ◌≡◌ {A = Happened} (Heard c.default.result c.local.result c.in-Ok.packet) (heard c.in-Ok.packet) = ap₂ (λ m (a : Addr). Heard m a c.in-Ok.packet) c.default.ensures c.local.ensures in
+    let event : ◌≡◌ {A = Happened} (Heard c.default.result c.local.result c.in-Ok.packet) (heard_event c.in-Ok.packet) = ap₂ (λ m (a : Addr). Heard m a c.in-Ok.packet) c.default.ensures c.local.ensures in
     text_of_packet _ _ is _ event _ _ c.step.ensures.answer _ _
     (c.in_ok-put_sends-in-Ok.ensures ∙ ap (λ (sends : List Outgoing). c.args.text.now.items ++ flat_map sent_line sends) c.as_slice.ensures.value)
 
@@ -66,7 +66,7 @@ pub returns-in_ok-put_sends-in-Ok-clause-after : goal.returns-in_ok-put_sends-in
 returns-in_ok-put_sends-in-Ok-clause-after c =
     let half = length-take-le (length c.args.line.now / 2) c.args.bytes.now (omega arith) in
     let is : Ok c.in-Ok.packet ≡ packet_in c.args.line.now = spelled _ _ c.decode_to_slice.result _ half c.decode_to_slice.ensures.value (sym c.if-is_err.ensures.value) _ (sym c.decode.ensures.exact ∙ c.in-Ok.is) in
-    let event : ◌≡◌ {A = Happened} (Heard c.default.result c.local.result c.in-Ok.packet) (heard c.in-Ok.packet) = ap₂ (λ m (a : Addr). Heard m a c.in-Ok.packet) c.default.ensures c.local.ensures in
+    let event : ◌≡◌ {A = Happened} (Heard c.default.result c.local.result c.in-Ok.packet) (heard_event c.in-Ok.packet) = ap₂ (λ m (a : Addr). Heard m a c.in-Ok.packet) c.default.ensures c.local.ensures in
     after_packet _ _ is _ event _ _ c.step.ensures.after
 
 pub returns-in_ok-put_sends-in-Ok-clause-end : goal.returns-in_ok-put_sends-in-Ok-clause-end
