@@ -369,19 +369,22 @@ const ENDED: &[Case] = &[
     ),
 ];
 
-/// Each case of ticks on a b that is open.
-const PLAYED: &[&[Case]] = &[
-    &[IDLE],
-    &[THREE_DUE, FIVE_AT_ONCE],
-    &[SCALED],
-    ACCUSED,
-    THEN_SAID,
-    ENDED,
-];
+/// Cases of ticks on a b that is open.
+const PLAYED: &[&[Case]] = &[&[IDLE], &[THREE_DUE, FIVE_AT_ONCE], &[SCALED], ENDED];
 
 #[test]
 fn fires_timers(rt: HostRuntime) {
     for cases in PLAYED {
         play(&rt, rt.alloc(), cases);
     }
+}
+
+#[test]
+fn accusers_move_a_suspicion(rt: HostRuntime) {
+    play(&rt, rt.alloc(), ACCUSED);
+}
+
+#[test]
+fn claims_change_a_suspicion(rt: HostRuntime) {
+    play(&rt, rt.alloc(), THEN_SAID);
 }
