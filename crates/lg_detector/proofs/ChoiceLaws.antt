@@ -21,7 +21,7 @@ use Rattle.lg_timers.specs.declared.timer.TimerId.{TimerId}
 use Rattle.lg_timers.specs.declared.timer.TimerId.TheVariants.{RoundEnd, Suspicion, Direct, RelayNack, RelayEnd, RoundStart}
 use Rattle.lg_timers.specs.Meaning.Timers.{is_due, least_of}
 use Rattle.lg_timers.proofs.Pending.{any-turned}
-use Rattle.lg_probe.specs.Meaning.Order.{current_round}
+use Rattle.lg_probe.specs.Meaning.Order.{current_cycle}
 use Rattle.lg_probe.specs.Meaning.Round.{RoundFact}
 use Rattle.lg_probe.proofs.OrderLaws.{candidate_is}
 use Rattle.lg_membership.specs.declared.origin.Origin.TheVariants.{Group}
@@ -34,7 +34,7 @@ use Rattle.lg_detector.specs.declared.event.Event.{Event}
 use Rattle.lg_detector.specs.declared.event.Event.TheVariants.{Open, Tick, Heard, Ask, Health, Pull}
 use Rattle.lg_detector.specs.declared.reply.Reply.{Reply}
 use Rattle.lg_detector.specs.Meaning.Log.{Log, Came, Fired, moment, group_log}
-use Rattle.lg_detector.specs.Meaning.Probing.{Probe, is_round_start, others, round_names, first_word, chosen, number, probe, probe_by, since_start}
+use Rattle.lg_detector.specs.Meaning.Probing.{Probe, is_round_start, others, cycle_names, first_word, chosen, number, probe, probe_by, since_start}
 use Rattle.lg_detector.specs.Meaning.Relaying.{relays, opened_at, relay_has_nacked}
 use Rattle.lg_detector.specs.Meaning.Window.{targets}
 use Rattle.lg_detector.specs.Meaning.Timing.{start_timers, probe_timers, start_by, round_start, end_at, direct_at, nack_timer, relay_timer, suspicion_timer, nack_time, relay_time}
@@ -77,7 +77,7 @@ row_in_view (Some opening) own rows m opened has =
 row_of_chosen : (words : List ℕ) (log : Log) (m : List ℕ) → was_opened log ≡ true → chosen words log ≡ Some m → HasRow m (group_view (group_log log))
 row_of_chosen words log m opened is =
     let g = group_log log in
-    let candidate = candidate_is (others log) (current_round (others log) (round_names log)) (first_word words) m is in
+    let candidate = candidate_is (others log) (current_cycle (others log) (cycle_names log)) (first_word words) m is in
     row_in_view (group.config g) (group.own g) (group.table g) m opened (row_in_table g m candidate.named)
 
 -- So the Ping that is sent goes to whom is chosen.

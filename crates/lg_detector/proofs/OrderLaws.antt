@@ -1,4 +1,4 @@
--- The order of probing: its names are the others that haven't failed, and those chosen in the current round.
+-- The order of probing: its names are the others that haven't failed, and those chosen in the current cycle.
 use Rattle.std.proofs.Common.{◌≡◌, ℕ, ◌≤◌, Bool, true, false, cond, ◌||◌, List, [], ◌∷◌, ◌++◌, length, Option, Some, None, inl, inr, refl, sym, ◌∙◌, ap, subst, arith}
 use Rattle.std.specs.Option.{option_to_list}
 use Rattle.std.proofs.lemmas.Bool.{cases_Bool}
@@ -10,7 +10,7 @@ use Rattle.lg_rules.proofs.KeyOrder.{names_order, cases_key, key_is}
 use Rattle.lg_rules.proofs.Rises.{rises-put, rises-in_order, among-put, among-in_order}
 use Rattle.lg_rules.proofs.Roster.{roster-own, length-roster}
 use Rattle.lg_rules.proofs.Tables.{Taken, Unbeaten, Out, heard_cases}
-use Rattle.lg_probe.specs.Meaning.Order.{OrderValue, Chose, choice, current_round, known_names, next_round, order_with, put_choice}
+use Rattle.lg_probe.specs.Meaning.Order.{OrderValue, Chose, choice, current_cycle, known_names, next_cycle, order_with, put_choice}
 use Rattle.lg_probe.proofs.NameRows.{names_few, among-append}
 use Rattle.lg_probe.proofs.OrderLaws.{choice-in_order, current-in_order, put_choice-in_order, candidate_is, in_current, InEither, First, Second, in_either}
 use Rattle.lg_membership.specs.declared.applied.Presence.{Presence}
@@ -27,21 +27,21 @@ use Rattle.lg_membership.specs.Support.State.{group_state_of}
 use Rattle.lg_detector.specs.Meaning.Log.{Log, Came, Fired, AckHeard, NackHeard, Relayed, OfGroup, moment, group_log}
 use Rattle.lg_detector.specs.Meaning.Apply as to_log
 use Rattle.lg_detector.specs.Meaning.Probing as probing
-use Rattle.lg_detector.specs.Meaning.Probing.{others, round_names, first_word}
+use Rattle.lg_detector.specs.Meaning.Probing.{others, cycle_names, first_word}
 use Rattle.lg_detector.specs.Support.State.{chosen_state}
 use Rattle.lg_detector.specs.Support.State.{State, state_of, order_of, reorder}
 
 pub chosen-is : (words : List ℕ) (log : Log) → chosen_state words (state_of log) ≡ probing.chosen words log
-chosen-is words log = choice-in_order (others log) (round_names log) (first_word words)
+chosen-is words log = choice-in_order (others log) (cycle_names log) (first_word words)
 
 pub order-chose : (words : List ℕ) (log : Log)
-    → order_with (order_of log) (Chose (first_word words)) ≡ record { names = others log; chosen = in_order name_cmp (next_round (others log) (round_names log) (first_word words)) }
+    → order_with (order_of log) (Chose (first_word words)) ≡ record { names = others log; chosen = in_order name_cmp (next_cycle (others log) (cycle_names log) (first_word words)) }
 order-chose words log =
     let names = others log in
-    let round = round_names log in
+    let cycle = cycle_names log in
     let word = first_word words in
-    let chosen : put_choice (choice names (in_order name_cmp round) word) (current_round names (in_order name_cmp round)) ≡ in_order name_cmp (next_round names round word) =
-    (λ i. put_choice (choice-in_order names round word i) (current-in_order names round i)) ∙ put_choice-in_order (choice names round word) (current_round names round) in
+    let chosen : put_choice (choice names (in_order name_cmp cycle) word) (current_cycle names (in_order name_cmp cycle)) ≡ in_order name_cmp (next_cycle names cycle word) =
+    (λ i. put_choice (choice-in_order names cycle word i) (current-in_order names cycle i)) ∙ put_choice-in_order (choice names cycle word) (current_cycle names cycle) in
     λ i. record { names = names; chosen = chosen i }
 
 -- a claim is said: its member joins, or leaves, or neither
@@ -56,10 +56,10 @@ order-said origin c log =
     let g = group_log log in
     let applied = known.applied (moment log) c (group_state_of g) in
     reorder-is c.name applied.presence (order_of log)
-    ∙ ap (λ names. record { names = names; chosen = in_order name_cmp (round_names log) })
+    ∙ ap (λ names. record { names = names; chosen = in_order name_cmp (cycle_names log) })
     (sym (live-applied (moment log) origin c g applied (applied-log (moment log) origin c g)))
 
--- Who is chosen in a round is known, and stays so.
+-- Who is chosen in a cycle is known, and stays so.
 abbrev roster_in : Log → List (List ℕ)
 roster_in log =
     let g = group_log log in
@@ -79,35 +79,35 @@ roster-grows own c past m among = elim (cases_key names_order c.name own) [
   ]
 ]
 
-chosen_known : (log : Log) (w : ℕ) (k : List ℕ) → (is_among name_cmp k (round_names log) ≡ true → is_among name_cmp k (roster_in log) ≡ true)
+chosen_known : (log : Log) (w : ℕ) (k : List ℕ) → (is_among name_cmp k (cycle_names log) ≡ true → is_among name_cmp k (roster_in log) ≡ true)
     → (o : Option (List ℕ)) → ((n : List ℕ) → o ≡ Some n → is_among name_cmp n (others log) ≡ true)
-    → is_among name_cmp k (option_to_list o ++ current_round (others log) (round_names log)) ≡ true → is_among name_cmp k (roster_in log) ≡ true
-chosen_known log w k before None is a = before (in_current (others log) (round_names log) k a)
+    → is_among name_cmp k (option_to_list o ++ current_cycle (others log) (cycle_names log)) ≡ true → is_among name_cmp k (roster_in log) ≡ true
+chosen_known log w k before None is a = before (in_current (others log) (cycle_names log) k a)
 chosen_known log w k before (Some n) is a = elim (in_either _ _ a) [
   | First s ↦ live_known (group_log log) k (ap (λ j. is_among name_cmp j (others log)) (sym (key_is names_order n k s)) ∙ is n refl)
-  | Second r ↦ before (in_current (others log) (round_names log) k r)
+  | Second r ↦ before (in_current (others log) (cycle_names log) k r)
 ]
 
-pub round-known : (log : Log) (k : List ℕ) → is_among name_cmp k (round_names log) ≡ true → is_among name_cmp k (roster_in log) ≡ true
-round-known [] k a = absurd cc
-round-known (Came now ∷ log) k a = round-known log k a
-round-known (Fired timer words ∷ log) k a = elim (cases_Bool (probing.is_round_start timer.id)) [
+pub cycle-known : (log : Log) (k : List ℕ) → is_among name_cmp k (cycle_names log) ≡ true → is_among name_cmp k (roster_in log) ≡ true
+cycle-known [] k a = absurd cc
+cycle-known (Came now ∷ log) k a = cycle-known log k a
+cycle-known (Fired timer words ∷ log) k a = elim (cases_Bool (probing.is_round_start timer.id)) [
   | inl t ↦ (
       let names = others log in
-      let round = round_names log in
-      let chose : is_among name_cmp k (next_round names round (first_word words)) ≡ true = sym (ap (λ b. is_among name_cmp k (cond b (next_round names round (first_word words)) round)) t) ∙ a in
-      chosen_known log (first_word words) k (round-known log k) (choice names round (first_word words)) (λ n e. (candidate_is names (current_round names round) (first_word words) n e).named) chose)
+      let cycle = cycle_names log in
+      let chose : is_among name_cmp k (next_cycle names cycle (first_word words)) ≡ true = sym (ap (λ b. is_among name_cmp k (cond b (next_cycle names cycle (first_word words)) cycle)) t) ∙ a in
+      chosen_known log (first_word words) k (cycle-known log k) (choice names cycle (first_word words)) (λ n e. (candidate_is names (current_cycle names cycle) (first_word words) n e).named) chose)
   | inr f ↦ (
       let names = others log in
-      let round = round_names log in
-      round-known log k (sym (ap (λ b. is_among name_cmp k (cond b (next_round names round (first_word words)) round)) f) ∙ a))
+      let cycle = cycle_names log in
+      cycle-known log k (sym (ap (λ b. is_among name_cmp k (cond b (next_cycle names cycle (first_word words)) cycle)) f) ∙ a))
 ]
-round-known (AckHeard j sender ∷ log) k a = round-known log k a
-round-known (NackHeard j sender ∷ log) k a = round-known log k a
-round-known (Relayed target asker asked ∷ log) k a = round-known log k a
-round-known (OfGroup (group.Opened opening) ∷ log) k a = absurd cc
-round-known (OfGroup (group.Said now origin c) ∷ log) k a = roster-grows (group.me (group_log log)) c (group.said (group_log log)) k (round-known log k a)
-round-known (OfGroup (group.Sent taken) ∷ log) k a = round-known log k a
+cycle-known (AckHeard j sender ∷ log) k a = cycle-known log k a
+cycle-known (NackHeard j sender ∷ log) k a = cycle-known log k a
+cycle-known (Relayed target asker asked ∷ log) k a = cycle-known log k a
+cycle-known (OfGroup (group.Opened opening) ∷ log) k a = absurd cc
+cycle-known (OfGroup (group.Said now origin c) ∷ log) k a = roster-grows (group.me (group_log log)) c (group.said (group_log log)) k (cycle-known log k a)
+cycle-known (OfGroup (group.Sent taken) ∷ log) k a = cycle-known log k a
 
 -- So there is room for a member that joins.
 joined_live : (before after : Bool) → presence_of before after ≡ Joins → after ≡ true
@@ -129,7 +129,7 @@ room log origin c live =
     )
   where
     known_one : (k : List ℕ) → InEither (is_among name_cmp k (order_of log).chosen) (is_among name_cmp k (others log)) → is_among name_cmp k (roster_in log) ≡ true
-    known_one k (First a) = round-known log k (sym (among-in_order names_order k (round_names log)) ∙ a)
+    known_one k (First a) = cycle-known log k (sym (among-in_order names_order k (cycle_names log)) ∙ a)
     known_one k (Second b) = live_known (group_log log) k b
 
     each : (k : List ℕ) → InEither (is_same name_cmp c.name k) (is_among name_cmp k (known_names (order_of log))) → is_among name_cmp k (roster_in (to_log.apply origin c log)) ≡ true

@@ -5,105 +5,105 @@ use Rattle.std.proofs.lemmas.Bool.{false≢true}
 use Rattle.std.proofs.lemmas.List.{append-nil}
 use Rattle.lg_rules.specs.Meaning.Rows.{name_cmp, is_among}
 use Rattle.lg_timers.specs.declared.timer.Timer.{Timer}
-use Rattle.lg_probe.specs.Meaning.Order.{choice, next_round, window}
+use Rattle.lg_probe.specs.Meaning.Order.{choice, next_cycle, window}
 use Rattle.lg_probe.proofs.WindowLaws.{choices, in_window}
 use Rattle.lg_membership.specs.Meaning.Log as group
 use Rattle.lg_membership.proofs.LiveOthers.{live-opened}
 use Rattle.lg_detector.specs.Meaning.Log.{Log, Came, Fired, AckHeard, NackHeard, Relayed, OfGroup, group_log}
-use Rattle.lg_detector.specs.Meaning.Probing.{is_round_start, others, round_names, first_word, chosen}
+use Rattle.lg_detector.specs.Meaning.Probing.{is_round_start, others, cycle_names, first_word, chosen}
 use Rattle.lg_detector.specs.Meaning.Window.{targets, AreOthers}
 
--- the names chosen in the round, after choices by words
-rounds : List (List ℕ) → List (List ℕ) → List ℕ → List (List ℕ)
-rounds names round [] = round
-rounds names round (word ∷ words) = rounds names (next_round names round word) words
+-- the names chosen in the cycle, after choices by words
+cycles : List (List ℕ) → List (List ℕ) → List ℕ → List (List ℕ)
+cycles names cycle [] = cycle
+cycles names cycle (word ∷ words) = cycles names (next_cycle names cycle word) words
 
-rounds-push : (names round : List (List ℕ)) (words : List ℕ) (word : ℕ) → rounds names round (words ++ word ∷ []) ≡ next_round names (rounds names round words) word
-unfolding rounds
-rounds-push names round [] word = refl
-rounds-push names round (w ∷ words) word = rounds-push names (next_round names round w) words word
+cycles-push : (names cycle : List (List ℕ)) (words : List ℕ) (word : ℕ) → cycles names cycle (words ++ word ∷ []) ≡ next_cycle names (cycles names cycle words) word
+unfolding cycles
+cycles-push names cycle [] word = refl
+cycles-push names cycle (w ∷ words) word = cycles-push names (next_cycle names cycle w) words word
 
-choices-push : (names round : List (List ℕ)) (words : List ℕ) (word : ℕ)
-    → choices names round (words ++ word ∷ []) ≡ choices names round words ++ option_to_list (choice names (rounds names round words) word)
-unfolding choices rounds
-choices-push names round [] word = append-nil (option_to_list (choice names round word))
-choices-push names round (w ∷ words) word =
-    ap (λ ns. option_to_list (choice names round w) ++ ns) (choices-push names (next_round names round w) words word)
-    ∙ sym (append_assoc (option_to_list (choice names round w)) (choices names (next_round names round w) words) (option_to_list (choice names (rounds names (next_round names round w) words) word)))
+choices-push : (names cycle : List (List ℕ)) (words : List ℕ) (word : ℕ)
+    → choices names cycle (words ++ word ∷ []) ≡ choices names cycle words ++ option_to_list (choice names (cycles names cycle words) word)
+unfolding choices cycles
+choices-push names cycle [] word = append-nil (option_to_list (choice names cycle word))
+choices-push names cycle (w ∷ words) word =
+    ap (λ ns. option_to_list (choice names cycle w) ++ ns) (choices-push names (next_cycle names cycle w) words word)
+    ∙ sym (append_assoc (option_to_list (choice names cycle w)) (choices names (next_cycle names cycle w) words) (option_to_list (choice names (cycles names (next_cycle names cycle w) words) word)))
 
 one_at_most : (n : Option (List ℕ)) → length (option_to_list n) ≤ 1
 one_at_most None = omega arith
 one_at_most (Some n) = omega arith
 
-choices-few : (names round : List (List ℕ)) (words : List ℕ) → length (choices names round words) ≤ length words
+choices-few : (names cycle : List (List ℕ)) (words : List ℕ) → length (choices names cycle words) ≤ length words
 unfolding choices
-choices-few names round [] = omega arith
-choices-few names round (w ∷ words) =
+choices-few names cycle [] = omega arith
+choices-few names cycle (w ∷ words) =
     omega (
       arith,
-      length-append (option_to_list (choice names round w)) (choices names (next_round names round w) words),
-      one_at_most (choice names round w),
-      choices-few names (next_round names round w) words,
+      length-append (option_to_list (choice names cycle w)) (choices names (next_cycle names cycle w) words),
+      one_at_most (choice names cycle w),
+      choices-few names (next_cycle names cycle w) words,
     )
 
--- The words by which a stretch chose: the targets are the choices by these, and so is the round after it.
+-- The words by which a stretch chose: the targets are the choices by these, and so is the cycle after it.
 record Chosen (names : List (List ℕ)) (stretch log : Log) : Type 0 where
   pub words : List ℕ
-  pub are : targets stretch log ≡ choices names (round_names log) words
-  pub round : round_names (stretch ++ log) ≡ rounds names (round_names log) words
+  pub are : targets stretch log ≡ choices names (cycle_names log) words
+  pub cycle : cycle_names (stretch ++ log) ≡ cycles names (cycle_names log) words
 
 others_then : (names : List (List ℕ)) (stretch log : Log) → AreOthers names stretch log → others (stretch ++ log) ≡ names
 others_then names [] log same = same
 others_then names (fact ∷ stretch) log same = same.0
 
 after_choice : (names : List (List ℕ)) (timer : Timer) (words : List ℕ) (stretch log : Log) → others (stretch ++ log) ≡ names → Chosen names stretch log → Chosen names (Fired timer words ∷ stretch) log
-unfolding rounds
+unfolding cycles
 after_choice names timer words stretch log same before = step (is_round_start timer.id) refl
   where
     step : (b : Bool) → is_round_start timer.id ≡ b → Chosen names (Fired timer words ∷ stretch) log
     step true starts =
         let word = first_word words in
-        let round = round_names log in
-        let choice_is : chosen words (stretch ++ log) ≡ choice names (rounds names round before.words) word =
-        λ i. choice (same i) (before.round i) word in
-        let next_is : next_round (others (stretch ++ log)) (round_names (stretch ++ log)) word ≡ next_round names (rounds names round before.words) word =
-        λ i. next_round (same i) (before.round i) word in
+        let cycle = cycle_names log in
+        let choice_is : chosen words (stretch ++ log) ≡ choice names (cycles names cycle before.words) word =
+        λ i. choice (same i) (before.cycle i) word in
+        let next_is : next_cycle (others (stretch ++ log)) (cycle_names (stretch ++ log)) word ≡ next_cycle names (cycles names cycle before.words) word =
+        λ i. next_cycle (same i) (before.cycle i) word in
         record {
           words = before.words ++ word ∷ [];
-          are = rw starts ((λ i. before.are i ++ option_to_list (choice_is i)) ∙ sym (choices-push names round before.words word));
-          round = rw starts (next_is ∙ sym (rounds-push names round before.words word));
+          are = rw starts ((λ i. before.are i ++ option_to_list (choice_is i)) ∙ sym (choices-push names cycle before.words word));
+          cycle = rw starts (next_is ∙ sym (cycles-push names cycle before.words word));
         }
     step false not_started =
-        record { words = before.words; are = rw not_started before.are; round = rw not_started before.round }
+        record { words = before.words; are = rw not_started before.are; cycle = rw not_started before.cycle }
 
 chosen_in : (names : List (List ℕ)) (stretch log : Log) (name : List ℕ) → is_among name_cmp name names ≡ true → AreOthers names stretch log → Chosen names stretch log
-unfolding rounds choices
-chosen_in names [] log name named same = record { words = []; are = refl; round = refl }
-chosen_in names (Came now ∷ stretch) log name named same = let c = chosen_in names stretch log name named same.1 in record { words = c.words; are = c.are; round = c.round }
+unfolding cycles choices
+chosen_in names [] log name named same = record { words = []; are = refl; cycle = refl }
+chosen_in names (Came now ∷ stretch) log name named same = let c = chosen_in names stretch log name named same.1 in record { words = c.words; are = c.are; cycle = c.cycle }
 chosen_in names (Fired timer words ∷ stretch) log name named same =
     after_choice names timer words stretch log (others_then names stretch log same.1) (chosen_in names stretch log name named same.1)
-chosen_in names (AckHeard k sender ∷ stretch) log name named same = let c = chosen_in names stretch log name named same.1 in record { words = c.words; are = c.are; round = c.round }
-chosen_in names (NackHeard k sender ∷ stretch) log name named same = let c = chosen_in names stretch log name named same.1 in record { words = c.words; are = c.are; round = c.round }
-chosen_in names (Relayed target asker asked ∷ stretch) log name named same = let c = chosen_in names stretch log name named same.1 in record { words = c.words; are = c.are; round = c.round }
+chosen_in names (AckHeard k sender ∷ stretch) log name named same = let c = chosen_in names stretch log name named same.1 in record { words = c.words; are = c.are; cycle = c.cycle }
+chosen_in names (NackHeard k sender ∷ stretch) log name named same = let c = chosen_in names stretch log name named same.1 in record { words = c.words; are = c.are; cycle = c.cycle }
+chosen_in names (Relayed target asker asked ∷ stretch) log name named same = let c = chosen_in names stretch log name named same.1 in record { words = c.words; are = c.are; cycle = c.cycle }
 chosen_in names (OfGroup (group.Opened opening) ∷ stretch) log name named same =
     let none : names ≡ [] = sym same.0 ∙ live-opened opening (group_log (stretch ++ log)) in
     absurd (false≢true (sym (ap (is_among name_cmp name) none) ∙ named))
-chosen_in names (OfGroup (group.Said now origin claim) ∷ stretch) log name named same = let c = chosen_in names stretch log name named same.1 in record { words = c.words; are = c.are; round = c.round }
-chosen_in names (OfGroup (group.Sent claims) ∷ stretch) log name named same = let c = chosen_in names stretch log name named same.1 in record { words = c.words; are = c.are; round = c.round }
+chosen_in names (OfGroup (group.Said now origin claim) ∷ stretch) log name named same = let c = chosen_in names stretch log name named same.1 in record { words = c.words; are = c.are; cycle = c.cycle }
+chosen_in names (OfGroup (group.Sent claims) ∷ stretch) log name named same = let c = chosen_in names stretch log name named same.1 in record { words = c.words; are = c.are; cycle = c.cycle }
 
 pub each_target : (log stretch : Log) (name : List ℕ) → AreOthers (others log) stretch log → is_among name_cmp name (others log) ≡ true → window (others log) ≤ length (targets stretch log)
     → is_among name_cmp name (targets stretch log) ≡ true
 each_target log stretch name same named many =
     let names = others log in
     let c = chosen_in names stretch log name named same in
-    let few = choices-few names (round_names log) c.words in
-    ap (is_among name_cmp name) c.are ∙ in_window names (round_names log) c.words name named (omega (arith, many, ap length c.are, few))
+    let few = choices-few names (cycle_names log) c.words in
+    ap (is_among name_cmp name) c.are ∙ in_window names (cycle_names log) c.words name named (omega (arith, many, ap length c.are, few))
 
 nobody_then : (log : Log) (timer : Timer) (words : List ℕ) (stretch : Log) → others (stretch ++ log) ≡ [] → targets stretch log ≡ [] → targets (Fired timer words ∷ stretch) log ≡ []
 nobody_then log timer words stretch none before = step (is_round_start timer.id)
   where
     nobody : chosen words (stretch ++ log) ≡ None
-    nobody = ap (λ ns. choice ns (round_names (stretch ++ log)) (first_word words)) none
+    nobody = ap (λ ns. choice ns (cycle_names (stretch ++ log)) (first_word words)) none
 
     step : (b : Bool) → cond b (targets stretch log ++ option_to_list (chosen words (stretch ++ log))) (targets stretch log) ≡ []
     step true = λ i. before i ++ option_to_list (nobody i)

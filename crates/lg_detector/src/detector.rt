@@ -74,7 +74,7 @@ struct Parts {
     score: Score,
     /// The timers that are set: those of the round, one for each suspicion, and at most two for each relay.
     timers: Timers,
-    /// Whom rounds choose: the other members that haven't failed, and which of them the current round has chosen.
+    /// Whom rounds choose: the other members that haven't failed, and which of them were chosen in the current cycle.
     order: Order,
     /// The next sequence number, for a probe or a relay.
     number: u32,

@@ -6,11 +6,11 @@ use Rattle.lg_rules.proofs.KeyOrder.{names_order, key_is}
 use Rattle.lg_rules.proofs.Rises.{rises-put, rises-in_order, among-put, among-in_order, among-filter}
 use Rattle.lg_rules.proofs.RowLaws.{length_put_row-le}
 use Rattle.lg_rules.proofs.Tests.{both}
-use Rattle.lg_probe.specs.Meaning.Order.{OrderValue, OrderFact, Joined, Left, Chose, current_round, names_after, round_after, order_after, known_names, ever_joined, then_joined, choice_after, choices_after, picks}
+use Rattle.lg_probe.specs.Meaning.Order.{OrderValue, OrderFact, Joined, Left, Chose, current_cycle, names_after, cycle_after, order_after, known_names, ever_joined, then_joined, choice_after, choices_after, picks}
 use Rattle.lg_probe.proofs.NameRows.{names_few, among-append}
 use Rattle.lg_probe.proofs.OrderLaws.{InEither, First, Second, in_either, first_of, second_of, candidate_is, in_current}
 
--- who is a name, or was chosen in the round, has joined
+-- who is a name, or was chosen in the cycle, has joined
 pub name_joined : (past : List OrderFact) (k : List ℕ) → is_among name_cmp k (names_after past) ≡ true → is_among name_cmp k (ever_joined past) ≡ true
 name_joined [] k a = a
 name_joined (Joined n ∷ past) k a =
@@ -22,23 +22,23 @@ name_joined (Joined n ∷ past) k a =
 name_joined (Left n ∷ past) k a = name_joined past k (both _ _ (sym (among-filter names_order _ k (names_after past)) ∙ a)).1
 name_joined (Chose word ∷ past) k a = name_joined past k a
 
-pub round_joined : (past : List OrderFact) (k : List ℕ) → is_among name_cmp k (round_after past) ≡ true → is_among name_cmp k (ever_joined past) ≡ true
-round_joined [] k a = a
-round_joined (Joined n ∷ past) k a = among-put names_order k n (ever_joined past) ∙ second_of (is_same name_cmp n k) _ (round_joined past k a)
-round_joined (Left n ∷ past) k a = round_joined past k a
-round_joined (Chose word ∷ past) k a = step (round_joined past k) (choice_after past word) (λ n e. (candidate_is names (current_round names round) word n e).named) a
+pub cycle_joined : (past : List OrderFact) (k : List ℕ) → is_among name_cmp k (cycle_after past) ≡ true → is_among name_cmp k (ever_joined past) ≡ true
+cycle_joined [] k a = a
+cycle_joined (Joined n ∷ past) k a = among-put names_order k n (ever_joined past) ∙ second_of (is_same name_cmp n k) _ (cycle_joined past k a)
+cycle_joined (Left n ∷ past) k a = cycle_joined past k a
+cycle_joined (Chose word ∷ past) k a = step (cycle_joined past k) (choice_after past word) (λ n e. (candidate_is names (current_cycle names cycle) word n e).named) a
   where
     names : List (List ℕ)
     names = names_after past
 
-    round : List (List ℕ)
-    round = round_after past
+    cycle : List (List ℕ)
+    cycle = cycle_after past
 
-    step : (is_among name_cmp k (round_after past) ≡ true → is_among name_cmp k (ever_joined past) ≡ true) → (o : Option (List ℕ)) → ((n : List ℕ) → o ≡ Some n → is_among name_cmp n (names_after past) ≡ true) → is_among name_cmp k (option_to_list o ++ current_round (names_after past) (round_after past)) ≡ true → is_among name_cmp k (ever_joined past) ≡ true
-    step before None is b = before (in_current (names_after past) (round_after past) k b)
+    step : (is_among name_cmp k (cycle_after past) ≡ true → is_among name_cmp k (ever_joined past) ≡ true) → (o : Option (List ℕ)) → ((n : List ℕ) → o ≡ Some n → is_among name_cmp n (names_after past) ≡ true) → is_among name_cmp k (option_to_list o ++ current_cycle (names_after past) (cycle_after past)) ≡ true → is_among name_cmp k (ever_joined past) ≡ true
+    step before None is b = before (in_current (names_after past) (cycle_after past) k b)
     step before (Some n) is b = elim (in_either _ _ b) [
       | First s ↦ name_joined past k (ap (λ j. is_among name_cmp j (names_after past)) (sym (key_is names_order n k s)) ∙ is n refl)
-      | Second r ↦ before (in_current (names_after past) (round_after past) k r)
+      | Second r ↦ before (in_current (names_after past) (cycle_after past) k r)
     ]
 
 rises-joined : (past : List OrderFact) → Rises name_cmp (ever_joined past)
@@ -55,7 +55,7 @@ known_joined past n =
     (λ k a. among-put names_order k n (ever_joined past) ∙ known k (in_either _ _ (sym (among-put names_order k n (known_names order)) ∙ a)))
   where
     joined : (k : List ℕ) → InEither (is_among name_cmp k (order_after past).chosen) (is_among name_cmp k (names_after past)) → is_among name_cmp k (ever_joined past) ≡ true
-    joined k (First c) = round_joined past k (sym (among-in_order names_order k (round_after past)) ∙ c)
+    joined k (First c) = cycle_joined past k (sym (among-in_order names_order k (cycle_after past)) ∙ c)
     joined k (Second b) = name_joined past k b
 
     known : (k : List ℕ) → InEither (is_same name_cmp n k) (is_among name_cmp k (known_names (order_after past))) → (is_same name_cmp n k || is_among name_cmp k (ever_joined past)) ≡ true

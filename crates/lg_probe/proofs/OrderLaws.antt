@@ -9,7 +9,7 @@ use Rattle.lg_rules.specs.Meaning.Rows.{name_cmp, is_same, is_among, put_key, in
 use Rattle.lg_rules.proofs.KeyOrder.{names_order, key_is}
 use Rattle.lg_rules.proofs.Rises.{rises-put, rises-in_order, rises-filter, among-put, among-in_order, among-filter, among-cons_same, among-later, length-put}
 use Rattle.lg_rules.proofs.Tests.{both}
-use Rattle.lg_probe.specs.Meaning.Order.{OrderValue, OrderFact, Joined, Left, Chose, without, candidate, candidates, is_over, current_round, choice, next_round, put_choice, names_after, round_after, order_after, order_with, known_names}
+use Rattle.lg_probe.specs.Meaning.Order.{OrderValue, OrderFact, Joined, Left, Chose, without, candidate, candidates, is_over, current_cycle, choice, next_cycle, put_choice, names_after, cycle_after, order_after, order_with, known_names}
 use Rattle.lg_probe.specs.Support.Order.{IsSoundOrder}
 use Rattle.lg_probe.proofs.NameRows.{names_few, among-append}
 
@@ -19,51 +19,51 @@ among_at n [] k e = absurd cc
 among_at n (m ∷ ms) zero e = among-cons_same names_order n m ms cc
 among_at n (m ∷ ms) (suc k) e = among-later names_order n m ms (among_at n ms k e)
 
--- who is chosen is one of the names, and wasn't chosen in the round
-pub record IsCandidate (names round : List (List ℕ)) (n : List ℕ) : Type 0 where
+-- who is chosen is one of the names, and wasn't chosen in the cycle
+pub record IsCandidate (names cycle : List (List ℕ)) (n : List ℕ) : Type 0 where
   pub named : is_among name_cmp n names ≡ true
-  pub fresh : is_among name_cmp n round ≡ false
+  pub fresh : is_among name_cmp n cycle ≡ false
 
-pub candidate_is : (names round : List (List ℕ)) (word : ℕ) (n : List ℕ) → candidate word (candidates names round) ≡ Some n → IsCandidate names round n
-candidate_is names round word n e =
-    let p : List ℕ → Bool = λ m. not (is_among name_cmp m round) in
-    let there = among_at n (candidates names round) (word % length (candidates names round)) e in
+pub candidate_is : (names cycle : List (List ℕ)) (word : ℕ) (n : List ℕ) → candidate word (candidates names cycle) ≡ Some n → IsCandidate names cycle n
+candidate_is names cycle word n e =
+    let p : List ℕ → Bool = λ m. not (is_among name_cmp m cycle) in
+    let there = among_at n (candidates names cycle) (word % length (candidates names cycle)) e in
     let parts = both (p n) (is_among name_cmp n names) (sym (among-filter names_order p n names) ∙ there) in
     record { named = parts.1; fresh = not-true _ parts.0 }
 
--- the current round by its sorted names
-over-in_order : (names round : List (List ℕ)) → is_over names (in_order name_cmp round) ≡ is_over names round
-over-in_order names round i = list_all (λ n. among-in_order names_order n round i) names
+-- the current cycle by its sorted names
+over-in_order : (names cycle : List (List ℕ)) → is_over names (in_order name_cmp cycle) ≡ is_over names cycle
+over-in_order names cycle i = list_all (λ n. among-in_order names_order n cycle i) names
 
-candidates-in_order : (names round : List (List ℕ)) → candidates names (in_order name_cmp round) ≡ candidates names round
-candidates-in_order names round i = filter (λ n. not (among-in_order names_order n round i)) names
+candidates-in_order : (names cycle : List (List ℕ)) → candidates names (in_order name_cmp cycle) ≡ candidates names cycle
+candidates-in_order names cycle i = filter (λ n. not (among-in_order names_order n cycle i)) names
 
-pub current-in_order : (names round : List (List ℕ)) → current_round names (in_order name_cmp round) ≡ in_order name_cmp (current_round names round)
-current-in_order names round = ap (λ b. cond b [] (in_order name_cmp round)) (over-in_order names round) ∙ either (is_over names round)
+pub current-in_order : (names cycle : List (List ℕ)) → current_cycle names (in_order name_cmp cycle) ≡ in_order name_cmp (current_cycle names cycle)
+current-in_order names cycle = ap (λ b. cond b [] (in_order name_cmp cycle)) (over-in_order names cycle) ∙ either (is_over names cycle)
   where
-    either : (b : Bool) → cond b [] (in_order name_cmp round) ≡ in_order name_cmp (cond b [] round)
+    either : (b : Bool) → cond b [] (in_order name_cmp cycle) ≡ in_order name_cmp (cond b [] cycle)
     either true = refl
     either false = refl
 
-pub choice-in_order : (names round : List (List ℕ)) (word : ℕ) → choice names (in_order name_cmp round) word ≡ choice names round word
-choice-in_order names round word =
-    ap (λ r. candidate word (candidates names r)) (current-in_order names round) ∙ ap (candidate word) (candidates-in_order names (current_round names round))
+pub choice-in_order : (names cycle : List (List ℕ)) (word : ℕ) → choice names (in_order name_cmp cycle) word ≡ choice names cycle word
+choice-in_order names cycle word =
+    ap (λ r. candidate word (candidates names r)) (current-in_order names cycle) ∙ ap (candidate word) (candidates-in_order names (current_cycle names cycle))
 
-pub put_choice-in_order : (o : Option (List ℕ)) (round : List (List ℕ)) → put_choice o (in_order name_cmp round) ≡ in_order name_cmp (option_to_list o ++ round)
-put_choice-in_order None round = refl
-put_choice-in_order (Some n) round = refl
+pub put_choice-in_order : (o : Option (List ℕ)) (cycle : List (List ℕ)) → put_choice o (in_order name_cmp cycle) ≡ in_order name_cmp (option_to_list o ++ cycle)
+put_choice-in_order None cycle = refl
+put_choice-in_order (Some n) cycle = refl
 
 -- a choice after a past
 pub chosen_after : (past : List OrderFact) (word : ℕ) → order_with (order_after past) (Chose word) ≡ order_after (Chose word ∷ past)
 chosen_after past word =
     let names = names_after past in
-    let round = round_after past in
-    let chosen : put_choice (choice names (in_order name_cmp round) word) (current_round names (in_order name_cmp round)) ≡ in_order name_cmp (next_round names round word) =
-    (λ i. put_choice (choice-in_order names round word i) (current-in_order names round i)) ∙ put_choice-in_order (choice names round word) (current_round names round) in
+    let cycle = cycle_after past in
+    let chosen : put_choice (choice names (in_order name_cmp cycle) word) (current_cycle names (in_order name_cmp cycle)) ≡ in_order name_cmp (next_cycle names cycle word) =
+    (λ i. put_choice (choice-in_order names cycle word i) (current-in_order names cycle i)) ∙ put_choice-in_order (choice names cycle word) (current_cycle names cycle) in
     λ i. record { names = names; chosen = chosen i }
 
-pub choice_after-is : (past : List OrderFact) (word : ℕ) → choice (order_after past).names (order_after past).chosen word ≡ choice (names_after past) (round_after past) word
-choice_after-is past word = choice-in_order (names_after past) (round_after past) word
+pub choice_after-is : (past : List OrderFact) (word : ℕ) → choice (order_after past).names (order_after past).chosen word ≡ choice (names_after past) (cycle_after past) word
+choice_after-is past word = choice-in_order (names_after past) (cycle_after past) word
 
 -- No more names are known where each was known before.
 pub known_few : (o p : OrderValue) → ((k : List ℕ) → is_among name_cmp k (p.chosen ++ p.names) ≡ true → is_among name_cmp k (o.chosen ++ o.names) ≡ true) → length (known_names p) ≤ length (known_names o)
@@ -94,65 +94,65 @@ known_chosen o k a = among-append k o.chosen o.names ∙ first_of _ (is_among na
 pub known_name : (o : OrderValue) (k : List ℕ) → is_among name_cmp k o.names ≡ true → is_among name_cmp k (o.chosen ++ o.names) ≡ true
 known_name o k a = among-append k o.chosen o.names ∙ second_of (is_among name_cmp k o.chosen) _ a
 
--- who is among the current round was among the round
-pub in_current : (names round : List (List ℕ)) (k : List ℕ) → is_among name_cmp k (current_round names round) ≡ true → is_among name_cmp k round ≡ true
-in_current names round k a = step (is_over names round) a
+-- who is among the current cycle was among the cycle
+pub in_current : (names cycle : List (List ℕ)) (k : List ℕ) → is_among name_cmp k (current_cycle names cycle) ≡ true → is_among name_cmp k cycle ≡ true
+in_current names cycle k a = step (is_over names cycle) a
   where
-    step : (b : Bool) → is_among name_cmp k (cond b [] round) ≡ true → is_among name_cmp k round ≡ true
+    step : (b : Bool) → is_among name_cmp k (cond b [] cycle) ≡ true → is_among name_cmp k cycle ≡ true
     step true a = absurd (false≢true a)
     step false a = a
 
-pub rises-current : (names round : List (List ℕ)) → Rises name_cmp round → Rises name_cmp (current_round names round)
-rises-current names round r = step (is_over names round)
+pub rises-current : (names cycle : List (List ℕ)) → Rises name_cmp cycle → Rises name_cmp (current_cycle names cycle)
+rises-current names cycle r = step (is_over names cycle)
   where
-    step : (b : Bool) → Rises name_cmp (cond b [] round)
+    step : (b : Bool) → Rises name_cmp (cond b [] cycle)
     step true = tt
     step false = r
 
 -- there is room for one more of those that may be chosen
-pub choice_room : (o : OrderValue) (m : ℕ) (n : List ℕ) → IsSoundOrder o → length (known_names o) ≤ m → IsCandidate o.names (current_round o.names o.chosen) n → length (current_round o.names o.chosen) < m
+pub choice_room : (o : OrderValue) (m : ℕ) (n : List ℕ) → IsSoundOrder o → length (known_names o) ≤ m → IsCandidate o.names (current_cycle o.names o.chosen) n → length (current_cycle o.names o.chosen) < m
 choice_room o m n sound few is =
-    let round = current_round o.names o.chosen in
-    let rises = rises-put names_order n round (rises-current o.names o.chosen sound.chosen_rise) in
-    let within : length (put_key name_cmp n round) ≤ length (known_names o) = names_few (put_key name_cmp n round) (known_names o) rises (λ k a. among-in_order names_order k (o.chosen ++ o.names) ∙ known k (in_either _ _ (sym (among-put names_order k n round) ∙ a))) in
-    omega (arith, within, few, length-put names_order n round is.fresh)
+    let cycle = current_cycle o.names o.chosen in
+    let rises = rises-put names_order n cycle (rises-current o.names o.chosen sound.chosen_rise) in
+    let within : length (put_key name_cmp n cycle) ≤ length (known_names o) = names_few (put_key name_cmp n cycle) (known_names o) rises (λ k a. among-in_order names_order k (o.chosen ++ o.names) ∙ known k (in_either _ _ (sym (among-put names_order k n cycle) ∙ a))) in
+    omega (arith, within, few, length-put names_order n cycle is.fresh)
   where
-    known : (k : List ℕ) → InEither (is_same name_cmp n k) (is_among name_cmp k (current_round o.names o.chosen)) → is_among name_cmp k (o.chosen ++ o.names) ≡ true
+    known : (k : List ℕ) → InEither (is_same name_cmp n k) (is_among name_cmp k (current_cycle o.names o.chosen)) → is_among name_cmp k (o.chosen ++ o.names) ≡ true
     known k (First s) = known_name o k (ap (λ j. is_among name_cmp j o.names) (sym (key_is names_order n k s)) ∙ is.named)
     known k (Second a) = known_chosen o k (in_current o.names o.chosen k a)
 
--- the round after a choice
+-- the cycle after a choice
 pub sound-choice : (o : OrderValue) (word : ℕ) → IsSoundOrder o → IsSoundOrder (order_with o (Chose word))
-sound-choice o word sound = step (choice o.names o.chosen word) (λ n e. candidate_is o.names (current_round o.names o.chosen) word n e)
+sound-choice o word sound = step (choice o.names o.chosen word) (λ n e. candidate_is o.names (current_cycle o.names o.chosen) word n e)
   where
-    rises : Rises name_cmp (current_round o.names o.chosen)
+    rises : Rises name_cmp (current_cycle o.names o.chosen)
     rises = rises-current o.names o.chosen sound.chosen_rise
 
-    known : (n : List ℕ) → IsCandidate o.names (current_round o.names o.chosen) n → (k : List ℕ) → is_among name_cmp k (put_key name_cmp n (current_round o.names o.chosen) ++ o.names) ≡ true → is_among name_cmp k (o.chosen ++ o.names) ≡ true
-    known n is k a = elim (in_either _ _ (sym (among-append k (put_key name_cmp n (current_round o.names o.chosen)) o.names) ∙ a)) [
-      | First put ↦ elim (in_either _ _ (sym (among-put names_order k n (current_round o.names o.chosen)) ∙ put)) [
+    known : (n : List ℕ) → IsCandidate o.names (current_cycle o.names o.chosen) n → (k : List ℕ) → is_among name_cmp k (put_key name_cmp n (current_cycle o.names o.chosen) ++ o.names) ≡ true → is_among name_cmp k (o.chosen ++ o.names) ≡ true
+    known n is k a = elim (in_either _ _ (sym (among-append k (put_key name_cmp n (current_cycle o.names o.chosen)) o.names) ∙ a)) [
+      | First put ↦ elim (in_either _ _ (sym (among-put names_order k n (current_cycle o.names o.chosen)) ∙ put)) [
         | First s ↦ known_name o k (ap (λ j. is_among name_cmp j o.names) (sym (key_is names_order n k s)) ∙ is.named)
         | Second b ↦ known_chosen o k (in_current o.names o.chosen k b)
       ]
       | Second named ↦ known_name o k named
     ]
 
-    stays : (k : List ℕ) → is_among name_cmp k (current_round o.names o.chosen ++ o.names) ≡ true → is_among name_cmp k (o.chosen ++ o.names) ≡ true
-    stays k a = elim (in_either _ _ (sym (among-append k (current_round o.names o.chosen) o.names) ∙ a)) [
+    stays : (k : List ℕ) → is_among name_cmp k (current_cycle o.names o.chosen ++ o.names) ≡ true → is_among name_cmp k (o.chosen ++ o.names) ≡ true
+    stays k a = elim (in_either _ _ (sym (among-append k (current_cycle o.names o.chosen) o.names) ∙ a)) [
       | First b ↦ known_chosen o k (in_current o.names o.chosen k b)
       | Second named ↦ known_name o k named
     ]
 
-    step : (chosen : Option (List ℕ)) → ((n : List ℕ) → chosen ≡ Some n → IsCandidate o.names (current_round o.names o.chosen) n) → IsSoundOrder record { names = o.names; chosen = put_choice chosen (current_round o.names o.chosen) }
+    step : (chosen : Option (List ℕ)) → ((n : List ℕ) → chosen ≡ Some n → IsCandidate o.names (current_cycle o.names o.chosen) n) → IsSoundOrder record { names = o.names; chosen = put_choice chosen (current_cycle o.names o.chosen) }
     step None is = record {
       names_rise = sound.names_rise;
       chosen_rise = rises;
-      few = omega (arith, sound.few, known_few o record { names = o.names; chosen = current_round o.names o.chosen } stays);
+      few = omega (arith, sound.few, known_few o record { names = o.names; chosen = current_cycle o.names o.chosen } stays);
     }
     step (Some n) is = record {
       names_rise = sound.names_rise;
-      chosen_rise = rises-put names_order n (current_round o.names o.chosen) rises;
-      few = omega (arith, sound.few, known_few o record { names = o.names; chosen = put_key name_cmp n (current_round o.names o.chosen) } (known n (is n refl)));
+      chosen_rise = rises-put names_order n (current_cycle o.names o.chosen) rises;
+      few = omega (arith, sound.few, known_few o record { names = o.names; chosen = put_key name_cmp n (current_cycle o.names o.chosen) } (known n (is n refl)));
     }
 
 -- a member that joins

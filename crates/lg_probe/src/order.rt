@@ -1,4 +1,4 @@
-//! The order of probing: rounds in which each member is chosen once.
+//! The order of probing: cycles, in each of which each member is chosen once.
 //!
 //! Defined in: `specs/Meaning/Order.antt`, `specs/Meaning/Helpers.antt`.
 //! Tested in: `lg_detector_tests/src/probe.rt`.
@@ -6,7 +6,7 @@ ghost use Rattle.std.specs.Prelude.{◌≡◌, ◌≤◌, true, ℕ, List, [], �
 ghost use Rattle.std.specs.Prelude.{IfOk, OnOk};
 ghost use Rattle.std.specs.Option.{option_to_list};
 ghost use Rattle.lg_rules.specs.Meaning.Rows.{name_cmp, is_among, put_key, Rises};
-ghost use Rattle.lg_probe.specs.Meaning.Order.{candidate, candidates, current_round, choice, put_choice};
+ghost use Rattle.lg_probe.specs.Meaning.Order.{candidate, candidates, current_cycle, choice, put_choice};
 ghost use Rattle.lg_probe.specs.Meaning.Order.{choice_after, ever_joined, known_names, picks, then_joined};
 ghost use Rattle.lg_probe.specs.Meaning.Order.{OrderFact, Joined, Left, Chose, order_after, order_with};
 ghost use Rattle.lg_probe.specs.Meaning.Order.{EachInWindows, choices_after, names_after, window};
@@ -31,16 +31,16 @@ fn take_one(names: &mut ArrayVec<Name, MAX_OTHERS>, word: u32) -> Option<Name>
     names.pop_at(word as usize % count)
 }
 
-/// If no candidate remains, begins a new round, in which each name is a candidate.
-fn begin_round(
+/// If no candidate remains, begins a new cycle, in which each name is a candidate.
+fn begin_cycle(
     names: &[Name],
     chosen: &mut ArrayVec<Name, MAX_OTHERS>,
     remaining: &mut ArrayVec<Name, MAX_OTHERS>,
 )
     requires few { length names.now ≤ MAX_OTHERS }
     requires remaining { remaining.old.items ≡ candidates names.now chosen.old.items }
-    ensures chosen { chosen.new.items ≡ current_round names.now chosen.old.items }
-    ensures remaining { remaining.new.items ≡ candidates names.now (current_round names.now chosen.old.items) }
+    ensures chosen { chosen.new.items ≡ current_cycle names.now chosen.old.items }
+    ensures remaining { remaining.new.items ≡ candidates names.now (current_cycle names.now chosen.old.items) }
 {
     if remaining.is_empty() {
         chosen.clear();
@@ -58,19 +58,19 @@ fn choose_among(
     requires few { length names.now ≤ MAX_OTHERS }
     requires kept { IsOrderKept names.now chosen.old.items remaining.old.items }
     ensures chosen { result ≡ choice names.now chosen.old.items word }
-    ensures round { let named = choice names.now chosen.old.items word in
-        chosen.new.items ≡ put_choice named (current_round names.now chosen.old.items) }
+    ensures cycle { let named = choice names.now chosen.old.items word in
+        chosen.new.items ≡ put_choice named (current_cycle names.now chosen.old.items) }
     ensures remaining { remaining.new.items ≡ candidates names.now chosen.new.items }
 {
-    begin_round(names, chosen, remaining);
+    begin_cycle(names, chosen, remaining);
     let name = take_one(remaining, word)?;
     put(chosen, &name);
     Some(name)
 }
 
-/// The members that are probed, and those of them that were chosen in the current round (SWIM, section 4.3).
+/// The members that are probed, and those of them that were chosen in the current cycle (SWIM, section 4.3).
 ///
-/// At most 255 names are known: those that have joined and not left, and those chosen in the current round. No call
+/// At most 255 names are known: those that have joined and not left, and those chosen in the current cycle. No call
 /// allocates memory. A contract sees the two sets, each in the order of names.
 #[derive(Debug, Drop)]
 pub struct Order {
@@ -130,7 +130,7 @@ impl Order {
         self.names.as_slice()
     }
 
-    /// The names that were chosen in the current round, at most 255, in the order of names (SWIM, section 4.3).
+    /// The names that were chosen in the current cycle, at most 255, in the order of names (SWIM, section 4.3).
     pub fn chosen(&self) -> &[Name]
         ensures chosen { result.now ≡ self.now.chosen }
         ensures few { length result.now ≤ MAX_OTHERS }
@@ -140,9 +140,9 @@ impl Order {
 
     /// Chooses whom to probe by a random word, or nobody if there are no names.
     ///
-    /// The candidates are the names that aren't chosen in the current round, in the order of names. If there are
-    /// none, a new round begins, in which all names are candidates. The word modulo their number is the index of the
-    /// one that is chosen, from 0. It counts as chosen in the round.
+    /// The candidates are the names that aren't chosen in the current cycle, in the order of names. If there are
+    /// none, a new cycle begins, in which all names are candidates. The word modulo their number is the index of the
+    /// one that is chosen, from 0. It counts as chosen in the cycle.
     pub fn choose(&mut self, word: u32) -> Option<Name>
         ensures chosen { result ≡ choice self.old.names self.old.chosen word }
         ensures order { self.new ≡ order_with self.old (Chose word) }
@@ -159,10 +159,10 @@ impl Order {
         )
     }
 
-    /// Lets a member join. It is a candidate at once, unless it was chosen in the current round.
+    /// Lets a member join. It is a candidate at once, unless it was chosen in the current cycle.
     ///
     /// With it, at most 255 names may be known: those that have joined and not left, and those chosen in the current
-    /// round. That holds as long as, with it, at most 255 names have ever joined.
+    /// cycle. That holds as long as, with it, at most 255 names have ever joined.
     pub fn join(&mut self, name: &Name)
         requires { length (put_key name_cmp name.now (known_names self.old)) ≤ MAX_OTHERS }
         ensures order { self.new ≡ order_with self.old (Joined name.now) }
@@ -175,7 +175,7 @@ impl Order {
         }
     }
 
-    /// Lets a member leave. It isn't a candidate until it joins again. If it was chosen in the current round, it
+    /// Lets a member leave. It isn't a candidate until it joins again. If it was chosen in the current cycle, it
     /// stays chosen.
     pub fn leave(&mut self, name: &Name)
         ensures order { self.new ≡ order_with self.old (Left name.now) }
@@ -209,7 +209,7 @@ fn push_chosen(chosen: &mut Vec<Name>, name: Option<Name>) -> Result<(), AllocEr
     Ok(())
 }
 
-/// Whom some words choose, one after another, of at most 255 names, in rounds that choose each name once (SWIM,
+/// Whom some words choose, one after another, of at most 255 names, in cycles that choose each name once (SWIM,
 /// section 4.3). A name that is given twice counts once. With no names, nobody is chosen.
 ///
 /// Memory is allocated for the choices, one for each word. The error says that it was refused.
@@ -236,7 +236,7 @@ pub fn orders_have_room()
 {}
 
 /// While the names stay the same, any 2p - 1 choices in a row choose each of the p names, from whatever state of a
-/// round they begin (SWIM, section 4.3). With no names, nobody is chosen. This is a law, and the call does nothing.
+/// cycle they begin (SWIM, section 4.3). With no names, nobody is chosen. This is a law, and the call does nothing.
 pub fn windows_have_each()
     ensures each { (past : List OrderFact) (words : List ℕ) (name : List ℕ)
         → is_among name_cmp name (names_after past) ≡ true → window (names_after past) ≤ length words

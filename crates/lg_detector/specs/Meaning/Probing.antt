@@ -8,7 +8,7 @@ use Rattle.lg_timers.specs.declared.timer.TimerId.{TimerId}
 use Rattle.lg_timers.specs.declared.timer.TimerId.TheVariants.{RoundEnd, Direct, RoundStart}
 use Rattle.lg_probe.specs.Meaning.Helpers.{picked}
 use Rattle.lg_probe.specs.Meaning.Order as order
-use Rattle.lg_probe.specs.Meaning.Order.{candidate, next_round, without}
+use Rattle.lg_probe.specs.Meaning.Order.{candidate, next_cycle, without}
 use Rattle.lg_probe.specs.Meaning.Round.{RoundFact, RoundValue, Asked, Acked, Nacked, round_of}
 use Rattle.lg_membership.specs.Meaning.Log as group
 use Rattle.lg_detector.specs.Meaning.Log.{Log, Fired, AckHeard, NackHeard, Relayed, OfGroup, group_log}
@@ -21,29 +21,29 @@ is_round_start _ = false
 abbrev pub others : Log → List (List ℕ)
 others log = group.live_others (group_log log)
 
--- The names chosen in the current round, the latest first. These are the choice of the last start of a round that
+-- The names chosen in the current cycle, the latest first. These are the choice of the last start of a round that
 -- found no candidate, and all choices since.
 abbrev pub first_word : List ℕ → ℕ
 first_word words = slice_index words 0
 
-abbrev pub round_names : Log → List (List ℕ)
-round_names [] = []
-round_names (OfGroup (group.Opened opening) ∷ log) = []
-round_names (Fired timer words ∷ log) =
+abbrev pub cycle_names : Log → List (List ℕ)
+cycle_names [] = []
+cycle_names (OfGroup (group.Opened opening) ∷ log) = []
+cycle_names (Fired timer words ∷ log) =
     if is_round_start timer.id
-    then next_round (others log) (round_names log) (first_word words)
-    else round_names log
-round_names (_ ∷ log) = round_names log
+    then next_cycle (others log) (cycle_names log) (first_word words)
+    else cycle_names log
+cycle_names (_ ∷ log) = cycle_names log
 
 -- The candidates of the next start of a round: the others that aren't among these names, or all of the others if each
 -- is.
-abbrev pub round_candidates : Log → List (List ℕ)
-round_candidates log = order.candidates (others log) (order.current_round (others log) (round_names log))
+abbrev pub cycle_candidates : Log → List (List ℕ)
+cycle_candidates log = order.candidates (others log) (order.current_cycle (others log) (cycle_names log))
 
 -- whom a start of a round with these words chooses: the candidate at the index that is the first word modulo their
 -- number
 abbrev pub chosen : List ℕ → Log → Option (List ℕ)
-chosen words log = candidate (first_word words) (round_candidates log)
+chosen words log = candidate (first_word words) (cycle_candidates log)
 
 -- Whether a start of a round with these words starts a probe.
 abbrev pub starts : TimerId → List ℕ → Log → Bool

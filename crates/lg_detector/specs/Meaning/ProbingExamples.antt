@@ -11,7 +11,7 @@ use Rattle.lg_detector.specs.declared.event.Event.{Event}
 use Rattle.lg_detector.specs.declared.event.Event.TheVariants.{Tick, Heard, Health}
 use Rattle.lg_detector.specs.declared.reply.Answer.TheVariants.{Health as OfHealth}
 use Rattle.lg_detector.specs.Meaning.Log.{Log, Fired}
-use Rattle.lg_detector.specs.Meaning.Probing.{round_names, helpers, round}
+use Rattle.lg_detector.specs.Meaning.Probing.{cycle_names, helpers, round}
 use Rattle.lg_detector.specs.Meaning.Window.{targets, AreOthers}
 use Rattle.lg_detector.specs.Meaning.Timing.{earned, mark_of_ack, score}
 use Rattle.lg_detector.specs.Meaning.Send.{claims_of}
@@ -90,7 +90,7 @@ unfolding by_computing
 an_ack_of_another_number_does_not_count = refl
 
 -- TURNS
--- b knows c and d. The word 0 chooses c of both. Then 6 chooses d, which is left, and 5 begins a new round, with d.
+-- b knows c and d. The word 0 chooses c of both. Then 6 chooses d, which is left, and 5 begins a new cycle, with d.
 abbrev knows_two : List Event
 knows_two = opening 0 ∷ says 0 (Ack 7) (alive c 0 ∷ alive d 0 ∷ []) ∷ []
 
@@ -103,15 +103,15 @@ started_once = started 0 (log_after knows_two)
 abbrev started_twice : Log
 started_twice = started 6 started_once
 
-one_is_chosen : round_names started_once ≡ (c ∷ []) ∷ []
+one_is_chosen : cycle_names started_once ≡ (c ∷ []) ∷ []
 unfolding by_computing
 one_is_chosen = refl
 
-both_are_chosen : round_names started_twice ≡ (d ∷ []) ∷ (c ∷ []) ∷ []
+both_are_chosen : cycle_names started_twice ≡ (d ∷ []) ∷ (c ∷ []) ∷ []
 unfolding by_computing
 both_are_chosen = refl
 
-a_new_round_begins : round_names (started 5 started_twice) ≡ (d ∷ []) ∷ []
+a_new_round_begins : cycle_names (started 5 started_twice) ≡ (d ∷ []) ∷ []
 unfolding by_computing
 a_new_round_begins = refl
 

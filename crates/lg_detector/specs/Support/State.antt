@@ -44,7 +44,7 @@ pub record State : Type 0 where
 
 -- each part by its definition
 abbrev pub order_of : Log → OrderValue
-order_of log = record { names = probing.others log; chosen = in_order name_cmp (probing.round_names log) }
+order_of log = record { names = probing.others log; chosen = in_order name_cmp (probing.cycle_names log) }
 
 abbrev pub state_of : Log → State
 state_of log = record {

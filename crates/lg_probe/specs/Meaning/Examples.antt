@@ -54,7 +54,7 @@ chose_c = Chose 1 ∷ Joined c ∷ Chose 1 ∷ Joined b ∷ Joined d ∷ []
 chooses_c : choice_after (Joined c ∷ Chose 1 ∷ Joined b ∷ Joined d ∷ []) 1 ≡ Some c
 chooses_c = refl
 
--- once a has joined, it is a candidate at once; then b is the last of the round, and c the first of the next
+-- once a has joined, it is a candidate at once; then b is the last of the cycle, and c the first of the next
 a_joins : choices_after (Joined a ∷ chose_c) (0 ∷ 7 ∷ 2 ∷ []) ≡ a ∷ b ∷ c ∷ []
 a_joins = refl
 
@@ -63,13 +63,13 @@ begins_anew :
     ≡ record { names = a ∷ b ∷ c ∷ d ∷ []; chosen = c ∷ [] }
 begins_anew = refl
 
--- a round that is over stays until the next choice
+-- a cycle that is over stays until the next choice
 stays_over :
     order_after (Chose 7 ∷ Chose 0 ∷ Joined a ∷ chose_c)
     ≡ record { names = a ∷ b ∷ c ∷ d ∷ []; chosen = a ∷ b ∷ c ∷ d ∷ [] }
 stays_over = refl
 
--- a member that leaves and comes back within a round stays chosen in it
+-- a member that leaves and comes back within a cycle stays chosen in it
 comes_back : choice_after (Joined d ∷ Left d ∷ chose_c) 1 ≡ Some b
 comes_back = refl
 

@@ -1,4 +1,5 @@
--- The order in which members are probed: rounds in which each of them is chosen once (SWIM, section 4.3).
+-- The order in which members are probed: cycles, in each of which each member is chosen once (SWIM, section 4.3,
+-- which calls a cycle a traversal of the list of members).
 use Rattle.std.specs.Prelude.{◌≡◌, ◌≤◌, ◌+◌, ◌-◌, ◌*◌, true, take, drop}
 use Rattle.std.specs.Prelude.{ℕ, ◌%◌, Bool, not, List, [], ◌∷◌}
 use Rattle.std.specs.Prelude.{◌++◌, length, filter, if◌then◌else◌}
@@ -15,25 +16,25 @@ without n names = without_row name_cmp (λ m. m) n names
 abbrev pub candidate : ℕ → List (List ℕ) → Option (List ℕ)
 candidate word names = slice_get names (word % length names)
 
--- the candidates: the names that may be chosen, if these were chosen in the round already
+-- the candidates: the names that may be chosen, if these were chosen in the cycle already
 abbrev pub candidates : List (List ℕ) → List (List ℕ) → List (List ℕ)
-candidates names round = filter (λ n. not (is_among name_cmp n round)) names
+candidates names cycle = filter (λ n. not (is_among name_cmp n cycle)) names
 
--- whether no name may be chosen: each was chosen in the round already
+-- whether no name may be chosen: each was chosen in the cycle already
 abbrev pub is_over : List (List ℕ) → List (List ℕ) → Bool
-is_over names round = list_all (λ n. is_among name_cmp n round) names
+is_over names cycle = list_all (λ n. is_among name_cmp n cycle) names
 
--- The round of the next choice, as the names that were chosen in it before that choice. If no name may be chosen, a
--- new round begins, and only then.
-abbrev pub current_round : List (List ℕ) → List (List ℕ) → List (List ℕ)
-current_round names round = if is_over names round then [] else round
+-- The cycle of the next choice, as the names that were chosen in it before that choice. If no name may be chosen, a
+-- new cycle begins, and only then.
+abbrev pub current_cycle : List (List ℕ) → List (List ℕ) → List (List ℕ)
+current_cycle names cycle = if is_over names cycle then [] else cycle
 
--- whom a word chooses, and the round once that one is chosen
+-- whom a word chooses, and the cycle once that one is chosen
 abbrev pub choice : List (List ℕ) → List (List ℕ) → ℕ → Option (List ℕ)
-choice names round word = candidate word (candidates names (current_round names round))
+choice names cycle word = candidate word (candidates names (current_cycle names cycle))
 
-abbrev pub next_round : List (List ℕ) → List (List ℕ) → ℕ → List (List ℕ)
-next_round names round word = option_to_list (choice names round word) ++ current_round names round
+abbrev pub next_cycle : List (List ℕ) → List (List ℕ) → ℕ → List (List ℕ)
+next_cycle names cycle word = option_to_list (choice names cycle word) ++ current_cycle names cycle
 
 -- what happens to an order: a member joins or leaves, or one is chosen by a word
 pub data OrderFact : Type 0 where
@@ -48,17 +49,17 @@ names_after (Joined n ∷ past) = put_key name_cmp n (names_after past)
 names_after (Left n ∷ past) = without n (names_after past)
 names_after (Chose word ∷ past) = names_after past
 
--- The names chosen in the current round, the latest first. The round began with the last choice that found no
+-- The names chosen in the current cycle, the latest first. The cycle began with the last choice that found no
 -- candidate, and the name that it chose is among them.
-abbrev pub round_after : List OrderFact → List (List ℕ)
-round_after [] = []
-round_after (Joined n ∷ past) = round_after past
-round_after (Left n ∷ past) = round_after past
-round_after (Chose word ∷ past) = next_round (names_after past) (round_after past) word
+abbrev pub cycle_after : List OrderFact → List (List ℕ)
+cycle_after [] = []
+cycle_after (Joined n ∷ past) = cycle_after past
+cycle_after (Left n ∷ past) = cycle_after past
+cycle_after (Chose word ∷ past) = next_cycle (names_after past) (cycle_after past) word
 
 -- whom a word chooses after a past
 abbrev pub choice_after : List OrderFact → ℕ → Option (List ℕ)
-choice_after past word = choice (names_after past) (round_after past) word
+choice_after past word = choice (names_after past) (cycle_after past) word
 
 -- whom words choose one after another, after a past
 abbrev pub choices_after : List OrderFact → List ℕ → List (List ℕ)
@@ -92,27 +93,27 @@ ever_joined (Joined n ∷ past) = put_key name_cmp n (ever_joined past)
 ever_joined (Left n ∷ past) = ever_joined past
 ever_joined (Chose word ∷ past) = ever_joined past
 
--- What an order holds: the names that have joined and not left, and those chosen in the current round. Each list is
+-- What an order holds: the names that have joined and not left, and those chosen in the current cycle. Each list is
 -- in the order of names.
 pub record OrderValue : Type 0 where
   pub names : List (List ℕ)
   pub chosen : List (List ℕ)
 
 abbrev pub order_after : List OrderFact → OrderValue
-order_after past = record { names = names_after past; chosen = in_order name_cmp (round_after past) }
+order_after past = record { names = names_after past; chosen = in_order name_cmp (cycle_after past) }
 
 abbrev pub put_choice : Option (List ℕ) → List (List ℕ) → List (List ℕ)
-put_choice None round = round
-put_choice (Some n) round = put_key name_cmp n round
+put_choice None cycle = cycle
+put_choice (Some n) cycle = put_key name_cmp n cycle
 
 -- an order after one more fact
 abbrev pub order_with : OrderValue → OrderFact → OrderValue
 order_with o (Joined n) = record { names = put_key name_cmp n o.names; chosen = o.chosen }
 order_with o (Left n) = record { names = without n o.names; chosen = o.chosen }
 order_with o (Chose word) =
-    let chosen = put_choice (choice o.names o.chosen word) (current_round o.names o.chosen) in
+    let chosen = put_choice (choice o.names o.chosen word) (current_cycle o.names o.chosen) in
     record { names = o.names; chosen = chosen }
 
--- the names that an order knows: those that have joined and not left, and those chosen in the current round
+-- the names that an order knows: those that have joined and not left, and those chosen in the current cycle
 abbrev pub known_names : OrderValue → List (List ℕ)
 known_names o = in_order name_cmp (o.chosen ++ o.names)

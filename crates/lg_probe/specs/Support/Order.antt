@@ -10,7 +10,7 @@ pub record IsSoundOrder (order : OrderValue) : Type 0 where
   pub chosen_rise : Rises name_cmp order.chosen
   pub few : length (known_names order) ≤ MAX_OTHERS
 
--- the candidates that are kept beside the names are those of the round
+-- the candidates that are kept beside the names are those of the cycle
 pub record IsOrderKept (names chosen remaining : List (List ℕ)) : Type 0 where
   pub sound : IsSoundOrder record { names = names; chosen = chosen }
   pub rest : remaining ≡ candidates names chosen

@@ -3,7 +3,7 @@ use Rattle.std.proofs.lemmas.Bool.{eqb-true, eqb-false}
 use Rattle.arrayvec.specs.ArrayVec.{array_vec_len}
 use Rattle.lg_probe.specs.Meaning.Order.{candidates, is_over}
 use Rattle.lg_probe.proofs.Candidates.{candidates-all, none_in, over-none, over-some}
-use Rattle.lg_probe.proofs.order.begin_round.Goals as goal
+use Rattle.lg_probe.proofs.order.begin_cycle.Goals as goal
 
 none : (c : goal.After-push_all) → c.args.remaining.now.items ≡ []
 none c = none_in c.args.remaining.now.items (eqb-true (array_vec_len c.args.remaining.now) 0 (sym c.is_empty.ensures ∙ c.if-is_empty.true))
