@@ -148,7 +148,7 @@ fn timeouts_command<'a>(alloc: Global) -> Result<Command<'a>, AllocError>
     ensures app { IfOk result (λ command. app_of command ≡ timeouts_app) }
     ensures local { IfOk result (λ command. (fields_of command).has_globals ≡ false) }
 {
-    let members = "How many members there are, oneself among them";
+    let members = "How many members there are, this member among them";
     let confirmations = "After how many confirmations the timeout is the least";
     let alpha = "The factor of the least timeout";
     let beta = "The greatest timeout over the least";
