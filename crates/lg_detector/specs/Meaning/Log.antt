@@ -2,7 +2,6 @@
 -- events, the greatest moment, and the facts that concern the group. The other files of this folder read off the rest.
 use Rattle.std.specs.Prelude.{ℕ, ◌+◌, max, List, [], ◌∷◌}
 use Rattle.lg_rules.specs.declared.addr.Addr.{Addr}
-use Rattle.lg_membership.specs.Meaning.Log as group
 use Rattle.lg_membership.specs.Meaning.Log.{GroupFact, GroupLog}
 use Rattle.lg_timers.specs.declared.timer.Timer.{Timer}
 
