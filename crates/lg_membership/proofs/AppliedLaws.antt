@@ -1,37 +1,42 @@
 -- What applying a claim says of the record and the suspicion of the claim's member, and of those that haven't failed.
-use Rattle.std.proofs.Common.{◌≡◌, ◌≢◌, ℕ, Bool, true, false, cond, List, ◌∷◌, Option, Some, None, inl, inr, refl, sym, ◌∙◌, ap, subst}
+use Rattle.std.proofs.Common.{◌≡◌, ◌≢◌, ℕ, true, cond, List, ◌∷◌, Option, Some, None, inl, inr, refl, sym, ◌∙◌, ap, subst}
 use Rattle.std.proofs.lemmas.Bool.{cases_Bool, false≢true}
-use Rattle.std.specs.Prelude.{⊤, option_map}
+use Rattle.std.specs.Prelude.{⊤, option_map, is_some}
 use Rattle.lg_rules.specs.declared.claim.Claim.{Claim}
 use Rattle.lg_rules.specs.declared.claim.Status.{Status}
 use Rattle.lg_rules.specs.declared.claim.Status.TheVariants.{Alive, Suspect, Failed}
 use Rattle.lg_rules.specs.declared.members.Heard.{Heard}
 use Rattle.lg_rules.specs.declared.members.Heard.TheVariants.{Overrode, Accused, Same, Ignored, NoRoom}
 use Rattle.lg_rules.specs.Meaning.Claim.{accuser_of, name_of}
-use Rattle.lg_rules.specs.Meaning.Rows.{name_cmp, is_same, row_at, without_row}
+use Rattle.lg_rules.specs.Meaning.Rows.{name_cmp, row_at, without_row}
+use Rattle.lg_rules.specs.Meaning.Own.{own_record}
 use Rattle.lg_rules.specs.Meaning.Table.{hearing_of, heard, live_in}
+use Rattle.lg_rules.specs.Meaning.View.{view_of}
+use Rattle.lg_rules.proofs.Cases.{Missing, Holding, held}
 use Rattle.lg_rules.specs.Support.Standing.{changes_record}
-use Rattle.lg_rules.proofs.KeyOrder.{names_order, cases_key, same_key, other_key}
+use Rattle.lg_rules.proofs.KeyOrder.{names_order, cases_key, same_key}
 use Rattle.lg_rules.proofs.OwnLaws.{own_hearing-other}
 use Rattle.lg_rules.proofs.Ranks.{ranked}
 use Rattle.lg_rules.proofs.RowLaws.{row_at-put}
-use Rattle.lg_rules.proofs.Views.{Follows, Changes, Leaves, view_hearing}
+use Rattle.lg_rules.proofs.Views.{Follows, Changes, Leaves, view_hearing, rises-table}
 use Rattle.lg_timing.specs.declared.config.Config.{Config}
 use Rattle.lg_suspicion.specs.Meaning.Accusers.{accuser_counts, deadline_of}
 use Rattle.lg_membership.specs.declared.applied.Applied.{Applied}
 use Rattle.lg_membership.specs.declared.applied.Deadline.{Deadline}
 use Rattle.lg_membership.specs.declared.origin.Origin.{Origin}
 use Rattle.lg_membership.specs.declared.suspected.Suspected.{Suspected}
-use Rattle.lg_membership.specs.Meaning.Log.{GroupLog, Said, config, me, said, own, table, live_others, opening_addr}
+use Rattle.lg_membership.specs.Meaning.Log.{GroupLog, Said, config, me, said, own, table, group_view, live_others, opening_addr}
 use Rattle.lg_membership.specs.Meaning.Suspicions.{suspicions, suspected_name}
 use Rattle.lg_membership.specs.Meaning.Applied.{record_in, suspicion_in, is_refuted, IsRecordChange, IsDeadlineChange, IsApplied}
 use Rattle.lg_membership.specs.Support.Changes.{Change, Nothing, Ending, Putting, raised, ended, overriding, accusing}
 use Rattle.lg_membership.specs.Support.Changes.{change_by, change_of, row_about, suspicions_after, deadline_of_change}
 use Rattle.lg_membership.specs.Support.Changes.{live_after}
 use Rattle.lg_membership.specs.Support.State.{GroupState, group_state_of, standing, live_others_in, apply_to_group}
-use Rattle.lg_membership.specs.Support.State.{applied_own, applied_other, applied}
+use Rattle.lg_membership.specs.Support.State.{applied_other, applied, shown, with_found}
 use Rattle.lg_membership.specs.Support.Reached.{IsGroupReached}
-use Rattle.lg_membership.proofs.Applying.{applied-changed}
+use Rattle.lg_membership.proofs.Applying.{applied-own, applied-other}
+use Rattle.lg_membership.proofs.ChangedRows.{changed_record}
+use Rattle.lg_membership.proofs.Shown.{shown-applied, view-opened}
 use Rattle.lg_membership.proofs.Chosen.{found_key}
 use Rattle.lg_membership.proofs.FactLaws.{own_name, apply-state}
 use Rattle.lg_membership.proofs.LiveOthers.{presence-own, presence-other, live-said}
@@ -43,19 +48,48 @@ follows_another : (r : Claim) (before : Option Claim) → Follows r before → b
 follows_another r None follows e = absurd cc
 follows_another r (Some b) follows e = absurd (false≢true (sym (ranked.not_itself r) ∙ subst (Follows r) e follows))
 
-changes_to : (before after : Option Claim) (r : Claim) → after ≡ Some r → Follows r before → IsRecordChange before after true
-changes_to before after r is follows = λ same. follows_another r before follows (sym same ∙ is)
+-- Whether it differs, by the view after the opening.
+abbrev view_record : GroupLog → List ℕ → Option Claim
+view_record log m = row_at name_cmp name_of m (view_of (own_record (own log)) (table log))
 
-record-changed : (now : ℕ) (origin : Origin) (c : Claim) (log : GroupLog)
-    → IsRecordChange (record_in log c.name) (record_in (Said now origin c ∷ log) c.name) (changes_record (standing (group_state_of log)) c)
-record-changed now origin c log = elim (view_hearing (me log) (opening_addr (config log)) c (said log)) [
-  | Changes change ↦ (
-      subst (λ b. IsRecordChange (record_in log c.name) (record_in (Said now origin c ∷ log) c.name) b) (sym change.changes)
-      (changes_to (record_in log c.name) (record_in (Said now origin c ∷ log) c.name) change.r change.row change.follows))
-  | Leaves none same ↦ (
-      subst (λ b. IsRecordChange (record_in log c.name) (record_in (Said now origin c ∷ log) c.name) b) (sym none)
-      (ap (row_at name_cmp name_of c.name) same))
+differs : (now : ℕ) (origin : Origin) (c : Claim) (log : GroupLog) → changes_record (standing (group_state_of log)) c ≡ true
+    → view_record (Said now origin c ∷ log) c.name ≢ view_record log c.name
+differs now origin c log t = elim (view_hearing (me log) (opening_addr (config log)) c (said log)) [
+  | Changes change ↦ λ same. follows_another change.r (view_record log c.name) change.follows (sym same ∙ change.row)
+  | Leaves none same ↦ absurd (false≢true (sym none ∙ t))
 ]
+
+opened_record : (log : GroupLog) (m : List ℕ) → is_some (config log) ≡ true → record_in log m ≡ view_record log m
+opened_record log m opened = ap (row_at name_cmp name_of m) (view-opened (config log) (own log) (table log) opened)
+
+changed-log : (now : ℕ) (origin : Origin) (c : Claim) (log : GroupLog)
+    → IsRecordChange (record_in log c.name) (record_in (Said now origin c ∷ log) c.name) (applied now c (group_state_of log)).changed
+changed-log now origin c log = elim (held (applied now c s).changed) [
+  | Missing none ↦ (
+      subst (λ (o : Option Claim). IsRecordChange before after o) (sym none)
+      (ap (row_at name_cmp name_of c.name) (shown-said ∙ ap (λ o. with_found o (shown s)) none)))
+  | Holding r is ↦ (
+      let change = changed_record now c s r is in
+      subst (λ (o : Option Claim). IsRecordChange before after o) (sym is) (
+        ap (row_at name_cmp name_of c.name) (shown-said ∙ ap (λ o. with_found o (shown s)) is)
+            ∙ row_at-put names_order name_of c.name r (shown s)
+            ∙ ap (λ b. cond b (Some r) before) (same_key names_order r.name c.name change.named),
+        λ same. differs now origin c log change.changes
+            (sym (opened_record (Said now origin c ∷ log) c.name change.opened) ∙ same ∙ opened_record log c.name change.opened),
+      ))
+]
+  where
+    s : GroupState
+    s = group_state_of log
+
+    before : Option Claim
+    before = record_in log c.name
+
+    after : Option Claim
+    after = record_in (Said now origin c ∷ log) c.name
+
+    shown-said : group_view (Said now origin c ∷ log) ≡ with_found (applied now c s).changed (shown s)
+    shown-said = sym (ap shown (apply-state now origin c log)) ∙ shown-applied now origin c s (rises-table (me log) (said log))
 
 -- The deadline: what a claim changes of the suspicions is about its member.
 abbrev IsAbout : List ℕ → List Suspected → Change → Type 0
@@ -112,22 +146,6 @@ deadline-other now origin c log other =
     let is = about-change (hearing_of (table log) c) (config log) now (live_in (heard (table log) c)) c rows in
     subst (λ (after : List Suspected). IsDeadlineChange (suspicion_in log c.name) (row_at name_cmp suspected_name c.name after) (deadline_of_change ch))
     (suspicions-other now origin log c other) (deadline-change c.name rows ch is)
-
--- What applying a claim says, of oneself and of another.
-applied-is : (now : ℕ) (c : Claim) (s : GroupState) (b : Bool) → is_same name_cmp c.name s.own.name ≡ b → applied now c s ≡ cond b (applied_own c s) (applied_other now c s)
-unfolding applied
-applied-is now c s b e = ap (λ x. cond x (applied_own c s) (applied_other now c s)) e
-
-pub applied-own : (now : ℕ) (c : Claim) (s : GroupState) → c.name ≡ s.own.name → applied now c s ≡ applied_own c s
-applied-own now c s same = applied-is now c s true (same_key names_order c.name s.own.name same)
-
-pub applied-other : (now : ℕ) (c : Claim) (s : GroupState) → c.name ≢ s.own.name → applied now c s ≡ applied_other now c s
-applied-other now c s other = applied-is now c s false (other_key names_order c.name s.own.name other)
-
-changed-log : (now : ℕ) (origin : Origin) (c : Claim) (log : GroupLog)
-    → IsRecordChange (record_in log c.name) (record_in (Said now origin c ∷ log) c.name) (applied now c (group_state_of log)).changed
-changed-log now origin c log =
-    subst (λ b. IsRecordChange (record_in log c.name) (record_in (Said now origin c ∷ log) c.name) b) (sym (applied-changed now c (group_state_of log))) (record-changed now origin c log)
 
 pub applied-log : (now : ℕ) (origin : Origin) (c : Claim) (log : GroupLog) → IsApplied now origin c log (applied now c (group_state_of log))
 applied-log now origin c log = elim (cases_key names_order c.name (me log)) [

@@ -50,14 +50,14 @@ module _ {K : Type 0} {cmp : K → K → Ordering} (order : IsKeyOrder cmp) {R :
         | inr f ↦ (let f' = same ∙ f in rw (f, f') rest)
       ]
 
-  above-chosen : (n : K) (ns : List K) (rows : List R) → AreAbove cmp n (map key rows) → AreAbove cmp n (map key (with_keys ns rows))
+  pub above-chosen : (n : K) (ns : List K) (rows : List R) → AreAbove cmp n (map key rows) → AreAbove cmp n (map key (with_keys ns rows))
   above-chosen n ns [] above = above
   above-chosen n ns (x ∷ xs) above = elim (cases_Bool (is_among cmp (key x) ns)) [
     | inl t ↦ rw t (above.0, above-chosen n ns xs above.1)
     | inr f ↦ rw f (above-chosen n ns xs above.1)
   ]
 
-  put-below : (r : R) (rows : List R) → AreAbove cmp (key r) (map key rows) → put_row cmp key r rows ≡ r ∷ rows
+  pub put-below : (r : R) (rows : List R) → AreAbove cmp (key r) (map key rows) → put_row cmp key r rows ≡ r ∷ rows
   put-below r [] above = refl
   put-below r (x ∷ xs) above = rw above.0 refl
 

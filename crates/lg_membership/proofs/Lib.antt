@@ -11,7 +11,9 @@ pub mod Applying
 pub mod Rooms
 pub mod Hearings
 pub mod Chosen
+pub mod Putting
 pub mod Shown
+pub mod ChangedRows
 pub mod Differing
 pub mod LiveOthers
 pub mod AppliedLaws

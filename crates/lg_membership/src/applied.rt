@@ -1,4 +1,8 @@
 //! What applying a claim did.
+//!
+//! Defined in: `specs/Meaning/Applied.antt`.
+//! Tested in: `lg_detector_tests/src/membership/claims.rt`.
+use lg_rules::Record;
 
 /// What becomes of the deadline of a member's suspicion when a claim about the member is applied.
 #[derive(Clone, Copy, Debug, PartialEq, Eq)]
@@ -25,9 +29,9 @@ pub enum Presence {
 /// What applying a claim did.
 #[derive(Clone, Copy, Debug, PartialEq, Eq)]
 pub struct Applied {
-    /// Whether the record of the claim's member was made or replaced. If the claim is about this member itself:
-    /// whether its incarnation was raised.
-    pub changed: bool,
+    /// The record of the claim's member, if the claim changed it: it made the record, replaced it, or raised this
+    /// member's incarnation. Before the opening nobody has a record.
+    pub changed: Option<Record>,
     /// Whether the claim was a suspicion of this member, and this member refuted it.
     pub refuted: bool,
     /// What becomes of the deadline of the suspicion of the claim's member.

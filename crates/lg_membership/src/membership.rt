@@ -11,7 +11,7 @@ ghost use Rattle.lg_membership.specs.Meaning.Gossip.{put_of_own, put_if, target_
 ghost use Rattle.lg_membership.specs.Meaning.Suspicions.{is_accusation};
 ghost use Rattle.lg_membership.specs.Meaning.Applied.{is_refuted, IsApplied};
 ghost use Rattle.lg_membership.specs.Support.State.{group_state_of, open_group, apply_to_group, apply_own, apply_other};
-ghost use Rattle.lg_membership.specs.Support.State.{applied, applied_own, applied_other};
+ghost use Rattle.lg_membership.specs.Support.State.{applied, applied_own, applied_other, if_open, taken_if};
 ghost use Rattle.lg_membership.specs.Support.State.{send_from_group, queue_with, taken_in, fill_in};
 ghost use Rattle.lg_membership.specs.Support.Changes.{is_override, stands, presence_by};
 ghost use Rattle.lg_membership.specs.Support.Room.{HasPlace};
@@ -111,11 +111,32 @@ fn put_of_own(heard: OwnHeard, own: &Own) -> Option<Claim>
     }
 }
 
+/// A record that a claim changed. Before the opening nobody has one.
+fn if_open(config: &Option<Config>, changed: Option<Record>) -> Option<Record>
+    ensures { result ≡ if_open config.now changed }
+{
+    match config {
+        Some(_) => changed,
+        None => None,
+    }
+}
+
 /// Whether hearing a claim about another member made or replaced a record.
 fn is_override(heard: Heard) -> bool
     ensures { result ≡ is_override heard }
 {
     matches!(heard, Heard::Overrode)
+}
+
+/// The record that hearing a claim about another member made or replaced: it is the claim.
+fn taken_of_other(heard: Heard, claim: &Claim) -> Option<Record>
+    ensures { result ≡ taken_if (is_override heard) claim.now }
+{
+    if is_override(heard) {
+        Some(*claim)
+    } else {
+        None
+    }
 }
 
 /// Whether a claim about another member is to be passed on. It is if it made or replaced a record, or if it confirms
@@ -238,7 +259,7 @@ impl Membership {
         let heard = self.own.hear(claim);
         put(&mut self.queue, put_of_own(heard, &self.own));
         Applied {
-            changed: is_rise(heard),
+            changed: if_open(&self.config, put_of_own(heard, &self.own)),
             refuted: is_refuted(heard),
             deadline: Deadline::Stays,
             presence: Presence::Stays,
@@ -265,7 +286,7 @@ impl Membership {
         let counts = is_to_be_passed_on(heard, deadline);
         put(&mut self.queue, put_of_other(origin, counts, claim));
         Applied {
-            changed: is_override(heard),
+            changed: if_open(&self.config, taken_of_other(heard, claim)),
             refuted: false,
             deadline,
             presence,

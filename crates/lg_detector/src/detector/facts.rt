@@ -4,24 +4,28 @@
 //!
 //! Defined in: `specs/Meaning/Apply.antt`, `specs/Support/State.antt`, `specs/Meaning/Timing.antt`.
 //! Tested in: `lg_detector_tests/src/detector/hear.rt`, `lg_detector_tests/src/detector/ask.rt`.
-ghost use Rattle.std.specs.Prelude.{◌≡◌, ◌<◌, ◌≤◌, length};
-ghost use Rattle.lg_rules.specs.Meaning.Rows.{name_cmp, put_key};
-ghost use Rattle.lg_rules.specs.Support.Standing.{changed_names};
+ghost use Rattle.std.specs.Prelude.{◌≡◌, ◌<◌, ◌≤◌, length, map};
+ghost use Rattle.arrayvec.specs.ArrayVec.{array_vec_len};
+ghost use Rattle.lg_rules.specs.Meaning.Claim.{name_of};
+ghost use Rattle.lg_rules.specs.Meaning.Rows.{name_cmp, put_key, Rises};
+ghost use Rattle.lg_rules.specs.Meaning.View.{changed};
 ghost use Rattle.lg_timing.specs.Meaning.Config.{IsChecked};
 ghost use Rattle.lg_timers.specs.Meaning.Timers.{is_set, with_timer, without_timer};
 ghost use Rattle.lg_probe.specs.Meaning.Order.{known_names};
 ghost use Rattle.lg_membership.specs.declared.applied.Presence.TheVariants.{Joins};
 ghost use Rattle.lg_membership.specs.declared.origin.Origin.TheVariants.{Group};
-ghost use Rattle.lg_membership.specs.Support.State.{applied, standing};
+ghost use Rattle.lg_membership.specs.Support.State.{applied, with_found};
 ghost use Rattle.lg_detector.specs.Meaning.Timing.{start_timer};
 ghost use Rattle.lg_detector.specs.Support.State.{come_state, begin, marked_if, follow, reorder, apply_state};
 ghost use Rattle.lg_detector.specs.Support.State.{apply_all_state};
+ghost use Rattle.lg_detector.specs.Support.Step.{view_state};
 
 use super::{Detector, FIRST_NUMBER, MAX_EVENTS};
+use crate::reply::MAX_CHANGED;
 use arrayvec::ArrayVec;
 use lg_membership::{Deadline, Origin, Presence};
 use lg_probe::{Order, Relays};
-use lg_rules::{Claim, MAX_CLAIMS, MAX_OTHERS, Name};
+use lg_rules::{Claim, MAX_CLAIMS, MAX_OTHERS, Name, Record, put_row};
 use lg_timers::{MAX_TIMERS, Timer, TimerId, Timers};
 use lg_timing::{Config, Moment, Score};
 
@@ -63,6 +67,34 @@ fn reorder(order: &mut Order, member: &Name, presence: Presence)
     }
 }
 
+/// Puts a record that a claim changed, if it changed one, among those that other claims changed.
+fn put_changed(differing: &mut ArrayVec<Record, MAX_CHANGED>, changed: Option<Record>)
+    requires room { array_vec_len differing.old < MAX_CHANGED }
+    requires rises { Rises name_cmp (map name_of differing.old.items) }
+    ensures { differing.new.items ≡ with_found changed differing.old.items }
+{
+    // Taken apart, since the checker doesn't follow a whole record into a generic call.
+    if let Some(
+        Record {
+            name,
+            addr,
+            status,
+            incarnation,
+        },
+    ) = changed
+    {
+        put_row(
+            differing,
+            Record {
+                name,
+                addr,
+                status,
+                incarnation,
+            },
+        );
+    }
+}
+
 impl Detector {
     /// Counts an event, and moves the moment on to that of the event if it is later.
     pub(super) fn come(&mut self, now: Moment)
@@ -95,9 +127,9 @@ impl Detector {
         parts.membership.open_with(config);
     }
 
-    /// Applies a claim. Returns whether the record of its member changed.
+    /// Applies a claim. Returns the record of its member, if the claim changed it.
     #[tactic(auto, unfolding(crate::specs::Support::State::apply_state))]
-    pub(super) fn apply(&mut self, origin: Origin, claim: &Claim) -> bool
+    pub(super) fn apply(&mut self, origin: Origin, claim: &Claim) -> Option<Record>
         ensures state { self.new ≡ apply_state origin claim.now self.old }
         ensures changes { result ≡ (applied self.old.moment claim.now self.old.membership).changed }
     {
@@ -110,18 +142,20 @@ impl Detector {
         applied.changed
     }
 
-    /// Applies the claims of a packet or a timer, one after another. Returns the names of those whose records changed.
-    pub(super) fn apply_all(&mut self, claims: &[Claim]) -> ArrayVec<Name, MAX_CLAIMS>
+    /// Applies the claims of a packet or a timer, one after another. Overwrites `differing` with the records that
+    /// changed by them, in the order of names.
+    pub(super) fn say(&mut self, claims: &[Claim], differing: &mut ArrayVec<Record, MAX_CHANGED>)
         requires { length claims.now ≤ MAX_CLAIMS }
         ensures state { self.new ≡ apply_all_state Group claims.now self.old }
-        ensures names { result.items ≡ changed_names (standing self.old.membership) claims.now }
+        ensures differing { differing.new.items
+            ≡ changed (view_state self.old) (view_state (apply_all_state Group claims.now self.old)) }
     {
-        let mut names = ArrayVec::new();
+        // The proof needs what the invariant says of the state at the start.
+        let _ = &self.parts;
+        differing.clear();
         for claim in claims {
-            if self.apply(Origin::Group, claim) {
-                names.push(claim.name);
-            }
+            let changed = self.apply(Origin::Group, claim);
+            put_changed(differing, changed);
         }
-        names
     }
 }

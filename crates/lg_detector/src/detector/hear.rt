@@ -17,22 +17,21 @@ ghost use Rattle.std.specs.Prelude.{◌≡◌, ◌<◌, ◌≤◌, [], ◌∷◌
 ghost use Rattle.std.specs.Prelude.{◌==◌, None, Some, length, option_map};
 ghost use Rattle.lg_rules.specs.Meaning.Rows.{name_cmp, is_same};
 ghost use Rattle.lg_rules.specs.Meaning.View.{changed};
-ghost use Rattle.lg_membership.specs.declared.origin.Origin.TheVariants.{Group};
 ghost use Rattle.lg_packet.specs.declared.packet.Body.TheVariants.{Ping, PingReq};
 ghost use Rattle.lg_probe.specs.Meaning.Relays.{ended_asker};
 ghost use Rattle.lg_detector.specs.Meaning.Hear.{pass_on};
 ghost use Rattle.lg_detector.specs.Support.Hear.{hear_state, hear_claims_state, note_state, respond_state};
 ghost use Rattle.lg_detector.specs.Support.Hear.{response_state, sends_to_state};
-ghost use Rattle.lg_detector.specs.Support.State.{apply_all_state, hear_ack, hear_nack};
+ghost use Rattle.lg_detector.specs.Support.State.{hear_ack, hear_nack};
 ghost use Rattle.lg_detector.specs.Support.Step.{view_state};
 
 use super::{Detector, MAX_EVENTS, relay, round};
 use crate::message::{Message, one};
-use crate::reply::{MAX_CHANGED, MAX_SENDS, Outgoing, Reply};
+use crate::reply::{MAX_SENDS, Outgoing, Reply};
 use arrayvec::ArrayVec;
 use lg_packet::{Body, Packet};
 use lg_probe::MAX_RELAYS;
-use lg_rules::{Addr, Claim, MAX_CLAIMS, Name, Record};
+use lg_rules::{Addr, Name};
 use lg_timing::Moment;
 
 impl Detector {
@@ -72,19 +71,6 @@ impl Detector {
             Body::Pull { after } => self.send_page(source, after, sends),
             Body::Page => self.send_next_pull(source, packet.claims.as_slice(), sends),
         }
-    }
-
-    /// Applies claims one after another. Overwrites `differing` with the records that changed by them.
-    pub(super) fn say(&mut self, claims: &[Claim], differing: &mut ArrayVec<Record, MAX_CHANGED>)
-        requires { length claims.now ≤ MAX_CLAIMS }
-        ensures state { self.new ≡ apply_all_state Group claims.now self.old }
-        ensures differing { differing.new.items
-            ≡ changed (view_state self.old) (view_state (apply_all_state Group claims.now self.old)) }
-    {
-        // The end of the proof needs what the invariant says of the state at the start.
-        let _ = &self.parts;
-        let names = self.apply_all(claims);
-        self.put_records(names.as_slice(), differing);
     }
 
     /// Notes what a body means for the probe that runs and for the relays. Returns the packet that responds to it, if

@@ -2,16 +2,15 @@
 //!
 //! Defined in: `specs/Meaning/Step.antt`, `specs/Support/Step.antt`, `lg_rules/specs/Meaning/Rows.antt`.
 //! Tested in: `lg_detector_tests/src/detector/ask.rt`.
-ghost use Rattle.std.specs.Prelude.{◌≡◌, ◌≤◌, List, IfOk, length, filter};
+ghost use Rattle.std.specs.Prelude.{◌≡◌, List, IfOk, length};
 ghost use Rattle.lg_rules.specs.Meaning.Claim.{name_of};
-ghost use Rattle.lg_rules.specs.Meaning.Rows.{name_cmp, is_among, row_at};
+ghost use Rattle.lg_rules.specs.Meaning.Rows.{name_cmp, row_at};
 ghost use Rattle.lg_detector.specs.declared.event.Event.{Event as Happened};
 ghost use Rattle.lg_detector.specs.Meaning.Step.{view_after, deadline_after};
 ghost use Rattle.lg_detector.specs.Meaning.Timing.{or_zero};
 ghost use Rattle.lg_detector.specs.Support.Step.{state_after, deadline_state, view_state};
 
 use super::{Detector, NoMemory};
-use crate::reply::MAX_CHANGED;
 use arrayvec::ArrayVec;
 use lg_rules::{MAX_MEMBERS, Name, Record};
 use std::alloc::Global;
@@ -34,14 +33,6 @@ impl Detector {
         ensures list { (f : List Happened) → self.now ≡ state_after f → row.new.items ≡ view_after f }
     {
         self.parts.membership.put_table(row);
-    }
-
-    /// Overwrites `row` with the records of these names, of which this member's may be one.
-    pub(super) fn put_records(&self, names: &[Name], row: &mut ArrayVec<Record, MAX_CHANGED>)
-        requires { length names.now ≤ MAX_CHANGED }
-        ensures { row.new.items ≡ filter (λ r. is_among name_cmp r.name names.now) (view_state self.now) }
-    {
-        self.parts.membership.put_records(names, row);
     }
 
     /// The records of all members, this one included, in the order of their names. Allocates the list alone, of at

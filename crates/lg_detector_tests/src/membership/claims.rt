@@ -1,11 +1,11 @@
 //! What claims change, and what is asked of the table.
 use super::playing::Step::{
     self, Hears, Known, Lambda, Live, Members, Number, Opens, Ousted, Own, OwnRecord, Places,
-    Records, Says, Seeds, Sends, Table,
+    Says, Seeds, Sends, Table,
 };
-use super::playing::{CHANGED, Case, JOINED, NOTHING, play, play_on, say};
+use super::playing::{CHANGED, Case, Did, JOINED, NOTHING, hears, play, play_on};
 use crate::says::Said::{Alive, Failed, Numbered, Suspect};
-use lg_membership::{Applied, Deadline, MAX_MEMBERS, Membership, Presence};
+use lg_membership::{Deadline, MAX_MEMBERS, Membership, Presence};
 
 /// Nobody is known before the opening, and the opening forgets what was known.
 const OPENINGS: &[Case] = &[
@@ -13,11 +13,17 @@ const OPENINGS: &[Case] = &[
         "before the opening",
         &[
             Lambda(None),
-            Hears(10, Suspect("c", 0, "d"), JOINED),
+            Hears(
+                10,
+                Suspect("c", 0, "d"),
+                Did {
+                    changed: false,
+                    ..JOINED
+                },
+            ),
             Live(2),
             Known("c", None),
             Table(&[]),
-            Records(&["c"], &[]),
         ],
     ),
     (
@@ -51,12 +57,11 @@ const RECORDS: Case = (
         Hears(0, Alive("c", 2), JOINED),
         Hears(0, Alive("a", 2), JOINED),
         Table(&[Alive("a", 2), Alive("b", 0), Alive("c", 2), Alive("d", 2)]),
-        Records(&["d", "z", "b"], &[Alive("b", 0), Alive("d", 2)]),
     ],
 );
 
 /// What a claim did that raised a suspicion with this deadline.
-const RAISED_TO_32000: Applied = Applied {
+const RAISED_TO_32000: Did = Did {
     deadline: Deadline::Stands(32_000),
     ..CHANGED
 };
@@ -74,7 +79,7 @@ const SUSPICIONS: &[Case] = &[
             Hears(
                 2200,
                 Alive("c", 5),
-                Applied {
+                Did {
                     deadline: Deadline::Ends,
                     ..CHANGED
                 },
@@ -93,7 +98,7 @@ const SUSPICIONS: &[Case] = &[
             Hears(
                 2600,
                 Suspect("c", 0, "e"),
-                Applied {
+                Did {
                     deadline: Deadline::Stands(19_500),
                     ..NOTHING
                 },
@@ -101,7 +106,7 @@ const SUSPICIONS: &[Case] = &[
             Hears(
                 2700,
                 Failed("c", 0),
-                Applied {
+                Did {
                     deadline: Deadline::Ends,
                     presence: Presence::Leaves,
                     ..CHANGED
@@ -111,7 +116,7 @@ const SUSPICIONS: &[Case] = &[
             Hears(
                 3000,
                 Suspect("d", 1, "a"),
-                Applied {
+                Did {
                     deadline: Deadline::Stands(8000),
                     ..CHANGED
                 },
@@ -119,7 +124,7 @@ const SUSPICIONS: &[Case] = &[
             Hears(
                 4000,
                 Suspect("d", 2, "e"),
-                Applied {
+                Did {
                     deadline: Deadline::Stands(9000),
                     ..CHANGED
                 },
@@ -128,7 +133,7 @@ const SUSPICIONS: &[Case] = &[
             Hears(
                 5000,
                 Suspect("c", 1, "a"),
-                Applied {
+                Did {
                     deadline: Deadline::Stands(35_000),
                     ..JOINED
                 },
@@ -136,7 +141,7 @@ const SUSPICIONS: &[Case] = &[
             Hears(
                 5500,
                 Alive("c", 2),
-                Applied {
+                Did {
                     deadline: Deadline::Ends,
                     ..CHANGED
                 },
@@ -151,7 +156,7 @@ const SUSPICIONS: &[Case] = &[
             Hears(
                 2000,
                 Suspect("c", 0, "d"),
-                Applied {
+                Did {
                     deadline: Deadline::Stands(7000),
                     ..JOINED
                 },
@@ -195,7 +200,7 @@ const OF_ITSELF: &[Case] = &[
             Hears(
                 0,
                 Suspect("b", 0, "a"),
-                Applied {
+                Did {
                     refuted: true,
                     ..CHANGED
                 },
@@ -260,8 +265,8 @@ fn knows_256_names(rt: HostRuntime) {
     play_on(&rt, &mut b, "before", &[Opens("b"), Says(0, Alive("c", 2))]);
     for number in 0..300 {
         let expected = if number < 254 { JOINED } else { NOTHING };
-        let applied = say(&mut b, 0, &Numbered(number));
-        assert!(rt; applied == expected, "{number}: {applied:?}");
+        let met = hears(&mut b, 0, &Numbered(number), &expected);
+        assert!(rt; met, "{number}: {b:?}");
     }
     play_on(&rt, &mut b, "256 names", FULL);
 }

@@ -1,6 +1,6 @@
 //! Plays steps on a membership. A case is a list of steps, all of them plain data. All steps share one assert,
 //! because each assert is a branch that the check proves. Its message names the case and the step, counted from 0.
-use crate::says::{Member, Said, are_said, claim_of, is_said, named, names_of};
+use crate::says::{Member, Said, are_said, claim_of, is_said, named};
 use arrayvec::ArrayVec;
 use lg_membership::{Applied, Deadline, MAX_MEMBERS, Membership, Origin, Presence};
 use lg_rules::{Claim, MAX_CLAIMS, Name, Record};
@@ -16,7 +16,7 @@ pub(super) enum Step {
     /// These are said as seeds.
     Seeds(&'static [Said]),
     /// The group says a claim at a moment. This is what the claim does.
-    Hears(u64, Said, Applied),
+    Hears(u64, Said, Did),
     /// The group says a claim at a moment. This is what becomes of its member's presence, and how many members
     /// haven't failed then.
     Places(u64, Said, Presence, usize),
@@ -44,34 +44,42 @@ pub(super) enum Step {
     Table(&'static [Said]),
     /// How many records there are.
     Members(usize),
-    /// The records of some members.
-    Records(&'static [Member], &'static [Said]),
     /// The page after a name, or the first page.
     Page(Option<Member>, &'static [Said]),
 }
 
-/// What a claim did that changed nothing.
-pub(super) const NOTHING: Applied = Applied {
+/// What a claim did.
+#[derive(Clone, Copy)]
+pub(super) struct Did {
+    /// Whether it changed its member's record, which is then the one that stands.
+    pub(super) changed: bool,
+    /// Whether it was a suspicion that this member refuted.
+    pub(super) refuted: bool,
+    /// What became of the deadline of its member's suspicion.
+    pub(super) deadline: Deadline,
+    /// What became of its member's presence.
+    pub(super) presence: Presence,
+}
+
+/// It changed nothing.
+pub(super) const NOTHING: Did = Did {
     changed: false,
     refuted: false,
     deadline: Deadline::Stays,
     presence: Presence::Stays,
 };
 
-/// What a claim did that changed a record, or this member's incarnation.
-pub(super) const CHANGED: Applied = Applied {
+/// It changed a record, or this member's incarnation.
+pub(super) const CHANGED: Did = Did {
     changed: true,
-    refuted: false,
-    deadline: Deadline::Stays,
-    presence: Presence::Stays,
+    ..NOTHING
 };
 
-/// What a claim did that let a member join those that haven't failed.
-pub(super) const JOINED: Applied = Applied {
+/// It let a member join those that haven't failed.
+pub(super) const JOINED: Did = Did {
     changed: true,
-    refuted: false,
-    deadline: Deadline::Stays,
     presence: Presence::Joins,
+    ..NOTHING
 };
 
 /// Opens a membership with the default numbers.
@@ -91,8 +99,21 @@ fn seed(membership: &mut Membership, said: &[Said]) {
     }
 }
 
+/// The group says a claim at a moment. Whether the claim did this.
+pub(super) fn hears(membership: &mut Membership, now: u64, said: &Said, did: &Did) -> bool {
+    let applied = say(membership, now, said);
+    let record = membership.record_of(&claim_of(said).name);
+    let expected = Applied {
+        changed: if did.changed { record } else { None },
+        refuted: did.refuted,
+        deadline: did.deadline,
+        presence: did.presence,
+    };
+    applied == expected
+}
+
 /// A claim that the group says at a moment.
-pub(super) fn say(membership: &mut Membership, now: u64, said: &Said) -> Applied {
+fn say(membership: &mut Membership, now: u64, said: &Said) -> Applied {
     membership.apply(at(now), Origin::Group, &claim_of(said))
 }
 
@@ -117,13 +138,6 @@ fn page_of(membership: &Membership, after: Option<&Name>) -> ArrayVec<Record, MA
     row
 }
 
-/// The records of some members.
-fn records_of(membership: &Membership, members: &[Member]) -> ArrayVec<Record, MAX_CLAIMS> {
-    let mut row = ArrayVec::new();
-    membership.put_records(names_of(members).as_slice(), &mut row);
-    row
-}
-
 /// Plays a step that changes the membership. Returns whether it went as the step says.
 fn plays(step: &Step, membership: &mut Membership) -> bool {
     match *step {
@@ -132,7 +146,7 @@ fn plays(step: &Step, membership: &mut Membership) -> bool {
             seed(membership, said);
             true
         }
-        Step::Hears(now, said, applied) => say(membership, now, &said) == applied,
+        Step::Hears(now, said, did) => hears(membership, now, &said, &did),
         Step::Places(now, said, presence, live) => {
             say(membership, now, &said).presence == presence && membership.live() == live
         }
@@ -160,9 +174,6 @@ fn is_met(step: &Step, membership: &Membership) -> bool {
         Step::Known(member, said) => is_said(membership.record_of(&named(member)), &said),
         Step::Table(said) => are_said(table_of(membership).as_slice(), said),
         Step::Members(count) => table_of(membership).len() == count,
-        Step::Records(members, said) => {
-            are_said(records_of(membership, members).as_slice(), said)
-        }
         Step::Page(after, said) => {
             let after = after.map(named);
             are_said(page_of(membership, after.as_ref()).as_slice(), said)

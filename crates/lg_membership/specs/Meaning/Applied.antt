@@ -5,9 +5,8 @@ use Rattle.lg_rules.specs.declared.claim.Claim.{Claim}
 use Rattle.lg_rules.specs.declared.own.OwnHeard.{OwnHeard}
 use Rattle.lg_rules.specs.declared.own.OwnHeard.TheVariants.{Refuted, Raised, Ousted, Ignored}
 use Rattle.lg_rules.specs.Meaning.Claim.{name_of}
-use Rattle.lg_rules.specs.Meaning.Own.{own_hearing, own_record}
+use Rattle.lg_rules.specs.Meaning.Own.{own_hearing}
 use Rattle.lg_rules.specs.Meaning.Rows.{name_cmp, is_among, row_at}
-use Rattle.lg_rules.specs.Meaning.View.{view_of}
 use Rattle.lg_suspicion.specs.Meaning.Accusers.{deadline_of}
 use Rattle.lg_membership.specs.declared.applied.Applied.{Applied}
 use Rattle.lg_membership.specs.declared.applied.Deadline.{Deadline}
@@ -16,12 +15,12 @@ use Rattle.lg_membership.specs.declared.applied.Presence.{Presence}
 use Rattle.lg_membership.specs.declared.applied.Presence.TheVariants.{Stays as Remains, Joins, Leaves}
 use Rattle.lg_membership.specs.declared.origin.Origin.{Origin}
 use Rattle.lg_membership.specs.declared.suspected.Suspected.{Suspected}
-use Rattle.lg_membership.specs.Meaning.Log.{GroupLog, Said, own, table, live_others}
+use Rattle.lg_membership.specs.Meaning.Log.{GroupLog, Said, own, group_view, live_others}
 use Rattle.lg_membership.specs.Meaning.Suspicions.{suspicions, suspected_name}
 
--- The record of a member, which may be this member itself. From the opening on it is the one of the view.
+-- The record of a member, which may be this member itself. Before the opening nobody has one.
 abbrev pub record_in : GroupLog → List ℕ → Option Claim
-record_in log m = row_at name_cmp name_of m (view_of (own_record (own log)) (table log))
+record_in log m = row_at name_cmp name_of m (group_view log)
 
 -- the suspicion of another member
 abbrev pub suspicion_in : GroupLog → List ℕ → Option Suspected
@@ -34,10 +33,10 @@ is_refuted Raised = false
 is_refuted Ousted = false
 is_refuted Ignored = false
 
--- whether a record changed, or is as before
-abbrev pub IsRecordChange : Option Claim → Option Claim → Bool → Type 0
-IsRecordChange before after true = after ≢ before
-IsRecordChange before after false = after ≡ before
+-- A record is as before; or it changed, and is now this one.
+abbrev pub IsRecordChange : Option Claim → Option Claim → Option Claim → Type 0
+IsRecordChange before after None = after ≡ before
+IsRecordChange before after (Some r) = (after ≡ Some r) × (after ≢ before)
 
 -- A suspicion is as before; or there was one, and there is none; or there is one, with this deadline.
 abbrev pub IsDeadlineChange : Option Suspected → Option Suspected → Deadline → Type 0
@@ -57,7 +56,7 @@ presence_of false true = Joins
 presence_of true false = Leaves
 
 -- What applying a claim returns, if the claim is said after this log:
---     changed     whether it changes the record of its member
+--     changed     the record of its member, if it changes that
 --     refuted     whether it is a suspicion of this member, and this member refutes it
 --     deadline    what becomes of the deadline of its member's suspicion
 --     presence    whether its member joins the others that haven't failed, or leaves them

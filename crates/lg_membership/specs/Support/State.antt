@@ -1,12 +1,12 @@
 -- What a member knows of its group, as plain data, and what each fact does to it.
-use Rattle.std.specs.Prelude.{ℕ, false, List, [], ◌∷◌, map, Option, Some, None, if◌then◌else◌}
+use Rattle.std.specs.Prelude.{ℕ, Bool, false, List, [], ◌∷◌, map, Option, Some, None, if◌then◌else◌}
 use Rattle.lg_rules.specs.declared.claim.Claim.{Claim}
 use Rattle.lg_rules.specs.declared.own.OwnHeard.{OwnHeard}
 use Rattle.lg_rules.specs.Meaning.Claim.{name_of}
 use Rattle.lg_rules.specs.Meaning.Own.{Oneself, own_of, own_hearing, own_heard}
 use Rattle.lg_rules.specs.Meaning.Rows.{name_cmp, is_same, put_row}
 use Rattle.lg_rules.specs.Meaning.Table.{Known, known_of, takes, heard, live_in}
-use Rattle.lg_rules.specs.Support.Standing.{Standing, is_rise}
+use Rattle.lg_rules.specs.Support.Standing.{Standing}
 use Rattle.lg_timing.specs.declared.config.Config.{Config}
 use Rattle.lg_gossip.specs.Meaning.Queue.{GossipQueue, put_of, sent_once, taken_of, fill_of}
 use Rattle.lg_membership.specs.declared.applied.Applied.{Applied}
@@ -105,17 +105,28 @@ apply_other now origin c s = record s {
 unfoldable pub apply_to_group : ℕ → Origin → Claim → GroupState → GroupState
 apply_to_group now origin c s = if is_same name_cmp c.name s.own.name then apply_own c s else apply_other now origin c s
 
+-- a record that a claim changes; before the opening nobody has one
+abbrev pub if_open : Option Config → Option Claim → Option Claim
+if_open None r = None
+if_open (Some opening) r = r
+
+-- the record that a claim about another makes or replaces
+abbrev pub taken_if : Bool → Claim → Option Claim
+taken_if takes c = if takes then Some c else None
+
 -- what applying a claim returns
 abbrev pub applied_own : Claim → GroupState → Applied
 applied_own c s =
     let hearing = own_hearing_in c s in
-    record { changed = is_rise hearing; refuted = is_refuted hearing; deadline = Stays; presence = Remains }
+    let raised = put_of_own hearing (own_heard s.own c) in
+    record { changed = if_open s.config raised; refuted = is_refuted hearing; deadline = Stays; presence = Remains }
 
 abbrev pub applied_other : ℕ → Claim → GroupState → Applied
 applied_other now c s =
     let table = s.members.table in
     let deadline = deadline_of_change (change_in now c s) in
-    record { changed = takes table c; refuted = false; deadline = deadline; presence = presence_heard table c }
+    let taken = if_open s.config (taken_if (takes table c) c) in
+    record { changed = taken; refuted = false; deadline = deadline; presence = presence_heard table c }
 
 unfoldable pub applied : ℕ → Claim → GroupState → Applied
 applied now c s = if is_same name_cmp c.name s.own.name then applied_own c s else applied_other now c s

@@ -2,18 +2,17 @@
 //!
 //! Defined in: `specs/Meaning/Log.antt`, `lg_rules/specs/Meaning/Table.antt`, `lg_rules/specs/Meaning/Own.antt`.
 //! Tested in: `lg_detector_tests/src/membership/claims.rt`.
-ghost use Rattle.std.specs.Prelude.{◌≡◌, ◌≤◌, ◌<◌, [], length, map, filter, option_copied};
-ghost use Rattle.arrayvec.specs.ArrayVec.{array_vec_len};
+ghost use Rattle.std.specs.Prelude.{◌≡◌, ◌≤◌, [], length, option_copied};
 ghost use Rattle.lg_rules.specs.Meaning.Claim.{name_of};
 ghost use Rattle.lg_rules.specs.Meaning.Own.{own_record};
-ghost use Rattle.lg_rules.specs.Meaning.Rows.{name_cmp, is_among, row_at, Rises};
+ghost use Rattle.lg_rules.specs.Meaning.Rows.{name_cmp, row_at};
 ghost use Rattle.lg_rules.specs.Meaning.Table.{live_in};
 ghost use Rattle.lg_membership.specs.Meaning.Log.{GroupLog, config, own, group_view, live};
-ghost use Rattle.lg_membership.specs.Support.State.{group_state_of, shown, with_found};
+ghost use Rattle.lg_membership.specs.Support.State.{group_state_of, shown};
 
 use super::{Membership, is_same_name};
 use arrayvec::ArrayVec;
-use lg_rules::{Incarnation, MAX_CLAIMS, MAX_MEMBERS, MAX_OTHERS, Name, Record, put_row};
+use lg_rules::{Incarnation, MAX_MEMBERS, MAX_OTHERS, Name, Record, put_row};
 use lg_timing::Config;
 
 impl Membership {
@@ -80,49 +79,6 @@ impl Membership {
             return Some(own);
         }
         self.members.get(name).copied()
-    }
-
-    /// Replaces what the row holds by the records of these names, in the order of names. At most [`MAX_CLAIMS`] names
-    /// may be given.
-    pub fn put_records(&self, names: &[Name], row: &mut ArrayVec<Record, MAX_CLAIMS>)
-        requires { length names.now ≤ MAX_CLAIMS }
-        ensures state { row.new.items ≡ filter (λ r. is_among name_cmp r.name names.now) (shown self.now) }
-        ensures log { (log : GroupLog) → self.now ≡ group_state_of log
-            → row.new.items ≡ filter (λ r. is_among name_cmp r.name names.now) (group_view log) }
-    {
-        // This tells the checker what the invariant says of the order of names.
-        let _ = &self.config;
-        row.clear();
-        for name in names {
-            self.put_record(name, row);
-        }
-    }
-
-    /// Puts the record of a name among other records, if the name is known.
-    fn put_record(&self, name: &Name, row: &mut ArrayVec<Record, MAX_CLAIMS>)
-        requires room { array_vec_len row.old < MAX_CLAIMS }
-        requires rises { Rises name_cmp (map name_of row.old.items) }
-        ensures { row.new.items
-            ≡ with_found (row_at name_cmp name_of name.now (shown self.now)) row.old.items }
-    {
-        if let Some(found) = self.record_of(name) {
-            // Taken apart, since the checker doesn't follow a whole record into a generic call.
-            let Record {
-                name,
-                addr,
-                status,
-                incarnation,
-            } = found;
-            put_row(
-                row,
-                Record {
-                    name,
-                    addr,
-                    status,
-                    incarnation,
-                },
-            );
-        }
     }
 
     /// Replaces what the row holds by the records of all members, this member included, in the order of names. Before

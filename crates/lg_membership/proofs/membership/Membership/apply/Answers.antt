@@ -2,7 +2,8 @@ use Rattle.std.proofs.Common.{◌≡◌, ◌≢◌, sym, ◌∙◌, ap, subst}
 use Rattle.lg_rules.proofs.KeyOrder.{names_order, key_is, apart}
 use Rattle.lg_membership.specs.Support.State.{GroupState, apply_to_group, applied}
 use Rattle.lg_membership.specs.Meaning.Applied.{IsApplied}
-use Rattle.lg_membership.proofs.AppliedLaws.{applied-own, applied-other, applied-log}
+use Rattle.lg_membership.proofs.AppliedLaws.{applied-log}
+use Rattle.lg_membership.proofs.Applying.{applied-own, applied-other}
 use Rattle.lg_membership.proofs.FactLaws.{apply-state}
 use Rattle.lg_membership.proofs.Reaching.{apply-own, apply-other}
 use Rattle.lg_membership.proofs.membership.Membership.apply.Goals as goal

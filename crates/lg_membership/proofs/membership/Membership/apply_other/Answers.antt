@@ -5,7 +5,7 @@ use Rattle.lg_membership.specs.Meaning.Gossip.{put_if}
 use Rattle.lg_membership.specs.Support.Changes.{change_by, row_about, suspicions_after, deadline_of_change, is_override}
 use Rattle.lg_membership.specs.Support.Changes.{presence_by}
 use Rattle.lg_membership.specs.Support.Room.{HasPlace}
-use Rattle.lg_membership.specs.Support.State.{GroupState, queue_with, applied_other}
+use Rattle.lg_membership.specs.Support.State.{GroupState, queue_with, applied_other, if_open, taken_if}
 use Rattle.lg_membership.proofs.Hearings.{override-takes, overrode-takes, counts_for}
 use Rattle.lg_membership.proofs.LiveOthers.{presence-counted}
 use Rattle.lg_membership.proofs.Reaching.{reached-other}
@@ -69,7 +69,8 @@ returns-clause-applied c =
     let row = row_about claim inside.suspicions.items in
     let after = c.hear-heard.ensures.table in
     let hearing = c.hear-heard.ensures.hearing in
-    let changed = c.is_override.ensures ∙ ap is_override hearing ∙ override-takes table claim in
+    let taken = c.taken_of_other.ensures ∙ ap (λ h. taken_if (is_override h) claim) hearing ∙ ap (λ b. taken_if b claim) (override-takes table claim) in
+    let changed = c.if_open.ensures ∙ ap (if_open inside.config) taken in
     let deadline = c.suspect-deadline.ensures.deadline ∙ (λ i. deadline_of_change (change_by (hearing i) inside.config c.args.now (live_in (after i)) row claim)) in
     let live = c.live.ensures.count ∙ ap live_in after in
     let presence =
