@@ -9,21 +9,42 @@ use Rattle.lg_rules.specs.declared.addr.Addr.{Addr}
 use Rattle.lg_packet.specs.declared.fault.Fault.{Fault}
 use Rattle.lg_packet.specs.declared.fault.Fault.TheVariants as faults
 use Rattle.lg_packet.specs.declared.kind.Kind.{Kind}
+use Rattle.lg_packet.specs.declared.packet.Version.{Version}
 use Rattle.lg_packet.specs.Meaning.Spelling.{byte_of_kind}
-use Rattle.lg_packet.specs.Meaning.Reading.{◌>>=◌, literal_at, kind_at, name_at, number_at, octets_at, addr_at, some_name_at, after_at, count_at}
-use Rattle.lg_packet.specs.Meaning.Fault.{Part, KindByte, LengthByte, AfterLengthByte, NameByte, NumberByte, CountByte, ClaimKindByte, is_allowed, fault_at, number_parts, addr_parts, body_parts, brought}
+use Rattle.lg_packet.specs.Meaning.Reading.{◌>>=◌, magic_at, version_at, kind_at, name_at, number_at, octets_at, addr_at, some_name_at, after_at, count_at}
+use Rattle.lg_packet.specs.Meaning.Fault.{Part, MagicByte, VersionByte, KindByte, LengthByte, AfterLengthByte, NameByte, NumberByte, CountByte, ClaimKindByte, number_parts, addr_parts, body_parts}
 use Rattle.lg_packet.proofs.Outcomes.{fault_or, fault_then}
 use Rattle.lg_packet.proofs.Fields.{number_there, octets_there, port_there}
 use Rattle.lg_packet.proofs.Places.{fault_from}
 
-pub literal_fault : (due : ℕ) (fault : Fault) (part : Part) (parts : List Part) (bytes : List ℕ) → ((b : ℕ) → is_allowed part b ≡ eqb b due) → fault_at part ≡ fault → ((b : ℕ) → brought part b ≡ [])
-    → fault_from bytes (part ∷ parts) ≡ fault_or (λ rest. fault_from rest parts) (literal_at due fault bytes)
-literal_fault due fault part parts [] test named brings = refl
-literal_fault due fault part parts (b ∷ bytes) test named brings = rw (test b, named, brings b) (step (eqb b due))
+pub magic_fault : (due : ℕ) (parts : List Part) (bytes : List ℕ) → fault_from bytes (MagicByte due ∷ parts) ≡ fault_or (λ rest. fault_from rest parts) (magic_at due bytes)
+magic_fault due parts [] = refl
+magic_fault due parts (b ∷ bytes) = step (eqb b due)
   where
-    step : (good : Bool) → cond good (fault_from bytes parts) fault ≡ fault_or (λ rest. fault_from rest parts) (cond good (Ok bytes) (Err fault))
+    step : (good : Bool) → cond good (fault_from bytes parts) faults.Magic ≡ fault_or (λ rest. fault_from rest parts) (cond good (Ok bytes) (Err faults.Magic))
     step true = refl
     step false = refl
+
+-- a version is 1 or 2
+no_version : (b : ℕ) → eqb b 1 ≡ false → eqb b 2 ≡ false → (leb 1 b && leb b 2) ≡ false
+no_version b one two = step (leb 1 b) refl (leb b 2) refl
+  where
+    step : (low : Bool) → leb 1 b ≡ low → (high : Bool) → leb b 2 ≡ high → (low && high) ≡ false
+    step true h true k = absurd (omega (arith, leb-true 1 b h, leb-true b 2 k, eqb-false b 1 one, eqb-false b 2 two))
+    step true h false k = refl
+    step false h high k = refl
+
+pub version_fault : (parts : List Part) (bytes : List ℕ) → fault_from bytes (VersionByte ∷ parts) ≡ fault_or (λ (x : Version × List ℕ). fault_from x.1 parts) (version_at bytes)
+version_fault parts [] = refl
+version_fault parts (b ∷ bytes) = step (eqb b 1) refl (eqb b 2) refl
+  where
+    Same : ℕ → Type 0
+    Same n = fault_from (n ∷ bytes) (VersionByte ∷ parts) ≡ fault_or (λ (x : Version × List ℕ). fault_from x.1 parts) (version_at (n ∷ bytes))
+
+    step : (one : Bool) → eqb b 1 ≡ one → (two : Bool) → eqb b 2 ≡ two → Same b
+    step true h two i = let here : b ≡ 1 = eqb-true b 1 h in subst Same (sym here) refl
+    step false h true i = let here : b ≡ 2 = eqb-true b 2 i in subst Same (sym here) refl
+    step false h false i = rw (no_version b h i, h, i) refl
 
 -- a kind is 1 to 6
 no_kind : (b : ℕ) → eqb b 1 ≡ false → eqb b 2 ≡ false → eqb b 3 ≡ false → eqb b 4 ≡ false → eqb b 5 ≡ false → eqb b 6 ≡ false → (leb 1 b && leb b 6) ≡ false

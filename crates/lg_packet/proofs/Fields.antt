@@ -1,5 +1,5 @@
 -- The fields of a packet: what is read is spelled so, and what is spelled so is read again.
-use Rattle.std.proofs.Common.{◌≡◌, ℕ, zero, suc, ◌^◌, ◌<◌, ◌≤◌, Bool, true, false, cond, eqb, ltb, List, [], ◌∷◌, ◌++◌, length, get_or, Option, Some, None, Ok, refl, sym, ap, subst, ◌∙◌, append_assoc, arith, length-append}
+use Rattle.std.proofs.Common.{◌≡◌, ℕ, zero, suc, ◌^◌, ◌<◌, ◌≤◌, Bool, true, false, cond, eqb, ltb, List, [], ◌∷◌, ◌++◌, length, get_or, Option, Some, None, Result, Ok, refl, sym, ap, subst, ◌∙◌, append_assoc, arith, length-append}
 use Rattle.std.specs.Int.{w16, w32, byte_at, from_be_bytes, to_be_bytes}
 use Rattle.std.specs.List.{AllByRecursion}
 use Rattle.std.proofs.lemmas.Bool.{eqb-true, le-ltb, ltb-false, ne_eqb}
@@ -13,8 +13,10 @@ use Rattle.lg_packet.specs.declared.kind.Kind.{Kind}
 use Rattle.lg_packet.specs.declared.kind.Kind.TheVariants as kinds
 use Rattle.lg_packet.specs.declared.packet.Body.{Body}
 use Rattle.lg_packet.specs.declared.packet.Body.TheVariants.{Ping, PingReq, Ack, Nack, Pull, Page}
-use Rattle.lg_packet.specs.Meaning.Spelling.{kind_of, byte_of_kind, spelled_number, spelled_name, spelled_addr, spelled_after, spelled_head, spelled_body, IsAddr, IsAfter, IsBody}
-use Rattle.lg_packet.specs.Meaning.Reading.{◌>>=◌, literal_at, kind_before, kind_at, number_at, name_at, octets_at, addr_at, some_name_at, after_at, head_at, body_at, count_at}
+use Rattle.lg_packet.specs.declared.packet.Version.{Version}
+use Rattle.lg_packet.specs.declared.packet.Version.TheVariants as versions
+use Rattle.lg_packet.specs.Meaning.Spelling.{kind_of, byte_of_version, byte_of_kind, spelled_number, spelled_name, spelled_addr, spelled_after, spelled_head, spelled_body, IsAddr, IsAfter, IsBody}
+use Rattle.lg_packet.specs.Meaning.Reading.{◌>>=◌, magic_at, version_before, version_at, kind_before, kind_at, number_at, name_at, octets_at, addr_at, some_name_at, after_at, head_at, body_at, count_at}
 use Rattle.lg_packet.proofs.Outcomes.{step_ok, passed, passed_by, same_ok}
 use Rattle.lg_packet.proofs.NameFields.{name_read, name_again}
 
@@ -26,15 +28,35 @@ pub behind : (front rest : List ℕ) → AreBytes (front ++ rest) → AreBytes r
 behind [] rest fit = fit
 behind (b ∷ front) rest fit = behind front rest (λ i. fit (suc i))
 
--- ---- one byte that is due
+-- ---- a byte of the magic
 
-pub literal_read : (due : ℕ) (fault : Fault) (bytes rest : List ℕ) → literal_at due fault bytes ≡ Ok rest → bytes ≡ due ∷ rest
-literal_read due fault [] rest e = absurd cc
-literal_read due fault (b ∷ bytes) rest e =
-    let p = passed (eqb b due) fault (Ok bytes) rest e in
+magic_read : (due : ℕ) (bytes rest : List ℕ) → magic_at due bytes ≡ Ok rest → bytes ≡ due ∷ rest
+magic_read due [] rest e = absurd cc
+magic_read due (b ∷ bytes) rest e =
+    let p = passed (eqb b due) faults.Magic (Ok bytes) rest e in
     let here : b ≡ due = eqb-true b due p.0 in
     let after : bytes ≡ rest = same_ok bytes rest p.1 in
     cc
+
+-- ---- versions
+
+version_read : (bytes : List ℕ) (x : Version × List ℕ) → version_at bytes ≡ Ok x → bytes ≡ byte_of_version x.0 ∷ x.1
+version_read [] x e = absurd cc
+version_read (b ∷ bytes) x e = step (eqb b 1) refl (eqb b 2) refl e
+  where
+    is : (n : ℕ) (version : Version) → byte_of_version version ≡ n → eqb b n ≡ true → version_before bytes (Some version) ≡ Ok x → b ∷ bytes ≡ byte_of_version x.0 ∷ x.1
+    is n version byte h k =
+        let here : b ≡ byte_of_version version = eqb-true b n h ∙ sym byte in
+        subst (λ (y : Version × List ℕ). b ∷ bytes ≡ byte_of_version y.0 ∷ y.1) (same_ok (version, bytes) x k) (ap (λ (m : ℕ). m ∷ bytes) here)
+
+    step : (one : Bool) → eqb b 1 ≡ one → (two : Bool) → eqb b 2 ≡ two → version_before bytes (cond one (Some versions.One) (cond two (Some versions.Two) None)) ≡ Ok x → b ∷ bytes ≡ byte_of_version x.0 ∷ x.1
+    step true h two i k = is 1 versions.One refl h k
+    step false h true i k = is 2 versions.Two refl i k
+    step false h false i k = absurd cc
+
+version_again : (version : Version) (rest : List ℕ) → version_at (byte_of_version version ∷ rest) ≡ Ok (version, rest)
+version_again versions.One rest = refl
+version_again versions.Two rest = refl
 
 -- ---- kinds
 
@@ -67,20 +89,25 @@ kind_again kinds.Page rest = refl
 
 -- ---- the head
 
-pub head_read : (bytes : List ℕ) (x : Kind × List ℕ) → head_at bytes ≡ Ok x → bytes ≡ spelled_head x.0 ++ x.1
+pub head_read : (bytes : List ℕ) (x : (Version × Kind) × List ℕ) → head_at bytes ≡ Ok x → bytes ≡ spelled_head x.0.0 x.0.1 ++ x.1
 unfolding head_at
 head_read bytes x e =
-    let a = step_ok (literal_at 0x53 faults.Magic bytes) (λ r. literal_at 0x4c faults.Magic r >>= λ s. literal_at 1 faults.Version s >>= kind_at) x e in
-    let b = step_ok (literal_at 0x4c faults.Magic a.0) (λ s. literal_at 1 faults.Version s >>= kind_at) x a.2 in
-    let d = step_ok (literal_at 1 faults.Version b.0) kind_at x b.2 in
-    literal_read 0x53 faults.Magic bytes a.0 a.1
-    ∙ ap (λ (r : List ℕ). 0x53 ∷ r) (literal_read 0x4c faults.Magic a.0 b.0 b.1
-    ∙ ap (λ (r : List ℕ). 0x4c ∷ r) (literal_read 1 faults.Version b.0 d.0 d.1
-    ∙ ap (λ (r : List ℕ). 1 ∷ r) (kind_read d.0 x d.2)))
+    let from_kind : Version × List ℕ → Result ((Version × Kind) × List ℕ) Fault = λ version. kind_at version.1 >>= λ kind. Ok ((version.0, kind.0), kind.1) in
+    let from_version : List ℕ → Result ((Version × Kind) × List ℕ) Fault = λ s. version_at s >>= from_kind in
+    let a = step_ok (magic_at 0x53 bytes) (λ r. magic_at 0x4c r >>= from_version) x e in
+    let b = step_ok (magic_at 0x4c a.0) from_version x a.2 in
+    let d = step_ok (version_at b.0) from_kind x b.2 in
+    let f = step_ok (kind_at d.0.1) (λ kind. Ok ((d.0.0, kind.0), kind.1)) x d.2 in
+    let whole : bytes ≡ spelled_head d.0.0 f.0.0 ++ f.0.1 =
+    magic_read 0x53 bytes a.0 a.1
+    ∙ ap (λ (r : List ℕ). 0x53 ∷ r) (magic_read 0x4c a.0 b.0 b.1
+    ∙ ap (λ (r : List ℕ). 0x4c ∷ r) (version_read b.0 d.0 d.1
+    ∙ ap (λ (r : List ℕ). byte_of_version d.0.0 ∷ r) (kind_read d.0.1 f.0 f.1))) in
+    subst (λ (y : (Version × Kind) × List ℕ). bytes ≡ spelled_head y.0.0 y.0.1 ++ y.1) (same_ok ((d.0.0, f.0.0), f.0.1) x f.2) whole
 
-pub head_again : (kind : Kind) (rest : List ℕ) → head_at (spelled_head kind ++ rest) ≡ Ok (kind, rest)
+pub head_again : (version : Version) (kind : Kind) (rest : List ℕ) → head_at (spelled_head version kind ++ rest) ≡ Ok ((version, kind), rest)
 unfolding head_at
-head_again kind rest = kind_again kind rest
+head_again version kind rest = rw (version_again version (byte_of_kind kind ∷ rest), kind_again kind rest) refl
 
 -- ---- numbers
 

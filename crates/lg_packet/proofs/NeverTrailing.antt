@@ -11,7 +11,8 @@ use Rattle.lg_packet.specs.declared.kind.ClaimKind.TheVariants as claims
 use Rattle.lg_packet.specs.declared.kind.Kind.{Kind}
 use Rattle.lg_packet.specs.declared.kind.Kind.TheVariants as kinds
 use Rattle.lg_packet.specs.declared.packet.Body.TheVariants.{Ping, PingReq, Ack, Nack, Pull}
-use Rattle.lg_packet.specs.Meaning.Reading.{◌>>=◌, literal_at, kind_of_byte, kind_before, kind_at, name_at, number_at, octets_at, addr_at, some_name_at, after_at, head_at, body_at, incarnation_at, claim_kind_of_byte, claim_kind_before, claim_kind_at, status_at, claim_at, count_at, claims_at, packet_at}
+use Rattle.lg_packet.specs.declared.packet.Version.{Version}
+use Rattle.lg_packet.specs.Meaning.Reading.{◌>>=◌, magic_at, version_of_byte, version_before, version_at, kind_of_byte, kind_before, kind_at, name_at, number_at, octets_at, addr_at, some_name_at, after_at, head_at, body_at, incarnation_at, claim_kind_of_byte, claim_kind_before, claim_kind_at, status_at, claim_at, count_at, claims_at, packet_at}
 
 abbrev pub IsOther : Fault → Type 0
 IsOther faults.Trailing = ⊥
@@ -30,9 +31,17 @@ test_goes : {A : Type 0} (b : Bool) (r s : Result A Fault) → NotTrailing r →
 test_goes true r s h k = h
 test_goes false r s h k = k
 
-literal_goes : (due : ℕ) (fault : Fault) (bytes : List ℕ) → IsOther fault → NotTrailing (literal_at due fault bytes)
-literal_goes due fault [] h = tt
-literal_goes due fault (b ∷ rest) h = test_goes (eqb b due) (Ok rest) (Err fault) tt h
+magic_goes : (due : ℕ) (bytes : List ℕ) → NotTrailing (magic_at due bytes)
+magic_goes due [] = tt
+magic_goes due (b ∷ rest) = test_goes (eqb b due) (Ok rest) (Err faults.Magic) tt tt
+
+version_goes : (bytes : List ℕ) → NotTrailing (version_at bytes)
+version_goes [] = tt
+version_goes (b ∷ rest) = step (version_of_byte b)
+  where
+    step : (version : Option Version) → NotTrailing (version_before rest version)
+    step None = tt
+    step (Some version) = tt
 
 kind_goes : (bytes : List ℕ) → NotTrailing (kind_at bytes)
 kind_goes [] = tt
@@ -78,10 +87,12 @@ after_goes (n ∷ bytes) = test_goes (eqb n 0) (Ok (None, bytes)) (some_name_at 
 head_goes : (bytes : List ℕ) → NotTrailing (head_at bytes)
 unfolding head_at
 head_goes bytes =
-    let from_version = λ (s : List ℕ). literal_at 1 faults.Version s >>= kind_at in
-    step_goes (literal_at 0x53 faults.Magic bytes) (λ r. literal_at 0x4c faults.Magic r >>= from_version) (literal_goes 0x53 faults.Magic bytes tt) (λ r.
-    step_goes (literal_at 0x4c faults.Magic r) from_version (literal_goes 0x4c faults.Magic r tt) (λ s.
-    step_goes (literal_at 1 faults.Version s) kind_at (literal_goes 1 faults.Version s tt) kind_goes))
+    let from_kind : Version × List ℕ → Result ((Version × Kind) × List ℕ) Fault = λ version. kind_at version.1 >>= λ kind. Ok ((version.0, kind.0), kind.1) in
+    let from_version : List ℕ → Result ((Version × Kind) × List ℕ) Fault = λ s. version_at s >>= from_kind in
+    step_goes (magic_at 0x53 bytes) (λ r. magic_at 0x4c r >>= from_version) (magic_goes 0x53 bytes) (λ r.
+    step_goes (magic_at 0x4c r) from_version (magic_goes 0x4c r) (λ s.
+    step_goes (version_at s) from_kind (version_goes s) (λ version.
+    step_goes (kind_at version.1) (λ kind. Ok ((version.0, kind.0), kind.1)) (kind_goes version.1) (λ kind. tt))))
 
 body_goes : (kind : Kind) (bytes : List ℕ) → NotTrailing (body_at kind bytes)
 unfolding body_at
@@ -145,11 +156,11 @@ claims_goes (suc n) bytes =
 pub packet_goes : (bytes : List ℕ) → NotTrailing (packet_at bytes)
 unfolding packet_at
 packet_goes bytes =
-    step_goes (head_at bytes) (λ head. name_at head.1 >>= λ sender. body_at head.0 sender.1 >>= λ body. count_at body.1 >>= λ count. claims_at count.0 count.1 >>= λ claims.
-    Ok (record { sender = sender.0; body = body.0; claims = record { items = claims.0 } }, claims.1)) (head_goes bytes) (λ head.
-    step_goes (name_at head.1) (λ sender. body_at head.0 sender.1 >>= λ body. count_at body.1 >>= λ count. claims_at count.0 count.1 >>= λ claims.
-    Ok (record { sender = sender.0; body = body.0; claims = record { items = claims.0 } }, claims.1)) (name_goes head.1) (λ sender.
-    step_goes (body_at head.0 sender.1) (λ body. count_at body.1 >>= λ count. claims_at count.0 count.1 >>= λ claims.
-    Ok (record { sender = sender.0; body = body.0; claims = record { items = claims.0 } }, claims.1)) (body_goes head.0 sender.1) (λ body.
-    step_goes (count_at body.1) (λ count. claims_at count.0 count.1 >>= λ claims. Ok (record { sender = sender.0; body = body.0; claims = record { items = claims.0 } }, claims.1)) (count_goes body.1) (λ count.
-    step_goes (claims_at count.0 count.1) (λ claims. Ok (record { sender = sender.0; body = body.0; claims = record { items = claims.0 } }, claims.1)) (claims_goes count.0 count.1) (λ claims. tt)))))
+    step_goes (head_at bytes) (λ head. name_at head.1 >>= λ sender. body_at head.0.1 sender.1 >>= λ body. count_at body.1 >>= λ count. claims_at count.0 count.1 >>= λ claims.
+    Ok (record { version = head.0.0; sender = sender.0; body = body.0; claims = record { items = claims.0 } }, claims.1)) (head_goes bytes) (λ head.
+    step_goes (name_at head.1) (λ sender. body_at head.0.1 sender.1 >>= λ body. count_at body.1 >>= λ count. claims_at count.0 count.1 >>= λ claims.
+    Ok (record { version = head.0.0; sender = sender.0; body = body.0; claims = record { items = claims.0 } }, claims.1)) (name_goes head.1) (λ sender.
+    step_goes (body_at head.0.1 sender.1) (λ body. count_at body.1 >>= λ count. claims_at count.0 count.1 >>= λ claims.
+    Ok (record { version = head.0.0; sender = sender.0; body = body.0; claims = record { items = claims.0 } }, claims.1)) (body_goes head.0.1 sender.1) (λ body.
+    step_goes (count_at body.1) (λ count. claims_at count.0 count.1 >>= λ claims. Ok (record { version = head.0.0; sender = sender.0; body = body.0; claims = record { items = claims.0 } }, claims.1)) (count_goes body.1) (λ count.
+    step_goes (claims_at count.0 count.1) (λ claims. Ok (record { version = head.0.0; sender = sender.0; body = body.0; claims = record { items = claims.0 } }, claims.1)) (claims_goes count.0 count.1) (λ claims. tt)))))

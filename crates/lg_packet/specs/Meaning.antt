@@ -5,4 +5,5 @@ pub mod Fault
 pub mod Decoding
 pub mod Reading
 pub mod Examples
+pub mod VersionExamples
 pub mod FrontExamples

@@ -13,8 +13,8 @@ pub enum Fault {
     /// The first byte isn't `53`, or the second isn't `4c`.
     #[error("a packet begins with the bytes 53 4c")]
     Magic = 2,
-    /// The version isn't `01`.
-    #[error("the version has to be 1")]
+    /// The version is neither `01` nor `02`.
+    #[error("the version has to be 1 or 2")]
     Version = 3,
     /// The kind isn't 1 to 6: a Ping, a PingReq, an Ack, a Nack, a Pull or a Page.
     #[error("the kind of a packet has to be 1 to 6")]

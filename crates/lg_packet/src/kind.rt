@@ -1,12 +1,13 @@
-//! The bytes that a packet begins with, and those that stand for the kinds of packets and of claims.
+//! The bytes that a packet begins with, and those that stand for its version and for the kinds of packets and of
+//! claims.
 //!
 //! Defined in: `specs/Meaning/Spelling.antt`, `specs/Meaning/Reading.antt`.
 //! Tested in: `lg_detector_tests/src/packet.rt`.
 ghost use Rattle.std.specs.Prelude.{◌≡◌};
-ghost use Rattle.lg_packet.specs.Meaning.Reading.{kind_of_byte, claim_kind_of_byte};
+ghost use Rattle.lg_packet.specs.Meaning.Reading.{version_of_byte, kind_of_byte, claim_kind_of_byte};
 ghost use Rattle.lg_packet.specs.Meaning.Spelling.{kind_of, claim_kind_of};
 
-use crate::packet::Body;
+use crate::packet::{Body, Version};
 use lg_rules::Status;
 
 /// The first byte of a packet. With the second it is the magic, which tells a packet from other datagrams.
@@ -15,8 +16,16 @@ pub(crate) const FIRST_MAGIC: u8 = 0x53;
 /// The second byte of a packet.
 pub(crate) const SECOND_MAGIC: u8 = 0x4c;
 
-/// The version of the format, which is the third byte of a packet.
-pub(crate) const VERSION: u8 = 1;
+/// The version that a byte stands for, if it stands for one.
+pub(crate) fn version_of_byte(byte: u8) -> Option<Version>
+    ensures { result ≡ version_of_byte byte }
+{
+    match byte {
+        1 => Some(Version::One),
+        2 => Some(Version::Two),
+        _ => None,
+    }
+}
 
 /// The kind of a packet, by the byte that stands for it.
 #[derive(Clone, Copy, Debug, PartialEq, Eq)]

@@ -45,9 +45,22 @@ pub enum Body {
     Page,
 }
 
+/// The version of the format in which a packet is spelled (this project's choice). The two differ in the version byte
+/// alone. All else of a packet is spelled and read the same in both.
+#[derive(Clone, Copy, Debug, Default, PartialEq, Eq)]
+pub enum Version {
+    /// Version 1, whose byte is `01`.
+    #[default]
+    One = 1,
+    /// Version 2, whose byte is `02`.
+    Two = 2,
+}
+
 /// What one member sends to another in one datagram.
 #[derive(Debug, Drop)]
 pub struct Packet {
+    /// The version of the format in which it is spelled.
+    pub version: Version,
     /// The member that sent it.
     pub sender: Name,
     /// What it asks for or answers.
@@ -66,6 +79,7 @@ impl Packet {
         let copied = claims.try_extend_from_slice(&self.claims);
         prove!(copied.is_ok());
         Packet {
+            version: self.version,
             sender: self.sender,
             body: self.body,
             claims,
@@ -73,16 +87,19 @@ impl Packet {
     }
 }
 
-/// An Ack of the member `a` with the number 0 and no claims. It fills those places of a row of fixed capacity that
-/// hold no packet.
+/// An Ack of the member `a` in version 1, with the number 0 and no claims. It fills those places of a row of fixed
+/// capacity that hold no packet.
 impl Default for Packet {
     ghost use Rattle.std.specs.Prelude.{◌≡◌, [], ◌∷◌};
     ghost use Rattle.lg_packet.specs.declared.packet.Body.TheVariants.{Ack};
+    ghost use Rattle.lg_packet.specs.declared.packet.Version.TheVariants.{One};
 
-    ghost is_default = { λ p. p ≡ record { sender = 97 ∷ []; body = Ack 0; claims = record { items = [] } } };
+    ghost is_default = { λ p.
+        p ≡ record { version = One; sender = 97 ∷ []; body = Ack 0; claims = record { items = [] } } };
 
     fn default() -> Self {
         Packet {
+            version: Version::default(),
             sender: Name::default(),
             body: Body::Ack { number: 0 },
             claims: ArrayVec::new(),

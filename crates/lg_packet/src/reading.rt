@@ -11,17 +11,17 @@ ghost use Rattle.lg_packet.specs.declared.packet.Packet.{Packet};
 ghost use Rattle.lg_packet.specs.Meaning.Decoding.{DecodesTo};
 ghost use Rattle.lg_packet.specs.Meaning.Fault.{fault_of};
 ghost use Rattle.lg_packet.specs.Meaning.Reading.{addr_at, after_at, body_at, claim_at, claim_kind_at, claims_at};
-ghost use Rattle.lg_packet.specs.Meaning.Reading.{count_at, head_at, incarnation_at, kind_at, literal_at, name_at};
+ghost use Rattle.lg_packet.specs.Meaning.Reading.{count_at, head_at, incarnation_at, kind_at, magic_at, name_at};
 ghost use Rattle.lg_packet.specs.Meaning.Reading.{name_bytes_at, number_at, octets_at, packet_at, packet_of};
-ghost use Rattle.lg_packet.specs.Meaning.Reading.{some_name_at, status_at};
+ghost use Rattle.lg_packet.specs.Meaning.Reading.{some_name_at, status_at, version_at};
 ghost use Rattle.lg_packet.specs.Support.Gives.{Gives};
 ghost use Rattle.lg_packet.specs.Meaning.Spelling.{Spells};
 
 use crate::fault::Fault;
 use crate::kind::{
-    ClaimKind, FIRST_MAGIC, Kind, SECOND_MAGIC, VERSION, claim_kind_of_byte, kind_of_byte,
+    ClaimKind, FIRST_MAGIC, Kind, SECOND_MAGIC, claim_kind_of_byte, kind_of_byte, version_of_byte,
 };
-use crate::packet::{Body, Packet};
+use crate::packet::{Body, Packet, Version};
 use lg_rules::{Addr, Claim, Incarnation, MAX_CLAIMS, MAX_NAME, Name, Status, is_name_byte};
 
 /// Whether each byte may stand in a name.
@@ -50,9 +50,9 @@ struct Reader<'a> {
 }
 
 impl Reader<'_> {
-    /// Reads a byte that has to be `due`. Any other byte is refused with `fault`.
-    fn literal(&mut self, due: u8, fault: Fault) -> Result<(), Fault>
-        ensures { Gives (λ _. self.new.rest.now) result (literal_at due fault self.old.rest.now) }
+    /// Reads a byte of the magic, which has to be `due`.
+    fn magic(&mut self, due: u8) -> Result<(), Fault>
+        ensures { Gives (λ _. self.new.rest.now) result (magic_at due self.old.rest.now) }
     {
         match self.rest {
             [] => Err(Fault::Short),
@@ -60,8 +60,18 @@ impl Reader<'_> {
                 self.rest = rest;
                 Ok(())
             }
-            [_, ..] => Err(fault),
+            [_, ..] => Err(Fault::Magic),
         }
+    }
+
+    fn version(&mut self) -> Result<Version, Fault>
+        ensures { Gives (λ x. (x, self.new.rest.now)) result (version_at self.old.rest.now) }
+    {
+        let [byte, rest @ ..] = self.rest else {
+            return Err(Fault::Short);
+        };
+        self.rest = rest;
+        version_of_byte(*byte).ok_or(Fault::Version)
     }
 
     fn kind(&mut self) -> Result<Kind, Fault>
@@ -166,14 +176,16 @@ impl Reader<'_> {
         self.some_name()
     }
 
+    /// Reads the magic, the version and the kind.
     #[tactic(auto, unfolding(crate::specs::Meaning::Reading::head_at))]
-    fn head(&mut self) -> Result<Kind, Fault>
+    fn head(&mut self) -> Result<(Version, Kind), Fault>
         ensures { Gives (λ x. (x, self.new.rest.now)) result (head_at self.old.rest.now) }
     {
-        self.literal(FIRST_MAGIC, Fault::Magic)?;
-        self.literal(SECOND_MAGIC, Fault::Magic)?;
-        self.literal(VERSION, Fault::Version)?;
-        self.kind()
+        self.magic(FIRST_MAGIC)?;
+        self.magic(SECOND_MAGIC)?;
+        let version = self.version()?;
+        let kind = self.kind()?;
+        Ok((version, kind))
     }
 
     #[tactic(auto, unfolding(crate::specs::Meaning::Reading::body_at))]
@@ -294,14 +306,14 @@ impl Reader<'_> {
     }
 
     /// Reads a packet that takes up all of the bytes, into one that has no claims. On an error, that one keeps its
-    /// sender and its body.
+    /// version, its sender and its body.
     #[tactic(auto, unfolding(crate::specs::Meaning::Reading::packet_of, crate::specs::Meaning::Reading::packet_at))]
     fn packet(&mut self, packet: &mut Packet) -> Result<(), Fault>
         requires { packet.old.claims.items ≡ [] }
         ensures read { Gives (λ _. packet.new) result (packet_of self.old.rest.now) }
         ensures left { OnErr result (packet.new ≡ record packet.old { claims = packet.new.claims }) }
     {
-        let kind = self.head()?;
+        let (version, kind) = self.head()?;
         let sender = self.name()?;
         let body = self.body(kind)?;
         let count = self.count()?;
@@ -310,6 +322,7 @@ impl Reader<'_> {
         if self.rest.first().is_some() {
             return Err(Fault::Trailing);
         }
+        packet.version = version;
         packet.sender = sender;
         packet.body = body;
         Ok(())
@@ -318,9 +331,9 @@ impl Reader<'_> {
 
 /// Replaces a packet by the one that the bytes spell. All of the bytes have to belong to it.
 ///
-/// It refuses what [`decode`] refuses, with the same fault. After that, the packet has the sender and the body that
-/// it had, and no claims. Nothing is allocated. Of the packet, it writes only the sender, the body, the claims that
-/// it had, and the claims that it gets.
+/// It refuses what [`decode`] refuses, with the same fault. After that, the packet has the version, the sender and the
+/// body that it had, and no claims. Nothing is allocated. Of the packet, it writes only the version, the sender, the
+/// body, the claims that it had, and the claims that it gets.
 // If this were inlined, the compiler could take a caller's packet apart and copy it piece by piece, several times.
 #[inline(never)]
 pub(crate) fn decode_into(bytes: &[u8], packet: &mut Packet) -> Result<(), Fault>

@@ -11,8 +11,8 @@ ghost use Rattle.lg_packet.specs.Meaning.Spelling.{spelled_accuser, spelled_addr
 ghost use Rattle.lg_packet.specs.Meaning.Spelling.{spelled_claim, spelled_claims, spelled_head, spelled_name, spelling};
 ghost use Rattle.lg_packet.specs.Meaning.Reading.{packet_of};
 
-use crate::kind::{FIRST_MAGIC, Kind, SECOND_MAGIC, VERSION, claim_kind_of, kind_of};
-use crate::packet::{Body, Packet};
+use crate::kind::{FIRST_MAGIC, Kind, SECOND_MAGIC, claim_kind_of, kind_of};
+use crate::packet::{Body, Packet, Version};
 use arrayvec::ArrayVec;
 use lg_rules::{Addr, Claim, MAX_CLAIMS, MAX_NAME, Name, Status};
 
@@ -53,12 +53,12 @@ fn put(out: &mut Row, bytes: &[u8])
 }
 
 /// Writes the magic, the version and the kind.
-fn put_head(out: &mut Row, kind: Kind)
+fn put_head(out: &mut Row, version: Version, kind: Kind)
     requires { array_vec_len out.old + HEAD_ROOM ≤ MAX_PACKET }
-    ensures items { out.new.items ≡ out.old.items ++ spelled_head kind }
+    ensures items { out.new.items ≡ out.old.items ++ spelled_head version kind }
     ensures len { array_vec_len out.new ≡ array_vec_len out.old + HEAD_ROOM }
 {
-    put(out, &[FIRST_MAGIC, SECOND_MAGIC, VERSION, kind as u8]);
+    put(out, &[FIRST_MAGIC, SECOND_MAGIC, version as u8, kind as u8]);
 }
 
 fn put_name(out: &mut Row, name: &Name)
@@ -172,7 +172,7 @@ pub fn encode(packet: &Packet, out: &mut ArrayVec<u8, MAX_PACKET>)
     ensures read_back { packet_of out.new.items ≡ Ok packet.now }
 {
     out.clear();
-    put_head(out, kind_of(&packet.body));
+    put_head(out, packet.version, kind_of(&packet.body));
     put_name(out, &packet.sender);
     put_body(out, &packet.body);
     put_claims(out, &packet.claims);

@@ -10,7 +10,3 @@ first_magic = 0x53
 
 abbrev pub second_magic : ℕ
 second_magic = 0x4c
-
--- the version of the format
-abbrev pub version : ℕ
-version = 1

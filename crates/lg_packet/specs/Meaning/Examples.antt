@@ -8,6 +8,7 @@ use Rattle.lg_packet.specs.declared.fault.Fault.{Fault}
 use Rattle.lg_packet.specs.declared.fault.Fault.TheVariants as faults
 use Rattle.lg_packet.specs.declared.packet.Body.TheVariants.{Ping, PingReq, Ack, Nack, Pull, Page}
 use Rattle.lg_packet.specs.declared.packet.Packet.{Packet}
+use Rattle.lg_packet.specs.declared.packet.Version.TheVariants.{One}
 use Rattle.lg_packet.specs.Meaning.Spelling.{spelled_body, spelling}
 use Rattle.lg_packet.specs.Meaning.Reading.{name_at, head_at, body_at, claims_at, packet_at, packet_of}
 use Rattle.lg_packet.specs.Meaning.Reading.{addr_at, incarnation_at, status_at, claim_at, some_name_at, after_at}
@@ -15,14 +16,14 @@ use Rattle.lg_packet.specs.Meaning.Fault.{fault_of, first_fault, fault_behind}
 
 -- a Ping from a for b, numbered 7
 abbrev ping : Packet
-ping = record { sender = 97 ∷ []; body = Ping 7 (98 ∷ []); claims = record { items = [] } }
+ping = record { version = One; sender = 97 ∷ []; body = Ping 7 (98 ∷ []); claims = record { items = [] } }
 
 abbrev ping_bytes : List ℕ
 ping_bytes = 0x53 ∷ 0x4c ∷ 1 ∷ 1 ∷ 1 ∷ 97 ∷ 0 ∷ 0 ∷ 0 ∷ 7 ∷ 1 ∷ 98 ∷ 0 ∷ []
 
 -- an Ack of b, numbered 7
 abbrev ack : Packet
-ack = record { sender = 98 ∷ []; body = Ack 7; claims = record { items = [] } }
+ack = record { version = One; sender = 98 ∷ []; body = Ack 7; claims = record { items = [] } }
 
 abbrev ack_bytes : List ℕ
 ack_bytes = 0x53 ∷ 0x4c ∷ 1 ∷ 3 ∷ 1 ∷ 98 ∷ 0 ∷ 0 ∷ 0 ∷ 7 ∷ 0 ∷ []
@@ -65,10 +66,6 @@ other_first = record { read = refl; placed = refl }
 other_second : Fails (0x53 ∷ 0 ∷ []) faults.Magic
 unfolding packet_of packet_at head_at name_at body_at claims_at fault_of first_fault fault_behind
 other_second = record { read = refl; placed = refl }
-
-other_version : Fails (0x53 ∷ 0x4c ∷ 0xff ∷ []) faults.Version
-unfolding packet_of packet_at head_at name_at body_at claims_at fault_of first_fault fault_behind
-other_version = record { read = refl; placed = refl }
 
 seventh_kind : Fails (0x53 ∷ 0x4c ∷ 1 ∷ 7 ∷ []) faults.Kind
 unfolding packet_of packet_at head_at name_at body_at claims_at fault_of first_fault fault_behind
@@ -115,7 +112,9 @@ at_port port = record { octets = 127 ∷ 0 ∷ 0 ∷ 1 ∷ []; port = port }
 
 -- a asks a helper to probe c at port 7003, for its own probe numbered 1
 abbrev ping_req : Packet
-ping_req = record { sender = 97 ∷ []; body = PingReq 1 (99 ∷ []) (at_port 7003); claims = record { items = [] } }
+ping_req =
+    let asks = PingReq 1 (99 ∷ []) (at_port 7003) in
+    record { version = One; sender = 97 ∷ []; body = asks; claims = record { items = [] } }
 
 abbrev ping_req_bytes : List ℕ
 ping_req_bytes =
@@ -124,7 +123,7 @@ ping_req_bytes =
 
 -- the helper b has no Ack for the probe numbered 1 so far
 abbrev nack : Packet
-nack = record { sender = 98 ∷ []; body = Nack 1; claims = record { items = [] } }
+nack = record { version = One; sender = 98 ∷ []; body = Nack 1; claims = record { items = [] } }
 
 abbrev nack_bytes : List ℕ
 nack_bytes = 0x53 ∷ 0x4c ∷ 1 ∷ 4 ∷ 1 ∷ 98 ∷ 0 ∷ 0 ∷ 0 ∷ 1 ∷ 0 ∷ []
@@ -154,7 +153,7 @@ longest =
     let name = replicate 32 99 in
     let claim : Claim = record { name = name; addr = at_port 65535; status = Suspect name; incarnation = 1000000000 } in
     let asks = PingReq 4294967295 name (at_port 65535) in
-    record { sender = name; body = asks; claims = record { items = replicate 6 claim } }
+    record { version = One; sender = name; body = asks; claims = record { items = replicate 6 claim } }
 
 longest_packet : length (spelling longest) ≡ 543
 unfolding spelling
@@ -205,7 +204,7 @@ longer_nack = record { read = refl; placed = refl }
 abbrev alive : Packet
 alive =
     let claim : Claim = record { name = 99 ∷ []; addr = at_port 7003; status = Alive; incarnation = 0 } in
-    record { sender = 97 ∷ []; body = Ping 7 (98 ∷ []); claims = record { items = claim ∷ [] } }
+    record { version = One; sender = 97 ∷ []; body = Ping 7 (98 ∷ []); claims = record { items = claim ∷ [] } }
 
 abbrev alive_bytes : List ℕ
 alive_bytes =
@@ -225,7 +224,7 @@ abbrev suspect : Packet
 suspect =
     let accused = Suspect (97 ∷ []) in
     let claim : Claim = record { name = 98 ∷ []; addr = at_port 7000; status = accused; incarnation = 1000000000 } in
-    record { sender = 97 ∷ []; body = Ping 1 (98 ∷ []); claims = record { items = claim ∷ [] } }
+    record { version = One; sender = 97 ∷ []; body = Ping 1 (98 ∷ []); claims = record { items = claim ∷ [] } }
 
 abbrev suspect_bytes : List ℕ
 suspect_bytes =
@@ -272,7 +271,7 @@ there name port = record { name = name ∷ []; addr = at_port port; status = Ali
 
 -- a asks for the first records, and says that a is alive
 abbrev pull : Packet
-pull = record { sender = 97 ∷ []; body = Pull None; claims = record { items = there 97 7001 ∷ [] } }
+pull = record { version = One; sender = 97 ∷ []; body = Pull None; claims = record { items = there 97 7001 ∷ [] } }
 
 abbrev pull_bytes : List ℕ
 pull_bytes =
@@ -283,7 +282,7 @@ pull_bytes =
 abbrev page : Packet
 page =
     let records = there 97 7001 ∷ there 98 7002 ∷ there 99 7003 ∷ [] in
-    record { sender = 98 ∷ []; body = Page; claims = record { items = records } }
+    record { version = One; sender = 98 ∷ []; body = Page; claims = record { items = records } }
 
 abbrev page_bytes : List ℕ
 page_bytes =
@@ -294,7 +293,8 @@ page_bytes =
 -- a asks for the records after f
 abbrev pull_after : Packet
 pull_after =
-    record { sender = 97 ∷ []; body = Pull (Some (102 ∷ [])); claims = record { items = there 97 7001 ∷ [] } }
+    let asks = Pull (Some (102 ∷ [])) in
+    record { version = One; sender = 97 ∷ []; body = asks; claims = record { items = there 97 7001 ∷ [] } }
 
 abbrev pull_after_bytes : List ℕ
 pull_after_bytes =
@@ -343,7 +343,12 @@ no_count = record { read = refl; placed = refl }
 
 -- a Pull whose name has 32 bytes, one whose name would have 33, and one whose name has two bytes, of which one is bad
 longest_after : packet_of (take 6 pull_bytes ++ 32 ∷ replicate 32 99 ++ 0 ∷ [])
-    ≡ Ok (record { sender = 97 ∷ []; body = Pull (Some (replicate 32 99)); claims = record { items = [] } })
+    ≡ Ok (record {
+      version = One;
+      sender = 97 ∷ [];
+      body = Pull (Some (replicate 32 99));
+      claims = record { items = [] };
+    })
 unfolding packet_of packet_at head_at name_at some_name_at after_at body_at claims_at
 longest_after = refl
 

@@ -6,7 +6,7 @@ use Rattle.std.specs.Prelude.{List, [], ◌∷◌, ◌++◌, length, take, repli
 use Rattle.std.specs.Int.{w32, from_be_bytes}
 use Rattle.lg_rules.specs.Meaning.Name.{is_name_byte}
 use Rattle.lg_rules.specs.Meaning.Bounds.{greatest_incarnation, most_claims, most_name_bytes}
-use Rattle.lg_packet.specs.Meaning.Bytes.{first_magic, second_magic, version}
+use Rattle.lg_packet.specs.Meaning.Bytes.{first_magic, second_magic}
 use Rattle.lg_packet.specs.declared.fault.Fault.{Fault}
 use Rattle.lg_packet.specs.declared.fault.Fault.TheVariants as faults
 
@@ -27,7 +27,7 @@ pub data Part : Type 0 where
 -- whether a byte can stand at a place where this is due
 abbrev pub is_allowed : Part → ℕ → Bool
 is_allowed (MagicByte magic) b = b == magic
-is_allowed VersionByte b = b == version
+is_allowed VersionByte b = nat_le 1 b && nat_le b 2
 is_allowed KindByte b = nat_le 1 b && nat_le b 6
 is_allowed LengthByte b = nat_le 1 b && nat_le b most_name_bytes
 is_allowed AfterLengthByte b = nat_le b most_name_bytes

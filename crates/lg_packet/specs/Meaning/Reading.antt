@@ -11,7 +11,7 @@ use Rattle.lg_rules.specs.declared.claim.Claim.{Claim}
 use Rattle.lg_rules.specs.declared.claim.Status.{Status}
 use Rattle.lg_rules.specs.declared.claim.Status.TheVariants.{Alive, Suspect, Failed}
 use Rattle.lg_rules.specs.Meaning.Bounds.{greatest_incarnation, most_claims, most_name_bytes}
-use Rattle.lg_packet.specs.Meaning.Bytes.{first_magic, second_magic, version}
+use Rattle.lg_packet.specs.Meaning.Bytes.{first_magic, second_magic}
 use Rattle.lg_packet.specs.declared.fault.Fault.{Fault}
 use Rattle.lg_packet.specs.declared.fault.Fault.TheVariants as faults
 use Rattle.lg_packet.specs.declared.kind.ClaimKind.{ClaimKind}
@@ -21,16 +21,29 @@ use Rattle.lg_packet.specs.declared.kind.Kind.TheVariants as kinds
 use Rattle.lg_packet.specs.declared.packet.Body.{Body}
 use Rattle.lg_packet.specs.declared.packet.Body.TheVariants.{Ping, PingReq, Ack, Nack, Pull, Page}
 use Rattle.lg_packet.specs.declared.packet.Packet.{Packet}
+use Rattle.lg_packet.specs.declared.packet.Version.{Version}
+use Rattle.lg_packet.specs.declared.packet.Version.TheVariants as versions
 
 infixl 10 ◌>>=◌
 abbrev pub ◌>>=◌ : {A B : Type 0} → Result A Fault → (A → Result B Fault) → Result B Fault
 (Ok x) >>= f = f x
 (Err e) >>= f = Err e
 
--- A field is read as its value and the bytes after it. This field is one byte that is due. It has no value.
-abbrev pub literal_at : ℕ → Fault → List ℕ → Result (List ℕ) Fault
-literal_at due fault [] = Err faults.Short
-literal_at due fault (b ∷ rest) = if b == due then Ok rest else Err fault
+-- A field is read as its value and the bytes after it. This field is one byte of the magic. It has no value.
+abbrev pub magic_at : ℕ → List ℕ → Result (List ℕ) Fault
+magic_at due [] = Err faults.Short
+magic_at due (b ∷ rest) = if b == due then Ok rest else Err faults.Magic
+
+abbrev pub version_of_byte : ℕ → Option Version
+version_of_byte b = if b == 1 then Some versions.One else if b == 2 then Some versions.Two else None
+
+abbrev pub version_before : List ℕ → Option Version → Result (Version × List ℕ) Fault
+version_before rest None = Err faults.Version
+version_before rest (Some version) = Ok (version, rest)
+
+abbrev pub version_at : List ℕ → Result (Version × List ℕ) Fault
+version_at [] = Err faults.Short
+version_at (b ∷ rest) = version_before rest (version_of_byte b)
 
 abbrev pub kind_of_byte : ℕ → Option Kind
 kind_of_byte b =
@@ -86,12 +99,13 @@ after_at [] = Err faults.Short
 after_at (n ∷ bytes) = if n == 0 then Ok (None, bytes) else some_name_at (n ∷ bytes)
 
 -- the magic, the version and the kind
-unfoldable pub head_at : List ℕ → Result (Kind × List ℕ) Fault
+unfoldable pub head_at : List ℕ → Result ((Version × Kind) × List ℕ) Fault
 head_at bytes = do
-  first ← literal_at first_magic faults.Magic bytes
-  second ← literal_at second_magic faults.Magic first
-  third ← literal_at version faults.Version second
-  kind_at third
+  first ← magic_at first_magic bytes
+  second ← magic_at second_magic first
+  version ← version_at second
+  kind ← kind_at version.1
+  Ok ((version.0, kind.0), kind.1)
 
 unfoldable pub body_at : Kind → List ℕ → Result (Body × List ℕ) Fault
 body_at kinds.Ping bytes = do
@@ -170,10 +184,10 @@ unfoldable pub packet_at : List ℕ → Result (Packet × List ℕ) Fault
 packet_at bytes = do
   head ← head_at bytes
   sender ← name_at head.1
-  body ← body_at head.0 sender.1
+  body ← body_at head.0.1 sender.1
   count ← count_at body.1
   claims ← claims_at count.0 count.1
-  Ok (record { sender = sender.0; body = body.0; claims = record { items = claims.0 } }, claims.1)
+  Ok (record { version = head.0.0; sender = sender.0; body = body.0; claims = record { items = claims.0 } }, claims.1)
 
 -- a packet that takes up all of the bytes
 unfoldable pub packet_of : List ℕ → Result Packet Fault

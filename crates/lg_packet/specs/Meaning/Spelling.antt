@@ -9,7 +9,7 @@ use Rattle.lg_rules.specs.declared.claim.Claim.{Claim}
 use Rattle.lg_rules.specs.declared.claim.Status.{Status}
 use Rattle.lg_rules.specs.declared.claim.Status.TheVariants.{Alive, Suspect, Failed}
 use Rattle.lg_rules.specs.Meaning.Bounds.{greatest_incarnation, most_claims}
-use Rattle.lg_packet.specs.Meaning.Bytes.{IsByte, first_magic, second_magic, version}
+use Rattle.lg_packet.specs.Meaning.Bytes.{IsByte, first_magic, second_magic}
 use Rattle.lg_packet.specs.declared.kind.ClaimKind.{ClaimKind}
 use Rattle.lg_packet.specs.declared.kind.ClaimKind.TheVariants as claims
 use Rattle.lg_packet.specs.declared.kind.Kind.{Kind}
@@ -17,6 +17,8 @@ use Rattle.lg_packet.specs.declared.kind.Kind.TheVariants as kinds
 use Rattle.lg_packet.specs.declared.packet.Body.{Body}
 use Rattle.lg_packet.specs.declared.packet.Body.TheVariants.{Ping, PingReq, Ack, Nack, Pull, Page}
 use Rattle.lg_packet.specs.declared.packet.Packet.{Packet}
+use Rattle.lg_packet.specs.declared.packet.Version.{Version}
+use Rattle.lg_packet.specs.declared.packet.Version.TheVariants as versions
 
 abbrev pub kind_of : Body → Kind
 kind_of (Ping number target) = kinds.Ping
@@ -25,6 +27,11 @@ kind_of (Ack number) = kinds.Ack
 kind_of (Nack number) = kinds.Nack
 kind_of (Pull after) = kinds.Pull
 kind_of Page = kinds.Page
+
+-- the byte that stands for a version
+abbrev pub byte_of_version : Version → ℕ
+byte_of_version versions.One = 1
+byte_of_version versions.Two = 2
 
 -- the byte that stands for a kind
 abbrev pub byte_of_kind : Kind → ℕ
@@ -72,8 +79,8 @@ spelled_body (Pull after) = spelled_after after
 spelled_body Page = []
 
 -- the head: the magic, the version and the kind
-abbrev pub spelled_head : Kind → List ℕ
-spelled_head kind = first_magic ∷ second_magic ∷ version ∷ byte_of_kind kind ∷ []
+abbrev pub spelled_head : Version → Kind → List ℕ
+spelled_head version kind = first_magic ∷ second_magic ∷ byte_of_version version ∷ byte_of_kind kind ∷ []
 
 -- the accuser of a status, if there is one
 abbrev pub spelled_accuser : Status → List ℕ
@@ -94,7 +101,8 @@ spelled_claims cs = length cs ∷ flat_map spelled_claim cs
 -- a packet: its head, its sender, its body and its claims
 unfoldable pub spelling : Packet → List ℕ
 spelling p =
-    spelled_head (kind_of p.body) ++ (spelled_name p.sender ++ (spelled_body p.body ++ spelled_claims p.claims.items))
+    spelled_head p.version (kind_of p.body)
+    ++ (spelled_name p.sender ++ (spelled_body p.body ++ spelled_claims p.claims.items))
 
 -- What has a spelling: names that are names, numbers of four bytes, addresses of four bytes with a port of two bytes,
 -- incarnations of at most `greatest_incarnation`, and at most `most_claims` claims.

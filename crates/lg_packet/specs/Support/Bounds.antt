@@ -2,8 +2,8 @@
 -- greatest lengths of its parts.
 use Rattle.std.specs.Prelude.{◌≡◌, ℕ, ◌+◌, ◌*◌, refl}
 use Rattle.lg_rules.specs.Meaning.Bounds.{most_name_bytes, most_claims}
-use Rattle.lg_packet.specs.Meaning.Bytes.{first_magic, second_magic, version}
-use Rattle.lg_packet.specs.declared.kind.TheConstants.{FIRST_MAGIC, SECOND_MAGIC, VERSION}
+use Rattle.lg_packet.specs.Meaning.Bytes.{first_magic, second_magic}
+use Rattle.lg_packet.specs.declared.kind.TheConstants.{FIRST_MAGIC, SECOND_MAGIC}
 use Rattle.lg_packet.specs.declared.writing.TheConstants.{BODY_ROOM, MAX_PACKET}
 
 first_magic-is : FIRST_MAGIC ≡ first_magic
@@ -11,9 +11,6 @@ first_magic-is = refl
 
 second_magic-is : SECOND_MAGIC ≡ second_magic
 second_magic-is = refl
-
-version-is : VERSION ≡ version
-version-is = refl
 
 -- the most bytes of a name with its length, and the bytes of an address: four, and its port
 abbrev pub name_room : ℕ
