@@ -1,4 +1,5 @@
-//! Packets: worked rows, and every front and every one-byte change of some packets, checked against a slow judge.
+//! Packets: worked rows, and every front and every one-byte change of some packets in both versions, checked against a
+//! slow judge.
 mod judge;
 
 use crate::detector::{Says, packet_of};
@@ -7,8 +8,8 @@ use crate::says::Said::{self, AliveAt, Suspect};
 use arrayvec::ArrayVec;
 use judge::judge;
 use lg_packet::{
-    Body, Fault, MAX_PACKET, Packet, begun_spelling, decode, encode, first_bad_byte, one_reading,
-    one_spelling,
+    Body, Fault, MAX_PACKET, Packet, Version, begun_spelling, decode, encode, first_bad_byte,
+    one_reading, one_spelling,
 };
 use lg_rules::Addr;
 
@@ -65,7 +66,16 @@ const LONGEST: Member = "ABCDEFGHIJKLMNOPabcdefghijklm._-";
 /// The default packet.
 const FIRST_ACK: &[u8] = b"SL\x01\x03\x01a\x00\x00\x00\x00\x00";
 
-/// Bytes that are packets.
+/// A Ping from `a` for `b` in version 2, numbered 1.
+const SECOND: &[u8] = b"SL\x02\x01\x01a\x00\x00\x00\x01\x01b\x00";
+
+/// The place of the version.
+const VERSION_PLACE: usize = 2;
+
+/// The versions, with the bytes that stand for them.
+const VERSIONS: &[(Version, u8)] = &[(Version::One, 1), (Version::Two, 2)];
+
+/// Bytes that are packets of version 1.
 const PACKETS: &[&[u8]] = &[
     PING, ACK, PING_REQ, NACK, PULL, PULL_AFTER, PAGE, ALIVE, ACK_ALIVE, SUSPECTS, GREATEST,
 ];
@@ -110,15 +120,18 @@ fn changed(bytes: &[u8], place: usize, byte: u8) -> ArrayVec<u8, MAX_PACKET> {
     changed
 }
 
-/// Every front of a packet is Short, by the decoder and by the slow judge.
+/// Every front of a packet of either version is Short, by the decoder and by the slow judge.
 #[test]
 fn fronts_of_packets(rt: HostRuntime) {
-    for bytes in PACKETS {
-        for end in 0..bytes.len() {
-            assert!(rt;
-                both_are(&bytes[..end], Err(Fault::Short)),
-                "{end} of {bytes:?}"
-            );
+    for packet in PACKETS {
+        for (_, version) in VERSIONS {
+            let bytes = changed(packet, VERSION_PLACE, *version);
+            for end in 0..bytes.len() {
+                assert!(rt;
+                    both_are(&bytes[..end], Err(Fault::Short)),
+                    "{end} of {bytes:?}"
+                );
+            }
         }
     }
 }
@@ -128,31 +141,38 @@ const CHANGED: &[&[u8]] = &[
     PING, ACK, PING_REQ, NACK, PULL, PULL_AFTER, PAGE, ALIVE, ACK_ALIVE, SUSPECTS, GREATEST, ABOVE,
 ];
 
-/// The decoder and the slow judge agree on every change of one byte of a packet, and on every byte after it.
+/// The decoder and the slow judge agree on every change of one byte of a packet of either version, and on every byte
+/// after it.
 #[test]
 fn changes_of_packets(rt: HostRuntime) {
-    for bytes in CHANGED {
-        for place in 0..=bytes.len() {
-            for byte in 0..=255 {
-                let near = changed(bytes, place, byte);
-                assert!(rt; both_are(&near, judged(&near)), "{near:?}");
+    for packet in CHANGED {
+        for (_, version) in VERSIONS {
+            let bytes = changed(packet, VERSION_PLACE, *version);
+            for place in 0..=bytes.len() {
+                for byte in 0..=255 {
+                    let near = changed(&bytes, place, byte);
+                    assert!(rt; both_are(&near, judged(&near)), "{near:?}");
+                }
             }
         }
     }
 }
 
-/// Bytes that are no kind, and a byte after a packet. Each is put at its place, or after the packet if its place is
-/// past the end.
+/// Bytes that are no version or no kind, and a byte after a packet. Each is put at its place, or after the packet if
+/// its place is past the end.
 const REFUSED_CHANGES: &[(usize, u8, Fault)] = &[
+    (VERSION_PLACE, 0, Fault::Version),
+    (VERSION_PLACE, 3, Fault::Version),
+    (VERSION_PLACE, 255, Fault::Version),
     (3, 0, Fault::Kind),
     (3, 7, Fault::Kind),
     (3, 255, Fault::Kind),
     (MAX_PACKET, 0, Fault::Trailing),
 ];
 
-/// Some bytes are no kind, and no byte follows a packet.
+/// Some bytes are no version, some are no kind, and no byte follows a packet.
 #[test]
-fn another_kind_and_one_byte_more(rt: HostRuntime) {
+fn other_bytes_and_one_byte_more(rt: HostRuntime) {
     for bytes in PACKETS {
         for (place, byte, fault) in REFUSED_CHANGES {
             let near = changed(bytes, *place, *byte);
@@ -168,7 +188,12 @@ const REFUSED: &[(&[u8], Fault)] = &[
     (b"S", Fault::Short),
     (b"\x00", Fault::Magic),
     (b"S\x00", Fault::Magic),
+    (b"SL\x00", Fault::Version),
+    (b"SL\x03", Fault::Version),
     (b"SL\xff", Fault::Version),
+    (b"SL\x02", Fault::Short),
+    (b"SL\x02\x00", Fault::Kind),
+    (b"SL\x02\x07", Fault::Kind),
     (b"SL\x01\x00", Fault::Kind),
     (b"SL\x01\x07", Fault::Kind),
     (b"SL\x01\x01\x00", Fault::Name),
@@ -201,11 +226,12 @@ fn refuses_by_the_first_fault(rt: HostRuntime) {
     }
 }
 
-/// The packet with the longest names and the most claims.
+/// The packet of version 2 with the longest names and the most claims.
 fn longest() -> Packet {
     let accused = Suspect(LONGEST, 0, LONGEST);
     let Packet { sender, claims, .. } = packet_of(LONGEST, &Says::Page, &[accused; 6]);
     Packet {
+        version: Version::Two,
         sender,
         body: Body::PingReq {
             number: u32::MAX,
@@ -216,11 +242,14 @@ fn longest() -> Packet {
     }
 }
 
-/// Whether bytes are read as a packet's sender, its body and its claims.
+/// Whether bytes are read as a packet's version, its sender, its body and its claims.
 fn is_read_as(bytes: &[u8], wanted: &Packet) -> bool {
     match decode(bytes) {
         Ok(read) => {
-            read.sender == wanted.sender && read.body == wanted.body && read.claims == wanted.claims
+            read.version == wanted.version
+                && read.sender == wanted.sender
+                && read.body == wanted.body
+                && read.claims == wanted.claims
         }
         Err(_) => false,
     }
@@ -231,7 +260,7 @@ fn is_one(bytes: &[u8], wanted: &Packet) -> bool {
     bytes_of(&wanted.copy()).as_slice() == bytes && is_read_as(bytes, wanted)
 }
 
-/// Bytes of packets, with their senders, bodies and claims.
+/// Bytes of packets of version 1, with their senders, bodies and claims.
 const WRITTEN: &[(&[u8], Member, Says, &[Said])] = &[
     (PING, "a", Says::Ping(7, "b"), &[]),
     (ACK, "b", Says::Ack(7), &[]),
@@ -261,7 +290,14 @@ const WRITTEN: &[(&[u8], Member, Says, &[Said])] = &[
     ),
 ];
 
-/// Each packet is written as its bytes, and these are read as the packet.
+/// The packet of a version that says the same as another.
+fn in_version(version: Version, packet: &Packet) -> Packet {
+    let mut same = packet.copy();
+    same.version = version;
+    same
+}
+
+/// Each packet of either version is written as its bytes, and these are read as the packet.
 #[test]
 fn writes_and_reads_packets(rt: HostRuntime) {
     one_reading();
@@ -269,9 +305,14 @@ fn writes_and_reads_packets(rt: HostRuntime) {
     first_bad_byte();
     begun_spelling();
     for (bytes, sender, says, said) in WRITTEN {
-        assert!(rt; is_one(bytes, &packet_of(sender, says, said)), "{bytes:?}");
+        let packet = packet_of(sender, says, said);
+        for (version, byte) in VERSIONS {
+            let bytes = changed(bytes, VERSION_PLACE, *byte);
+            assert!(rt; is_one(&bytes, &in_version(*version, &packet)), "{bytes:?}");
+        }
     }
-    assert!(rt; is_one(FIRST_ACK, &Packet::default()));
+    let second = in_version(Version::Two, &packet_of("a", &Says::Ping(1, "b"), &[]));
+    assert!(rt; is_one(SECOND, &second) && is_one(FIRST_ACK, &Packet::default()));
 }
 
 /// Some bytes and one more, for which a packet has no room.

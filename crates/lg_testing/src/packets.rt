@@ -1,7 +1,7 @@
 //! Packets of members whose names are one letter.
 use crate::claims::letter;
 use arrayvec::ArrayVec;
-use lg_packet::{Body, Packet};
+use lg_packet::{Body, Packet, Version};
 use lg_rules::{Claim, MAX_CLAIMS};
 
 /// The first six of some claims.
@@ -15,9 +15,10 @@ pub fn said(claims: &[Claim]) -> ArrayVec<Claim, MAX_CLAIMS> {
     list
 }
 
-/// A packet of the member named by a letter, with the first six of some claims.
+/// A packet of version 1 of the member named by a letter, with the first six of some claims.
 pub fn packet(sender: u8, body: Body, claims: &[Claim]) -> Packet {
     Packet {
+        version: Version::One,
         sender: letter(sender),
         body,
         claims: said(claims),

@@ -1,7 +1,7 @@
 //! What happens to a detector, as plain data.
 use crate::says::{Member, Said, claims_of, named};
 use lg_detector::Event;
-use lg_packet::{Body, Packet};
+use lg_packet::{Body, Packet, Version};
 use lg_testing::{at, local};
 use lg_timing::{Config, Seed};
 
@@ -124,9 +124,10 @@ fn config_of(settings: &[Setting]) -> Config {
     config
 }
 
-/// A packet of a member, with the first six of some claims.
+/// A packet of version 1 of a member, with the first six of some claims.
 pub(crate) fn packet_of(sender: Member, says: &Says, said: &[Said]) -> Packet {
     Packet {
+        version: Version::One,
         sender: named(sender),
         body: body_of(says),
         claims: claims_of(said),

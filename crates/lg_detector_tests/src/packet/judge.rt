@@ -54,7 +54,7 @@ fn judged(letter: u8, byte: u8, number: u64) -> (bool, Fault) {
     match letter {
         b'S' => (byte == 0x53, Fault::Magic),
         b'L' => (byte == 0x4c, Fault::Magic),
-        b'V' => (byte == 1, Fault::Version),
+        b'V' => (byte == 1 || byte == 2, Fault::Version),
         b'K' => (byte != 0 && byte < 7, Fault::Kind),
         b'N' => (byte != 0 && byte < 33, Fault::Name),
         b'P' => (byte < 33, Fault::Name),
