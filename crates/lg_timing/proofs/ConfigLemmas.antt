@@ -1,5 +1,5 @@
 -- What holds of a checked configuration.
-use Rattle.std.proofs.Common.{◌≡◌, ℕ, ◌-◌, ◌≤◌, ◌<◌, Bool, true, false, not, leb, List, [], ◌∷◌, length, get_or, Option, Some, None, Ok, refl, find, arith}
+use Rattle.std.proofs.Common.{◌≡◌, ℕ, ◌-◌, ◌≤◌, ◌<◌, Bool, true, false, not, leb, List, [], ◌∷◌, length, get_or, Option, Some, None, Result, Ok, Err, if◌then◌else◌, refl, find, arith}
 use Rattle.std.specs.List.{list_all}
 use Rattle.std.proofs.lemmas.Bool.{leb-true}
 use Rattle.std.proofs.lemmas.List.Folds.{list_all_at}
@@ -7,7 +7,9 @@ use Rattle.lg_rules.proofs.Tests.{both}
 use Rattle.lg_timing.specs.declared.config.Config.{Config}
 use Rattle.lg_timing.specs.Meaning.Config.{is_within, is_seed, are_good_seeds, first_broken, fault_checked, check_of}
 use Rattle.lg_timing.specs.Meaning.Config.{IsChecked}
-use Rattle.lg_timing.specs.Meaning.Keys.{is_in_range, keys}
+use Rattle.lg_timing.specs.Meaning.Keys.{is_before_seeds, is_in_range, keys, row_of}
+use Rattle.lg_timing.specs.declared.config.ConfigFault.{ConfigFault}
+use Rattle.lg_timing.specs.declared.config.ConfigFault.TheVariants.{Seeds}
 use Rattle.lg_timing.specs.declared.keys.Key.{Key}
 use Rattle.lg_timing.specs.declared.keys.Key.TheVariants.{IntervalMs}
 use Rattle.lg_timing.specs.Support.Ranges.{HasRanges}
@@ -29,11 +31,20 @@ in_place c ks i within h = step (is_in_range c (get_or ks i IntervalMs)) refl
     step true k = k
     step false k = let bad : list_all (is_in_range c) ks ≡ false = list_all_at (is_in_range c) ks i IntervalMs within k in absurd cc
 
+-- the fault of a key or that of the seeds
+abbrev fault_of : Bool → ConfigFault → Result (Unit {0}) ConfigFault
+fault_of before broken = if before then Err broken else Err Seeds
+
 -- a fault is none only if no key is out of its range, and the seeds are good
 no_fault : (broken : Option Key) (good : Bool) → fault_checked broken good ≡ Ok tt → (broken ≡ None) × (good ≡ true)
 no_fault None true e = (refl, refl)
 no_fault None false e = absurd cc
-no_fault (Some key) good e = absurd cc
+no_fault (Some key) true e = absurd cc
+no_fault (Some key) false e = absurd (is_err (is_before_seeds key) (row_of key).fault e)
+  where
+    is_err : (before : Bool) (broken : ConfigFault) → fault_of before broken ≡ Ok tt → ⊥
+    is_err true broken e = cc
+    is_err false broken e = cc
 
 -- a number within two others
 pub record IsBetween (least most n : ℕ) : Type 0 where
@@ -62,6 +73,7 @@ ranges c e =
     let lambda = is_between 1 10 c.lambda (at 7 (omega arith)) in
     let nack = is_between 1 999 c.nack_thousandths (at 8 (omega arith)) in
     let history = is_between 2 1000000 c.history_limit (at 9 (omega arith)) in
+    let wire = is_between 1 2 c.wire (at 10 (omega arith)) in
     let seeds = both _ _ whole.1 in
     let names = both _ _ seeds.1 in
     record {
@@ -82,6 +94,8 @@ ranges c e =
       nack_most = nack.high;
       history_least = history.low;
       history_most = history.high;
+      wire_least = wire.low;
+      wire_most = wire.high;
       seeds_most = leb-true (length c.seeds.items) 16 seeds.0;
       seeds_distinct = names.0;
       seeds_others = not_true (is_seed c.name c.seeds.items) names.1;

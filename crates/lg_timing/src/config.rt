@@ -40,6 +40,12 @@ pub const MIN_HISTORY_LIMIT: u64 = 2;
 /// The greatest limit of a stored history, in entries: 1,000,000 (this project's choice).
 pub const MAX_HISTORY_LIMIT: u64 = 1_000_000;
 
+/// The oldest version of the format of packets: 1 (this project's choice).
+pub const MIN_WIRE: u64 = 1;
+
+/// The newest version of the format of packets: 2 (this project's choice).
+pub const MAX_WIRE: u64 = 2;
+
 /// The most seeds of a configuration: 16 (this project's choice).
 pub const MAX_SEEDS: usize = 16;
 
@@ -52,7 +58,8 @@ pub struct Seed {
     pub addr: Addr,
 }
 
-/// What is wrong with a configuration: a field that is out of its range.
+/// What is wrong with a configuration: a field that is out of its range. If there are several faults, the one with the
+/// least number counts.
 #[derive(Clone, Copy, Debug, PartialEq, Eq, Error)]
 pub enum ConfigFault {
     /// `interval_ms` isn't 10 to 60,000.
@@ -88,6 +95,20 @@ pub enum ConfigFault {
     /// Two seeds have the same name, or a seed has the member's own name.
     #[error("seeds may be at most {most}, with different names, none of them the member's own", most = MAX_SEEDS)]
     Seeds = 11,
+    /// `wire` isn't 1 or 2. The faults of a file that means no configuration have the numbers between.
+    #[error("wire has to be {least} or {most}", least = MIN_WIRE, most = MAX_WIRE)]
+    Wire = 15,
+}
+
+impl ConfigFault {
+    ghost use Rattle.lg_timing.specs.Meaning.Keys.{config_fault_number};
+
+    /// The number of the fault: 1 to 11 and 15. A check looks for the faults in the order of their numbers.
+    pub fn number(self) -> u8
+        ensures { result ≡ config_fault_number self }
+    {
+        self as u8
+    }
 }
 
 /// The configuration of a member: its name and address, the members that it knows from the start, and its numbers.
@@ -120,6 +141,8 @@ pub struct Config {
     pub nack_thousandths: u64,
     /// The most entries of a stored history: 2 to 1,000,000 (this project's choice).
     pub history_limit: u64,
+    /// In which version of the format the member writes its packets: 1 or 2 (this project's choice).
+    pub wire: u64,
     /// The members that are known from the start: at most 16, with different names, none of them the member's own.
     pub seeds: ArrayVec<Seed, MAX_SEEDS>,
     /// The member's name.
@@ -181,6 +204,7 @@ impl Config {
             lambda: Key::Lambda.row().default,
             nack_thousandths: Key::NackThousandths.row().default,
             history_limit: Key::HistoryLimit.row().default,
+            wire: Key::Wire.row().default,
             seeds: ArrayVec::new(),
             name,
             addr,
@@ -211,6 +235,7 @@ impl Config {
             Key::Lambda => self.lambda,
             Key::NackThousandths => self.nack_thousandths,
             Key::HistoryLimit => self.history_limit,
+            Key::Wire => self.wire,
         }
     }
 
@@ -229,6 +254,7 @@ impl Config {
             Key::Lambda => self.lambda = number,
             Key::NackThousandths => self.nack_thousandths = number,
             Key::HistoryLimit => self.history_limit = number,
+            Key::Wire => self.wire = number,
         }
     }
 
@@ -256,18 +282,17 @@ impl Config {
         keys.iter().copied().find(|key| !self.is_in_range(*key))
     }
 
-    /// Checks that the number of each key is in its range, and then that the seeds are good. The error is the first
-    /// fault, in the order of [`KEYS`]. That of the seeds is the last.
+    /// Checks that the number of each key is in its range, and that the seeds are good. The error is the first fault.
+    /// The numbers are judged in the order of [`KEYS`], and the seeds behind `history_limit` and before `wire`.
     #[tactic(auto, unfolding(crate::specs::Meaning::Config::check_of))]
     pub fn check(&self) -> Result<(), ConfigFault>
         ensures { result ≡ check_of self.now }
     {
-        if let Some(key) = self.first_broken(&KEYS) {
-            return Err(key.row().fault);
+        let are_good = are_good_seeds(&self.name, &self.seeds);
+        match self.first_broken(&KEYS) {
+            Some(key) if are_good || key.is_before_seeds() => Err(key.row().fault),
+            None if are_good => Ok(()),
+            _ => Err(ConfigFault::Seeds),
         }
-        if !are_good_seeds(&self.name, &self.seeds) {
-            return Err(ConfigFault::Seeds);
-        }
-        Ok(())
     }
 }

@@ -3,12 +3,13 @@
 //! Defined in: `specs/Meaning/Keys.antt`.
 //! Tested in: `lg_detector_tests/src/timing.rt`, `cases/config_probes.case`, `cases/sim_commands.case`.
 ghost use Rattle.std.specs.Prelude.{◌≡◌};
-ghost use Rattle.lg_timing.specs.Meaning.Keys.{has_key_name, allows_number, key_named, key_name, row_of};
+ghost use Rattle.lg_timing.specs.Meaning.Keys.{has_key_name, allows_number, is_before_seeds};
+ghost use Rattle.lg_timing.specs.Meaning.Keys.{key_named, key_name, row_of};
 
 use crate::config::{
     ConfigFault, MAX_CONFIRMATIONS, MAX_FACTOR, MAX_HISTORY_LIMIT, MAX_INDIRECT, MAX_INTERVAL_MS,
-    MAX_NACK_THOUSANDTHS, MAX_SCORE, MIN_HISTORY_LIMIT, MIN_INTERVAL_MS, MIN_NACK_THOUSANDTHS,
-    is_within,
+    MAX_NACK_THOUSANDTHS, MAX_SCORE, MAX_WIRE, MIN_HISTORY_LIMIT, MIN_INTERVAL_MS,
+    MIN_NACK_THOUSANDTHS, MIN_WIRE, is_within,
 };
 use lg_rules::MAX_LAMBDA;
 
@@ -35,10 +36,13 @@ pub enum Key {
     NackThousandths,
     /// `history_limit`.
     HistoryLimit,
+    /// `wire`.
+    Wire,
 }
 
-/// All keys, in the order in which [`crate::Config::check`] judges their numbers.
-pub const KEYS: [Key; 10] = [
+/// All keys, in the order in which [`crate::Config::check`] judges their numbers. It is that of the numbers of their
+/// faults. The seeds are judged before [`Key::Wire`].
+pub const KEYS: [Key; 11] = [
     Key::IntervalMs,
     Key::TimeoutMs,
     Key::Indirect,
@@ -49,6 +53,7 @@ pub const KEYS: [Key; 10] = [
     Key::Lambda,
     Key::NackThousandths,
     Key::HistoryLimit,
+    Key::Wire,
 ];
 
 /// What the table says of a key's number.
@@ -93,6 +98,7 @@ impl Key {
             Key::Lambda => "lambda",
             Key::NackThousandths => "nack_thousandths",
             Key::HistoryLimit => "history_limit",
+            Key::Wire => "wire",
         }
     }
 
@@ -126,6 +132,7 @@ impl Key {
                 20000,
                 ConfigFault::History,
             ),
+            Key::Wire => row(MIN_WIRE, MAX_WIRE, 1, ConfigFault::Wire),
         }
     }
 
@@ -135,6 +142,13 @@ impl Key {
     {
         let row = self.row();
         is_within(row.least, row.most, number)
+    }
+
+    /// Whether the key's number is judged before the seeds: whether its fault has a lesser number than theirs.
+    pub(crate) fn is_before_seeds(self) -> bool
+        ensures { result ≡ is_before_seeds self }
+    {
+        self.row().fault.number() < ConfigFault::Seeds.number()
     }
 
     /// Whether a word is the key's name.

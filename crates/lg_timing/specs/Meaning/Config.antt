@@ -1,5 +1,5 @@
--- The default configuration, which configurations are good, and what is wrong with the others (this project's
--- choice).
+-- Which configurations are good, and what is wrong with the others (this project's choice). If there are several
+-- faults, the first of these counts: of the numbers from `interval_ms` to `history_limit`, of the seeds, of `wire`.
 use Rattle.std.specs.Prelude.{
   ◌≡◌,
   ℕ,
@@ -21,39 +21,18 @@ use Rattle.std.specs.Prelude.{
   Ok,
   Err,
   find,
+  if◌then◌else◌,
 }
 use Rattle.std.specs.List.{list_any}
 use Rattle.std.specs.Cmp.Lexicographic.{pointwise}
-use Rattle.lg_rules.specs.declared.addr.Addr.{Addr}
 use Rattle.lg_timing.specs.declared.config.Seed.{Seed}
 use Rattle.lg_timing.specs.declared.config.Config.{Config}
 use Rattle.lg_timing.specs.declared.config.ConfigFault.{ConfigFault}
 use Rattle.lg_timing.specs.declared.config.ConfigFault.TheVariants.{Seeds}
 use Rattle.lg_timing.specs.declared.keys.Key.{Key}
-use Rattle.lg_timing.specs.declared.keys.Key.TheVariants.{IntervalMs, TimeoutMs, Indirect, MaxScore, Alpha}
-use Rattle.lg_timing.specs.declared.keys.Key.TheVariants.{Beta, Confirmations, Lambda, NackThousandths, HistoryLimit}
 use Rattle.lg_timing.specs.Meaning.Bounds.{most_seeds}
-use Rattle.lg_timing.specs.Meaning.Keys.{is_in_range, keys, row_of}
-pub use Rattle.lg_timing.specs.Meaning.Keys.{is_within}
-
--- the default configuration of a member, which knows no other member from the start
-abbrev pub defaults : List ℕ → Addr → Config
-defaults name addr =
-    record {
-      interval_ms = (row_of IntervalMs).default;
-      timeout_ms = (row_of TimeoutMs).default;
-      indirect = (row_of Indirect).default;
-      max_score = (row_of MaxScore).default;
-      alpha = (row_of Alpha).default;
-      beta = (row_of Beta).default;
-      confirmations = (row_of Confirmations).default;
-      lambda = (row_of Lambda).default;
-      nack_thousandths = (row_of NackThousandths).default;
-      history_limit = (row_of HistoryLimit).default;
-      seeds = record { items = [] };
-      name = name;
-      addr = addr;
-    }
+use Rattle.lg_timing.specs.Meaning.Keys.{is_before_seeds, is_in_range, keys, row_of}
+pub use Rattle.lg_timing.specs.Meaning.Keys.{defaults, is_within}
 
 -- whether a seed has this name
 abbrev pub has_name : List ℕ → Seed → Bool
@@ -76,12 +55,13 @@ are_good_seeds own seeds = nat_le (length seeds) most_seeds && (have_distinct_na
 abbrev pub first_broken : Config → Option Key
 first_broken c = find (λ key. not (is_in_range c key)) keys
 
--- what a check returns for that key, and for whether the seeds are good: the fault of the key, or else that of the
--- seeds
+-- What a check returns for that key, and for whether the seeds are good: the fault of the key if the seeds are good or
+-- judged behind it, as they are behind all keys but `wire`; or else the fault of the seeds, if they aren't good.
 abbrev pub fault_checked : Option Key → Bool → Result (Unit {0}) ConfigFault
-fault_checked (Some key) good = Err (row_of key).fault
-fault_checked None false = Err Seeds
 fault_checked None true = Ok tt
+fault_checked None false = Err Seeds
+fault_checked (Some key) true = Err (row_of key).fault
+fault_checked (Some key) false = if is_before_seeds key then Err (row_of key).fault else Err Seeds
 
 -- what checking a configuration returns
 unfoldable pub check_of : Config → Result (Unit {0}) ConfigFault

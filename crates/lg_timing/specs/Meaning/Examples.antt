@@ -1,7 +1,9 @@
 -- Worked rows: what the definitions give for some numbers.
-use Rattle.std.specs.Prelude.{◌≡◌, ℕ, pos, negsuc, [], ◌∷◌, map, refl}
+use Rattle.std.specs.Prelude.{◌≡◌, ℕ, pos, negsuc, List, [], ◌∷◌, map, Result, Ok, Err, refl}
 use Rattle.lg_timing.specs.declared.config.Config.{Config}
-use Rattle.lg_timing.specs.Meaning.Config.{defaults}
+use Rattle.lg_timing.specs.declared.config.ConfigFault.{ConfigFault}
+use Rattle.lg_timing.specs.declared.config.ConfigFault.TheVariants.{History, Seeds, Wire}
+use Rattle.lg_timing.specs.Meaning.Config.{check_of, defaults}
 use Rattle.lg_timing.specs.Meaning.Score.{score_of}
 use Rattle.lg_timing.specs.Meaning.Tables.{log10_of, ratio_of}
 use Rattle.lg_timing.specs.Meaning.Timeouts.{range_of, timeout_of, suspicion_of}
@@ -54,3 +56,32 @@ least_score = refl
 -- the sum is held at every mark, and not only at the end
 held_at_every_mark : score_of 2 (negsuc 0 ∷ pos 2 ∷ pos 2 ∷ []) ≡ 1
 held_at_every_mark = refl
+
+-- what a check returns for the member b with a version of packets, a limit of the history and a seed of this name
+abbrev checked : ℕ → ℕ → List ℕ → Result (Unit {0}) ConfigFault
+checked wire limit seed =
+    let usual = defaults (98 ∷ []) (record { octets = 127 ∷ 0 ∷ 0 ∷ 1 ∷ []; port = 7946 }) in
+    check_of (record usual {
+      wire = wire;
+      history_limit = limit;
+      seeds = record { items = record { name = seed; addr = usual.addr } ∷ [] };
+    })
+
+versions :
+    map (λ wire. checked wire 20000 (99 ∷ [])) (0 ∷ 1 ∷ 2 ∷ 3 ∷ [])
+    ≡ Err Wire ∷ Ok tt ∷ Ok tt ∷ Err Wire ∷ []
+unfolding check_of
+versions = refl
+
+-- the seeds are judged before the version, and the limit before both
+seeds_before_version : checked 0 20000 (98 ∷ []) ≡ Err Seeds
+unfolding check_of
+seeds_before_version = refl
+
+limit_before_version : checked 0 1 (99 ∷ []) ≡ Err History
+unfolding check_of
+limit_before_version = refl
+
+limit_before_seeds : checked 0 1 (98 ∷ []) ≡ Err History
+unfolding check_of
+limit_before_seeds = refl

@@ -1,12 +1,15 @@
--- The keys of a configuration's numbers: their names, ranges, defaults and faults (this project's choice).
-use Rattle.std.specs.Prelude.{ℕ, ◌-◌, Bool, ◌&&◌, nat_le, List, [], ◌∷◌, codes, Option, find}
+-- The keys of a configuration's numbers: their names, ranges, defaults and faults, and the default configuration (this
+-- project's choice).
+use Rattle.std.specs.Prelude.{ℕ, ◌-◌, Bool, ◌&&◌, nat_le, nat_lt, List, [], ◌∷◌, codes, Option, find}
 use Rattle.std.specs.Str.{bytes_eq}
+use Rattle.lg_rules.specs.declared.addr.Addr.{Addr}
 use Rattle.lg_timing.specs.declared.config.Config.{Config}
 use Rattle.lg_timing.specs.declared.config.ConfigFault.{ConfigFault}
 use Rattle.lg_timing.specs.declared.config.ConfigFault.TheVariants as fault
 use Rattle.lg_timing.specs.declared.keys.Key.{Key}
 use Rattle.lg_timing.specs.declared.keys.Key.TheVariants.{IntervalMs, TimeoutMs, Indirect, MaxScore, Alpha}
 use Rattle.lg_timing.specs.declared.keys.Key.TheVariants.{Beta, Confirmations, Lambda, NackThousandths, HistoryLimit}
+use Rattle.lg_timing.specs.declared.keys.Key.TheVariants.{Wire}
 use Rattle.lg_timing.specs.declared.keys.KeyRow.{KeyRow}
 use Rattle.lg_timing.specs.Meaning.Bounds.{least_interval_ms, most_interval_ms, most_confirmations, most_factor}
 
@@ -14,11 +17,11 @@ use Rattle.lg_timing.specs.Meaning.Bounds.{least_interval_ms, most_interval_ms, 
 abbrev pub is_within : ℕ → ℕ → ℕ → Bool
 is_within least most n = nat_le least n && nat_le n most
 
--- the keys, in the order in which a check judges their numbers
+-- the keys, in the order in which a check judges their numbers; it judges the seeds before `wire`
 abbrev pub keys : List Key
 keys =
     IntervalMs ∷ TimeoutMs ∷ Indirect ∷ MaxScore ∷ Alpha
-    ∷ Beta ∷ Confirmations ∷ Lambda ∷ NackThousandths ∷ HistoryLimit ∷ []
+    ∷ Beta ∷ Confirmations ∷ Lambda ∷ NackThousandths ∷ HistoryLimit ∷ Wire ∷ []
 
 -- a key's name
 abbrev pub key_name : Key → List ℕ
@@ -32,6 +35,22 @@ key_name Confirmations = codes "confirmations"
 key_name Lambda = codes "lambda"
 key_name NackThousandths = codes "nack_thousandths"
 key_name HistoryLimit = codes "history_limit"
+key_name Wire = codes "wire"
+
+-- a fault's number; a check looks for the faults in the order of their numbers
+abbrev pub config_fault_number : ConfigFault → ℕ
+config_fault_number fault.Interval = 1
+config_fault_number fault.Timeout = 2
+config_fault_number fault.Indirect = 3
+config_fault_number fault.MaxScore = 4
+config_fault_number fault.Alpha = 5
+config_fault_number fault.Beta = 6
+config_fault_number fault.Confirmations = 7
+config_fault_number fault.Lambda = 8
+config_fault_number fault.Nack = 9
+config_fault_number fault.History = 10
+config_fault_number fault.Seeds = 11
+config_fault_number fault.Wire = 15
 
 -- a least and a greatest number, a default, and the fault of a number out of its range
 abbrev pub row : ℕ → ℕ → ℕ → ConfigFault → KeyRow
@@ -49,6 +68,7 @@ row_of Confirmations = row 0 most_confirmations 3 fault.Confirmations
 row_of Lambda = row 1 10 4 fault.Lambda
 row_of NackThousandths = row 1 999 800 fault.Nack
 row_of HistoryLimit = row 2 1000000 20000 fault.History
+row_of Wire = row 1 2 1 fault.Wire
 
 -- the number of a key
 abbrev pub number_of_key : Key → Config → ℕ
@@ -62,6 +82,7 @@ number_of_key Confirmations c = c.confirmations
 number_of_key Lambda c = c.lambda
 number_of_key NackThousandths c = c.nack_thousandths
 number_of_key HistoryLimit c = c.history_limit
+number_of_key Wire c = c.wire
 
 -- a configuration with the number of one key changed
 abbrev pub with_number : Key → ℕ → Config → Config
@@ -75,6 +96,27 @@ with_number Confirmations n c = record c { confirmations = n }
 with_number Lambda n c = record c { lambda = n }
 with_number NackThousandths n c = record c { nack_thousandths = n }
 with_number HistoryLimit n c = record c { history_limit = n }
+with_number Wire n c = record c { wire = n }
+
+-- the default configuration of a member, which knows no other member from the start
+abbrev pub defaults : List ℕ → Addr → Config
+defaults name addr =
+    record {
+      interval_ms = (row_of IntervalMs).default;
+      timeout_ms = (row_of TimeoutMs).default;
+      indirect = (row_of Indirect).default;
+      max_score = (row_of MaxScore).default;
+      alpha = (row_of Alpha).default;
+      beta = (row_of Beta).default;
+      confirmations = (row_of Confirmations).default;
+      lambda = (row_of Lambda).default;
+      nack_thousandths = (row_of NackThousandths).default;
+      history_limit = (row_of HistoryLimit).default;
+      wire = (row_of Wire).default;
+      seeds = record { items = [] };
+      name = name;
+      addr = addr;
+    }
 
 -- whether a number is in a key's range, whatever the other numbers are
 abbrev pub allows_number : Key → ℕ → Bool
@@ -88,6 +130,10 @@ greatest c key = (row_of key).most
 -- whether the number of a key is in its range
 abbrev pub is_in_range : Config → Key → Bool
 is_in_range c key = is_within (row_of key).least (greatest c key) (number_of_key key c)
+
+-- whether the number of a key is judged before the seeds: whether its fault has a lesser number than theirs
+abbrev pub is_before_seeds : Key → Bool
+is_before_seeds key = nat_lt (config_fault_number (row_of key).fault) (config_fault_number fault.Seeds)
 
 -- the key with a name, if there is one
 abbrev pub has_key_name : List ℕ → Key → Bool

@@ -13,6 +13,8 @@ use Rattle.lg_timing.specs.declared.config.TheConstants.{
   MAX_NACK_THOUSANDTHS,
   MIN_HISTORY_LIMIT,
   MAX_HISTORY_LIMIT,
+  MIN_WIRE,
+  MAX_WIRE,
   MAX_SEEDS,
 }
 use Rattle.lg_timing.specs.Meaning.Config.{is_seed, have_distinct_names}
@@ -35,6 +37,8 @@ pub record HasRanges (c : Config) : Type 0 where
   pub nack_most : c.nack_thousandths ≤ MAX_NACK_THOUSANDTHS
   pub history_least : MIN_HISTORY_LIMIT ≤ c.history_limit
   pub history_most : c.history_limit ≤ MAX_HISTORY_LIMIT
+  pub wire_least : MIN_WIRE ≤ c.wire
+  pub wire_most : c.wire ≤ MAX_WIRE
   pub seeds_most : length c.seeds.items ≤ MAX_SEEDS
   pub seeds_distinct : have_distinct_names c.seeds.items ≡ true
   pub seeds_others : is_seed c.name c.seeds.items ≡ false
