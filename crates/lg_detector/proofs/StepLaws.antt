@@ -86,7 +86,12 @@ claims_of-log Page log = refl
 outgoing-log : (m : Message) (log : Log) → outgoing_state m (state_of log) ≡ send_log.outgoing m log
 outgoing-log m log = λ i. record {
   to = m.to;
-  packet = record { sender = own_name (group_log log) i; body = m.body; claims = record { items = claims_of-log m.body log i } };
+  packet = record {
+    version = send_log.version_sent (group.config (group_log log));
+    sender = own_name (group_log log) i;
+    body = m.body;
+    claims = record { items = claims_of-log m.body log i };
+  };
 }
 
 packets-log : (ms : List Message) (log : Log) → packets_state ms (state_of log) ≡ send_log.packets ms log
@@ -133,11 +138,13 @@ response_sent-log source sender body log =
 -- Pulls and Pages
 pull_after-log : (to : Addr) (after : Option (List ℕ)) (log : Log) → pull_after_state to after (state_of log) ≡ join_log.pull_after to after log
 pull_after-log to after log =
-    ap (λ me. join_log.with_claims to me (Pull after) (own_record (group.own (group_log log)) ∷ [])) (own_name (group_log log))
+    let version = send_log.version_sent (group.config (group_log log)) in
+    ap (λ me. join_log.with_claims to version me (Pull after) (own_record (group.own (group_log log)) ∷ [])) (own_name (group_log log))
 
 page_behind-log : (to : Addr) (after : Option (List ℕ)) (log : Log) → page_behind_state to after (state_of log) ≡ join_log.page_behind to after log
 page_behind-log to after log =
-    ap (λ me. join_log.with_claims to me Page (page_of after (group_view (group_log log)))) (own_name (group_log log))
+    let version = send_log.version_sent (group.config (group_log log)) in
+    ap (λ me. join_log.with_claims to version me Page (page_of after (group_view (group_log log)))) (own_name (group_log log))
 
 next_pull-log : (to : Addr) (sixth : Option Claim) (log : Log) → next_pull_state to sixth (state_of log) ≡ join_log.next_pull to sixth log
 next_pull-log to None log = refl

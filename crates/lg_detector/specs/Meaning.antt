@@ -27,4 +27,5 @@ pub mod Examples
 pub mod ProbingExamples
 pub mod RelayingExamples
 pub mod JoiningExamples
+pub mod VersionExamples
 pub mod ChoiceExamples

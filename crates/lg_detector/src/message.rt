@@ -1,4 +1,4 @@
-//! A packet to be sent, before its sender and its claims are written.
+//! A packet to be sent, before its version, its sender and its claims are written.
 ghost use Rattle.std.specs.Prelude.{◌≡◌, [], ◌∷◌};
 
 use crate::reply::MAX_SENDS;

@@ -16,6 +16,8 @@ use Rattle.lg_suspicion.specs.Meaning.Accusers.{counted_accusers}
 use Rattle.lg_gossip.specs.Meaning.Queue.{taken_of}
 use Rattle.lg_packet.specs.declared.packet.Body.{Body}
 use Rattle.lg_packet.specs.declared.packet.Body.TheVariants.{Ping, Ack}
+use Rattle.lg_packet.specs.declared.packet.Version.{Version}
+use Rattle.lg_packet.specs.declared.packet.Version.TheVariants.{One}
 use Rattle.lg_timers.specs.declared.timer.Timer.{Timer}
 use Rattle.lg_timers.specs.declared.timer.TimerId.{TimerId}
 use Rattle.lg_timers.specs.declared.timer.TimerId.TheVariants.{RoundStart}
@@ -86,9 +88,14 @@ opening_with interval seeds =
 abbrev pub seeded : Event
 seeded = opening_with 1000 (record { name = c ∷ []; addr = at 7000 } ∷ [])
 
--- a packet of a; and one that is a Ping for a member
+-- a packet of a, in some version and in version 1; and one that is a Ping for a member
+abbrev pub says_in : Version → ℕ → Body → List Claim → Event
+says_in version now body claims =
+    Heard now (at 1)
+    (record { version = version; sender = a ∷ []; body = body; claims = record { items = claims } })
+
 abbrev pub says : ℕ → Body → List Claim → Event
-says now body claims = Heard now (at 1) (record { sender = a ∷ []; body = body; claims = record { items = claims } })
+says now body claims = says_in One now body claims
 
 abbrev pub pings : ℕ → ℕ → ℕ → List Claim → Event
 pings now number target claims = says now (Ping number (target ∷ [])) claims
@@ -118,11 +125,17 @@ nothing next =
       next = next;
     }
 
--- what b sends to a port; and an Ack that it sends to port 1
-abbrev pub sent : ℕ → Body → List Claim → List Outgoing
-sent port body claims =
-    record { to = at port; packet = record { sender = b ∷ []; body = body; claims = record { items = claims } } }
+-- what b sends to a port, in some version and in version 1; and an Ack that it sends to port 1
+abbrev pub sent_in : Version → ℕ → Body → List Claim → List Outgoing
+sent_in version port body claims =
+    record {
+      to = at port;
+      packet = record { version = version; sender = b ∷ []; body = body; claims = record { items = claims } };
+    }
     ∷ []
+
+abbrev pub sent : ℕ → Body → List Claim → List Outgoing
+sent port body claims = sent_in One port body claims
 
 abbrev pub acks : ℕ → List Claim → List Outgoing
 acks number claims = sent 1 (Ack number) claims

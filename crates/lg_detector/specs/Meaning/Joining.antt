@@ -8,29 +8,36 @@ use Rattle.lg_rules.specs.Meaning.Bounds.{most_claims}
 use Rattle.lg_rules.specs.Meaning.Own.{own_record}
 use Rattle.lg_packet.specs.declared.packet.Body.{Body}
 use Rattle.lg_packet.specs.declared.packet.Body.TheVariants.{Pull, Page}
+use Rattle.lg_packet.specs.declared.packet.Version.{Version}
 use Rattle.lg_membership.specs.Meaning.Log as group
 use Rattle.lg_membership.specs.Meaning.Log.{group_view}
 use Rattle.lg_membership.specs.Meaning.Pages.{page_of}
 use Rattle.lg_detector.specs.declared.reply.Outgoing.{Outgoing}
 use Rattle.lg_detector.specs.Meaning.Log.{Log, group_log}
 use Rattle.lg_detector.specs.Meaning.Apply.{come}
+use Rattle.lg_detector.specs.Meaning.Send.{version_sent}
 
--- a packet that is sent with these claims
-abbrev pub with_claims : Addr → List ℕ → Body → List Claim → Outgoing
-with_claims to sender body claims =
-    record { to = to; packet = record { sender = sender; body = body; claims = record { items = claims } } }
+-- a packet of this version that is sent with these claims
+abbrev pub with_claims : Addr → Version → List ℕ → Body → List Claim → Outgoing
+with_claims to version sender body claims =
+    record {
+      to = to;
+      packet = record { version = version; sender = sender; body = body; claims = record { items = claims } };
+    }
 
 -- A Pull asks for the records after a name, or for the first of all if it has no name. It carries this member's record.
 abbrev pub pull_after : Addr → Option (List ℕ) → Log → Outgoing
 pull_after to after log =
     let members = group_log log in
-    with_claims to (group.me members) (Pull after) (own_record (group.own members) ∷ [])
+    let version = version_sent (group.config members) in
+    with_claims to version (group.me members) (Pull after) (own_record (group.own members) ∷ [])
 
 -- A Page has the next records after the name of a Pull. This member's own may be among them.
 abbrev pub page_behind : Addr → Option (List ℕ) → Log → Outgoing
 page_behind to after log =
     let members = group_log log in
-    with_claims to (group.me members) Page (page_of after (group_view members))
+    let version = version_sent (group.config members) in
+    with_claims to version (group.me members) Page (page_of after (group_view members))
 
 -- A Page of `most_claims` claims is full. It is answered by a Pull for the records after its last claim, the sixth,
 -- whether or not that one was known.

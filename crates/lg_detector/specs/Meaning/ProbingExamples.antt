@@ -6,6 +6,7 @@ use Rattle.lg_rules.specs.declared.claim.Status.TheVariants.{Alive, Suspect}
 use Rattle.lg_timing.specs.Meaning.Score.{ScoreValue}
 use Rattle.lg_packet.specs.declared.packet.Body.{Body}
 use Rattle.lg_packet.specs.declared.packet.Body.TheVariants.{Ping, PingReq, Ack, Nack}
+use Rattle.lg_packet.specs.declared.packet.Version.TheVariants.{One}
 use Rattle.lg_timers.specs.declared.timer.TimerId.TheVariants.{RoundEnd, Suspicion, Direct}
 use Rattle.lg_detector.specs.declared.event.Event.{Event}
 use Rattle.lg_detector.specs.declared.event.Event.TheVariants.{Tick, Heard, Health}
@@ -75,7 +76,8 @@ nobody_is_chosen = refl
 -- After an Ack of c that counts no helper is asked. An Ack from a stranger, or one with another number, doesn't count.
 abbrev acked_by : ℕ → ℕ → Event
 acked_by sender number =
-    Heard 2100 (at 1) (record { sender = sender ∷ []; body = Ack number; claims = record { items = [] } })
+    Heard 2100 (at 1)
+    (record { version = One; sender = sender ∷ []; body = Ack number; claims = record { items = [] } })
 
 an_ack_counts : (reply_after probing (acked_by c 1)).next ≡ 3000
 unfolding by_computing
@@ -240,7 +242,8 @@ a_failed_target_is_not_accused = refl
 -- No Ack of c counts. The round marks 2 if a helper is silent, and 1 if each sent its Nack.
 abbrev nacked_by : ℕ → Event
 nacked_by sender =
-    Heard 600 (at 1) (record { sender = sender ∷ []; body = Nack 1; claims = record { items = [] } })
+    Heard 600 (at 1)
+    (record { version = One; sender = sender ∷ []; body = Nack 1; claims = record { items = [] } })
 
 abbrev earned_after : List Event → List ℤ
 earned_after events = earned (log_after events)

@@ -2,6 +2,7 @@
 use Rattle.std.specs.Prelude.{◌≡◌, ℕ, true, false, List, [], ◌∷◌, ◌++◌, replicate, Some, refl}
 use Rattle.lg_packet.specs.declared.packet.Body.{Body}
 use Rattle.lg_packet.specs.declared.packet.Body.TheVariants.{Ping, PingReq, Ack, Nack}
+use Rattle.lg_packet.specs.declared.packet.Version.TheVariants.{One}
 use Rattle.lg_timers.specs.declared.timer.TimerId.TheVariants.{RelayNack, RelayEnd}
 use Rattle.lg_probe.specs.declared.relays.Relay.{Relay}
 use Rattle.lg_probe.specs.Meaning.Relays.{Closed}
@@ -43,7 +44,8 @@ a_relay_sends_its_nack = refl
 
 an_ack_of_the_target_is_passed_on :
     (reply_after requested
-    (Heard 600 (at 7003) (record { sender = c ∷ []; body = Ack 1; claims = record { items = [] } }))).sends.items
+    (Heard 600 (at 7003)
+    (record { version = One; sender = c ∷ []; body = Ack 1; claims = record { items = [] } }))).sends.items
     ≡ acks 1 []
 unfolding by_computing
 an_ack_of_the_target_is_passed_on = refl

@@ -8,13 +8,18 @@ use Rattle.lg_membership.specs.Meaning.Pages.{page_of}
 use Rattle.lg_membership.specs.Support.State.{shown}
 use Rattle.lg_detector.specs.declared.reply.Outgoing.{Outgoing}
 use Rattle.lg_detector.specs.Meaning.Joining.{with_claims}
+use Rattle.lg_detector.specs.Meaning.Send.{version_sent}
 use Rattle.lg_detector.specs.Support.State.{State, come_state}
 
 abbrev pub pull_after_state : Addr → Option (List ℕ) → State → Outgoing
-pull_after_state to after s = with_claims to s.membership.own.name (Pull after) (own_record s.membership.own ∷ [])
+pull_after_state to after s =
+    let version = version_sent s.membership.config in
+    with_claims to version s.membership.own.name (Pull after) (own_record s.membership.own ∷ [])
 
 abbrev pub page_behind_state : Addr → Option (List ℕ) → State → Outgoing
-page_behind_state to after s = with_claims to s.membership.own.name Page (page_of after (shown s.membership))
+page_behind_state to after s =
+    let version = version_sent s.membership.config in
+    with_claims to version s.membership.own.name Page (page_of after (shown s.membership))
 
 abbrev pub next_pull_state : Addr → Option Claim → State → List Outgoing
 next_pull_state to None s = []

@@ -6,6 +6,7 @@ use Rattle.lg_packet.specs.declared.packet.Body.TheVariants.{Ping, PingReq, Ack,
 use Rattle.lg_membership.specs.Support.State.{taken_in, fill_in}
 use Rattle.lg_detector.specs.declared.reply.Outgoing.{Outgoing}
 use Rattle.lg_detector.specs.declared.message.Message.{Message}
+use Rattle.lg_detector.specs.Meaning.Send.{version_sent}
 use Rattle.lg_detector.specs.Support.State.{State, send_taken}
 
 abbrev pub claims_of_state : Body → State → List Claim
@@ -19,10 +20,11 @@ claims_of_state Page s = []
 abbrev pub outgoing_state : Message → State → Outgoing
 outgoing_state message s =
     let claims = claims_of_state message.body s in
+    let version = version_sent s.membership.config in
     let sender = s.membership.own.name in
     record {
       to = message.to;
-      packet = record { sender = sender; body = message.body; claims = record { items = claims } };
+      packet = record { version = version; sender = sender; body = message.body; claims = record { items = claims } };
     }
 
 abbrev pub send_state : Body → State → State

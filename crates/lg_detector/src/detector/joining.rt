@@ -74,6 +74,7 @@ impl Detector {
         ensures { place.new ≡ page_behind_state to after.now self.now }
     {
         place.to = to;
+        place.packet.version = self.version();
         place.packet.sender = self.name();
         place.packet.body = Body::Page;
         self.parts
@@ -86,6 +87,7 @@ impl Detector {
         ensures { place.new ≡ pull_after_state to after self.now }
     {
         place.to = to;
+        place.packet.version = self.version();
         place.packet.sender = self.name();
         place.packet.body = Body::Pull { after };
         let claims = &mut place.packet.claims;

@@ -1,19 +1,22 @@
 //! The packets that are sent, and the claims that ride on them (piggyback). The packets are filled one after another.
 //! Each is written over the packet that the reply had in the same slot before, since a packet is large. A Ping for a
 //! member whose record is Suspect begins with that record (Lifeguard's buddy system). A Nack takes no claims (this
-//! project's choice). Pulls and Pages are in `joining.rt`.
+//! project's choice). Pulls and Pages are in `joining.rt`. Each packet has the version of this member's configuration,
+//! also one that answers a packet of the other version (this project's choice).
 //!
 //! Defined in: `specs/Meaning/Send.antt`, `specs/Support/Send.antt`.
 //! Tested in: `lg_detector_tests/src/detector/hear.rt`.
-ghost use Rattle.std.specs.Prelude.{◌≡◌, ◌≤◌, [], length};
+ghost use Rattle.std.specs.Prelude.{◌≡◌, ◌≤◌, [], length, option_copied};
 ghost use Rattle.arrayvec.specs.ArrayVec.{array_vec_len};
+ghost use Rattle.lg_detector.specs.Meaning.Send.{version_sent};
 ghost use Rattle.lg_detector.specs.Support.Send.{outgoing_state, packets_state, send_state, send_all_state};
 
 use super::Detector;
 use crate::message::Message;
 use crate::reply::{MAX_SENDS, Outgoing};
 use arrayvec::ArrayVec;
-use lg_packet::Body;
+use lg_packet::{Body, Version};
+use lg_timing::Config;
 
 /// Gives a row exactly this many packets: cuts off those beyond that, or appends further ones.
 pub(super) fn make_places(sends: &mut ArrayVec<Outgoing, MAX_SENDS>, count: usize)
@@ -23,6 +26,16 @@ pub(super) fn make_places(sends: &mut ArrayVec<Outgoing, MAX_SENDS>, count: usiz
     sends.truncate(count);
     while sends.len() < count {
         sends.push(Outgoing::default());
+    }
+}
+
+/// The version of all that a member with this configuration sends. Before an opening it is version 1.
+fn version_sent(config: Option<&Config>) -> Version
+    ensures { result ≡ version_sent (option_copied config.entry) }
+{
+    match config {
+        Some(config) if config.wire == Version::Two as u64 => Version::Two,
+        Some(_) | None => Version::One,
     }
 }
 
@@ -43,12 +56,20 @@ impl Detector {
         }
     }
 
+    /// The version of all that this member sends.
+    pub(super) fn version(&self) -> Version
+        ensures { result ≡ version_sent self.now.membership.config }
+    {
+        version_sent(self.parts.membership.config())
+    }
+
     /// Overwrites a packet. The claims that it takes of the queue count as sent.
     fn put_packet(&mut self, message: &Message, place: &mut Outgoing)
         ensures state { self.new ≡ send_state message.now.body self.old }
         ensures sent { place.new ≡ outgoing_state message.now self.old }
     {
         place.to = message.to;
+        place.packet.version = self.version();
         place.packet.sender = self.name();
         place.packet.body = message.body;
         let claims = &mut place.packet.claims;
