@@ -5,7 +5,7 @@ ghost use Rattle.std.specs.Prelude.{◌≡◌, IfOk};
 
 use arrayvec::ArrayVec;
 use lg_detector::{NoMemory, Outgoing};
-use lg_packet::{Body, Packet};
+use lg_packet::{Body, Packet, Version};
 use lg_rules::{Addr, Claim, Name};
 use std::alloc::Global;
 use std::marker::Model;
@@ -13,6 +13,7 @@ use std::marker::Model;
 /// A packet whose claims are in a list of exactly their number. A contract sees it as the packet.
 #[derive(Drop)]
 pub(crate) struct StoredPacket {
+    version: Version,
     sender: Name,
     body: Body,
     claims: Vec<Claim>,
@@ -25,7 +26,12 @@ impl Model for StoredPacket {
 
     ghost Value = { Packet };
 
-    ghost view = { λ p. record { sender = p.sender; body = p.body; claims = record { items = p.claims.items } } };
+    ghost view = { λ p. record {
+      version = p.version;
+      sender = p.sender;
+      body = p.body;
+      claims = record { items = p.claims.items };
+    } };
 
     ghost invariant = { λ p. length p.claims.items ≤ MAX_CLAIMS };
 }
@@ -37,6 +43,7 @@ impl StoredPacket {
     {
         let claims = Vec::from_slice(alloc, packet.claims.as_slice())?;
         Ok(StoredPacket {
+            version: packet.version,
             sender: packet.sender,
             body: packet.body,
             claims,
@@ -51,6 +58,7 @@ impl StoredPacket {
         let copied = claims.try_extend_from_slice(self.claims.as_slice());
         prove!(copied.is_ok());
         Packet {
+            version: self.version,
             sender: self.sender,
             body: self.body,
             claims,
