@@ -14,6 +14,7 @@ mod probing;
 mod relaying;
 mod resuming;
 mod tick;
+mod versions;
 
 pub(crate) use happening::{Happens, Says, packet_of};
 pub(crate) use playing::{Due, Step, play_on, table_of, timer_of};

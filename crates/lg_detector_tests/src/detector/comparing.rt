@@ -5,6 +5,7 @@ use lg_detector::{Detector, Outgoing, Reply};
 /// Whether two packets to be sent are equal.
 fn is_same_outgoing(one: &Outgoing, other: &Outgoing) -> bool {
     one.to == other.to
+        && one.packet.version == other.packet.version
         && one.packet.sender == other.packet.sender
         && one.packet.body == other.packet.body
         && one.packet.claims.as_slice() == other.packet.claims.as_slice()

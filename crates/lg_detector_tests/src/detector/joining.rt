@@ -1,10 +1,12 @@
 //! Joining: the Pull that an event sends, the Page that answers a Pull, and the Pull that answers a Page of six.
-use super::happening::Happens::{From, Ping, Pull};
+use super::happening::Happens::{self, From, Ping, Pull};
 use super::happening::Says::{Page, PullAfter, PullFirst};
 use super::playing::Due::Nothing;
 use super::playing::Step::{self, Acks, Changed, Fired, Hears, Known, Next, Sends, Sent, Takes};
 use super::playing::{Case, play};
+use super::versions::{VersionCase, play_versions};
 use crate::says::Said::{Alive, Failed, Suspect};
+use lg_packet::Version::{One, Two};
 
 /// b asks the member at port 7002 for its first records, and tells of itself.
 const ASKS: Case = (
@@ -206,4 +208,37 @@ fn joins(rt: HostRuntime) {
     for cases in PLAYED {
         play(&rt, rt.alloc(), cases);
     }
+}
+
+/// b is asked for its table.
+const PULLED: &[Happens<'static>] = &[From(0, "a", 1, PullFirst, &[])];
+
+/// A Page of six claims comes.
+const PAGED: &[Happens<'static>] = &[From(
+    0,
+    "a",
+    1,
+    Page,
+    &[
+        Alive("a", 0),
+        Alive("c", 0),
+        Alive("d", 0),
+        Alive("e", 0),
+        Alive("f", 0),
+        Alive("g", 0),
+    ],
+)];
+
+/// Pulls and Pages have the version of b's own `wire`, whichever version they answer.
+const VERSIONS: &[VersionCase] = &[
+    ("a Pull", 2, One, &[Pull(5)], Two),
+    ("a Page to version one", 2, One, PULLED, Two),
+    ("a Page to version two", 1, Two, PULLED, One),
+    ("the next Pull to version one", 2, One, PAGED, Two),
+    ("the next Pull to version two", 1, Two, PAGED, One),
+];
+
+#[test]
+fn joins_in_its_own_version(rt: HostRuntime) {
+    play_versions(&rt, rt.alloc(), VERSIONS);
 }

@@ -5,6 +5,7 @@ use super::resuming::resume_each;
 use crate::says::{Member, Said, are_said, claim_of, is_said, named};
 use arrayvec::ArrayVec;
 use lg_detector::{Answer, Detector, Event, MAX_MEMBERS, Outgoing, Reply, Timer, TimerId};
+use lg_packet::Version;
 use lg_rules::Record;
 use lg_testing::{incarnation, local};
 use std::alloc::Global;
@@ -95,9 +96,10 @@ pub(crate) fn timer_of(due: &Due) -> Option<Timer> {
     Some(Timer { deadline, id })
 }
 
-/// Whether a packet is one of b to a port, with this body and these claims.
+/// Whether a packet is one of b to a port, in version 1, with this body and these claims.
 fn is_sent(sent: &Outgoing, port: u16, says: &Says, said: &[Said]) -> bool {
     sent.to == local(port)
+        && sent.packet.version == Version::One
         && sent.packet.sender == named("b")
         && sent.packet.body == body_of(says)
         && are_said(sent.packet.claims.as_slice(), said)

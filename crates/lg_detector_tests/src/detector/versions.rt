@@ -1,0 +1,72 @@
+//! Plays what happens to a b with a `wire`, which hears packets of one version.
+use super::comparing::is_same_reply;
+use super::happening::Happens::{self, Opens};
+use super::happening::event_of;
+use super::playing::{blank, takes};
+use lg_detector::{Detector, Event, Reply};
+use lg_packet::Version;
+use std::alloc::Global;
+use std::process::Abort;
+
+/// A case: its name, b's `wire`, and the version of each packet that b hears. Then what happens to b after it is
+/// opened at 0, and the version of all packets that b sends at the last of it.
+pub(super) type VersionCase = (
+    &'static str,
+    u64,
+    Version,
+    &'static [Happens<'static>],
+    Version,
+);
+
+/// What happens, with packets of a version and openings with a `wire`.
+fn versioned(happens: &Happens<'_>, wire: u64, version: Version) -> Event {
+    let mut event = event_of(happens);
+    match &mut event {
+        Event::Open { config, .. } => config.wire = wire,
+        Event::Heard { packet, .. } => packet.version = version,
+        _ => {}
+    }
+    event
+}
+
+/// Plays what happens on a b with a `wire`. Returns whether all of it was accepted. Overwrites the reply with the last
+/// one.
+fn plays(
+    detector: &mut Detector,
+    wire: u64,
+    version: Version,
+    happens: &[Happens<'_>],
+    reply: &mut Reply,
+) -> bool {
+    let mut accepted = takes(
+        detector,
+        &versioned(&Opens(0, &[]), wire, version),
+        reply,
+    );
+    for one in happens {
+        accepted = takes(detector, &versioned(one, wire, version), reply) && accepted;
+    }
+    accepted
+}
+
+/// Whether packets are sent, and each has this version. Gives each version 1.
+fn were_sent_in(reply: &mut Reply, version: Version) -> bool {
+    let mut all = reply.sends.len() > 0;
+    for sent in reply.sends.iter_mut() {
+        all = sent.packet.version == version && all;
+        sent.packet.version = Version::One;
+    }
+    all
+}
+
+/// Plays each case on its own b. But for the version, the last reply is that of a b with the default `wire` which
+/// hears the same in version 1.
+pub(super) fn play_versions(rt: &impl Abort, alloc: Global, cases: &[VersionCase]) {
+    for (case, wire, heard, happens, sent) in cases {
+        let (mut reply, mut plain) = (Reply::default(), Reply::default());
+        let accepted = plays(&mut blank(rt, alloc), *wire, *heard, happens, &mut reply)
+            && plays(&mut blank(rt, alloc), 1, Version::One, happens, &mut plain);
+        let met = were_sent_in(&mut reply, *sent) && is_same_reply(&reply, &plain);
+        assert!(rt; accepted && met, "{case}: {reply:?}");
+    }
+}
