@@ -1,15 +1,14 @@
 -- What settings mean, by those with the first of their seeds.
-use Rattle.std.proofs.Common.{◌≡◌, ℕ, ◌<◌, ◌≤◌, Bool, true, false, List, [], ◌∷◌, length, leb, Option, Some, None, option_and_then, option_map, Result, Ok, Err, refl, ap, sym, ◌∙◌, arith}
-use Rattle.std.proofs.lemmas.Bool.{leb-false, leb-true}
+use Rattle.std.proofs.Common.{◌≡◌, ℕ, ◌<◌, ◌≤◌, Bool, true, false, List, length, leb, Option, Some, None, option_and_then, option_map, Result, Err, refl, ap, sym, ◌∙◌, arith}
 use Rattle.std.proofs.lemmas.Bool.Decides.{nat_tests}
 use Rattle.std.proofs.lemmas.List.{take_all}
 use Rattle.std.proofs.lemmas.Option.{same_Some}
 use Rattle.lg_rules.specs.declared.addr.Addr.{Addr}
 use Rattle.lg_timing.specs.Meaning.Bounds.{most_seeds}
 use Rattle.lg_timing.specs.Meaning.Config.{are_good_seeds, check_of, defaults, fault_checked, first_broken}
+use Rattle.lg_timing.specs.Meaning.Keys.{is_before_seeds}
 use Rattle.lg_timing.specs.declared.config.Config.{Config}
 use Rattle.lg_timing.specs.declared.config.ConfigFault.{ConfigFault}
-use Rattle.lg_timing.specs.declared.config.ConfigFault.TheVariants.{Seeds}
 use Rattle.lg_timing.specs.declared.config.Seed.{Seed}
 use Rattle.lg_timing.specs.declared.keys.Key.{Key}
 use Rattle.toml.specs.Data.{Members}
@@ -21,26 +20,32 @@ use Rattle.lg_config.specs.Meaning.Answer.{meaning_of, unless_config, unless_nod
 use Rattle.lg_config.specs.Meaning.Keys.{are_right_keys}
 use Rattle.lg_config.specs.Meaning.Settings.{addr_in, dice_in, name_in, seeds_at, seeds_of_items, settings_of}
 use Rattle.lg_config.specs.Meaning.Settings.{with_numbers, with_seeds}
-use Rattle.lg_config.specs.Support.Reading.{kept, with_first_seeds}
+use Rattle.lg_config.specs.Support.Reading.{fault_of_many, kept, with_first_seeds}
 use Rattle.lg_config.proofs.SeedLaws.{seeds-counted}
 
 -- ---- the check, if the seeds aren't good
 
-abbrev or_seeds : Result (Unit {0}) ConfigFault → Result (Unit {0}) ConfigFault
-or_seeds (Ok passed) = Err Seeds
-or_seeds (Err broken) = Err broken
+-- a key that is out of its range, and seeds that aren't good
+key-or-seeds : (key : Key) (good : Bool) → fault_checked (Some key) false ≡ Err (fault_of_many (fault_checked (Some key) good))
+key-or-seeds key good = step (is_before_seeds key) good refl
+  where
+    step : (before good : Bool) → is_before_seeds key ≡ before → fault_checked (Some key) false ≡ Err (fault_of_many (fault_checked (Some key) good))
+    step true true e = rw e refl
+    step true false e = rw (e, e) refl
+    step false true e = rw e refl
+    step false false e = rw e refl
 
-last-broken : (broken : Option Key) (good : Bool) → fault_checked broken false ≡ or_seeds (fault_checked broken good)
-last-broken None true = refl
-last-broken None false = refl
-last-broken (Some key) good = refl
+bad-seeds : (broken : Option Key) (good : Bool) → fault_checked broken false ≡ Err (fault_of_many (fault_checked broken good))
+bad-seeds None true = refl
+bad-seeds None false = refl
+bad-seeds (Some key) good = key-or-seeds key good
 
--- too many seeds are the last fault
-many-seeds : (c : Config) (seeds : List Seed) → most_seeds < length seeds → check_of (with_seeds seeds c) ≡ or_seeds (check_of (with_seeds (kept seeds) c))
+-- too many seeds
+many-seeds : (c : Config) (seeds : List Seed) → most_seeds < length seeds → check_of (with_seeds seeds c) ≡ Err (fault_of_many (check_of (with_seeds (kept seeds) c)))
 unfolding check_of
 many-seeds c seeds many =
     let past : leb (length seeds) most_seeds ≡ false = grind (arith, nat_tests) in
-    rw past (last-broken (first_broken c) (are_good_seeds c.name (kept seeds)))
+    rw past (bad-seeds (first_broken c) (are_good_seeds c.name (kept seeds)))
 
 -- ---- the seeds that settings have
 
@@ -69,45 +74,29 @@ few-kept node few = ap (λ seeds. record node { config = with_seeds seeds node.c
 few-checked : (node : NodeConfig) → length node.config.seeds.items ≤ most_seeds → check_of (with_first_seeds node).config ≡ check_of node.config
 few-checked node few = ap (λ n. check_of n.config) (few-kept node few)
 
-many-checked : (node : NodeConfig) → most_seeds < length node.config.seeds.items → check_of node.config ≡ or_seeds (check_of (with_first_seeds node).config)
+many-checked : (node : NodeConfig) → most_seeds < length node.config.seeds.items → check_of node.config ≡ Err (fault_of_many (check_of (with_first_seeds node).config))
 many-checked node many = many-seeds node.config node.config.seeds.items many
-
--- a fault of the settings with the first seeds is one of all
-broken-whole : (node : NodeConfig) (broken : ConfigFault) → check_of (with_first_seeds node).config ≡ Err broken → check_of node.config ≡ Err broken
-broken-whole node broken is = step (leb (length node.config.seeds.items) most_seeds) refl
-  where
-    step : (few : Bool) → leb (length node.config.seeds.items) most_seeds ≡ few → check_of node.config ≡ Err broken
-    step true e = sym (few-checked node (leb-true (length node.config.seeds.items) most_seeds e)) ∙ is
-    step false e = many-checked node (leb-false (length node.config.seeds.items) most_seeds e) ∙ ap or_seeds is
 
 checked-kept : (first : NodeConfig) (node : NodeConfig) (r : Result (Unit {0}) ConfigFault) → Some first ≡ Some (with_first_seeds node) → check_of first.config ≡ r → check_of (with_first_seeds node).config ≡ r
 checked-kept first node r same is = ap (λ n. check_of n.config) (sym (same_Some _ _ same)) ∙ is
 
-pub judged-broken : (m : Members) (first : NodeConfig) (broken : ConfigFault) → are_right_keys m ≡ true → Some first ≡ option_map with_first_seeds (settings_of m) → check_of first.config ≡ Err broken
-    → Err (fault.Config broken) ≡ meaning_of m
-judged-broken m first broken right found is = rw right (go (settings_of m) found)
+pub judged-many : (m : Members) (first : NodeConfig) (vs : List Value) → are_right_keys m ≡ true → Some first ≡ option_map with_first_seeds (settings_of m)
+    → items_view vs ≡ seeds_at m → most_seeds < length vs → Err (fault.Config (fault_of_many (check_of first.config))) ≡ meaning_of m
+judged-many m first vs right found same many = rw right (go (settings_of m) refl found)
   where
-    go : (settings : Option NodeConfig) → Some first ≡ option_map with_first_seeds settings → Err (fault.Config broken) ≡ unless_node settings
-    go None e = absurd cc
-    go (Some node) e = ap (unless_config node) (sym (broken-whole node broken (checked-kept first node (Err broken) e is)))
-
-pub judged-many : (m : Members) (first : NodeConfig) (vs : List Value) → are_right_keys m ≡ true → Some first ≡ option_map with_first_seeds (settings_of m) → check_of first.config ≡ Ok tt
-    → items_view vs ≡ seeds_at m → most_seeds < length vs → Err (fault.Config Seeds) ≡ meaning_of m
-judged-many m first vs right found is same many = rw right (go (settings_of m) refl found)
-  where
-    go : (settings : Option NodeConfig) → settings_of m ≡ settings → Some first ≡ option_map with_first_seeds settings → Err (fault.Config Seeds) ≡ unless_node settings
+    go : (settings : Option NodeConfig) → settings_of m ≡ settings → Some first ≡ option_map with_first_seeds settings → Err (fault.Config (fault_of_many (check_of first.config))) ≡ unless_node settings
     go None s e = absurd cc
     go (Some node) s e =
         let past : most_seeds < length node.config.seeds.items = omega (arith, many, settings-counted m node vs same s) in
-        ap (unless_config node) (sym (many-checked node past ∙ ap or_seeds (checked-kept first node (Ok tt) e is)))
+        ap (unless_config node) (sym (many-checked node past ∙ ap (λ r. Err (fault_of_many r)) (checked-kept first node _ e refl)))
 
-pub judged-good : (m : Members) (first : NodeConfig) (vs : List Value) → are_right_keys m ≡ true → Some first ≡ option_map with_first_seeds (settings_of m) → check_of first.config ≡ Ok tt
-    → items_view vs ≡ seeds_at m → length vs ≤ most_seeds → Ok first ≡ meaning_of m
-judged-good m first vs right found is same few = rw right (go (settings_of m) refl found)
+-- settings with few seeds are judged as they are checked
+pub judged-few : (m : Members) (first : NodeConfig) (vs : List Value) → are_right_keys m ≡ true → Some first ≡ option_map with_first_seeds (settings_of m)
+    → items_view vs ≡ seeds_at m → length vs ≤ most_seeds → unless_config first (check_of first.config) ≡ meaning_of m
+judged-few m first vs right found same few = rw right (go (settings_of m) refl found)
   where
-    go : (settings : Option NodeConfig) → settings_of m ≡ settings → Some first ≡ option_map with_first_seeds settings → Ok first ≡ unless_node settings
+    go : (settings : Option NodeConfig) → settings_of m ≡ settings → Some first ≡ option_map with_first_seeds settings → unless_config first (check_of first.config) ≡ unless_node settings
     go None s e = absurd cc
     go (Some node) s e =
         let within : length node.config.seeds.items ≤ most_seeds = omega (arith, few, settings-counted m node vs same s) in
-        let whole : first ≡ node = same_Some _ _ e ∙ few-kept node within in
-        ap Ok whole ∙ ap (unless_config node) (sym (sym (few-checked node within) ∙ checked-kept first node (Ok tt) e is))
+        ap (λ n. unless_config n (check_of n.config)) (same_Some _ _ e ∙ few-kept node within)

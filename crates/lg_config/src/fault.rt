@@ -14,7 +14,7 @@ use thiserror::Error;
 #[derive(Clone, Copy, Debug, PartialEq, Eq, Error)]
 pub enum FileFault {
     /// A number is out of its range, or the seeds are too many, share a name or have this member's name. If there are
-    /// several such faults, it is the first in the order of [`ConfigFault`].
+    /// several such faults, it is the one with the least number.
     #[error(transparent)]
     Config(ConfigFault),
     /// The file has more than 65,536 bytes, isn't UTF-8 or isn't TOML.
@@ -29,12 +29,12 @@ pub enum FileFault {
 }
 
 impl FileFault {
-    /// The number of the fault: 1 to 11 for those of [`ConfigFault`], and 12, 13 and 14 for the others.
+    /// The number of the fault: that of [`ConfigFault::number`], or 12, 13 or 14 for the others.
     pub fn number(self) -> u8
         ensures { result ≡ fault_number self }
     {
         match self {
-            FileFault::Config(fault) => fault as u8,
+            FileFault::Config(fault) => fault.number(),
             FileFault::Syntax => 12,
             FileFault::Key => 13,
             FileFault::Value => 14,

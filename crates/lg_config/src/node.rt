@@ -6,6 +6,7 @@ ghost use Rattle.std.specs.Prelude.{◌≡◌, IfOk};
 ghost use Rattle.toml.specs.View.{table_view};
 ghost use Rattle.lg_timing.specs.Meaning.Config.{IsChecked};
 ghost use Rattle.lg_config.specs.Meaning.Answer.{meaning_of, IsAnswer};
+ghost use Rattle.lg_config.specs.Support.Reading.{fault_of_many};
 
 use crate::document::table_in;
 use crate::fault::{FileFault, ReadFault};
@@ -25,6 +26,17 @@ pub struct NodeConfig {
     pub dice: u64,
 }
 
+/// The fault of a table with too many seeds, given what the check of a configuration with the first of them found. The
+/// faults with lesser numbers than that of the seeds don't depend on the seeds.
+fn fault_of_many(checked: Result<(), ConfigFault>) -> ConfigFault
+    ensures { result ≡ fault_of_many checked }
+{
+    match checked {
+        Err(fault) if fault.number() < ConfigFault::Seeds.number() => fault,
+        _ => ConfigFault::Seeds,
+    }
+}
+
 /// The configuration that a table means, or its fault.
 fn meaning_in(table: &Table) -> Result<NodeConfig, FileFault>
     ensures { result ≡ meaning_of (table_view table.now) }
@@ -33,19 +45,20 @@ fn meaning_in(table: &Table) -> Result<NodeConfig, FileFault>
         return Err(FileFault::Key);
     }
     let node = settings_in(table).ok_or(FileFault::Value)?;
-    if let Err(fault) = node.config.check() {
-        return Err(FileFault::Config(fault));
-    }
+    let checked = node.config.check();
     if seeds_at(table).len() > MAX_SEEDS {
-        return Err(FileFault::Config(ConfigFault::Seeds));
+        return Err(FileFault::Config(fault_of_many(checked)));
     }
-    Ok(node)
+    match checked {
+        Ok(()) => Ok(node),
+        Err(fault) => Err(FileFault::Config(fault)),
+    }
 }
 
 impl NodeConfig {
     /// The configuration that the bytes of a file mean.
     ///
-    /// The file is TOML. Its keys are `name`, which it must have, `address`, `port`, `dice`, `seeds` and the ten
+    /// The file is TOML. Its keys are `name`, which it must have, `address`, `port`, `dice`, `seeds` and the
     /// numbers of [`Config`], by the names of their fields. The error is [`ReadFault::File`] with the first of these:
     /// [`FileFault::Syntax`], [`FileFault::Key`], [`FileFault::Value`] and [`FileFault::Config`]. Or it is
     /// [`ReadFault::NoMemory`], and then nothing is known of the file.

@@ -6,7 +6,7 @@ use Rattle.std.specs.Str.{chars, is_utf8}
 use Rattle.toml.proofs.OnLiterals.{toml_on_literals}
 use Rattle.lg_rules.specs.declared.addr.Addr.{Addr}
 use Rattle.lg_timing.specs.declared.config.Config.{Config}
-use Rattle.lg_timing.specs.declared.config.ConfigFault.TheVariants.{Interval, Lambda, History, Seeds}
+use Rattle.lg_timing.specs.declared.config.ConfigFault.TheVariants.{Interval, Lambda, History, Seeds, Wire}
 use Rattle.lg_timing.specs.Meaning.Config.{check_of, defaults}
 use Rattle.lg_config.specs.declared.fault.FileFault.{FileFault}
 use Rattle.lg_config.specs.declared.fault.FileFault.TheVariants as fault
@@ -55,7 +55,7 @@ abbrev timed : List ℕ
 timed = codes "interval_ms = 200\ntimeout_ms = 50\nalpha = 2\nbeta = 3\nnack_thousandths = 6\n"
 
 abbrev counted : List ℕ
-counted = codes "indirect = 0\nmax_score = 1\nconfirmations = 4\nlambda = 5\nhistory_limit = 7\n"
+counted = codes "indirect = 0\nmax_score = 1\nconfirmations = 4\nlambda = 5\nhistory_limit = 7\nwire = 2\n"
 
 all-keys :
     answer_of (b-with (addressed ++ timed ++ counted))
@@ -72,6 +72,7 @@ all-keys :
             lambda = 5;
             nack_thousandths = 6;
             history_limit = 7;
+            wire = 2;
             seeds = record { items = record { name = 99 ∷ []; addr = local 7001 } ∷ [] };
           };
       dice = 9223372036854775807;
@@ -187,6 +188,15 @@ seeds-17 = refl
 seeds-17-and-lambda : answer_of (b-with (many-seeds ++ codes "lambda = 0")) ≡ Err (fault.Config Lambda)
 unfolding on_files
 seeds-17-and-lambda = refl
+
+-- the seeds are judged before the version of packets
+seeds-17-and-wire : answer_of (b-with (many-seeds ++ codes "wire = 0")) ≡ Err (fault.Config Seeds)
+unfolding on_files
+seeds-17-and-wire = refl
+
+third-version : answer_of (b-with (codes "wire = 3")) ≡ Err (fault.Config Wire)
+unfolding on_files
+third-version = refl
 
 -- ---- texts
 
