@@ -5,7 +5,7 @@ use Rattle.std.specs.List.{flat_map}
 use Rattle.lg_timing.specs.declared.config.Seed.{Seed}
 use Rattle.lg_script.specs.declared.command.Command.{Command}
 use Rattle.lg_script.specs.declared.command.Command.TheVariants.{Set, Open, Tick, Deliver, Ask, Health, Pull, Table}
-use Rattle.lg_timing.specs.declared.keys.Key.TheVariants.{IntervalMs, Lambda, HistoryLimit}
+use Rattle.lg_timing.specs.declared.keys.Key.TheVariants.{IntervalMs, Lambda, HistoryLimit, Wire}
 use Rattle.lg_script.specs.declared.fault.ScriptFault.{ScriptFault}
 use Rattle.lg_script.specs.declared.fault.ScriptFault.TheVariants as fault
 use Rattle.lg_script.specs.Meaning.Commands.{set_command, open_command, tick_command, deliver_command}
@@ -31,6 +31,10 @@ set-interval = refl
 set-history : command_of (codes "set history_limit 9999999999999999") ≡ gives (Set HistoryLimit 9999999999999999)
 unfolding command_of verb_of set_command
 set-history = refl
+
+set-wire : command_of (codes "set wire 2") ≡ gives (Set Wire 2)
+unfolding command_of verb_of set_command
+set-wire = refl
 
 opens-alone : command_of (codes "open a 7001 0") ≡ gives (Open (97 ∷ []) 7001 0 record { items = [] })
 unfolding command_of verb_of open_command
