@@ -149,6 +149,6 @@ fn tell<F: Write>(told: Told, faults: &mut F) -> u8
     ensures line { AppendsFront (F.contents faults.old) (F.contents faults.new) (line_of told) }
     ensures status { result ≡ status_told told }
 {
-    report(faults, told.line());
+    report(faults, told.line().as_str());
     told.status()
 }

@@ -10,4 +10,4 @@ mod telling;
 mod told;
 
 pub use launch::{run_bytes, run_config, run_file};
-pub use told::Told;
+pub use told::{MAX_LINE, Told};

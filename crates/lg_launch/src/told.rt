@@ -2,14 +2,17 @@
 //!
 //! Defined in: `specs/Meaning/Telling.antt`, `lg_config/specs/Meaning/Faults.antt`.
 //! Tested in: `lg_command_tests/src/launch/told.rt`.
-ghost use Rattle.std.specs.Prelude.{◌≡◌};
-ghost use Rattle.lg_config.specs.Meaning.Faults.{config_fault_number, fault_number};
+ghost use Rattle.std.specs.Prelude.{◌≡◌, ◌≤◌, length};
 ghost use Rattle.lg_launch.specs.Meaning.Telling.{status_told, line_of, config_line, refusal_told, fault_told};
 
+use arrayvec::ArrayString;
+use itoa::Buffer;
 use lg_agent::Refusal;
 use lg_config::FileFault;
 use lg_text::RunFault;
-use lg_timing::ConfigFault;
+
+/// The most bytes of a line, its newline included: those of `lg: config` with a number of three digits.
+pub const MAX_LINE: usize = 15;
 
 /// What is told of a node's run: an exit status, and a line on standard error if the status isn't 0 (this project's
 /// choice).
@@ -61,55 +64,45 @@ impl Told {
     }
 
     /// The line, with its newline: `lg: ` and a word, or `lg: config N` with the number of the fault. It is empty for
-    /// [`Told::Done`].
-    pub fn line(self) -> &'static str
-        ensures { result.now ≡ line_of self }
+    /// [`Told::Done`]. Allocates no memory.
+    pub fn line(self) -> ArrayString<MAX_LINE>
+        ensures { result.bytes ≡ line_of self }
     {
         match self {
-            Told::Done => "",
-            Told::Memory => RunFault::Memory.text(),
-            Told::Read => RunFault::Read.text(),
-            Told::Write => RunFault::Write.text(),
-            Told::History => "lg: history\n",
-            Told::Turns => "lg: turns\n",
-            Told::Refused => "lg: refused\n",
-            Told::Close => "lg: close\n",
-            Told::Config(fault) => config_line(fault),
-            Told::Ousted => "lg: ousted\n",
-            Told::Link => "lg: link\n",
+            Told::Done => ArrayString::new(),
+            Told::Memory => line_with(RunFault::Memory.text()),
+            Told::Read => line_with(RunFault::Read.text()),
+            Told::Write => line_with(RunFault::Write.text()),
+            Told::History => line_with("lg: history\n"),
+            Told::Turns => line_with("lg: turns\n"),
+            Told::Refused => line_with("lg: refused\n"),
+            Told::Close => line_with("lg: close\n"),
+            Told::Config(fault) => config_line(fault.number()),
+            Told::Ousted => line_with("lg: ousted\n"),
+            Told::Link => line_with("lg: link\n"),
         }
     }
 }
 
-/// The line of a faulty configuration file.
-fn config_line(fault: FileFault) -> &'static str
-    ensures { result.now ≡ config_line (fault_number fault) }
+/// A line of a text that fits.
+fn line_with(text: &str) -> ArrayString<MAX_LINE>
+    requires { length text.now ≤ MAX_LINE }
+    ensures { result.bytes ≡ text.now }
 {
-    match fault {
-        FileFault::Config(broken) => range_line(broken),
-        FileFault::Syntax => "lg: config 12\n",
-        FileFault::Key => "lg: config 13\n",
-        FileFault::Value => "lg: config 14\n",
-    }
+    let mut line = ArrayString::new();
+    line.push_str(text);
+    line
 }
 
-/// The line of a configuration file with a value out of its range.
-fn range_line(fault: ConfigFault) -> &'static str
-    ensures { result.now ≡ config_line (config_fault_number fault) }
+/// The line of a faulty configuration file, by the number of the fault.
+fn config_line(number: u8) -> ArrayString<MAX_LINE>
+    ensures { result.bytes ≡ config_line number }
 {
-    match fault {
-        ConfigFault::Interval => "lg: config 1\n",
-        ConfigFault::Timeout => "lg: config 2\n",
-        ConfigFault::Indirect => "lg: config 3\n",
-        ConfigFault::MaxScore => "lg: config 4\n",
-        ConfigFault::Alpha => "lg: config 5\n",
-        ConfigFault::Beta => "lg: config 6\n",
-        ConfigFault::Confirmations => "lg: config 7\n",
-        ConfigFault::Lambda => "lg: config 8\n",
-        ConfigFault::Nack => "lg: config 9\n",
-        ConfigFault::History => "lg: config 10\n",
-        ConfigFault::Seeds => "lg: config 11\n",
-    }
+    let mut digits = Buffer::new();
+    let mut line = line_with("lg: config ");
+    line.push_str(digits.format(number));
+    line.push_str("\n");
+    line
 }
 
 impl From<Refusal> for Told {

@@ -75,7 +75,7 @@ const ENDS: [(Of, u8, &str); 24] = [
 ];
 
 /// Each fault of a file with its number and its line.
-const FAULTS: [(FileFault, u8, &str); 14] = [
+const FAULTS: [(FileFault, u8, &str); 15] = [
     (
         FileFault::Config(ConfigFault::Interval),
         1,
@@ -110,6 +110,7 @@ const FAULTS: [(FileFault, u8, &str); 14] = [
     (FileFault::Syntax, 12, "lg: config 12\n"),
     (FileFault::Key, 13, "lg: config 13\n"),
     (FileFault::Value, 14, "lg: config 14\n"),
+    (FileFault::Config(ConfigFault::Wire), 15, "lg: config 15\n"),
 ];
 
 /// Each end has its status and its line, and each fault of a file its number, the status 3 and its line.
@@ -117,11 +118,11 @@ const FAULTS: [(FileFault, u8, &str); 14] = [
 fn statuses_and_lines(rt: HostRuntime) {
     for (of, status, line) in ENDS {
         let told = told_of(of);
-        assert!(rt; told.status() == status && told.line() == line, "{of:?}");
+        assert!(rt; told.status() == status && told.line().as_str() == line, "{of:?}");
     }
     for (fault, number, line) in FAULTS {
         let told = Told::Config(fault);
-        let met = fault.number() == number && told.status() == 3 && told.line() == line;
+        let met = fault.number() == number && told.status() == 3 && told.line().as_str() == line;
         assert!(rt; met, "{fault:?}");
     }
 }
