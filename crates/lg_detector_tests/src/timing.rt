@@ -1,11 +1,9 @@
 //! Moments, the configuration, the health score, and each function of the timeouts. What the command `timeouts`
 //! writes shows the values of the tables and of the timeouts.
-use arrayvec::ArrayVec;
 use lg_rules::Addr;
 use lg_testing::{at, letter};
 use lg_timing::{
-    Config, ConfigFault, MAX_SEEDS, Moment, Score, Seed, is_within, suspicion_ms,
-    tables_are_logarithms,
+    Config, ConfigFault, Key, Moment, Score, Seed, is_within, suspicion_ms, tables_are_logarithms,
 };
 
 /// A score of at most 8 after seven marks of 1 and one of 2, the same score after one more mark, and the interval and
@@ -34,14 +32,15 @@ fn scores() -> [u64; 6] {
     ]
 }
 
-/// The timeout among four members, the greatest moment, the later of two moments, and the number of the last fault.
+/// The timeout among four members, the greatest moment, the later of two moments, and the number of the fault of
+/// the seeds.
 fn milliseconds() -> [u64; 4] {
     let config = Config::new(letter(b'b'), Addr::default());
     [
         suspicion_ms(4, 0, &config),
         at(1_000_000_000_000_000).milliseconds(),
         at(5000).later(at(4000)).milliseconds(),
-        ConfigFault::Seeds as u64,
+        u64::from(ConfigFault::Seeds.number()),
     ]
 }
 
@@ -69,85 +68,61 @@ fn scores_ranges_and_moments(rt: HostRuntime) {
     assert_eq!(rt; ranges_and_moments(), within);
 }
 
-/// The fields with a range, in the order of their faults, with their least and their greatest number at an interval of
-/// 1000.
-const RANGES: &[(ConfigFault, u64, u64)] = &[
-    (ConfigFault::Interval, 10, 60000),
-    (ConfigFault::Timeout, 1, 999),
-    (ConfigFault::Indirect, 0, 8),
-    (ConfigFault::MaxScore, 0, 20),
-    (ConfigFault::Alpha, 1, 20),
-    (ConfigFault::Beta, 1, 20),
-    (ConfigFault::Confirmations, 0, 5),
-    (ConfigFault::Lambda, 1, 10),
-    (ConfigFault::Nack, 1, 999),
-    (ConfigFault::History, 2, 1_000_000),
+/// The keys, each with its fault, the number of that, and its least and its greatest number at an interval of 1000.
+const RANGES: &[(Key, ConfigFault, u8, u64, u64)] = &[
+    (Key::IntervalMs, ConfigFault::Interval, 1, 10, 60000),
+    (Key::TimeoutMs, ConfigFault::Timeout, 2, 1, 999),
+    (Key::Indirect, ConfigFault::Indirect, 3, 0, 8),
+    (Key::MaxScore, ConfigFault::MaxScore, 4, 0, 20),
+    (Key::Alpha, ConfigFault::Alpha, 5, 1, 20),
+    (Key::Beta, ConfigFault::Beta, 6, 1, 20),
+    (Key::Confirmations, ConfigFault::Confirmations, 7, 0, 5),
+    (Key::Lambda, ConfigFault::Lambda, 8, 1, 10),
+    (Key::NackThousandths, ConfigFault::Nack, 9, 1, 999),
+    (Key::HistoryLimit, ConfigFault::History, 10, 2, 1_000_000),
+    (Key::Wire, ConfigFault::Wire, 15, 1, 2),
 ];
 
-/// The default numbers in the order of their faults, except for a timeout that fits each interval.
-const NUMBERS: [u64; 10] = [1000, 1, 3, 8, 5, 6, 3, 4, 800, 20000];
-
-/// The member `b` with these numbers, in the order of their faults, and seeds of one letter each.
-fn config_of(numbers: &[u64; 10], letters: &[u8]) -> Config {
-    let mut seeds: ArrayVec<Seed, MAX_SEEDS> = ArrayVec::new();
+/// The member `b` with seeds of one letter each, and another number for some keys. It has the default numbers for the
+/// other keys, except for a timeout that fits each interval.
+fn config_of(keys: &[Key], number: u64, letters: &[u8]) -> Config {
+    let mut config = Config::new(letter(b'b'), Addr::default());
+    config.timeout_ms = 1;
+    for key in keys {
+        config.set(*key, number);
+    }
     for byte in letters {
-        let _ = seeds.try_push(Seed {
+        let _ = config.seeds.try_push(Seed {
             name: letter(*byte),
             addr: Addr::default(),
         });
     }
-    Config {
-        interval_ms: numbers[0],
-        timeout_ms: numbers[1],
-        indirect: numbers[2],
-        max_score: numbers[3],
-        alpha: numbers[4],
-        beta: numbers[5],
-        confirmations: numbers[6],
-        lambda: numbers[7],
-        nack_thousandths: numbers[8],
-        history_limit: numbers[9],
-        seeds,
-        name: letter(b'b'),
-        addr: Addr::default(),
-    }
+    config
 }
 
-/// The default numbers, with another number for the fields of some faults.
-fn numbers_with(fields: &[ConfigFault], number: u64) -> [u64; 10] {
-    let mut numbers = NUMBERS;
-    for field in fields {
-        let place = (*field as usize).wrapping_sub(1);
-        if place < 10 {
-            numbers[place] = number;
-        }
-    }
-    numbers
-}
-
-/// Whether a number of a field is judged right: it is good, or it has the field's fault.
-fn is_judged(field: ConfigFault, number: u64, is_good: bool) -> bool {
-    let want = if is_good { Ok(()) } else { Err(field) };
-    config_of(&numbers_with(&[field], number), b"").check() == want
+/// Whether a number of a key is judged right: it is good, or it has the key's fault.
+fn is_judged(key: Key, fault: ConfigFault, number: u64, is_good: bool) -> bool {
+    let want = if is_good { Ok(()) } else { Err(fault) };
+    config_of(&[key], number, b"").check() == want
 }
 
 /// Whether the edges of a range are good, and what is beyond them isn't.
-fn has_edges(field: ConfigFault, least: u64, most: u64) -> bool {
-    is_judged(field, least.wrapping_sub(1), false)
-        && is_judged(field, least, true)
-        && is_judged(field, most, true)
-        && is_judged(field, most.wrapping_add(1), false)
+fn has_edges(key: Key, fault: ConfigFault, least: u64, most: u64) -> bool {
+    is_judged(key, fault, least.wrapping_sub(1), false)
+        && is_judged(key, fault, least, true)
+        && is_judged(key, fault, most, true)
+        && is_judged(key, fault, most.wrapping_add(1), false)
 }
 
-/// The edges of each range are good, and what is beyond them isn't. Below 0 comes the greatest number of all. The
-/// faults are numbered from 1 on.
+/// The edges of each range are good, and what is beyond them isn't. Below 0 comes the greatest number of all. Each
+/// fault has its number.
 #[test]
 fn the_edges_of_each_range(rt: HostRuntime) {
-    for (place, (field, least, most)) in RANGES.iter().enumerate() {
-        let is_numbered = *field as usize == place + 1;
+    for (key, fault, number, least, most) in RANGES {
+        let is_numbered = fault.number() == *number;
         assert!(rt;
-            is_numbered && has_edges(*field, *least, *most),
-            "{field:?}"
+            is_numbered && has_edges(*key, *fault, *least, *most),
+            "{key:?}"
         );
     }
 }
@@ -163,7 +138,7 @@ const SEEDS: &[(&[u8], Result<(), ConfigFault>)] = &[
 
 /// Whether `b` with these seeds is judged like this, and a copy too.
 fn are_judged(letters: &[u8], want: &Result<(), ConfigFault>) -> bool {
-    let config = config_of(&NUMBERS, letters);
+    let config = config_of(&[], 0, letters);
     let copy = config.copy();
     config.check() == *want && copy.check() == *want && copy.seeds.len() == letters.len()
 }
@@ -176,40 +151,25 @@ fn seeds_have_other_names(rt: HostRuntime) {
     }
 }
 
-/// Two fields, and the fault if the numbers of both are out of their ranges.
-const TWO_FAULTS: &[(&[ConfigFault], ConfigFault)] = &[
-    (
-        &[ConfigFault::Interval, ConfigFault::Timeout],
-        ConfigFault::Interval,
-    ),
-    (
-        &[ConfigFault::Timeout, ConfigFault::Interval],
-        ConfigFault::Interval,
-    ),
-    (
-        &[ConfigFault::Timeout, ConfigFault::Indirect],
-        ConfigFault::Timeout,
-    ),
-    (&[ConfigFault::Beta, ConfigFault::Alpha], ConfigFault::Alpha),
-    (
-        &[ConfigFault::History, ConfigFault::Nack],
-        ConfigFault::Nack,
-    ),
-    (
-        &[ConfigFault::History, ConfigFault::MaxScore],
-        ConfigFault::MaxScore,
-    ),
-    (
-        &[ConfigFault::Lambda, ConfigFault::Confirmations],
-        ConfigFault::Confirmations,
-    ),
+/// Some keys, and the fault if the numbers of all of them are out of their ranges, and the seeds are bad.
+const FAULTS: &[(&[Key], ConfigFault)] = &[
+    (&[Key::IntervalMs, Key::TimeoutMs], ConfigFault::Interval),
+    (&[Key::TimeoutMs, Key::IntervalMs], ConfigFault::Interval),
+    (&[Key::TimeoutMs, Key::Indirect], ConfigFault::Timeout),
+    (&[Key::Beta, Key::Alpha], ConfigFault::Alpha),
+    (&[Key::HistoryLimit, Key::NackThousandths], ConfigFault::Nack),
+    (&[Key::HistoryLimit, Key::MaxScore], ConfigFault::MaxScore),
+    (&[Key::Lambda, Key::Confirmations], ConfigFault::Confirmations),
+    (&[Key::Wire, Key::HistoryLimit], ConfigFault::History),
+    (&[Key::Wire], ConfigFault::Seeds),
+    (&[], ConfigFault::Seeds),
 ];
 
-/// Two numbers are out of their ranges, and a seed has b's name. The fault is the first in the order of the faults.
+/// Numbers are out of their ranges, and a seed has b's name. The fault is the one with the least number.
 #[test]
-fn the_first_of_two_faults(rt: HostRuntime) {
-    for (fields, want) in TWO_FAULTS {
-        let config = config_of(&numbers_with(fields, 2_000_000), b"b");
-        assert!(rt; config.check() == Err(*want), "{fields:?}");
+fn the_first_of_several_faults(rt: HostRuntime) {
+    for (keys, want) in FAULTS {
+        let config = config_of(keys, 2_000_000, b"b");
+        assert!(rt; config.check() == Err(*want), "{keys:?}");
     }
 }
