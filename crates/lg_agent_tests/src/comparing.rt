@@ -4,7 +4,8 @@ use lg_packet::Packet;
 use lg_timing::Config;
 
 fn is_same_packet(one: &Packet, other: &Packet) -> bool {
-    one.sender == other.sender
+    one.version == other.version
+        && one.sender == other.sender
         && one.body == other.body
         && one.claims.as_slice() == other.claims.as_slice()
 }

@@ -1,7 +1,7 @@
 //! Worked events with their replies: each kind of event, each part of a reply, and what takes the most memory.
 use arrayvec::ArrayVec;
 use lg_detector::{Answer, Event, MAX_SENDS, Outgoing, Reply, Timer, TimerId};
-use lg_packet::Body;
+use lg_packet::{Body, Version};
 use lg_rules::{Addr, Claim, Incarnation, Name};
 use lg_testing::{ack, alive, at, failed, letter, local, packet, said, suspect};
 use lg_timing::{Config, Seed};
@@ -82,6 +82,18 @@ pub(super) fn ping() -> Row {
         reply,
         chosen: None,
     }
+}
+
+/// That Ping and its Ack, in version 2.
+fn version_two() -> Row {
+    let mut row = ping();
+    if let Event::Heard { packet, .. } = &mut row.event {
+        packet.version = Version::Two;
+    }
+    for sent in row.reply.sends.iter_mut() {
+        sent.packet.version = Version::Two;
+    }
+    row
 }
 
 /// c is asked for at 20, and known.
@@ -197,10 +209,11 @@ fn full() -> Row {
 }
 
 /// All of them.
-pub(super) fn all() -> [Row; 9] {
+pub(super) fn all() -> [Row; 10] {
     [
         opening(),
         ping(),
+        version_two(),
         question(),
         health(),
         round_start(),
