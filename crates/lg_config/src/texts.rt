@@ -1,51 +1,14 @@
 //! Reads the texts of a file: names, addresses, ports and seeds.
 //!
-//! Defined in: `specs/Meaning/Texts.antt`.
+//! Defined in: `specs/Meaning/Texts.antt`, `lg_text/specs/Meaning/Cutting.antt`, `Numbers.antt`.
 //! Tested in: `cases/config_forms.case`, `cases/config_seeds.case`.
-ghost use Rattle.std.specs.Prelude.{◌≡◌, ◌==◌, position};
-ghost use Rattle.lg_config.specs.Meaning.Texts.{address_of, before, behind, name_of_setting, octet_of, octets_of};
-ghost use Rattle.lg_config.specs.Meaning.Texts.{port_among, port_of_text, seed_of_text};
+ghost use Rattle.std.specs.Prelude.{◌≡◌};
+ghost use Rattle.lg_config.specs.Meaning.Texts.{address_of, name_of_setting, octet_of, octets_of, seed_of_text};
 
 use lg_rules::{Addr, Name};
-use lg_text::number_in;
-use lg_timing::{Seed, is_within};
-
-/// The place of the first such byte in a text.
-fn place_of(text: &[u8], byte: u8) -> Option<usize>
-    ensures { result ≡ position (λ b. b == byte) text.now }
-{
-    text.iter().position(|b| *b == byte)
-}
-
-/// What stands before the first such byte, and what stands after it: nothing if there is none.
-#[tactic(auto, unfolding(crate::specs::Meaning::Texts::before, crate::specs::Meaning::Texts::behind))]
-fn cut_at(text: &[u8], byte: u8) -> (&[u8], &[u8])
-    ensures first { result.0.now ≡ before byte text.now }
-    ensures rest { result.1.now ≡ behind byte text.now }
-{
-    match place_of(text, byte) {
-        Some(at) => (&text[..at], &text[at + 1..]),
-        None => (text, &[]),
-    }
-}
-
-/// A number, if it is that of a port, 1 to 65535.
-pub(crate) fn port_among(number: u64) -> Option<u16>
-    ensures { result ≡ port_among number }
-{
-    if is_within(1, u64::from(u16::MAX), number) {
-        Some(number as u16)
-    } else {
-        None
-    }
-}
-
-/// The port that a text spells.
-fn port_in(text: &[u8]) -> Option<u16>
-    ensures { result ≡ port_of_text text.now }
-{
-    port_among(number_in(text)?)
-}
+pub(crate) use lg_text::port_among;
+use lg_text::{cut_at, number_in, port_in};
+use lg_timing::Seed;
 
 /// The number of an address that a text spells, 0 to 255.
 fn octet_in(text: &[u8]) -> Option<u8>
@@ -54,18 +17,18 @@ fn octet_in(text: &[u8]) -> Option<u8>
     u8::try_from(number_in(text)?).ok()
 }
 
-/// The four numbers of the address that a text spells: A.B.C.D. An empty part is no number.
+/// The four numbers of the address that a text spells: A.B.C.D.
 #[tactic(auto, unfolding(crate::specs::Meaning::Texts::octets_of))]
 pub(crate) fn octets_in(text: &[u8]) -> Option<[u8; 4]>
     ensures { result ≡ octets_of text.now }
 {
     let (first, rest) = cut_at(text, b'.');
-    let (second, rest) = cut_at(rest, b'.');
-    let (third, fourth) = cut_at(rest, b'.');
+    let (second, rest) = cut_at(rest?, b'.');
+    let (third, fourth) = cut_at(rest?, b'.');
     let first = octet_in(first)?;
     let second = octet_in(second)?;
     let third = octet_in(third)?;
-    let fourth = octet_in(fourth)?;
+    let fourth = octet_in(fourth?)?;
     Some([first, second, third, fourth])
 }
 
@@ -76,7 +39,7 @@ fn address_in(text: &[u8]) -> Option<Addr>
 {
     let (octets, port) = cut_at(text, b':');
     let octets = octets_in(octets)?;
-    let port = port_in(port)?;
+    let port = port_in(port?)?;
     Some(Addr { octets, port })
 }
 
@@ -94,6 +57,6 @@ pub(crate) fn seed_in(text: &[u8]) -> Option<Seed>
 {
     let (name, addr) = cut_at(text, b'@');
     let name = name_in(name)?;
-    let addr = address_in(addr)?;
+    let addr = address_in(addr?)?;
     Some(Seed { name, addr })
 }

@@ -1,15 +1,14 @@
 //! Reads single words.
 //!
-//! Defined in: `specs/Meaning/Values.antt`.
+//! Defined in: `specs/Meaning/Values.antt`, `lg_text/specs/Meaning/Numbers.antt`, `Cutting.antt`.
 //! Tested in: `cases/sim_commands.case`, `cases/sim_lines.case`.
 ghost use Rattle.std.specs.Prelude.{◌≡◌};
-ghost use Rattle.lg_script.specs.Meaning.Values.{local, moment_of, member_name_of};
-ghost use Rattle.lg_script.specs.Meaning.Values.{number_within, port_of, random_word_of, seed_of};
+ghost use Rattle.lg_script.specs.Meaning.Values.{local, moment_of, member_name_of, random_word_of, seed_of};
 
-use crate::words::cut_at;
 use lg_rules::{Addr, Name};
-use lg_text::number_in;
-use lg_timing::{MAX_MOMENT, Moment, Seed, is_within};
+pub(crate) use lg_text::port_in;
+use lg_text::{cut_at, number_within};
+use lg_timing::{MAX_MOMENT, Moment, Seed};
 
 /// The address that all members of a script share: 127.0.0.1 (this project's choice).
 pub const LOCALHOST: [u8; 4] = [127, 0, 0, 1];
@@ -21,27 +20,11 @@ pub fn local(port: u16) -> Addr
     Addr::new(LOCALHOST, port)
 }
 
-/// The number that a word spells, if it is at least `least` and at most `most`.
-fn number_within(word: &[u8], least: u64, most: u64) -> Option<u64>
-    ensures { result ≡ number_within least most word.now }
-{
-    let number = number_in(word)?;
-    is_within(least, most, number).then_some(number)
-}
-
 /// The moment that a word spells, 0 to 1,000,000,000,000,000.
 pub(crate) fn moment_in(word: &[u8]) -> Option<Moment>
     ensures { result ≡ moment_of word.now }
 {
     Moment::new(number_within(word, 0, MAX_MOMENT)?)
-}
-
-/// The port that a word spells, 1 to 65535.
-pub(crate) fn port_in(word: &[u8]) -> Option<u16>
-    ensures { result ≡ port_of word.now }
-{
-    let port = number_within(word, 1, u64::from(u16::MAX))?;
-    Some(port as u16)
 }
 
 /// The random word of a tick that a word spells, 0 to 4,294,967,295.

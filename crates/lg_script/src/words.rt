@@ -1,31 +1,16 @@
 //! Cuts a line into its words.
 //!
-//! Defined in: `specs/Meaning/Words.antt`, `specs/Meaning/Commands.antt`.
+//! Defined in: `specs/Meaning/Words.antt`, `specs/Meaning/Commands.antt`, `lg_text/specs/Meaning/Cutting.antt`.
 //! Tested in: `cases/sim_lines.case`.
-ghost use Rattle.std.specs.Prelude.{◌≡◌, ◌∷◌, count_by, drop, find, position};
-ghost use Rattle.std.specs.List.{before_first, list_all};
+ghost use Rattle.std.specs.Prelude.{◌≡◌, ◌∷◌, count_by, drop, find};
+ghost use Rattle.std.specs.List.{list_all};
 ghost use Rattle.std.specs.Option.{option_map};
 ghost use Rattle.lg_script.specs.Meaning.Commands.{word_at};
 ghost use Rattle.lg_script.specs.Meaning.Words.{is_filled, parts_of};
-ghost use Rattle.lg_script.specs.Support.Cutting.{is_byte, rest_behind, words_left};
+ghost use Rattle.lg_script.specs.Support.Cutting.{words_left};
+ghost use Rattle.lg_text.specs.Meaning.Cutting.{is_byte};
 
-/// The place of the first such byte in a text.
-fn place_of(text: &[u8], byte: u8) -> Option<usize>
-    ensures { result ≡ position (is_byte byte) text.now }
-{
-    text.iter().position(|b| *b == byte)
-}
-
-/// What stands before the first such byte, and what stands after it, if there is one.
-pub(crate) fn cut_at(text: &[u8], byte: u8) -> (&[u8], Option<&[u8]>)
-    ensures first { result.0.now ≡ before_first (is_byte byte) text.now }
-    ensures rest { option_map (λ rest. rest.now) result.1 ≡ rest_behind byte text.now }
-{
-    match place_of(text, byte) {
-        Some(at) => (&text[..at], Some(&text[at + 1..])),
-        None => (text, None),
-    }
-}
+use lg_text::cut_at;
 
 /// The first part of a text, and what is left after its space, if there is one.
 pub(crate) fn cut_part(text: &[u8]) -> (&[u8], Option<&[u8]>)

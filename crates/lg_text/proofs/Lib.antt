@@ -1,2 +1,3 @@
+pub mod CuttingLaws
 pub mod LineLaws
 pub mod NumberLaws

@@ -1,7 +1,9 @@
 -- What is right: whoever wants to believe the contracts reads these.
+pub mod Cutting
 pub mod Examples
 pub mod Faults
 pub mod Lines
 pub mod Numbers
 pub mod Ranges
 pub mod Running
+pub mod Steps

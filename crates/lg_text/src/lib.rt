@@ -1,7 +1,8 @@
-//! Reads an input whole, up to a limit, and finds its lines and numbers. Writes a text whole, or a line as far as the
-//! writer takes it.
+//! Reads an input whole, up to a limit, and finds its lines. Cuts a text at a byte, and reads numbers and ports. Writes
+//! a text whole, or a line as far as the writer takes it.
 #![tactic(auto)]
 
+mod cutting;
 mod end;
 mod fault;
 mod input;
@@ -9,9 +10,10 @@ mod lines;
 mod number;
 mod output;
 
+pub use cutting::cut_at;
 pub use end::End;
 pub use fault::RunFault;
 pub use input::{MAX_INPUT, read_input};
 pub use lines::cut_line;
-pub use number::{MAX_DIGITS, number_in};
+pub use number::{MAX_DIGITS, number_in, number_within, port_among, port_in};
 pub use output::{report, write_whole};

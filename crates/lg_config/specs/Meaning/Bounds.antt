@@ -6,13 +6,6 @@ use Rattle.std.specs.Prelude.{ℕ, ◌^◌, ◌-◌, List, codes}
 abbrev pub most_bytes : ℕ
 most_bytes = 65536
 
--- a port: no member is reached at 0, and 65535 is the greatest number of 16 bits
-abbrev pub least_port : ℕ
-least_port = 1
-
-abbrev pub most_port : ℕ
-most_port = 65535
-
 -- the greatest value of each of the four numbers of an address
 abbrev pub most_octet : ℕ
 most_octet = 255

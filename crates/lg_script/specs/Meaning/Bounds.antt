@@ -5,10 +5,6 @@ use Rattle.std.specs.Prelude.{ℕ}
 abbrev pub greatest_moment : ℕ
 greatest_moment = 1000000000000000
 
--- the greatest port, which is the greatest number of 16 bits
-abbrev pub greatest_port : ℕ
-greatest_port = 65535
-
 -- how many random words a tick has, and the greatest random word, which is the greatest number of 32 bits
 abbrev pub random_words : ℕ
 random_words = 8

@@ -8,6 +8,7 @@ use Rattle.lg_script.specs.declared.command.Command.TheVariants.{Set, Open, Tick
 use Rattle.lg_timing.specs.declared.keys.Key.TheVariants.{IntervalMs, Lambda, HistoryLimit, Wire}
 use Rattle.lg_script.specs.declared.fault.ScriptFault.{ScriptFault}
 use Rattle.lg_script.specs.declared.fault.ScriptFault.TheVariants as fault
+use Rattle.lg_text.specs.Meaning.Cutting.{before, behind}
 use Rattle.lg_script.specs.Meaning.Commands.{set_command, open_command, tick_command, deliver_command}
 use Rattle.lg_script.specs.Meaning.Commands.{ask_command, health_command, pull_command, table_command}
 use Rattle.lg_script.specs.Meaning.Lines.{command_of}
@@ -45,7 +46,7 @@ b-at-7002 = record { name = 98 ∷ []; addr = record { octets = 127 ∷ 0 ∷ 0 
 
 opens-with-seed : command_of (codes "open a 65535 1000 b:7002")
     ≡ gives (Open (97 ∷ []) 65535 1000 record { items = b-at-7002 ∷ [] })
-unfolding command_of verb_of open_command b-at-7002
+unfolding command_of verb_of open_command before behind b-at-7002
 opens-with-seed = refl
 
 ticks : command_of (codes "tick z 1000000000000000")
@@ -187,11 +188,11 @@ unfolding command_of verb_of tick_command
 great-random-word = refl
 
 seed-without-port : command_of (codes "open a 7001 0 b") ≡ Err fault.Value
-unfolding command_of verb_of open_command
+unfolding command_of verb_of open_command before behind
 seed-without-port = refl
 
 seed-with-two-colons : command_of (codes "open a 7001 0 b:1:2") ≡ Err fault.Value
-unfolding command_of verb_of open_command
+unfolding command_of verb_of open_command before behind
 seed-with-two-colons = refl
 
 -- some seeds, all alike
@@ -208,7 +209,7 @@ b-at-1 = record { name = 98 ∷ []; addr = local 1 }
 -- whether their names differ is judged elsewhere
 seeds-16 : command_of (codes "open a 7001 0" ++ seeds 16)
     ≡ gives (Open (97 ∷ []) 7001 0 record { items = replicate 16 b-at-1 })
-unfolding command_of verb_of open_command b-at-1
+unfolding command_of verb_of open_command before behind b-at-1
 seeds-16 = refl
 
 unknown-key : command_of (codes "set seeds 1") ≡ Err fault.Value

@@ -1,36 +1,21 @@
--- What one word of a line says: a number, a moment, a port, a random word, a name, a seed. What key it names is said
--- by `key_named` of `lg_timing`.
-use Rattle.std.specs.Prelude.{ℕ, ◌-◌, ◌==◌, Bool, nat_le, List, []}
+-- What one word of a line says: a moment, a random word, a name, a seed. What number and what port it spells is said
+-- by `number_of` and `port_of` of `lg_text`, and what key it names by `key_named` of `lg_timing`.
+use Rattle.std.specs.Prelude.{ℕ, ◌-◌, nat_le, List, []}
 use Rattle.std.specs.Prelude.{◌∷◌, ◌++◌, length, replicate}
-use Rattle.std.specs.Prelude.{Option, Some, None, option_and_then, if◌then◌else◌}
-use Rattle.std.specs.List.{before_first, after_first}
+use Rattle.std.specs.Prelude.{Option, Some, None, if◌then◌else◌}
 use Rattle.std.specs.Option.{option_map}
 use Rattle.lg_rules.specs.Meaning.Name.{is_name}
 use Rattle.lg_rules.specs.declared.addr.Addr.{Addr}
 use Rattle.lg_timing.specs.Meaning.Bounds.{most_seeds}
-use Rattle.lg_timing.specs.Meaning.Config.{is_within}
 use Rattle.lg_timing.specs.declared.config.Seed.{Seed}
-use Rattle.lg_text.specs.Meaning.Numbers.{number_of}
-use Rattle.lg_script.specs.Meaning.Bounds.{greatest_moment, greatest_port}
-use Rattle.lg_script.specs.Meaning.Bounds.{random_words, greatest_random_word}
-
--- what follows from a value, if there is one
-infixl 10 ◌>>=◌
-abbrev pub ◌>>=◌ : {A B : Type 0} → Option A → (A → Option B) → Option B
-found >>= f = option_and_then f found
-
--- the number that a word spells, if it is at least `least` and at most `most`
-abbrev pub number_within : ℕ → ℕ → List ℕ → Option ℕ
-number_within least most word = do
-  number ← number_of word
-  if is_within least most number then Some number else None
+use Rattle.lg_text.specs.Meaning.Cutting.{before, behind, colon}
+use Rattle.lg_text.specs.Meaning.Numbers.{number_within, port_of}
+use Rattle.lg_text.specs.Meaning.Steps.{◌>>=◌}
+use Rattle.lg_script.specs.Meaning.Bounds.{greatest_moment, random_words, greatest_random_word}
 
 -- a moment, in milliseconds
 abbrev pub moment_of : List ℕ → Option ℕ
 moment_of word = number_within 0 greatest_moment word
-
-abbrev pub port_of : List ℕ → Option ℕ
-port_of word = number_within 1 greatest_port word
 
 abbrev pub random_word_of : List ℕ → Option ℕ
 random_word_of word = number_within 0 greatest_random_word word
@@ -42,15 +27,12 @@ member_name_of word = if is_name word then Some word else None
 abbrev pub local : ℕ → Addr
 local port = record { octets = 127 ∷ 0 ∷ 0 ∷ 1 ∷ []; port = port }
 
--- whether a byte is `:`
-abbrev pub is_colon : ℕ → Bool
-is_colon b = b == 58
-
 -- a seed, cut at the first colon: a name stands before it, and a port after it
 abbrev pub seed_of : List ℕ → Option Seed
 seed_of word = do
-  name ← member_name_of (before_first is_colon word)
-  port ← port_of (after_first is_colon word)
+  name ← member_name_of (before colon word)
+  rest ← behind colon word
+  port ← port_of rest
   Some record { name = name; addr = local port }
 
 -- the values of some words; None if one of them can't be read

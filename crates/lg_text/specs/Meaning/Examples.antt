@@ -1,8 +1,9 @@
 -- Worked rows.
 use Rattle.std.specs.Prelude.{◌≡◌, [], ◌∷◌, ◌++◌, Some, None, codes, refl}
+use Rattle.lg_text.specs.Meaning.Cutting.{before, behind, colon}
 use Rattle.lg_text.specs.Meaning.Faults.{run_fault_text}
 use Rattle.lg_text.specs.Meaning.Lines.{lines_of}
-use Rattle.lg_text.specs.Meaning.Numbers.{number_of}
+use Rattle.lg_text.specs.Meaning.Numbers.{number_of, number_within, port_of}
 use Rattle.lg_text.specs.declared.fault.RunFault.TheVariants.{Read}
 
 two-lines : lines_of (codes "ab" ++ 10 ∷ 10 ∷ codes "c") ≡ codes "ab" ∷ [] ∷ codes "c" ∷ []
@@ -13,6 +14,26 @@ ended-line = refl
 
 no-line : lines_of [] ≡ []
 no-line = refl
+
+before-first-colon : before colon (codes "a:b:c") ≡ codes "a"
+unfolding before
+before-first-colon = refl
+
+behind-first-colon : behind colon (codes "a:b:c") ≡ Some (codes "b:c")
+unfolding behind
+behind-first-colon = refl
+
+behind-last-colon : behind colon (codes "a:") ≡ Some []
+unfolding behind
+behind-last-colon = refl
+
+before-no-colon : before colon (codes "a") ≡ codes "a"
+unfolding before
+before-no-colon = refl
+
+behind-no-colon : behind colon (codes "a") ≡ None
+unfolding behind
+behind-no-colon = refl
 
 zeros-first : number_of (codes "0042") ≡ Some 42
 zeros-first = refl
@@ -29,6 +50,21 @@ signed = refl
 
 no-digit : number_of [] ≡ None
 no-digit = refl
+
+within : number_within 5 7 (codes "7") ≡ Some 7
+within = refl
+
+beyond : number_within 5 7 (codes "8") ≡ None
+beyond = refl
+
+greatest-port : port_of (codes "65535") ≡ Some 65535
+greatest-port = refl
+
+no-port : port_of (codes "0") ≡ None
+no-port = refl
+
+past-ports : port_of (codes "65536") ≡ None
+past-ports = refl
 
 read-fault : run_fault_text Read ≡ codes "lg: read" ++ 10 ∷ []
 read-fault = refl

@@ -2,7 +2,7 @@ use Rattle.std.proofs.Common.{rules, tests}
 use Rattle.std.proofs.lemmas.Iterator.Search.{find_from_yields_List}
 use Rattle.std.proofs.lemmas.Iterator.Splits.{YieldsList-from_slice_split}
 use Rattle.lg_script.specs.Meaning.Words.{is_filled}
-use Rattle.lg_script.specs.Support.Cutting.{is_byte}
+use Rattle.lg_text.specs.Meaning.Cutting.{is_byte}
 use Rattle.lg_script.proofs.words.first_word.Goals as goal
 
 pub returns : goal.returns

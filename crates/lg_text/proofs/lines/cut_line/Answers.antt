@@ -1,9 +1,13 @@
-use Rattle.std.proofs.Common.{sym, ◌∙◌}
-use Rattle.lg_text.proofs.LineLaws.{lines_of-at, lines_of-whole}
+use Rattle.std.proofs.Common.{refl}
+use Rattle.lg_text.proofs.LineLaws.{line-within, lines-cut, rest-shorter}
 use Rattle.lg_text.proofs.lines.cut_line.Goals as goal
 
-pub returns-in-Some-clause-lines : goal.returns-in-Some-clause-lines
-returns-in-Some-clause-lines c = lines_of-at c.args.text.now c.in-Some.at (sym c.in-Some.is ∙ c.first_newline.ensures)
+pub returns-clause-lines : goal.returns-clause-lines
+returns-clause-lines c =
+    rw c.unwrap_or.ensures (lines-cut c.args.text.now c.cut_at.result.0.now c.cut_at.result.1 _ c.requires c.cut_at.ensures.before c.cut_at.ensures.behind refl)
 
-pub returns-in-None-clause-lines : goal.returns-in-None-clause-lines
-returns-in-None-clause-lines c = lines_of-whole c.args.text.now c.requires (sym c.in-None.is ∙ c.first_newline.ensures)
+pub returns-clause-within : goal.returns-clause-within
+returns-clause-within c = line-within c.args.text.now c.cut_at.result.0.now c.cut_at.ensures.before
+
+pub returns-clause-shorter : goal.returns-clause-shorter
+returns-clause-shorter c = rw c.unwrap_or.ensures (rest-shorter c.args.text.now c.cut_at.result.1 _ c.requires c.cut_at.ensures.behind refl)

@@ -1,6 +1,6 @@
 use Rattle.std.proofs.Common.{◌≡◌, ◌++◌, List, ℕ, ap, sym, ◌∙◌, append_assoc, take, drop, take-append-drop, length, ◌-◌}
 use Rattle.std.proofs.KnownBytes.{Appends-kept, Appends-trans}
-use Rattle.lg_text.proofs.LineLaws.{rest_of}
+use Rattle.lg_text.proofs.CuttingLaws.{rest_of}
 use Rattle.lg_text.proofs.output.write_pieces.Goals.{in-Ok, in-Err+else-ne}
 use Rattle.lg_text.proofs.output.write_pieces.Goals as goal
 
