@@ -1,15 +1,13 @@
 //! Runs the commands over a reader and a writer.
 //!
-//! Defined in: `specs/Meaning/Running.antt`, `specs/Meaning/Answering.antt`, `specs/Meaning/Choosing.antt`.
+//! Defined in: `lg_text/specs/Meaning/Running.antt`, `specs/Meaning/Answering.antt`, `specs/Meaning/Choosing.antt`.
 //! Tested in: `cases/limits.case`, `lg_command_tests/src/readers.rt`, `lg_command_tests/src/writers.rt`.
-ghost use Rattle.std.specs.Prelude.{◌≡◌, ◌≢◌, ◌⊎◌, ◌+◌, ◌≤◌};
-ghost use Rattle.std.specs.Prelude.{◌<◌, true, Err, IfErr, IfOk, IfSome, IsOkAnd, OnOk};
-ghost use Rattle.std.specs.Prelude.{length};
+ghost use Rattle.std.specs.Prelude.{◌≡◌, ◌≢◌, ◌⊎◌, true, Err, IfErr, IsOkAnd, OnOk};
 ghost use Rattle.std.specs.Io.KnownBytes.{Appends};
-ghost use Rattle.lg_text.specs.Meaning.Running.{ReadsWhole, TakesAtMost};
+ghost use Rattle.lg_text.specs.Meaning.Running.{RunsWhole};
 ghost use Rattle.lg_commands.specs.Meaning.Answering.{answer_end, answer_text};
 ghost use Rattle.lg_commands.specs.Meaning.Choosing.{order_text};
-ghost use Rattle.lg_commands.specs.Meaning.Running.{AnswersInput, IsFaultOf};
+ghost use Rattle.lg_commands.specs.Meaning.Running.{IsFaultOf};
 ghost use Rattle.lg_commands.specs.Meaning.Timeouts.{are_good, timeouts_text};
 
 use crate::answer::answer;
@@ -42,27 +40,9 @@ pub fn answer_run<R: Read, W: Write>(
     writer: &mut W,
     name: &Name,
 ) -> Result<End, RunFault>
-    // If the reader tells its bytes, the answer to them is written, and the end is that of these bytes.
-    ensures text { OnOk result (IfSome (R.remaining reader.old) (λ input.
-        Appends (W.contents writer.old) (W.contents writer.new) (answer_text name.now input))) }
-    ensures end { IfOk result (λ end. IfSome (R.remaining reader.old) (λ input. end ≡ answer_end input)) }
-    ensures few { OnOk result (IfSome (R.remaining reader.old) (λ input. length input ≤ MAX_INPUT)) }
-
-    // With any reader, what is written answers what was read, and the input was read to its end.
-    ensures answers { IfOk result (λ end. AnswersInput (R.remaining reader.old) (R.remaining reader.new)
-        (W.contents writer.old) (W.contents writer.new) name.now end) }
-    ensures taken { TakesAtMost (MAX_INPUT + 1) (R.remaining reader.old) (R.remaining reader.new) }
-
-    // On an error nothing is written, unless it was the writing that failed; then the whole input was read.
-    ensures unwritten { IfErr result (λ fault. fault ≢ RunFault.Write → writer.new ≡ writer.old) }
-    ensures whole { IfErr result (λ fault. fault ≡ RunFault.Write
-        → ReadsWhole (R.remaining reader.old) (R.remaining reader.new)) }
-    // A byte past the longest input is taken only if the fault is one of reading.
-    ensures within { IfErr result (λ fault. fault ≢ RunFault.Read
-        → TakesAtMost MAX_INPUT (R.remaining reader.old) (R.remaining reader.new)) }
-    // So nothing is written for an input that is too long.
-    ensures long { IfSome (R.remaining reader.old) (λ input. MAX_INPUT < length input
-        → (writer.new ≡ writer.old) × ((result ≡ Err RunFault.Read) ⊎ (result ≡ Err RunFault.Memory))) }
+    // What is written is the answer to the input that was read, and the end is that of the input.
+    ensures { RunsWhole (answer_text name.now) answer_end (R.remaining reader.old) (R.remaining reader.new)
+        writer.old writer.new (W.contents writer.old) (W.contents writer.new) result }
 {
     let input = read_input(alloc, reader)?;
     let answered = answer(alloc, name, &input)?;

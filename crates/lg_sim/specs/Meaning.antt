@@ -3,5 +3,4 @@ pub mod Examples
 pub mod Members
 pub mod Outcome
 pub mod Past
-pub mod Running
 pub mod Text

@@ -1,12 +1,8 @@
 //! Runs a script over a reader and a writer.
 //!
-//! Defined in: `specs/Meaning/Running.antt`, `specs/Meaning/Text.antt`, `lg_text/specs/Meaning/Running.antt`.
+//! Defined in: `specs/Meaning/Text.antt`, `lg_text/specs/Meaning/Running.antt`.
 //! Tested in: `cases/limits.case`, `lg_command_tests/src/readers.rt`, `lg_command_tests/src/writers.rt`.
-ghost use Rattle.std.specs.Prelude.{◌≡◌, ◌≢◌, ◌⊎◌, ◌+◌, ◌≤◌};
-ghost use Rattle.std.specs.Prelude.{◌<◌, Err, IfErr, IfOk, IfSome, OnOk, length};
-ghost use Rattle.std.specs.Io.KnownBytes.{Appends};
-ghost use Rattle.lg_text.specs.Meaning.Running.{ReadsWhole, TakesAtMost};
-ghost use Rattle.lg_sim.specs.Meaning.Running.{RunsInput};
+ghost use Rattle.lg_text.specs.Meaning.Running.{RunsWhole};
 ghost use Rattle.lg_sim.specs.Meaning.Text.{script_end, script_text};
 
 use crate::script::run_script;
@@ -39,27 +35,9 @@ pub fn run<R: Read, W: Write>(
     reader: &mut R,
     writer: &mut W,
 ) -> Result<End, RunFault>
-    // If the reader tells its bytes, the text of their script is written, and the end is that of the script.
-    ensures text { OnOk result (IfSome (R.remaining reader.old) (λ input.
-        Appends (W.contents writer.old) (W.contents writer.new) (script_text input))) }
-    ensures end { IfOk result (λ end. IfSome (R.remaining reader.old) (λ input. end ≡ script_end input)) }
-    ensures few { OnOk result (IfSome (R.remaining reader.old) (λ input. length input ≤ MAX_INPUT)) }
-
-    // With any reader, what is written is the text of what was read, and the input was read to its end.
-    ensures runs { IfOk result (λ end. RunsInput (R.remaining reader.old) (R.remaining reader.new)
-        (W.contents writer.old) (W.contents writer.new) end) }
-    ensures taken { TakesAtMost (MAX_INPUT + 1) (R.remaining reader.old) (R.remaining reader.new) }
-
-    // On an error nothing is written, unless it was the writing that failed; then the whole input was read.
-    ensures unwritten { IfErr result (λ fault. fault ≢ RunFault.Write → writer.new ≡ writer.old) }
-    ensures whole { IfErr result (λ fault. fault ≡ RunFault.Write
-        → ReadsWhole (R.remaining reader.old) (R.remaining reader.new)) }
-    // A byte past the longest input is taken only if the fault is one of reading.
-    ensures within { IfErr result (λ fault. fault ≢ RunFault.Read
-        → TakesAtMost MAX_INPUT (R.remaining reader.old) (R.remaining reader.new)) }
-    // So nothing is written for an input that is too long.
-    ensures long { IfSome (R.remaining reader.old) (λ input. MAX_INPUT < length input
-        → (writer.new ≡ writer.old) × ((result ≡ Err RunFault.Read) ⊎ (result ≡ Err RunFault.Memory))) }
+    // What is written is the text of the script that was read, and the end is that of the script.
+    ensures { RunsWhole script_text script_end (R.remaining reader.old) (R.remaining reader.new)
+        writer.old writer.new (W.contents writer.old) (W.contents writer.new) result }
 {
     let input = read_input(alloc, reader)?;
     let written = run_script(alloc, &input)?;

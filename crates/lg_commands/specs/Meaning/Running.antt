@@ -1,15 +1,13 @@
 -- How the runs of the commands end.
-use Rattle.std.specs.Prelude.{◌≡◌, ◌≢◌, ⊤, true, ℕ, ◌≤◌}
-use Rattle.std.specs.Prelude.{List, [], length, is_ok, Option, Result, Ok, Err}
-use Rattle.std.specs.Io.KnownBytes.{Appends, Consumes, IsAtEnd}
+use Rattle.std.specs.Prelude.{◌≡◌, ◌≢◌, ⊤, true, ℕ, List, [], is_ok, Option, Result, Ok, Err}
+use Rattle.std.specs.Io.KnownBytes.{Appends}
 use Rattle.lg_text.specs.Meaning.Faults.{run_fault_text}
-use Rattle.lg_text.specs.Meaning.Ranges.{most_input}
-use Rattle.lg_text.specs.Meaning.Running.{AppendsFront}
+use Rattle.lg_text.specs.Meaning.Running.{AppendsFront, RunsInput}
 use Rattle.lg_text.specs.declared.end.End.{End}
 use Rattle.lg_text.specs.declared.end.End.TheVariants.{Done, Faulty}
 use Rattle.lg_text.specs.declared.fault.RunFault.{RunFault}
 use Rattle.lg_text.specs.declared.fault.RunFault.TheVariants.{Memory, Read, Write}
-use Rattle.lg_sim.specs.Meaning.Running.{RunsInput}
+use Rattle.lg_sim.specs.Meaning.Text.{script_end, script_text}
 use Rattle.lg_commands.specs.Meaning.Answering.{answer_end, answer_text}
 use Rattle.lg_commands.specs.Meaning.Faults.{bad_list_text}
 use Rattle.lg_commands.specs.Meaning.Timeouts.{timeouts_text}
@@ -25,33 +23,26 @@ pub record FailsBy {W : Type 0} (reported reports : Option (List ℕ)) (before a
   pub line : AppendsFront reported reports (run_fault_text fault)
   pub unwritten : fault ≢ Write → after ≡ before
 
--- An input that isn't too long is read to its end, and the answer to it is written.
-pub record AnswersInput (left rest held holds : Option (List ℕ)) (name : List ℕ) (end : End) : Type 0 where
-  pub input : List ℕ
-  pub few : length input ≤ most_input
-  pub read : Consumes left rest input
-  pub whole : IsAtEnd rest
-  pub written : Appends held holds (answer_text name input)
-  pub ends : end ≡ answer_end input
-
 abbrev pub status_of : End → ℕ
 status_of Done = 0
 status_of Faulty = 3
 
--- The same, with the status of its end. Nothing is reported.
+-- An input that isn't too long is read to its end, and the answer to it is written. The status is that of its end, and
+-- nothing is reported.
 pub record RunsAnswer (left rest held holds reported reports : Option (List ℕ)) (name : List ℕ) (status : ℕ)
     : Type 0 where
   pub end : End
   pub is : status ≡ status_of end
   pub silent : Appends reported reports []
-  pub answers : AnswersInput left rest held holds name end
+  pub answers : RunsInput (answer_text name) answer_end left rest held holds end
 
--- An input that isn't too long is read to its end and run as a script, and its text is written. Nothing is reported.
+-- An input that isn't too long is read to its end and run as a script, and its text is written. The status is that of
+-- its end, and nothing is reported.
 pub record RunsSim (left rest held holds reported reports : Option (List ℕ)) (status : ℕ) : Type 0 where
   pub end : End
   pub is : status ≡ status_of end
   pub silent : Appends reported reports []
-  pub runs : RunsInput left rest held holds end
+  pub runs : RunsInput script_text script_end left rest held holds end
 
 -- The timeouts for some numbers are written, nothing is reported, and the status is 0.
 pub record RunsTimeouts (held holds reported reports : Option (List ℕ)) (numbers : Numbers) (status : ℕ)
