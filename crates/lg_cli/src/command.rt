@@ -2,16 +2,17 @@
 //!
 //! Defined in: `specs/Meaning/Commands.antt`, `lg_commands/specs/Meaning/Timeouts.antt`.
 //! Tested in: `cases/command_line.case`, `cases/timeouts_command.case`, `cases/node_command.case`.
-ghost use Rattle.std.specs.Prelude.{◌≡◌, ◌≤◌, IfOk, map, true, false};
+ghost use Rattle.std.specs.Prelude.{◌≡◌, ◌≤◌, IfOk, decimal, map, true, false};
 ghost use Rattle.clap.specs.Kinds.{FailsBy};
 ghost use Rattle.clap.specs.Matches.{found_of};
 ghost use Rattle.clap.specs.Simple.{app_of, subcommand_rows_of};
 ghost use Rattle.clap.specs.Walk.{rows_of, rule_of};
 ghost use Rattle.clap.specs.declared.builder.command.Command.TheViews.{out-Command as fields_of};
 ghost use Rattle.lg_cli.specs.Meaning.Commands.{answer_app, asked, has_good_numbers, lg_app, line_faults, node_app};
-ghost use Rattle.lg_cli.specs.Meaning.Commands.{number_in, number_rule, numbers_in, order_app, request_faults};
-ghost use Rattle.lg_cli.specs.Meaning.Commands.{request_of_rows, sim_app, text_in, text_rule, timeouts_app};
-ghost use Rattle.lg_cli.specs.Meaning.Commands.{IfNode, IfTimeouts};
+ghost use Rattle.lg_timing.specs.Meaning.Keys.{row_of};
+ghost use Rattle.lg_cli.specs.Meaning.Commands.{key_rule, number_in, number_rule, numbers_in, order_app};
+ghost use Rattle.lg_cli.specs.Meaning.Commands.{request_faults, request_of_rows, sim_app, text_in, text_rule};
+ghost use Rattle.lg_cli.specs.Meaning.Commands.{timeouts_app, IfNode, IfTimeouts};
 ghost use Rattle.lg_commands.specs.Meaning.Timeouts.{are_good};
 ghost use Rattle.lg_cli.specs.Support.Requests.{request_of};
 
@@ -20,7 +21,7 @@ use clap::error::ErrorKind;
 use clap::{Arg, ArgAction, ArgMatches, Command, Error};
 use lg_commands::Numbers;
 use lg_rules::MAX_MEMBERS;
-use lg_timing::{MAX_CONFIRMATIONS, MAX_FACTOR, MAX_INTERVAL_MS, MIN_INTERVAL_MS};
+use lg_timing::Key;
 use std::alloc::{AllocError, Global};
 use std::convert::AsStr;
 
@@ -143,7 +144,25 @@ fn number_option<'a>(alloc: Global, id: &'a str, least: u64, most: u64, help: &'
         .action(ArgAction::Set)
 }
 
+/// The option `--ID N` of a number of the configuration, with its help. The range is that of the key. The default is
+/// that of the key too: the parser wants it as a text, which is written at the call and proved to be the key's.
+fn key_option<'a>(
+    alloc: Global,
+    id: &'a str,
+    key: Key,
+    default: &'a str,
+    help: &'a str,
+) -> Arg<'a>
+    requires { default.now ≡ decimal (row_of key).default }
+    ensures rule { rule_of result ≡ key_rule id.entry.now key }
+    ensures local { result.global ≡ false }
+{
+    let row = key.row();
+    number_option(alloc, id, row.least, row.most, help).default_value(default)
+}
+
 /// The command `timeouts --members N`, with the options of the other numbers.
+#[tactic(auto, unfolding(std::specs::Fmt::digits))]
 fn timeouts_command<'a>(alloc: Global) -> Result<Command<'a>, AllocError>
     ensures app { IfOk result (λ command. app_of command ≡ timeouts_app) }
     ensures local { IfOk result (λ command. (fields_of command).has_globals ≡ false) }
@@ -157,23 +176,10 @@ fn timeouts_command<'a>(alloc: Global) -> Result<Command<'a>, AllocError>
     Command::new(alloc, "timeouts")
         .about("Writes the timeouts of a suspicion, in milliseconds")
         .arg(number_option(alloc, "members", 1, MAX_MEMBERS as u64, members).required(true))?
-        .arg(number_option(
-            alloc,
-            "confirmations",
-            0,
-            MAX_CONFIRMATIONS,
-            confirmations,
-        ).default_value("3"))?
-        .arg(number_option(alloc, "alpha", 1, MAX_FACTOR, alpha).default_value("5"))?
-        .arg(number_option(alloc, "beta", 1, MAX_FACTOR, beta).default_value("6"))?
-        .arg(number_option(
-            alloc,
-            "interval-ms",
-            MIN_INTERVAL_MS,
-            MAX_INTERVAL_MS,
-            interval,
-        )
-        .default_value("1000"))
+        .arg(key_option(alloc, "confirmations", Key::Confirmations, "3", confirmations))?
+        .arg(key_option(alloc, "alpha", Key::Alpha, "5", alpha))?
+        .arg(key_option(alloc, "beta", Key::Beta, "6", beta))?
+        .arg(key_option(alloc, "interval-ms", Key::IntervalMs, "1000", interval))
 }
 
 /// The command `node --config FILE --for-ms N`.

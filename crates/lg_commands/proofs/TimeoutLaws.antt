@@ -38,10 +38,9 @@ tests_of false confirmations alpha beta interval h = absurd cc
 pub good_is_checked : (n : Numbers) → are_good n ≡ true → IsChecked (config_of n)
 unfolding check_of
 good_is_checked n good =
-    let tests = tests_of (is_within 1 256 n.members) (nat_le n.confirmations 5) (is_within 1 20 n.alpha) (is_within 1 20 n.beta) (is_within 10 60000 n.interval_ms) good in
+    let tests = tests_of (is_within 1 256 n.members) (is_within 0 5 n.confirmations) (is_within 1 20 n.alpha) (is_within 1 20 n.beta) (is_within 10 60000 n.interval_ms) good in
     let long : nat_le 1 (n.interval_ms - 1) ≡ true = grind (arith, nat_tests) in
-    let none_or_more : nat_le 0 n.confirmations ≡ true = grind (arith, nat_tests) in
-    rw (none_or_more, tests.0, tests.1, tests.2, tests.3, long) refl
+    rw (tests.0, tests.1, tests.2, tests.3, long) refl
 
 -- a text that three pieces were put behind, where it was empty
 pub joined : (empty first second whole least greatest after : List ℕ) → empty ≡ [] → first ≡ empty ++ least → second ≡ first ++ greatest → whole ≡ second ++ after

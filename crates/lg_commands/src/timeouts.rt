@@ -6,24 +6,23 @@ ghost use Rattle.std.specs.Prelude.{◌≡◌, ◌++◌, true, IfOk, OnOk, strin
 ghost use Rattle.lg_commands.specs.Meaning.Timeouts.{after_lines, are_good, config_of, timeouts_text};
 
 use lg_rules::{Addr, MAX_MEMBERS, Name};
-use lg_timing::{
-    Config, MAX_CONFIRMATIONS, MAX_FACTOR, MAX_INTERVAL_MS, MIN_INTERVAL_MS, SuspicionTimeout,
-};
+use lg_timing::{Config, Key, SuspicionTimeout};
 use std::alloc::{AllocError, Global};
 
 /// The numbers that determine the timeouts of a suspicion (Lifeguard, arXiv 1707.00788, local health aware
-/// suspicion). The ranges are this project's choice.
+/// suspicion). All but the first are numbers of a configuration, with the ranges of their keys.
 #[derive(Clone, Copy, Debug, PartialEq, Eq)]
 pub struct Numbers {
-    /// How many members there are when the suspicion is raised, this member among them: 1 to [`MAX_MEMBERS`].
+    /// How many members there are when the suspicion is raised, this member among them: 1 to [`MAX_MEMBERS`]
+    /// (this project's choice).
     pub members: u64,
-    /// After how many confirmations a suspicion has its least timeout: 0 to [`MAX_CONFIRMATIONS`].
+    /// After how many confirmations a suspicion has its least timeout ([`Key::Confirmations`]).
     pub confirmations: u64,
-    /// The factor of the least timeout: 1 to [`MAX_FACTOR`].
+    /// The factor of the least timeout ([`Key::Alpha`]).
     pub alpha: u64,
-    /// The greatest timeout divided by the least: 1 to [`MAX_FACTOR`].
+    /// The greatest timeout divided by the least ([`Key::Beta`]).
     pub beta: u64,
-    /// The interval of a round (SWIM's protocol period), in milliseconds: [`MIN_INTERVAL_MS`] to [`MAX_INTERVAL_MS`].
+    /// The interval of a round (SWIM's protocol period), in milliseconds ([`Key::IntervalMs`]).
     pub interval_ms: u64,
 }
 
@@ -33,10 +32,10 @@ impl Numbers {
         ensures { result ≡ are_good self.now }
     {
         (1..=MAX_MEMBERS as u64).contains(&self.members)
-            && self.confirmations <= MAX_CONFIRMATIONS
-            && (1..=MAX_FACTOR).contains(&self.alpha)
-            && (1..=MAX_FACTOR).contains(&self.beta)
-            && (MIN_INTERVAL_MS..=MAX_INTERVAL_MS).contains(&self.interval_ms)
+            && Key::Confirmations.allows(self.confirmations)
+            && Key::Alpha.allows(self.alpha)
+            && Key::Beta.allows(self.beta)
+            && Key::IntervalMs.allows(self.interval_ms)
     }
 }
 

@@ -1,6 +1,6 @@
 -- The command line of the program.
 use Rattle.std.specs.Prelude.{◌≡◌, ℕ, Bool, true, false, List, []}
-use Rattle.std.specs.Prelude.{◌∷◌, Option, Some, codes, if◌then◌else◌}
+use Rattle.std.specs.Prelude.{◌∷◌, Option, Some, codes, decimal, if◌then◌else◌}
 use Rattle.std.specs.Prelude.{unwrap_or}
 use Rattle.std.specs.Option.{option_map_or}
 use Rattle.std.specs.Str.{bytes_eq}
@@ -15,8 +15,9 @@ use Rattle.clap.specs.declared.builder.value_parser.ValueParser.TheVariants.{Uns
 use Rattle.clap.specs.declared.error.kind.ErrorKind.{ErrorKind}
 use Rattle.clap.specs.declared.error.kind.ErrorKind.TheVariants.{DisplayHelp, DisplayVersion, ValueValidation}
 use Rattle.lg_rules.specs.Meaning.Bounds.{most_members}
-use Rattle.lg_timing.specs.Meaning.Bounds.{least_interval_ms, most_confirmations, most_factor, most_interval_ms}
-use Rattle.lg_timing.specs.Meaning.Config.{is_within}
+use Rattle.lg_timing.specs.Meaning.Keys.{is_within, row_of}
+use Rattle.lg_timing.specs.declared.keys.Key.{Key}
+use Rattle.lg_timing.specs.declared.keys.Key.TheVariants.{Alpha, Beta, Confirmations, IntervalMs}
 use Rattle.lg_cli.specs.Meaning.Ranges.{most_run_ms}
 use Rattle.lg_commands.specs.Meaning.Timeouts.{are_good}
 use Rattle.lg_commands.specs.declared.timeouts.Numbers.{Numbers}
@@ -47,17 +48,23 @@ default_rule rule value = record rule { defaults = value ∷ [] }
 abbrev pub members_rule : Rule
 members_rule = required_rule (number_rule (codes "members") 1 most_members)
 
+-- an option `--ID N` of a number of the configuration, which has the range and the default of its key
+abbrev pub key_rule : Text → Key → Rule
+key_rule id key =
+    let row = row_of key in
+    default_rule (number_rule id row.least row.most) (decimal row.default)
+
 abbrev pub confirmations_rule : Rule
-confirmations_rule = default_rule (number_rule (codes "confirmations") 0 most_confirmations) (codes "3")
+confirmations_rule = key_rule (codes "confirmations") Confirmations
 
 abbrev pub alpha_rule : Rule
-alpha_rule = default_rule (number_rule (codes "alpha") 1 most_factor) (codes "5")
+alpha_rule = key_rule (codes "alpha") Alpha
 
 abbrev pub beta_rule : Rule
-beta_rule = default_rule (number_rule (codes "beta") 1 most_factor) (codes "6")
+beta_rule = key_rule (codes "beta") Beta
 
 abbrev pub interval_rule : Rule
-interval_rule = default_rule (number_rule (codes "interval-ms") least_interval_ms most_interval_ms) (codes "1000")
+interval_rule = key_rule (codes "interval-ms") IntervalMs
 
 abbrev pub timeouts_app : App
 timeouts_app =

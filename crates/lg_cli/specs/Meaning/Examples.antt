@@ -1,5 +1,6 @@
 -- Worked command lines.
 use Rattle.std.specs.Prelude.{◌≡◌, [], ◌∷◌, codes, refl}
+use Rattle.std.specs.Fmt.{digits}
 use Rattle.clap.proofs.OnLiterals.{clap_on_literals}
 use Rattle.clap.specs.declared.error.kind.ErrorKind.TheVariants as kind
 use Rattle.lg_cli.specs.Meaning.Commands.{answer, node, order, timeouts, asked, line_faults}
@@ -37,33 +38,33 @@ help = refl
 timed : asked (codes "lg" ∷ codes "timeouts" ∷ codes "--members" ∷ codes "16"
     ∷ codes "--confirmations=5" ∷ codes "--interval-ms" ∷ codes "200" ∷ [])
     ≡ timeouts record { members = 16; confirmations = 5; alpha = 5; beta = 6; interval_ms = 200 }
-unfolding asked clap_on_literals
+unfolding asked clap_on_literals digits
 timed = refl
 
 -- the defaults of the other numbers
 default-numbers : asked (codes "lg" ∷ codes "timeouts" ∷ codes "--members=4" ∷ [])
     ≡ timeouts record { members = 4; confirmations = 3; alpha = 5; beta = 6; interval_ms = 1000 }
-unfolding asked clap_on_literals
+unfolding asked clap_on_literals digits
 default-numbers = refl
 
 most-members : line_faults (codes "lg" ∷ codes "timeouts" ∷ codes "--members=256" ∷ []) ≡ []
-unfolding line_faults asked clap_on_literals
+unfolding line_faults asked clap_on_literals digits
 most-members = refl
 
 too-many-members :
     line_faults (codes "lg" ∷ codes "timeouts" ∷ codes "--members=257" ∷ []) ≡ kind.ValueValidation ∷ []
-unfolding line_faults asked clap_on_literals
+unfolding line_faults asked clap_on_literals digits
 too-many-members = refl
 
 no-members :
     line_faults (codes "lg" ∷ codes "timeouts" ∷ codes "--alpha=5" ∷ []) ≡ kind.MissingRequiredArgument ∷ []
-unfolding line_faults asked clap_on_literals
+unfolding line_faults asked clap_on_literals digits
 no-members = refl
 
 two-alphas : line_faults (codes "lg" ∷ codes "timeouts" ∷ codes "--members=4"
     ∷ codes "--alpha=5" ∷ codes "--alpha=5" ∷ [])
     ≡ kind.ArgumentConflict ∷ []
-unfolding line_faults asked clap_on_literals
+unfolding line_faults asked clap_on_literals digits
 two-alphas = refl
 
 run-of-a-day :

@@ -1,23 +1,24 @@
 -- What the command `timeouts` writes for its numbers.
-use Rattle.std.specs.Prelude.{ℕ, ◌+◌, Bool, ◌&&◌, List, [], ◌∷◌, ◌++◌, codes, decimal, nat_le}
+use Rattle.std.specs.Prelude.{ℕ, ◌+◌, Bool, ◌&&◌, List, [], ◌∷◌, ◌++◌, codes, decimal}
 use Rattle.std.specs.List.{flat_map, range_with_len}
 use Rattle.lg_rules.specs.declared.addr.Addr.{Addr}
-use Rattle.lg_timing.specs.Meaning.Config.{is_within}
 use Rattle.lg_timing.specs.Meaning.TimeoutRange.{TimeoutRange}
 use Rattle.lg_timing.specs.Meaning.Timeouts.{range_of, timeout_of}
 use Rattle.lg_timing.specs.declared.config.Config.{Config}
 use Rattle.lg_text.specs.Meaning.Lines.{newline}
 use Rattle.lg_timing.specs.Meaning.Config.{defaults}
 use Rattle.lg_rules.specs.Meaning.Bounds.{most_members}
-use Rattle.lg_timing.specs.Meaning.Bounds.{least_interval_ms, most_confirmations, most_factor, most_interval_ms}
+use Rattle.lg_timing.specs.Meaning.Keys.{allows_number, is_within}
+use Rattle.lg_timing.specs.declared.keys.Key.TheVariants.{Alpha, Beta, Confirmations, IntervalMs}
 use Rattle.lg_commands.specs.declared.timeouts.Numbers.{Numbers}
 
 -- whether each number is in its range
 abbrev pub are_good : Numbers → Bool
 are_good n =
-    let times = is_within 1 most_factor n.beta && is_within least_interval_ms most_interval_ms n.interval_ms in
     is_within 1 most_members n.members
-    && (nat_le n.confirmations most_confirmations && (is_within 1 most_factor n.alpha && times))
+    && (allows_number Confirmations n.confirmations
+    && (allows_number Alpha n.alpha
+    && (allows_number Beta n.beta && allows_number IntervalMs n.interval_ms)))
 
 abbrev pub no_addr : Addr
 no_addr = record { octets = 0 ∷ 0 ∷ 0 ∷ 0 ∷ []; port = 0 }

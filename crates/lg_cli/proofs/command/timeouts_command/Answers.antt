@@ -5,7 +5,7 @@ use Rattle.clap.specs.Simple.{app_of_fields, new_app}
 use Rattle.clap.specs.Walk.{rule_of}
 use Rattle.clap.specs.declared.builder.arg.Arg.{Arg}
 use Rattle.clap.specs.declared.builder.command.Command.{Command}
-use Rattle.lg_cli.specs.Meaning.Commands.{alpha_rule, beta_rule, confirmations_rule, default_rule, interval_rule, members_rule, required_rule}
+use Rattle.lg_cli.specs.Meaning.Commands.{alpha_rule, beta_rule, confirmations_rule, interval_rule, members_rule, required_rule}
 use Rattle.lg_cli.proofs.CommandLaws.{MakesApp, adds_rule}
 use Rattle.lg_cli.proofs.command.timeouts_command.Goals as goal
 
@@ -18,18 +18,18 @@ returns c =
     let one = adds_rule _ _ c.required.result _ members_rule c.in_ok-arg.ensures
     (ap (λ (a : Arg). a.global) c.required.ensures ∙ c.number_option.ensures.local)
     (ap rule_of c.required.ensures ∙ ap required_rule c.number_option.ensures.rule) none in
-    let two = adds_rule _ _ c.default_value.result _ confirmations_rule c.in_ok-arg-2.ensures
-    (ap (λ (a : Arg). a.global) c.default_value.ensures ∙ c.number_option-2.ensures.local)
-    (ap rule_of c.default_value.ensures ∙ ap (λ r. default_rule r (codes "3")) c.number_option-2.ensures.rule) one in
-    let three = adds_rule _ _ c.default_value-2.result _ alpha_rule c.in_ok-arg-3.ensures
-    (ap (λ (a : Arg). a.global) c.default_value-2.ensures ∙ c.number_option-3.ensures.local)
-    (ap rule_of c.default_value-2.ensures ∙ ap (λ r. default_rule r (codes "5")) c.number_option-3.ensures.rule) two in
-    let four = adds_rule _ _ c.default_value-3.result _ beta_rule c.in_ok-arg-4.ensures
-    (ap (λ (a : Arg). a.global) c.default_value-3.ensures ∙ c.number_option-4.ensures.local)
-    (ap rule_of c.default_value-3.ensures ∙ ap (λ r. default_rule r (codes "6")) c.number_option-4.ensures.rule) three in
-    let five = λ (command : Command) (adds : AddsArg c.in_ok-arg-4.field-0 c.default_value-4.result command). adds_rule _ command c.default_value-4.result _ interval_rule adds
-    (ap (λ (a : Arg). a.global) c.default_value-4.ensures ∙ c.number_option-5.ensures.local)
-    (ap rule_of c.default_value-4.ensures ∙ ap (λ r. default_rule r (codes "1000")) c.number_option-5.ensures.rule) four in
+    let two = adds_rule _ _ c.key_option.result _ confirmations_rule c.in_ok-arg-2.ensures
+    c.key_option.ensures.local
+    c.key_option.ensures.rule one in
+    let three = adds_rule _ _ c.key_option-2.result _ alpha_rule c.in_ok-arg-3.ensures
+    c.key_option-2.ensures.local
+    c.key_option-2.ensures.rule two in
+    let four = adds_rule _ _ c.key_option-3.result _ beta_rule c.in_ok-arg-4.ensures
+    c.key_option-3.ensures.local
+    c.key_option-3.ensures.rule three in
+    let five = λ (command : Command) (adds : AddsArg c.in_ok-arg-4.field-0 c.key_option-4.result command). adds_rule _ command c.key_option-4.result _ interval_rule adds
+    c.key_option-4.ensures.local
+    c.key_option-4.ensures.rule four in
     record {
       app = IfOk-weaker c.arg-5.result _ _ (λ command adds. (five command adds).is) c.arg-5.ensures;
       local = IfOk-weaker c.arg-5.result _ _ (λ command adds. (five command adds).local) c.arg-5.ensures;
