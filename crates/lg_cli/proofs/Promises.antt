@@ -5,12 +5,14 @@ use Rattle.clap.specs.Kinds.{Kinds}
 use Rattle.clap.specs.Walk.{Text}
 use Rattle.lg_rules.specs.Meaning.Name.{name_of_text}
 use Rattle.lg_text.specs.Meaning.Running.{ReadsWhole}
+use Rattle.lg_text.specs.declared.fault.RunFault.TheVariants.{Memory, Write}
+use Rattle.lg_launch.specs.Meaning.Running.{RunsFile}
 use Rattle.lg_commands.specs.Meaning.Choosing.{order_text}
-use Rattle.lg_commands.specs.Meaning.Running.{RunsAnswer, RunsOrder, RunsSim, RunsTimeouts}
+use Rattle.lg_commands.specs.Meaning.Running.{FailsBy, RunsAnswer, RunsOrder, RunsSim, RunsTimeouts}
 use Rattle.lg_commands.specs.declared.timeouts.Numbers.{Numbers}
 use Rattle.lg_cli.specs.Meaning.Commands.{Request, answer, order, timeouts, sim, node, asked, line_faults}
-use Rattle.lg_cli.specs.Meaning.Commands.{IfAnswer, IfOrder, IfSim, IfTimeouts, RefusesLine}
-use Rattle.lg_cli.specs.Meaning.Running.{Streams, RunsNamed, RunsLists, RunsNumbers, RunsScript, RunsRequest}
+use Rattle.lg_cli.specs.Meaning.Commands.{IfAnswer, IfNode, IfOrder, IfSim, IfTimeouts, RefusesLine}
+use Rattle.lg_cli.specs.Meaning.Running.{Streams, RunsNamed, RunsLists, RunsNumbers, RunsScript, RunsForTime, RunsRequest}
 use Rattle.lg_cli.specs.Meaning.Running.{LacksMemory, LeavesLine, RunsLine}
 
 abbrev IsCons : Kinds → Type 0
@@ -54,6 +56,38 @@ module _ (R W : Type 0) (before after : Streams R W) (status : ℕ) where
   of_sim P sim run give = give run
   of_sim P (node file for_ms) run give = tt
 
+  of_node : (P : ℕ → Type 0) (r : Request) → RunsRequest before after r status
+      → ((for_ms : ℕ) → RunsForTime before after for_ms status → P for_ms) → IfNode r (λ file for_ms. P for_ms)
+  of_node P (answer text) run give = tt
+  of_node P (order names words) run give = tt
+  of_node P (timeouts numbers) run give = tt
+  of_node P sim run give = tt
+  of_node P (node file for_ms) run give = give for_ms run
+
+  -- a run that failed, of a command other than `node`
+  run_fails : (r : Request) → IfNode r (λ file for_ms. ⊥) → RunsRequest before after r status → status ≡ 1
+      → FailsBy before.reported after.reported before.writer after.writer
+  run_fails (answer text) other run one = run.failed one
+  run_fails (order names words) other run one = run.failed one
+  run_fails (timeouts numbers) other run one = run.failed one
+  run_fails sim other run one = run.failed one
+  run_fails (node file for_ms) other run one = absurd other
+
+  -- such a run doesn't have the status of a refusal
+  run_isnt_refused : (r : Request) → IfNode r (λ file for_ms. ⊥) → RunsRequest before after r status → status ≢ 2
+  run_isnt_refused (answer text) other run = run.run
+  run_isnt_refused (order names words) other run = run.run
+  run_isnt_refused (timeouts numbers) other run = run.run
+  run_isnt_refused sim other run = run.run
+  run_isnt_refused (node file for_ms) other run = absurd other
+
+  lacks_fails : LacksMemory before after status → FailsBy before.reported after.reported before.writer after.writer
+  lacks_fails lacks = record { fault = Memory; line = lacks.told; unwritten = λ _. lacks.unwritten }
+
+  leaves_fails : (faults : Kinds) → LeavesLine before after faults status → status ≡ 1
+      → FailsBy before.reported after.reported before.writer after.writer
+  leaves_fails faults leaves one = record { fault = Write; line = leaves.told one; unwritten = λ other. absurd (other refl) }
+
 all_answer : (P : Text → Type 0) (r : Request) → ((text : Text) → P text) → IfAnswer r P
 all_answer P (answer text) give = give text
 all_answer P (order names words) give = tt
@@ -81,6 +115,13 @@ all_sim P (order names words) give = tt
 all_sim P (timeouts numbers) give = tt
 all_sim P sim give = give
 all_sim P (node file for_ms) give = tt
+
+all_node : (P : ℕ → Type 0) (r : Request) → ((for_ms : ℕ) → P for_ms) → IfNode r (λ file for_ms. P for_ms)
+all_node P (answer text) give = tt
+all_node P (order names words) give = tt
+all_node P (timeouts numbers) give = tt
+all_node P sim give = tt
+all_node P (node file for_ms) give = give for_ms
 
 module _ (R W : Type 0) (before after : Streams R W) (line : List Text) (status : ℕ) (runs : RunsLine before after line status) where
   -- the command's run, where memory wasn't refused for reading the line
@@ -184,4 +225,55 @@ module _ (R W : Type 0) (before after : Streams R W) (line : List Text) (status 
   read_script none one = elim (runs.taken none) [
     | inl run ↦ of_sim R W before after status ((after.writer ≡ before.writer) ⊎ ReadsWhole before.left after.left) (asked line) run (λ r. r.read one)
     | inr lacks ↦ all_sim ((after.writer ≡ before.writer) ⊎ ReadsWhole before.left after.left) (asked line) (inl lacks.unwritten)
+  ]
+
+  -- `node` is run, unless memory was refused for reading the line
+  pub launched : line_faults line ≡ [] → IfNode (asked line) (λ file for_ms.
+      RunsFile before.writer after.writer before.held after.held before.reported after.reported for_ms status
+      ⊎ ((status ≡ 1) × FailsBy before.reported after.reported before.writer after.writer))
+  launched none = elim (runs.taken none) [
+    | inl run ↦ of_node R W before after status (λ for_ms. RunsFile before.writer after.writer before.held after.held before.reported after.reported for_ms status
+      ⊎ ((status ≡ 1) × FailsBy before.reported after.reported before.writer after.writer)) (asked line) run (λ for_ms r. inl r.launched)
+    | inr lacks ↦ all_node (λ for_ms. RunsFile before.writer after.writer before.held after.held before.reported after.reported for_ms status
+      ⊎ ((status ≡ 1) × FailsBy before.reported after.reported before.writer after.writer)) (asked line) (λ for_ms. inr (lacks.is, lacks_fails R W before after status lacks))
+  ]
+
+  pub launched_unread : IfNode (asked line) (λ file for_ms. after.reader ≡ before.reader)
+  launched_unread = elim (nil_or (line_faults line)) [
+    | inl none ↦ elim (runs.taken none) [
+      | inl run ↦ of_node R W before after status (λ for_ms. after.reader ≡ before.reader) (asked line) run (λ for_ms r. r.unread)
+      | inr lacks ↦ all_node (λ for_ms. after.reader ≡ before.reader) (asked line) (λ for_ms. lacks.unread)
+    ]
+    | inr some ↦ elim (runs.left some) [
+      | inl leaves ↦ all_node (λ for_ms. after.reader ≡ before.reader) (asked line) (λ for_ms. leaves.unread)
+      | inr lacks ↦ all_node (λ for_ms. after.reader ≡ before.reader) (asked line) (λ for_ms. lacks.unread)
+    ]
+  ]
+
+  -- unless `node` is run, a refusal writes nothing
+  pub unwritten : (line_faults line ≡ [] → IfNode (asked line) (λ file for_ms. ⊥)) → status ≡ 2
+      → after.writer ≡ before.writer
+  unwritten other two = elim (nil_or (line_faults line)) [
+    | inl none ↦ elim (runs.taken none) [
+      | inl run ↦ absurd (run_isnt_refused R W before after status (asked line) (other none) run two)
+      | inr lacks ↦ lacks.unwritten
+    ]
+    | inr some ↦ elim (runs.left some) [
+      | inl leaves ↦ leaves.unwritten two
+      | inr lacks ↦ lacks.unwritten
+    ]
+  ]
+
+  -- and a run that fails reports why, and writes nothing unless it is the writing that fails
+  pub failed : (line_faults line ≡ [] → IfNode (asked line) (λ file for_ms. ⊥)) → status ≡ 1
+      → FailsBy before.reported after.reported before.writer after.writer
+  failed other one = elim (nil_or (line_faults line)) [
+    | inl none ↦ elim (runs.taken none) [
+      | inl run ↦ run_fails R W before after status (asked line) (other none) run one
+      | inr lacks ↦ lacks_fails R W before after status lacks
+    ]
+    | inr some ↦ elim (runs.left some) [
+      | inl leaves ↦ leaves_fails R W before after status (line_faults line) leaves one
+      | inr lacks ↦ lacks_fails R W before after status lacks
+    ]
   ]

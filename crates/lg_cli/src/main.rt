@@ -2,7 +2,6 @@
 #![tactic(auto)]
 
 mod command;
-mod node;
 mod program;
 
 use std::env::Env;
@@ -11,7 +10,7 @@ use std::{env, io};
 
 fn main(rt: HostRuntime) -> ExitCode {
     let status = match words_of(&rt) {
-        Ok(words) => node::run_words_with(
+        Ok(words) => program::run_words(
             &rt,
             rt.alloc(),
             words.as_slice(),

@@ -1,10 +1,6 @@
--- The lines that tell that a command line isn't run.
+-- The line that tells that a command line isn't run.
 use Rattle.std.specs.Prelude.{ℕ, List, ◌++◌, codes}
 use Rattle.lg_text.specs.Meaning.Lines.{newline}
-
--- the line of `node` when it can't be run
-abbrev pub node_text : List ℕ
-node_text = codes "error: the command node isn't run here" ++ newline
 
 -- the line for words that aren't UTF-8
 abbrev pub foreign_text : List ℕ

@@ -10,9 +10,9 @@ use Rattle.lg_text.specs.declared.fault.RunFault.TheVariants.{Memory, Write}
 use Rattle.lg_commands.specs.Meaning.Choosing.{order_text}
 use Rattle.lg_commands.specs.Meaning.Running.{FailsBy, RunsAnswer, RunsOrder, RunsSim, RunsTimeouts}
 use Rattle.lg_commands.specs.declared.timeouts.Numbers.{Numbers}
+use Rattle.lg_launch.specs.Meaning.Running.{RunsFile}
 use Rattle.lg_cli.specs.Meaning.Commands.{Request, answer, order, timeouts, sim, node}
 use Rattle.lg_cli.specs.Meaning.Commands.{asked, line_faults, RefusesLine}
-use Rattle.lg_cli.specs.Meaning.Faults.{node_text}
 
 -- A reader and the bytes that it has left, a writer and the bytes that it has taken, and the bytes that were
 -- reported. If a stream doesn't tell its bytes, none are known.
@@ -65,13 +65,18 @@ pub record RunsScript {R W : Type 0} (before after : Streams R W) (status : ℕ)
   pub read : status ≡ 1 → (after.writer ≡ before.writer) ⊎ ReadsWhole before.left after.left
   pub run : status ≢ 2
 
--- The command that is asked for is run. Nothing is said of `node`.
+-- `node` is run for some milliseconds, from its file. Nothing is read from the reader.
+pub record RunsForTime {R W : Type 0} (before after : Streams R W) (for_ms status : ℕ) : Type 0 where
+  pub launched : RunsFile before.writer after.writer before.held after.held before.reported after.reported for_ms status
+  pub unread : after.reader ≡ before.reader
+
+-- The command that is asked for is run.
 abbrev pub RunsRequest : {R W : Type 0} → (before after : Streams R W) → Request → ℕ → Type 0
 RunsRequest before after (answer text) status = RunsNamed before after text status
 RunsRequest before after (order names words) status = RunsLists before after names words status
 RunsRequest before after (timeouts numbers) status = RunsNumbers before after numbers status
 RunsRequest before after sim status = RunsScript before after status
-RunsRequest before after (node file for_ms) status = Unit {0}
+RunsRequest before after (node file for_ms) status = RunsForTime before after for_ms status
 
 -- Memory was refused for reading the command line. That is reported, as far as the report is taken. Nothing is read
 -- or written, and the status is 1.
@@ -97,8 +102,3 @@ pub record RunsLine {R W : Type 0} (before after : Streams R W) (line : List Tex
   pub taken : line_faults line ≡ [] → RunsRequest before after (asked line) status ⊎ LacksMemory before after status
   pub left : line_faults line ≢ []
       → LeavesLine before after (line_faults line) status ⊎ LacksMemory before after status
-
--- `node` isn't run. That is reported, as far as the report is taken, and the status is 2.
-pub record LeavesNode (reported reports : Option (List ℕ)) (status : ℕ) : Type 0 where
-  pub is : status ≡ 2
-  pub told : AppendsFront reported reports node_text

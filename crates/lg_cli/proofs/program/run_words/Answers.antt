@@ -3,8 +3,8 @@ use Rattle.clap.specs.Values.{kind_of}
 use Rattle.lg_cli.proofs.LineLaws.{runs_left}
 use Rattle.lg_cli.proofs.program.run_words.Goals as goal
 
-pub returns-in-Err-clause-runs : goal.returns-in-Err-clause-runs
-returns-in-Err-clause-runs g c =
+pub returns-in-Err : goal.returns-in-Err
+returns-in-Err g c =
     let told = c.report_refusal.ensures in
     runs_left _ _ (map g.S.AsStr.text c.args.words.now) (kind_of c.in-Err.error) c.report_refusal.result
     (record {
