@@ -4,6 +4,7 @@ mod ask;
 mod comeback;
 mod comparing;
 mod copies;
+mod group;
 mod happening;
 mod hear;
 mod joining;
@@ -11,8 +12,10 @@ mod many;
 mod open;
 mod playing;
 mod probing;
+mod rejoining;
 mod relaying;
 mod resuming;
+mod tables;
 mod tick;
 mod versions;
 
