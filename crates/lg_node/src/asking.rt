@@ -13,6 +13,7 @@ use crate::clock::Clock;
 use crate::link::Link;
 use crate::turned::Turned;
 use lg_agent::{AgentName, Pass, Refusal};
+use lg_detector::Reply;
 use lg_timing::{MAX_SEEDS, Seed};
 use std::alloc::Global;
 use std::sync::Wait;
@@ -34,9 +35,10 @@ pub(crate) fn ask_each<A: AgentName, R: Wait, L: Link, C: Clock>(
     ensures refused { IfErr result (λ e. (p : Own) × IsRefusal p.seen e) }
 {
     let mut unsent = 0;
+    let mut reply = Reply::default();
     for seed in seeds {
-        let receipt = calling::pull(rt, alloc, pass, clock.now(), seed.addr)?;
-        unsent += Turned::of(link, &receipt).unsent;
+        calling::pull(rt, alloc, pass, clock.now(), seed.addr, &mut reply)?;
+        unsent += Turned::of(link, &reply).unsent;
     }
     Ok(unsent)
 }

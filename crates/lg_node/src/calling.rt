@@ -1,4 +1,5 @@
 //! The calls of a loop. A call that is refused because the history is full is made again, once, after a rotation.
+//! An answered call writes its reply over the one that the loop keeps, and returns the position of its entry.
 //!
 //! Defined in: `lg_agent/specs/Meaning/Calls.antt`, `specs/Meaning/Turns.antt`.
 //! Tested in: `lg_agent_tests/src/node/rotating.rt`.
@@ -8,10 +9,11 @@ ghost use Rattle.lg_packet.specs.declared.packet.Packet.{Packet as Read};
 ghost use Rattle.lg_packet.specs.Meaning.Reading.{packet_of};
 ghost use Rattle.lg_detector.specs.declared.event.Event.TheVariants.{Tick, Heard, Pull};
 ghost use Rattle.lg_agent.specs.declared.refusal.Refusal.TheVariants.{BadPacket, NoMemory, HistoryFull};
-ghost use Rattle.lg_agent.specs.Meaning.Calls.{IsCall, IsRefusal, IsBadPacket, IsRotatedPass};
+ghost use Rattle.lg_agent.specs.Meaning.Calls.{receipt_of, IsCall, IsRefusal, IsBadPacket, IsRotatedPass};
 ghost use Rattle.lg_node.specs.Meaning.Turns.{MadeNoCall};
 
-use lg_agent::{AgentName, Pass, Receipt, Refusal};
+use lg_agent::{AgentName, Pass, Refusal};
+use lg_detector::Reply;
 use lg_rules::Addr;
 use lg_timing::Moment;
 use std::alloc::Global;
@@ -38,7 +40,7 @@ fn make_room<A: AgentName, R: Wait>(
     }
 }
 
-/// [`Pass::datagram`], made again after a rotation if the history was full.
+/// [`Pass::datagram_into`], made again after a rotation if the history was full.
 pub(crate) fn datagram<A: AgentName, R: Wait>(
     rt: &R,
     alloc: Global,
@@ -46,62 +48,70 @@ pub(crate) fn datagram<A: AgentName, R: Wait>(
     now: Moment,
     source: Addr,
     bytes: &[u8],
-) -> Result<Receipt, Refusal>
-    ensures answered { IfOk result (λ r. (p : Read) × (packet_of bytes.now ≡ Ok p)
-        × IsCall pass.old (Heard now source p) r pass.new) }
+    reply: &mut Reply,
+) -> Result<u64, Refusal>
+    ensures answered { IfOk result (λ place. (p : Read) × (packet_of bytes.now ≡ Ok p)
+        × IsCall pass.old (Heard now source p) (receipt_of place reply.new) pass.new) }
     ensures refused { OnErr result (MadeNoCall pass.old pass.new) }
+    ensures kept { OnErr result (reply.new ≡ reply.old) }
     ensures bad { (f : Broken) → packet_of bytes.now ≡ Err f
         → (result ≡ Err (BadPacket f)) × (pass.new ≡ pass.old) }
     ensures only { (f : Broken) → result ≡ Err (BadPacket f) → packet_of bytes.now ≡ Err f }
     ensures refusal { IfErr result (λ e. IsBadPacket e ⊎ IsRefusal pass.old.seen e) }
 {
-    match pass.datagram(rt, alloc, now, source, bytes) {
-        Ok(receipt) => Ok(receipt),
+    match pass.datagram_into(rt, alloc, now, source, bytes, reply) {
+        Ok(place) => Ok(place),
         Err(unheard) => {
             make_room(rt, alloc, pass, unheard)?;
-            pass.datagram(rt, alloc, now, source, bytes)
+            pass.datagram_into(rt, alloc, now, source, bytes, reply)
         }
     }
 }
 
-/// [`Pass::tick`], made again after a rotation if the history was full, with the same words.
+/// [`Pass::tick_into`], made again after a rotation if the history was full, with the same words.
 pub(crate) fn tick<A: AgentName, R: Wait>(
     rt: &R,
     alloc: Global,
     pass: &mut Pass<'_, A>,
     now: Moment,
     words: [u32; 8],
-) -> Result<Receipt, Refusal>
-    ensures answered { MatchResult result (λ r. IsCall pass.old (Tick now words) r pass.new)
+    reply: &mut Reply,
+) -> Result<u64, Refusal>
+    ensures answered { MatchResult result
+        (λ place. IsCall pass.old (Tick now words) (receipt_of place reply.new) pass.new)
         (λ _. MadeNoCall pass.old pass.new) }
+    ensures kept { OnErr result (reply.new ≡ reply.old) }
     ensures refusal { IfErr result (IsRefusal pass.old.seen) }
 {
-    match pass.tick(rt, alloc, now, words) {
-        Ok(receipt) => Ok(receipt),
+    match pass.tick_into(rt, alloc, now, words, reply) {
+        Ok(place) => Ok(place),
         Err(unticked) => {
             make_room(rt, alloc, pass, unticked)?;
-            pass.tick(rt, alloc, now, words)
+            pass.tick_into(rt, alloc, now, words, reply)
         }
     }
 }
 
-/// [`Pass::pull`], made again after a rotation if the history was full.
+/// [`Pass::pull_into`], made again after a rotation if the history was full.
 pub(crate) fn pull<A: AgentName, R: Wait>(
     rt: &R,
     alloc: Global,
     pass: &mut Pass<'_, A>,
     now: Moment,
     peer: Addr,
-) -> Result<Receipt, Refusal>
-    ensures answered { MatchResult result (λ r. IsCall pass.old (Pull now peer) r pass.new)
+    reply: &mut Reply,
+) -> Result<u64, Refusal>
+    ensures answered { MatchResult result
+        (λ place. IsCall pass.old (Pull now peer) (receipt_of place reply.new) pass.new)
         (λ _. MadeNoCall pass.old pass.new) }
+    ensures kept { OnErr result (reply.new ≡ reply.old) }
     ensures refusal { IfErr result (IsRefusal pass.old.seen) }
 {
-    match pass.pull(rt, alloc, now, peer) {
-        Ok(receipt) => Ok(receipt),
+    match pass.pull_into(rt, alloc, now, peer, reply) {
+        Ok(place) => Ok(place),
         Err(unasked) => {
             make_room(rt, alloc, pass, unasked)?;
-            pass.pull(rt, alloc, now, peer)
+            pass.pull_into(rt, alloc, now, peer, reply)
         }
     }
 }

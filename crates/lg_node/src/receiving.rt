@@ -15,6 +15,7 @@ use crate::link::{Link, MAX_DATAGRAM};
 use crate::shared::MAX_TURNS;
 use crate::turned::Turned;
 use lg_agent::{AgentName, Pass, Refusal};
+use lg_detector::Reply;
 use lg_rules::Addr;
 use lg_timing::Moment;
 use std::alloc::Global;
@@ -25,7 +26,7 @@ use std::sync::atomic::Ordering::SeqCst;
 /// How long one turn waits for a datagram, in milliseconds.
 const WAIT_MS: u64 = 20;
 
-/// Hears a datagram that came, or drops it if its bytes are no packet.
+/// Hears a datagram that came, or drops it if its bytes are no packet. The reply is written over `reply`.
 fn hear<A: AgentName, R: Wait, L: Link>(
     rt: &R,
     alloc: Global,
@@ -34,6 +35,7 @@ fn hear<A: AgentName, R: Wait, L: Link>(
     now: Moment,
     source: Addr,
     bytes: &[u8],
+    reply: &mut Reply,
 ) -> Turned
     // The link's log ends with this datagram.
     ensures { (log : List LinkEvent)
@@ -41,8 +43,8 @@ fn hear<A: AgentName, R: Wait, L: Link>(
         → Took receives L.tells (line log (L.failed link.old)) (line (L.log link.new) (L.failed link.new))
         pass.old pass.new result }
 {
-    match calling::datagram(rt, alloc, pass, now, source, bytes) {
-        Ok(receipt) => Turned::of(link, &receipt),
+    match calling::datagram(rt, alloc, pass, now, source, bytes, reply) {
+        Ok(_) => Turned::of(link, reply),
         Err(refusal) => match refusal {
             Refusal::BadPacket(_) => Turned::dropped(),
             _ => Turned::end(Why::Refused(refusal)),
@@ -58,6 +60,7 @@ fn receive_turn<A: AgentName, R: Wait, L: Link, C: Clock>(
     link: &mut L,
     clock: &C,
     buffer: &mut [u8; MAX_DATAGRAM],
+    reply: &mut Reply,
 ) -> Turned
     ensures { Took receives L.tells (line (L.log link.old) (L.failed link.old))
         (line (L.log link.new) (L.failed link.new)) pass.old pass.new result }
@@ -72,6 +75,7 @@ fn receive_turn<A: AgentName, R: Wait, L: Link, C: Clock>(
             clock.now(),
             source,
             &buffer[..length],
+            reply,
         ),
         Err(_) => Turned::end(Why::LinkFailed),
     }
@@ -92,12 +96,13 @@ fn receive_turns<A: AgentName, R: Wait, L: Link, C: Clock>(
         (line (L.log link.new) (L.failed link.new)) pass.old pass.new result }
 {
     let mut buffer = [0; MAX_DATAGRAM];
+    let mut reply = Reply::default();
     let (mut dropped, mut unsent) = (0, 0);
     for turns in 0..bound {
         if stop.load(SeqCst) {
             return End::of(Why::Stopped, dropped, unsent, turns);
         }
-        let turned = receive_turn(rt, alloc, pass, link, clock, &mut buffer);
+        let turned = receive_turn(rt, alloc, pass, link, clock, &mut buffer, &mut reply);
         dropped += turned.dropped;
         unsent += turned.unsent;
         if let Some(why) = turned.why {

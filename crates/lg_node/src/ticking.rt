@@ -15,6 +15,7 @@ use crate::link::Link;
 use crate::shared::MAX_TURNS;
 use crate::turned::Turned;
 use lg_agent::{AgentName, Pass};
+use lg_detector::Reply;
 use lg_timing::Moment;
 use std::alloc::Global;
 use std::sync::Wait;
@@ -24,7 +25,7 @@ use std::sync::atomic::Ordering::SeqCst;
 /// How long one turn pauses at most, in milliseconds.
 const PAUSE_MS: u64 = 20;
 
-/// One turn at a moment: ticks if the next deadline has come, and otherwise pauses.
+/// One turn at a moment: ticks if the next deadline has come, and otherwise pauses. A reply is written over `reply`.
 fn tick_turn<A: AgentName, R: Wait, L: Link, C: Clock, D: Dice>(
     rt: &R,
     alloc: Global,
@@ -33,6 +34,7 @@ fn tick_turn<A: AgentName, R: Wait, L: Link, C: Clock, D: Dice>(
     clock: &C,
     dice: &mut D,
     now: Moment,
+    reply: &mut Reply,
 ) -> Turned
     ensures { (until : ℕ) → now < until
         → (took : Took (ticks_before until) L.tells (line (L.log link.old) (L.failed link.old))
@@ -48,8 +50,8 @@ fn tick_turn<A: AgentName, R: Wait, L: Link, C: Clock, D: Dice>(
         clock.pause((deadline - moment).min(PAUSE_MS));
         return Turned::on();
     }
-    match calling::tick(rt, alloc, pass, now, dice.words()) {
-        Ok(receipt) => Turned::of(link, &receipt),
+    match calling::tick(rt, alloc, pass, now, dice.words(), reply) {
+        Ok(_) => Turned::of(link, reply),
         Err(refusal) => Turned::end(Why::Refused(refusal)),
     }
 }
@@ -86,12 +88,13 @@ fn tick_turns<A: AgentName, R: Wait, L: Link, C: Clock, D: Dice>(
         (line (L.log link.new) (L.failed link.new)) pass.old pass.new result)
         × Threw D.throws dice.old (flat_map words_in ran.turns) dice.new }
 {
+    let mut reply = Reply::default();
     let (mut dropped, mut unsent) = (0, 0);
     for turns in 0..bound {
         let Some(now) = next_moment(clock, until, stop) else {
             return End::of(Why::Stopped, dropped, unsent, turns);
         };
-        let turned = tick_turn(rt, alloc, pass, link, clock, dice, now);
+        let turned = tick_turn(rt, alloc, pass, link, clock, dice, now, &mut reply);
         dropped += turned.dropped;
         unsent += turned.unsent;
         if let Some(why) = turned.why {

@@ -9,7 +9,7 @@ ghost use Rattle.lg_node.specs.Meaning.Links.{WereHanded};
 use crate::ending::Why;
 use crate::link::Link;
 use crate::sending::send_all;
-use lg_agent::Receipt;
+use lg_detector::Reply;
 
 /// What one turn reports to its loop.
 #[derive(Drop)]
@@ -62,16 +62,16 @@ impl Turned {
         }
     }
 
-    /// A call was answered: hands the packets of its reply to the link. The loop ends then if the member was ousted.
-    pub(crate) fn of<L: Link>(link: &mut L, receipt: &Receipt) -> Turned
+    /// A call was answered by this reply: hands its packets to the link. The loop ends then if the member was ousted.
+    pub(crate) fn of<L: Link>(link: &mut L, reply: &Reply) -> Turned
         ensures handed { WereHanded L.tells (L.log link.old) (L.log link.new) (L.failed link.old) (L.failed link.new)
-            receipt.now.reply.sends.items result.unsent }
+            reply.now.sends.items result.unsent }
         ensures few { result.unsent ≤ 8 }
-        ensures why { result.why ≡ (if receipt.now.reply.ousted then Some Ousted else None) }
+        ensures why { result.why ≡ (if reply.now.ousted then Some Ousted else None) }
         ensures dropped { result.dropped ≡ 0 }
     {
-        let unsent = send_all(link, receipt.reply.sends.as_slice());
-        let why = if receipt.reply.ousted {
+        let unsent = send_all(link, reply.sends.as_slice());
+        let why = if reply.ousted {
             Some(Why::Ousted)
         } else {
             None

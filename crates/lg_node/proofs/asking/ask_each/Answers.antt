@@ -14,5 +14,5 @@ loop-seed-preserved g c =
     let taken : take (i + 1) c.args.seeds.now ≡ take i c.args.seeds.now ++ s ∷ [] = take_more c.args.seeds.now i s (omega arith) ∙ ap (λ (x : Seed). take i c.args.seeds.now ++ x ∷ []) (sym c.seed-item.is) in
     record {
       few = omega (arith, c.loop-seed.invariant.few, c.of-unsent.ensures.few);
-      asked = rw taken (asked_more g.L.Link.tells (take i c.args.seeds.now) s _ _ _ _ _ _ _ _ c.loop-seed.unsent c.of-unsent.result.unsent c.loop-seed.invariant.asked c.in_ok-receipt.ensures.answered c.of-unsent.ensures.handed);
+      asked = rw taken (asked_more g.L.Link.tells (take i c.args.seeds.now) s _ _ _ _ _ _ _ _ c.loop-seed.unsent c.of-unsent.result.unsent c.loop-seed.invariant.asked c.in_ok-pull.ensures.answered c.of-unsent.ensures.handed);
     }

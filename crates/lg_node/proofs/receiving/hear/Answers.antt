@@ -1,5 +1,7 @@
 use Rattle.std.proofs.Common.{◌∷◌, ◌++◌, [], ap, sym, ◌∙◌, refl, arith, append_assoc, List, inl, inr}
 use Rattle.std.specs.Prelude.{Err}
+use Rattle.lg_detector.specs.declared.reply.Reply.{Reply}
+use Rattle.lg_agent.specs.Meaning.Calls.{receipt_of}
 use Rattle.lg_node.specs.Meaning.Links.{LinkEvent, handed}
 use Rattle.lg_node.specs.Meaning.Links.LinkEvent.{Received}
 use Rattle.lg_node.specs.Meaning.Turns.Turn.{Heard, Dropped, Unheard}
@@ -9,9 +11,10 @@ pub returns-in-Ok : goal.returns-in-Ok
 returns-in-Ok g c = λ log came.
     let a = c.in-Ok.ensures.answered in
     let h = c.of.ensures.handed in
-    let rest : List LinkEvent = handed c.in-Ok.receipt.reply.sends.items h.sent in
+    let reply : Reply = c.datagram.new.reply in
+    let rest : List LinkEvent = handed reply.sends.items h.sent in
     record {
-      turn = Heard c.args.now c.args.source c.args.bytes.now a.0 c.in-Ok.receipt h.sent;
+      turn = Heard c.args.now c.args.source c.args.bytes.now a.0 (receipt_of c.in-Ok.field-0 reply) h.sent;
       kind_is = refl;
       is = (a.1, a.2, h.each);
       told = λ yes. h.told yes ∙ (ap (λ (l : List LinkEvent). l ++ rest) (came yes) ∙ append_assoc log (Received c.args.source c.args.bytes.now ∷ []) rest);

@@ -1,7 +1,11 @@
 use Rattle.std.proofs.Common.{arith}
 use Rattle.lg_node.specs.Meaning.Turns.{receives}
-use Rattle.lg_node.proofs.TurnLaws.{on, over}
+use Rattle.lg_node.proofs.TurnLaws.{none_yet, on, over}
 use Rattle.lg_node.proofs.receiving.receive_turns.Goals as goal
+
+pub loop-turns-init : goal.loop-turns-init
+unfolding none_yet
+loop-turns-init g c = record { dropped = omega arith; unsent = omega arith; going = none_yet receives g.L.Link.tells _ c.args.pass.now }
 
 pub returns-in-Some : goal.returns-in-Some
 returns-in-Some g c =

@@ -1,4 +1,5 @@
 use Rattle.std.proofs.Common.{sym, refl, arith, append-nil}
+use Rattle.lg_agent.specs.Meaning.Calls.{receipt_of}
 use Rattle.lg_node.specs.Meaning.Turns.Turn.{Paused, Ticked, Unticked, Unseen}
 use Rattle.lg_node.proofs.TurnLaws.{before_until}
 use Rattle.lg_node.proofs.ticking.tick_turn.Goals as goal
@@ -40,7 +41,7 @@ returns-then-moment-deadline g c = λ until low. let e = c.in-Ok.ensures in let 
 pub returns-in-Ok-tick : goal.returns-in-Ok-tick
 returns-in-Ok-tick g c = λ until low. let e = c.in-Ok.ensures in let h = c.of.ensures.handed in (
   record {
-    turn = Ticked c.args.now c.words.result c.in-Ok-tick.receipt h.sent;
+    turn = Ticked c.args.now c.words.result (receipt_of c.in-Ok-tick.field-0 c.tick.new.reply) h.sent;
     kind_is = before_until c.args.now until low;
     is = (
       c.next_deadline.new.self,
