@@ -42,12 +42,13 @@ const CONFIGS: &[(ConfigFault, &str)] = &[
         ConfigFault::Seeds,
         "seeds may be at most 16, with different names, none of them the member's own",
     ),
+    (ConfigFault::Wire, "wire has to be 1 or 2"),
 ];
 
 const PACKETS: &[(Fault, &str)] = &[
     (Fault::Short, "the bytes end before the packet does"),
     (Fault::Magic, "a packet begins with the bytes 53 4c"),
-    (Fault::Version, "the version has to be 1"),
+    (Fault::Version, "the version has to be 1 or 2"),
     (Fault::Kind, "the kind of a packet has to be 1 to 6"),
     (
         Fault::Name,
@@ -91,7 +92,7 @@ const LINES: &[(LineFault, &str)] = &[
     (LineFault::NotHex, "a line has to be pairs of hex digits"),
     (
         LineFault::Refused(Fault::Version),
-        "the version has to be 1",
+        "the version has to be 1 or 2",
     ),
 ];
 

@@ -9,6 +9,10 @@ use lg_testing::at;
 use lg_text::RunFault;
 use lg_timing::Config;
 use std::alloc::Global;
+use std::net::Net;
+use std::rt;
+use std::sync::Wait;
+use std::thread::Threads;
 
 const FULL: Why = Why::Refused(Refusal::HistoryFull(2));
 
@@ -165,14 +169,29 @@ fn first_untold(alloc: Global, ran: &mut Result<NodeEnd, NodeFault>, rows: &[Row
     None
 }
 
+/// How often a run is tried while it fails.
+const TRIES: usize = 1000;
+
+/// A node that ran. A run fails if memory is refused, and while another program has the port for a moment.
+fn ran<R>(rt: &R, alloc: Global) -> Result<NodeEnd, NodeFault>
+where
+    R: Wait + Threads + Net + rt::Clock + Sync,
+{
+    let mut ran = run_node(rt, alloc, &config(17110), 1, at(0));
+    for _ in 0..TRIES {
+        if ran.is_ok() {
+            return ran;
+        }
+        ran = run_node(rt, alloc, &config(17110), 1, at(0));
+    }
+    ran
+}
+
 /// The first end is told, the receiving loop's before the ticking loop's. If it has a table, refused members are told
 /// before it, then a failed writing, then a fault of closing.
 #[test]
 fn first_of_what_went_wrong(rt: HostRuntime) {
-    let mut ran = run_node(&rt, rt.alloc(), &config(17110), 1, at(0));
-    if ran.is_err() {
-        ran = run_node(&rt, rt.alloc(), &config(17110), 1, at(0));
-    }
+    let mut ran = ran(&rt, rt.alloc());
     assert_eq!(rt; first_untold(rt.alloc(), &mut ran, CLOSED.as_slice()), None);
     if let Ok(end) = &mut ran {
         end.closed = Err(CloseFault::Missing);
