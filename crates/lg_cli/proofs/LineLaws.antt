@@ -1,5 +1,5 @@
 -- What becomes of a command line that reading gave an error for.
-use Rattle.std.proofs.Common.{◌≡◌, ◌≢◌, ℕ, ◌⊎◌, List, [], inl, inr, subst, sym}
+use Rattle.std.proofs.Common.{◌≡◌, ◌≢◌, ℕ, ◌⊎◌, List, inl, inr, subst, sym}
 use Rattle.std.proofs.lemmas.Bool.{cases_eq}
 use Rattle.clap.specs.Kinds.{IsAmong, Kinds}
 use Rattle.clap.specs.Walk.{Text}
@@ -7,7 +7,7 @@ use Rattle.clap.specs.declared.error.kind.ErrorKind.{ErrorKind}
 use Rattle.clap.specs.declared.error.kind.ErrorKind.TheVariants.{OutOfMemory}
 use Rattle.lg_text.specs.Meaning.Faults.{run_fault_text}
 use Rattle.lg_text.specs.Meaning.Running.{AppendsFront}
-use Rattle.lg_text.specs.declared.fault.RunFault.TheVariants.{Memory, Write}
+use Rattle.lg_text.specs.declared.fault.RunFault.TheVariants.{Write}
 use Rattle.lg_cli.specs.Meaning.Commands.{line_faults, status_of_kind, RefusesLine}
 use Rattle.lg_cli.specs.Meaning.Running.{Streams, LacksMemory, LeavesLine, RunsLine}
 

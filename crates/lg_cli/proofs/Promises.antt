@@ -233,9 +233,9 @@ module _ (R W : Type 0) (before after : Streams R W) (line : List Text) (status 
       ⊎ ((status ≡ 1) × FailsBy before.reported after.reported before.writer after.writer))
   launched none = elim (runs.taken none) [
     | inl run ↦ of_node R W before after status (λ for_ms. RunsFile before.writer after.writer before.held after.held before.reported after.reported for_ms status
-      ⊎ ((status ≡ 1) × FailsBy before.reported after.reported before.writer after.writer)) (asked line) run (λ for_ms r. inl r.launched)
+        ⊎ ((status ≡ 1) × FailsBy before.reported after.reported before.writer after.writer)) (asked line) run (λ for_ms r. inl r.launched)
     | inr lacks ↦ all_node (λ for_ms. RunsFile before.writer after.writer before.held after.held before.reported after.reported for_ms status
-      ⊎ ((status ≡ 1) × FailsBy before.reported after.reported before.writer after.writer)) (asked line) (λ for_ms. inr (lacks.is, lacks_fails R W before after status lacks))
+        ⊎ ((status ≡ 1) × FailsBy before.reported after.reported before.writer after.writer)) (asked line) (λ for_ms. inr (lacks.is, lacks_fails R W before after status lacks))
   ]
 
   pub launched_unread : IfNode (asked line) (λ file for_ms. after.reader ≡ before.reader)

@@ -146,13 +146,7 @@ fn number_option<'a>(alloc: Global, id: &'a str, least: u64, most: u64, help: &'
 
 /// The option `--ID N` of a number of the configuration, with its help. The range is that of the key. The default is
 /// that of the key too: the parser wants it as a text, which is written at the call and proved to be the key's.
-fn key_option<'a>(
-    alloc: Global,
-    id: &'a str,
-    key: Key,
-    default: &'a str,
-    help: &'a str,
-) -> Arg<'a>
+fn key_option<'a>(alloc: Global, id: &'a str, key: Key, default: &'a str, help: &'a str) -> Arg<'a>
     requires { default.now ≡ decimal (row_of key).default }
     ensures rule { rule_of result ≡ key_rule id.entry.now key }
     ensures local { result.global ≡ false }
@@ -162,7 +156,6 @@ fn key_option<'a>(
 }
 
 /// The command `timeouts --members N`, with the options of the other numbers.
-#[tactic(auto, unfolding(std::specs::Fmt::digits))]
 fn timeouts_command<'a>(alloc: Global) -> Result<Command<'a>, AllocError>
     ensures app { IfOk result (λ command. app_of command ≡ timeouts_app) }
     ensures local { IfOk result (λ command. (fields_of command).has_globals ≡ false) }
@@ -176,7 +169,13 @@ fn timeouts_command<'a>(alloc: Global) -> Result<Command<'a>, AllocError>
     Command::new(alloc, "timeouts")
         .about("Writes the timeouts of a suspicion, in milliseconds")
         .arg(number_option(alloc, "members", 1, MAX_MEMBERS as u64, members).required(true))?
-        .arg(key_option(alloc, "confirmations", Key::Confirmations, "3", confirmations))?
+        .arg(key_option(
+            alloc,
+            "confirmations",
+            Key::Confirmations,
+            "3",
+            confirmations,
+        ))?
         .arg(key_option(alloc, "alpha", Key::Alpha, "5", alpha))?
         .arg(key_option(alloc, "beta", Key::Beta, "6", beta))?
         .arg(key_option(alloc, "interval-ms", Key::IntervalMs, "1000", interval))

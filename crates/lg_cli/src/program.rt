@@ -87,7 +87,7 @@ where
     W: Write,
     F: Write,
     requires good { IfTimeouts (request_of request) (λ numbers. are_good numbers ≡ true) }
-    requires ending { IfNode (request_of request) (λ _ for_ms. for_ms ≤ MAX_RUN_MS) }
+    requires ending { IfNode (request_of request) (λ _ for_ms. (1 ≤ for_ms) × (for_ms ≤ MAX_RUN_MS)) }
     ensures { RunsRequest
         (streams reader.old (R.remaining reader.old) writer.old (W.contents writer.old) (F.contents faults.old))
         (streams reader.new (R.remaining reader.new) writer.new (W.contents writer.new) (F.contents faults.new))
@@ -109,11 +109,7 @@ where
 ///
 /// The texts of a refusal and of help are the parser's, whose contracts don't say them. So no contract says what is
 /// reported with [`USAGE`], or written with 0. `cases/command_line.case` shows that there is something, and where.
-fn report_refusal<W: Write, F: Write>(
-    error: &Error,
-    writer: &mut W,
-    faults: &mut F,
-) -> u8
+fn report_refusal<W: Write, F: Write>(error: &Error, writer: &mut W, faults: &mut F) -> u8
     ensures status { result ≢ FAILED → result ≡ status_of_kind (kind_of error.now) }
     ensures memory { kind_of error.now ≡ ErrorKind.OutOfMemory → result ≡ FAILED }
     ensures memory_told { kind_of error.now ≡ ErrorKind.OutOfMemory

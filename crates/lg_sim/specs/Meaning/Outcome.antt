@@ -7,7 +7,6 @@ use Rattle.std.specs.Prelude.{
   ◌||◌,
   List,
   [],
-  ◌∷◌,
   ◌++◌,
   length,
   Option,

@@ -1,4 +1,5 @@
-use Rattle.std.proofs.Common.{ap, ◌∙◌, codes}
+use Rattle.std.proofs.Common.{ap, ◌∙◌, codes, refl}
+use Rattle.std.specs.Fmt.{digits}
 use Rattle.std.proofs.lemmas.Result.{IfOk-weaker}
 use Rattle.clap.specs.Built.{AddsArg}
 use Rattle.clap.specs.Simple.{app_of_fields, new_app}
@@ -8,6 +9,22 @@ use Rattle.clap.specs.declared.builder.command.Command.{Command}
 use Rattle.lg_cli.specs.Meaning.Commands.{alpha_rule, beta_rule, confirmations_rule, interval_rule, members_rule, required_rule}
 use Rattle.lg_cli.proofs.CommandLaws.{MakesApp, adds_rule}
 use Rattle.lg_cli.proofs.command.timeouts_command.Goals as goal
+
+pub key_option-requires : goal.key_option-requires
+unfolding digits
+key_option-requires c = refl
+
+pub key_option-requires-2 : goal.key_option-requires-2
+unfolding digits
+key_option-requires-2 c = refl
+
+pub key_option-requires-3 : goal.key_option-requires-3
+unfolding digits
+key_option-requires-3 c = refl
+
+pub key_option-requires-4 : goal.key_option-requires-4
+unfolding digits
+key_option-requires-4 c = refl
 
 pub returns : goal.returns
 returns c =
