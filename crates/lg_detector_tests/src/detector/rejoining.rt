@@ -27,7 +27,8 @@ const GROUP_OF_TEN: Opening = Opening {
     is_mixed: false,
 };
 
-/// Ten that send a claim more often, so that gossip reaches everybody.
+/// Ten that send a claim more often. With the random words of a simulated group, gossip then reaches everybody in the
+/// plays below. With others it may not.
 const GOSSIPING_TEN: Opening = Opening {
     members: 10,
     seeds: &[0, 1, 2],
