@@ -81,7 +81,7 @@ struct Flight {
 
 /// The group.
 #[derive(Drop)]
-pub(super) struct Group {
+struct Group {
     opening: Opening,
     now: u64,
     random: u32,
@@ -96,6 +96,17 @@ pub(super) struct Group {
 }
 
 impl Host {
+    /// A member that runs, and to which nothing has happened yet.
+    fn blank(alloc: Global, number: Number) -> Result<Host, NoMemory> {
+        Ok(Host {
+            number,
+            detector: Detector::blank(alloc)?,
+            state: State::Runs,
+            next: 0,
+            ousted: false,
+        })
+    }
+
     /// Whether it knows this, and isn't ousted.
     fn knows(&self, runs: &[(usize, Known)]) -> bool {
         !self.ousted && are_runs(table_of(&self.detector).as_slice(), runs)
@@ -131,7 +142,7 @@ impl Opening {
 
 impl Group {
     /// A group whose members are opened at 0.
-    pub(super) fn open(alloc: Global, opening: Opening) -> Result<Group, NoMemory> {
+    fn open(alloc: Global, opening: Opening) -> Result<Group, NoMemory> {
         let mut group = Group {
             opening,
             now: 0,
@@ -143,14 +154,8 @@ impl Group {
             have_met: false,
         };
         for number in 0..opening.members {
-            group.hosts.push(Host {
-                number,
-                detector: Detector::blank(alloc)?,
-                state: State::Stops,
-                next: 0,
-                ousted: false,
-            })?;
-            group.restart(alloc, number)?;
+            group.hosts.push(Host::blank(alloc, number)?)?;
+            group.begin(number)?;
         }
         Ok(group)
     }
@@ -211,24 +216,39 @@ impl Group {
         self.happen(number, &event)
     }
 
-    /// Opens a member anew. It asks its seeds for their tables.
-    fn restart(&mut self, alloc: Global, number: Number) -> Result<(), NoMemory> {
+    /// A member that knows nothing yet runs in place of one.
+    fn renew(&mut self, alloc: Global, number: Number) -> Result<(), NoMemory> {
+        let renewed = Host::blank(alloc, number)?;
         if let Some(host) = self.hosts.get_mut(usize::from(number)) {
-            host.detector = Detector::blank(alloc)?;
-            host.state = State::Runs;
+            *host = renewed;
         }
-        let config = self.opening.config_of(number);
-        let event = Event::Open {
-            now: at(self.now),
-            config,
-        };
-        self.happen(number, &event)?;
+        Ok(())
+    }
+
+    /// A member asks its seeds for their tables.
+    fn ask_seeds(&mut self, number: Number) -> Result<(), NoMemory> {
         for seed in self.opening.seeds {
             if *seed != number {
                 self.pull(number, *seed)?;
             }
         }
         Ok(())
+    }
+
+    /// Opens a member, which asks its seeds for their tables.
+    fn begin(&mut self, number: Number) -> Result<(), NoMemory> {
+        let event = Event::Open {
+            now: at(self.now),
+            config: self.opening.config_of(number),
+        };
+        self.happen(number, &event)?;
+        self.ask_seeds(number)
+    }
+
+    /// Opens a member anew.
+    fn restart(&mut self, alloc: Global, number: Number) -> Result<(), NoMemory> {
+        self.renew(alloc, number)?;
+        self.begin(number)
     }
 
     /// Whether a packet goes from one side to the other.
@@ -312,27 +332,50 @@ impl Group {
             .all(|host| host.knows(runs))
     }
 
-    /// Lets an act happen. Returns whether what is asked is so.
-    pub(super) fn act(&mut self, alloc: Global, act: &Act) -> Result<bool, NoMemory> {
+    /// Cuts the members below a number off from the others.
+    fn cut(&mut self, border: Number) {
+        self.border = border;
+        self.is_cut = true;
+    }
+
+    /// Ends the cut.
+    fn heal(&mut self) {
+        self.is_cut = false;
+        self.have_met = false;
+    }
+
+    /// Lets an act happen that takes no time and sends nothing. Nothing happens in one that asks.
+    fn change(&mut self, act: &Act) {
         match act {
-            Act::Passes(milliseconds) => self.pass(alloc, *milliseconds)?,
             Act::Stops(number) => self.set(*number, State::Stops),
             Act::Pauses(number) => self.set(*number, State::Pauses),
             Act::GoesOn(number) => self.set(*number, State::Runs),
-            Act::Restarts(number) => self.restart(alloc, *number)?,
-            Act::Cut(border) => {
-                self.border = *border;
-                self.is_cut = true;
-            }
-            Act::Heals => {
-                self.is_cut = false;
-                self.have_met = false;
-            }
-            Act::Pulls(number, other) => self.pull(*number, *other)?,
-            Act::HaveMet(have_met) => return Ok(self.have_met == *have_met),
-            Act::Know(first, last, runs) => return Ok(self.know(*first, *last, runs)),
+            Act::Cut(border) => self.cut(*border),
+            Act::Heals => self.heal(),
+            _ => {}
         }
-        Ok(true)
+    }
+
+    /// Lets an act happen.
+    fn act(&mut self, alloc: Global, act: &Act) -> Result<(), NoMemory> {
+        match act {
+            Act::Passes(milliseconds) => self.pass(alloc, *milliseconds),
+            Act::Restarts(number) => self.restart(alloc, *number),
+            Act::Pulls(number, other) => self.pull(*number, *other),
+            _ => {
+                self.change(act);
+                Ok(())
+            }
+        }
+    }
+
+    /// Whether what an act asks is so. One that asks nothing is so.
+    fn is_so(&self, act: &Act) -> bool {
+        match act {
+            Act::HaveMet(have_met) => self.have_met == *have_met,
+            Act::Know(first, last, runs) => self.know(*first, *last, runs),
+            _ => true,
+        }
     }
 }
 
@@ -346,7 +389,7 @@ pub(super) fn play_group(
 ) {
     let mut group = Group::open(alloc, opening).expect(rt, "there is memory");
     for (number, act) in acts.iter().enumerate() {
-        let met = group.act(alloc, act).expect(rt, "there is memory");
-        assert!(rt; met, "{case}, act {number}");
+        group.act(alloc, act).expect(rt, "there is memory");
+        assert!(rt; group.is_so(act), "{case}, act {number}");
     }
 }
