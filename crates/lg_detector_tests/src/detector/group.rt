@@ -126,7 +126,7 @@ impl Opening {
         config.timeout_ms = 5;
         config.lambda = self.lambda;
         if self.is_mixed && number % 2 == 1 {
-            config.nack_thousandths = 600;
+            config.wire = 2;
         }
         for seed in self.seeds {
             if *seed != number && !config.seeds.is_full() {
