@@ -11,21 +11,19 @@ ghost use Rattle.lg_node.specs.Meaning.Nodes.{Asked};
 use crate::calling;
 use crate::clock::Clock;
 use crate::link::Link;
+use crate::shared::Shared;
 use crate::turned::Turned;
 use lg_agent::{AgentName, Pass, Refusal};
 use lg_detector::Reply;
 use lg_timing::{MAX_SEEDS, Seed};
-use std::alloc::Global;
 use std::sync::Wait;
 
 /// Asks each seed for its table, in order, and goes on if a packet isn't sent. Returns how many packets weren't sent.
 /// The error is the refusal of the first call that is refused.
 pub(crate) fn ask_each<A: AgentName, R: Wait, L: Link, C: Clock>(
-    rt: &R,
-    alloc: Global,
+    shared: &Shared<'_, R, C>,
     pass: &mut Pass<'_, A>,
     link: &mut L,
-    clock: &C,
     seeds: &[Seed],
 ) -> Result<u64, Refusal>
     requires { length seeds.now ≤ MAX_SEEDS }
@@ -37,7 +35,7 @@ pub(crate) fn ask_each<A: AgentName, R: Wait, L: Link, C: Clock>(
     let mut unsent = 0;
     let mut reply = Reply::default();
     for seed in seeds {
-        calling::pull(rt, alloc, pass, clock.now(), seed.addr, &mut reply)?;
+        calling::pull(shared, pass, shared.clock.now(), seed.addr, &mut reply)?;
         unsent += Turned::of(link, &reply).unsent;
     }
     Ok(unsent)

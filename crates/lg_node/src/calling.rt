@@ -12,18 +12,17 @@ ghost use Rattle.lg_agent.specs.declared.refusal.Refusal.TheVariants.{BadPacket,
 ghost use Rattle.lg_agent.specs.Meaning.Calls.{receipt_of, IsCall, IsRefusal, IsBadPacket, IsRotatedPass};
 ghost use Rattle.lg_node.specs.Meaning.Turns.{MadeNoCall};
 
+use crate::shared::Shared;
 use lg_agent::{AgentName, Pass, Refusal};
 use lg_detector::Reply;
 use lg_rules::Addr;
 use lg_timing::Moment;
-use std::alloc::Global;
 use std::sync::Wait;
 
 /// Rotates a pass whose call was refused, if that was because the history is full. The error means that the call
 /// isn't to be made again: it was refused for something else, or memory for the rotation was refused.
-fn make_room<A: AgentName, R: Wait>(
-    rt: &R,
-    alloc: Global,
+fn make_room<A: AgentName, R: Wait, C>(
+    shared: &Shared<'_, R, C>,
     pass: &mut Pass<'_, A>,
     refusal: Refusal,
 ) -> Result<(), Refusal>
@@ -33,7 +32,7 @@ fn make_room<A: AgentName, R: Wait>(
 {
     match refusal {
         Refusal::HistoryFull(_) => {
-            pass.rotate(rt, alloc)?;
+            pass.rotate(shared.rt, shared.alloc)?;
             Ok(())
         }
         _ => Err(refusal),
@@ -41,9 +40,8 @@ fn make_room<A: AgentName, R: Wait>(
 }
 
 /// [`Pass::datagram_into`], made again after a rotation if the history was full.
-pub(crate) fn datagram<A: AgentName, R: Wait>(
-    rt: &R,
-    alloc: Global,
+pub(crate) fn datagram<A: AgentName, R: Wait, C>(
+    shared: &Shared<'_, R, C>,
     pass: &mut Pass<'_, A>,
     now: Moment,
     source: Addr,
@@ -59,19 +57,18 @@ pub(crate) fn datagram<A: AgentName, R: Wait>(
     ensures only { (f : Broken) → result ≡ Err (BadPacket f) → packet_of bytes.now ≡ Err f }
     ensures refusal { IfErr result (λ e. IsBadPacket e ⊎ IsRefusal pass.old.seen e) }
 {
-    match pass.datagram_into(rt, alloc, now, source, bytes, reply) {
+    match pass.datagram_into(shared.rt, shared.alloc, now, source, bytes, reply) {
         Ok(place) => Ok(place),
         Err(unheard) => {
-            make_room(rt, alloc, pass, unheard)?;
-            pass.datagram_into(rt, alloc, now, source, bytes, reply)
+            make_room(shared, pass, unheard)?;
+            pass.datagram_into(shared.rt, shared.alloc, now, source, bytes, reply)
         }
     }
 }
 
 /// [`Pass::tick_into`], made again after a rotation if the history was full, with the same words.
-pub(crate) fn tick<A: AgentName, R: Wait>(
-    rt: &R,
-    alloc: Global,
+pub(crate) fn tick<A: AgentName, R: Wait, C>(
+    shared: &Shared<'_, R, C>,
     pass: &mut Pass<'_, A>,
     now: Moment,
     words: [u32; 8],
@@ -83,19 +80,18 @@ pub(crate) fn tick<A: AgentName, R: Wait>(
     ensures kept { OnErr result (reply.new ≡ reply.old) }
     ensures refusal { IfErr result (IsRefusal pass.old.seen) }
 {
-    match pass.tick_into(rt, alloc, now, words, reply) {
+    match pass.tick_into(shared.rt, shared.alloc, now, words, reply) {
         Ok(place) => Ok(place),
         Err(unticked) => {
-            make_room(rt, alloc, pass, unticked)?;
-            pass.tick_into(rt, alloc, now, words, reply)
+            make_room(shared, pass, unticked)?;
+            pass.tick_into(shared.rt, shared.alloc, now, words, reply)
         }
     }
 }
 
 /// [`Pass::pull_into`], made again after a rotation if the history was full.
-pub(crate) fn pull<A: AgentName, R: Wait>(
-    rt: &R,
-    alloc: Global,
+pub(crate) fn pull<A: AgentName, R: Wait, C>(
+    shared: &Shared<'_, R, C>,
     pass: &mut Pass<'_, A>,
     now: Moment,
     peer: Addr,
@@ -107,11 +103,11 @@ pub(crate) fn pull<A: AgentName, R: Wait>(
     ensures kept { OnErr result (reply.new ≡ reply.old) }
     ensures refusal { IfErr result (IsRefusal pass.old.seen) }
 {
-    match pass.pull_into(rt, alloc, now, peer, reply) {
+    match pass.pull_into(shared.rt, shared.alloc, now, peer, reply) {
         Ok(place) => Ok(place),
         Err(unasked) => {
-            make_room(rt, alloc, pass, unasked)?;
-            pass.pull_into(rt, alloc, now, peer, reply)
+            make_room(shared, pass, unasked)?;
+            pass.pull_into(shared.rt, shared.alloc, now, peer, reply)
         }
     }
 }

@@ -12,26 +12,22 @@ use crate::calling;
 use crate::clock::Clock;
 use crate::ending::{End, Ended, Why};
 use crate::link::{Link, MAX_DATAGRAM};
-use crate::shared::MAX_TURNS;
+use crate::shared::{MAX_TURNS, Shared, Side};
 use crate::turned::Turned;
-use lg_agent::{AgentName, Pass, Refusal};
+use lg_agent::{AgentName, Refusal};
 use lg_detector::Reply;
 use lg_rules::Addr;
 use lg_timing::Moment;
-use std::alloc::Global;
 use std::sync::Wait;
-use std::sync::atomic::AtomicBool;
 use std::sync::atomic::Ordering::SeqCst;
 
 /// How long one turn waits for a datagram, in milliseconds.
 const WAIT_MS: u64 = 20;
 
 /// Hears a datagram that came, or drops it if its bytes are no packet. The reply is written over `reply`.
-fn hear<A: AgentName, R: Wait, L: Link>(
-    rt: &R,
-    alloc: Global,
-    pass: &mut Pass<'_, A>,
-    link: &mut L,
+fn hear<A: AgentName, R: Wait, L: Link, C>(
+    shared: &Shared<'_, R, C>,
+    side: &mut Side<'_, L, A>,
     now: Moment,
     source: Addr,
     bytes: &[u8],
@@ -39,12 +35,12 @@ fn hear<A: AgentName, R: Wait, L: Link>(
 ) -> Turned
     // The link's log ends with this datagram.
     ensures { (log : List LinkEvent)
-        → (L.tells ≡ true → L.log link.old ≡ log ++ Received source bytes.now ∷ [])
-        → Took receives L.tells (line log (L.failed link.old)) (line (L.log link.new) (L.failed link.new))
-        pass.old pass.new result }
+        → (L.tells ≡ true → L.log side.old.link ≡ log ++ Received source bytes.now ∷ [])
+        → Took receives L.tells (line log (L.failed side.old.link))
+        (line (L.log side.new.link) (L.failed side.new.link)) side.old.pass side.new.pass result }
 {
-    match calling::datagram(rt, alloc, pass, now, source, bytes, reply) {
-        Ok(_) => Turned::of(link, reply),
+    match calling::datagram(shared, &mut side.pass, now, source, bytes, reply) {
+        Ok(_) => Turned::of(&mut side.link, reply),
         Err(refusal) => match refusal {
             Refusal::BadPacket(_) => Turned::dropped(),
             _ => Turned::end(Why::Refused(refusal)),
@@ -54,25 +50,20 @@ fn hear<A: AgentName, R: Wait, L: Link>(
 
 /// One turn: waits for a datagram, and hears it.
 fn receive_turn<A: AgentName, R: Wait, L: Link, C: Clock>(
-    rt: &R,
-    alloc: Global,
-    pass: &mut Pass<'_, A>,
-    link: &mut L,
-    clock: &C,
+    shared: &Shared<'_, R, C>,
+    side: &mut Side<'_, L, A>,
     buffer: &mut [u8; MAX_DATAGRAM],
     reply: &mut Reply,
 ) -> Turned
-    ensures { Took receives L.tells (line (L.log link.old) (L.failed link.old))
-        (line (L.log link.new) (L.failed link.new)) pass.old pass.new result }
+    ensures { Took receives L.tells (line (L.log side.old.link) (L.failed side.old.link))
+        (line (L.log side.new.link) (L.failed side.new.link)) side.old.pass side.new.pass result }
 {
-    match link.receive(buffer, WAIT_MS) {
+    match side.link.receive(buffer, WAIT_MS) {
         Ok(None) => Turned::on(),
         Ok(Some((source, length))) => hear(
-            rt,
-            alloc,
-            pass,
-            link,
-            clock.now(),
+            shared,
+            side,
+            shared.clock.now(),
             source,
             &buffer[..length],
             reply,
@@ -83,40 +74,35 @@ fn receive_turn<A: AgentName, R: Wait, L: Link, C: Clock>(
 
 /// The turns of the loop, until one ends it.
 fn receive_turns<A: AgentName, R: Wait, L: Link, C: Clock>(
-    rt: &R,
-    alloc: Global,
-    pass: &mut Pass<'_, A>,
-    link: &mut L,
-    clock: &C,
-    stop: &AtomicBool,
-    bound: u64,
+    shared: &Shared<'_, R, C>,
+    side: &mut Side<'_, L, A>,
 ) -> End
-    requires { bound ≤ MAX_TURNS }
-    ensures { Ran receives L.tells bound (line (L.log link.old) (L.failed link.old))
-        (line (L.log link.new) (L.failed link.new)) pass.old pass.new result }
+    requires { shared.now.bound ≤ MAX_TURNS }
+    ensures { Ran receives L.tells shared.now.bound (line (L.log side.old.link) (L.failed side.old.link))
+        (line (L.log side.new.link) (L.failed side.new.link)) side.old.pass side.new.pass result }
 {
     let mut buffer = [0; MAX_DATAGRAM];
     let mut reply = Reply::default();
     let (mut dropped, mut unsent) = (0, 0);
-    for turns in 0..bound {
-        if stop.load(SeqCst) {
+    for turns in 0..shared.bound {
+        if shared.stop.load(SeqCst) {
             return End::of(Why::Stopped, dropped, unsent, turns);
         }
-        let turned = receive_turn(rt, alloc, pass, link, clock, &mut buffer, &mut reply);
+        let turned = receive_turn(shared, side, &mut buffer, &mut reply);
         dropped += turned.dropped;
         unsent += turned.unsent;
         if let Some(why) = turned.why {
             return End::of(why, dropped, unsent, turns + 1);
         }
     }
-    End::of(Why::ReadBound, dropped, unsent, bound)
+    End::of(Why::ReadBound, dropped, unsent, shared.bound)
 }
 
 /// Hears the datagrams that come over a link, and hands the packets of the replies to it, until the stop flag is set.
 ///
-/// It makes at most `bound` turns, each of which waits 20 ms for a datagram. A datagram whose bytes are no packet is
-/// dropped, and a packet that isn't sent is lost. Both are counted. A full history ends nothing: it is rotated, as
-/// [`Pass::rotate`] says, and the datagram is heard then.
+/// It makes at most `shared.bound` turns, each of which waits 20 ms for a datagram. A datagram whose bytes are no
+/// packet is dropped, and a packet that isn't sent is lost. Both are counted. A full history ends nothing: it is
+/// rotated, as [`Pass::rotate`](lg_agent::Pass::rotate) says, and the datagram is heard then.
 ///
 /// It ends with [`Why::LinkFailed`] if receiving failed, with [`Why::Refused`] if a datagram whose bytes are a packet
 /// couldn't be heard, and with [`Why::Ousted`] after a reply that says so. A datagram can't be heard if memory was
@@ -124,21 +110,17 @@ fn receive_turns<A: AgentName, R: Wait, L: Link, C: Clock>(
 /// another pass has filled it meanwhile, or there were as many events as a detector accepts. However the loop ends,
 /// it sets the stop flag for the others.
 pub fn receive_loop<A: AgentName, R: Wait, L: Link, C: Clock>(
-    rt: &R,
-    alloc: Global,
-    pass: Pass<'_, A>,
-    link: L,
-    clock: &C,
-    stop: &AtomicBool,
-    bound: u64,
+    shared: &Shared<'_, R, C>,
+    side: Side<'_, L, A>,
 ) -> Ended<L, A>
-    requires { bound ≤ MAX_TURNS }
-    ensures { Ran receives L.tells bound (line (L.log link) (L.failed link))
-        (line (L.log result.link) (L.failed result.link)) pass.entry result.spent result.end }
+    requires { shared.now.bound ≤ MAX_TURNS }
+    ensures { Ran receives L.tells shared.now.bound (line (L.log side.entry.link) (L.failed side.entry.link))
+        (line (L.log result.link) (L.failed result.link)) side.entry.pass result.spent result.end }
 {
-    let (mut pass, mut link) = (pass, link);
-    let end = receive_turns(rt, alloc, &mut pass, &mut link, clock, stop, bound);
-    stop.store(true, SeqCst);
+    let mut side = side;
+    let end = receive_turns(shared, &mut side);
+    shared.stop.store(true, SeqCst);
+    let Side { pass, link } = side;
     Ended {
         link,
         spent: pass.finish(),

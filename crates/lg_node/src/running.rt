@@ -98,26 +98,18 @@ where
         × ((rest : D) × Threw D.throws dice (flat_map words_in ran.turns) rest) }
 {
     let promise: Receives<S> = Receives { start: PhantomData };
-    let (rt, alloc, clock, stop, bound) = (
-        shared.rt,
-        shared.alloc,
-        shared.clock,
-        shared.stop,
-        shared.bound,
-    );
-    let Side { pass, link } = receiver;
     thread::scope(
         thread::scope_env(),
-        rt,
+        shared.rt,
         move |scope| -> (Ended<L, A>, Ended<L, A>)
-            requires bound { (bound ≤ MAX_TURNS) × (bound ≡ S.bound) }
-            requires start { (pass ≡ S.own) × (line (L.log link) (L.failed link) ≡ S.line) }
+            requires bound { (shared.now.bound ≤ MAX_TURNS) × (shared.now.bound ≡ S.bound) }
+            requires start { (receiver.pass ≡ S.own) × (line (L.log receiver.link) (L.failed receiver.link) ≡ S.line) }
             ensures received { Ran receives L.tells S.bound S.line
                 (line (L.log result.0.link) (L.failed result.0.link)) S.own result.0.spent result.0.end
                 ⊎ (HadNoThread receives L.tells S.bound S.line
                 (line (L.log result.0.link) (L.failed result.0.link)) S.own result.0.spent result.0.end
                 × (result.1.end ≡ record { why = Stopped; dropped = 0; unsent = 0; turns = 0 })) }
-            ensures ticked { (ran : Ran (ticks_before until) L.tells bound
+            ensures ticked { (ran : Ran (ticks_before until) L.tells shared.entry.now.bound
                 (line (L.log ticker.entry.link) (L.failed ticker.entry.link))
                 (line (L.log result.1.link) (L.failed result.1.link)) ticker.entry.pass result.1.spent result.1.end)
                 × ((rest : D) × Threw D.throws dice (flat_map words_in ran.turns) rest) }
@@ -125,23 +117,23 @@ where
             let spawned = scope.spawn_with(
                 promise,
                 move || -> Ended<L, A>
-                    requires { bound ≤ MAX_TURNS }
-                    ensures { Ran receives L.tells bound (line (L.log link) (L.failed link))
-                        (line (L.log result.link) (L.failed result.link)) pass.entry result.spent result.end }
-                { receive_loop(rt, alloc, pass, link, clock, stop, bound) },
+                    requires { shared.now.bound ≤ MAX_TURNS }
+                    ensures { Ran receives L.tells shared.entry.now.bound
+                        (line (L.log receiver.entry.link) (L.failed receiver.entry.link))
+                        (line (L.log result.link) (L.failed result.link)) receiver.entry.pass result.spent result.end }
+                { receive_loop(shared, receiver) },
             );
             let child = match spawned {
                 Ok(child) => child,
                 Err(refused) => {
-                    stop.store(true, SeqCst);
+                    shared.stop.store(true, SeqCst);
                     let mut received = (refused.value)();
                     received.end.why = Why::Refused(Refusal::NoMemory);
                     return (received, unstarted(ticker));
                 }
             };
-            let Side { pass, link } = ticker;
-            let ticked = tick_loop(rt, alloc, pass, link, clock, dice, until, stop, bound);
-            (child.join(rt), ticked)
+            let ticked = tick_loop(shared, ticker, dice, until);
+            (child.join(shared.rt), ticked)
         },
     )
 }

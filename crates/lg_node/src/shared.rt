@@ -1,4 +1,4 @@
-//! What the loops of a node take: what both share, and the side of each.
+//! What a loop takes: what the loops of a node share, and its own side.
 //!
 //! Tested in: `lg_agent_tests/src/node/both.rt`.
 
@@ -12,7 +12,7 @@ use std::sync::atomic::AtomicBool;
 /// How many turns each loop of a node may make: 1,000,000,000.
 pub const MAX_TURNS: u64 = 1_000_000_000;
 
-/// What both loops share.
+/// What the loops of a node share.
 #[derive(Drop)]
 pub struct Shared<'a, R, C> {
     /// The machine, whose threads and locks the loops use.
@@ -23,7 +23,7 @@ pub struct Shared<'a, R, C> {
     pub clock: &'a C,
     /// Whether the loops are to stop. A loop that ends sets it for the other one.
     pub stop: &'a AtomicBool,
-    /// How many turns each loop may make, at most [`MAX_TURNS`].
+    /// How many turns each loop may make, at most [`MAX_TURNS`]. With 0 a loop ends at once.
     pub bound: u64,
 }
 

@@ -138,14 +138,7 @@ where
     } = passes;
     let mut asker = asker;
     let mut sends = UdpLink::new(socket);
-    let unsent = ask_each(
-        shared.rt,
-        shared.alloc,
-        &mut asker,
-        &mut sends,
-        shared.clock,
-        &config.seeds,
-    )?;
+    let unsent = ask_each(shared, &mut asker, &mut sends, &config.seeds)?;
     let hears = UdpLink::new(socket);
     let receiver = Side {
         pass: receiver,

@@ -4,7 +4,7 @@ use super::links::{Call, MemoryLink, QUIET, Script};
 use crate::playing::{Case, Left, Outcome, Play, Shown};
 use arrayvec::ArrayVec;
 use lg_agent::{AgentName, Pass, Spent};
-use lg_node::{End, Ended, Why, receive_loop, tick_loop};
+use lg_node::{End, Ended, Shared, Side, Why, receive_loop, tick_loop};
 use lg_testing::at;
 use std::alloc::Global;
 use std::sync::Wait;
@@ -89,11 +89,20 @@ fn run_loop<'a, A: AgentName, R: Wait>(
     runs: Loop,
     stop: &AtomicBool,
 ) -> Ended<MemoryLink<'a>, A> {
+    let side = Side { pass, link };
+    let bound = BOUND;
+    let shared = Shared {
+        rt,
+        alloc,
+        clock,
+        stop,
+        bound,
+    };
     match runs {
-        Loop::Receiving => receive_loop(rt, alloc, pass, link, clock, stop, BOUND),
+        Loop::Receiving => receive_loop(&shared, side),
         Loop::Ticking { until } => {
             let dice = FixedDice { word: 0 };
-            tick_loop(rt, alloc, pass, link, clock, dice, at(until), stop, BOUND)
+            tick_loop(&shared, side, dice, at(until))
         }
     }
 }

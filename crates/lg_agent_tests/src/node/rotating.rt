@@ -5,7 +5,9 @@ use super::links::put;
 use crate::agent::calls::ping_of;
 use crate::playing::{Case, Ending, Left, Play, Shown, told};
 use lg_agent::{AgentName, Pass, Spent};
-use lg_node::{Clock, End, Link, LinkFault, MAX_DATAGRAM, Why, receive_loop, tick_loop};
+use lg_node::{
+    Clock, End, Link, LinkFault, MAX_DATAGRAM, Shared, Side, Why, receive_loop, tick_loop,
+};
 use lg_rules::Addr;
 use lg_testing::{at, local};
 use std::alloc::Global;
@@ -130,13 +132,20 @@ pub fn run_stream<A: AgentName, R: Wait>(
     };
     let clock = MemoryClock::new(0);
     let stop = AtomicBool::new(false);
+    let shared = Shared {
+        rt,
+        alloc,
+        clock: &clock,
+        stop: &stop,
+        bound: BOUND,
+    };
     let link = StreamLink::new(&clock, &stop);
-    let received = receive_loop(rt, alloc, first, link, &clock, &stop, BOUND);
+    let received = receive_loop(&shared, Side { pass: first, link });
     stop.store(false, SeqCst);
     let until = at(u64::from(DATAGRAMS) + TICKING_MS);
     let link = StreamLink::new(&clock, &stop);
     let dice = FixedDice { word: 0 };
-    let ticked = tick_loop(rt, alloc, second, link, &clock, dice, until, &stop, BOUND);
+    let ticked = tick_loop(&shared, Side { pass: second, link }, dice, until);
     let seen = StreamSeen {
         receiving: received.end,
         ticking: ticked.end,

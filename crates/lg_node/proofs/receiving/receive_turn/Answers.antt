@@ -10,7 +10,7 @@ returns-in-Ok-None g c = let e = c.in-Ok-None in let on = c.on.ensures in record
   turn = Quiet;
   kind_is = refl;
   is = refl;
-  told = λ yes. e.ensures.told yes ∙ ap (λ (o : Option (Addr × ℕ)). g.L.Link.log c.args.link.now ++ reception (Ok o) c.receive.new.buffer ∷ []) e.field-0-is;
+  told = λ yes. e.ensures.told yes ∙ ap (λ (o : Option (Addr × ℕ)). g.L.Link.log c.args.side.now.link ++ reception (Ok o) c.receive.new.buffer ∷ []) e.field-0-is;
   failed = omega (arith, e.ensures.received);
   why = sym on.why;
   dropped = on.dropped;

@@ -10,7 +10,7 @@ returns-in-Err g c = λ until low. let e = c.in-Err.ensures in let end = c.end.e
     turn = Unseen c.in-Err.refusal;
     kind_is = refl;
     is = (e.1, e.0);
-    told = λ yes. sym (append-nil (g.L.Link.log c.args.link.now));
+    told = λ yes. sym (append-nil (g.L.Link.log c.args.side.now.link));
     failed = omega arith;
     why = sym end.why;
     dropped = end.dropped;
@@ -27,7 +27,7 @@ returns-then-moment-deadline g c = λ until low. let e = c.in-Ok.ensures in let 
     turn = Paused c.args.now;
     kind_is = before_until c.args.now until low;
     is = record { look = e.1; due = c.in-Ok.deadline; deadline = e.0; later = omega (arith, c.if-moment-deadline.true, c.milliseconds-moment.ensures.milliseconds) };
-    told = λ yes. sym (append-nil (g.L.Link.log c.args.link.now));
+    told = λ yes. sym (append-nil (g.L.Link.log c.args.side.now.link));
     failed = omega arith;
     why = sym end.why;
     dropped = end.dropped;
@@ -71,7 +71,7 @@ returns-in-Err-tick g c = λ until low. let e = c.in-Ok.ensures in let f = c.in-
       f.answered,
       f.refusal,
     );
-    told = λ yes. sym (append-nil (g.L.Link.log c.args.link.now));
+    told = λ yes. sym (append-nil (g.L.Link.log c.args.side.now.link));
     failed = omega arith;
     why = sym end.why;
     dropped = end.dropped;

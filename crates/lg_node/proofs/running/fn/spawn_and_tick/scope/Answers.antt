@@ -17,7 +17,7 @@ returns-in-Err g c =
         c.unstarted.ensures.end,
       );
       ticked = rw (c.unstarted.ensures.link, c.unstarted.ensures.spent, c.unstarted.ensures.end) (
-        stopped (ticks_before c.captures.until) g.L.Link.tells c.captures.bound begin begin c.captures.ticker.pass c.captures.ticker.pass 0 0 0
+        stopped (ticks_before c.captures.until) g.L.Link.tells c.captures.shared.now.bound begin begin c.captures.ticker.pass c.captures.ticker.pass 0 0 0
             (none_yet (ticks_before c.captures.until) g.L.Link.tells begin c.captures.ticker.pass),
         (c.captures.dice, refl),
       );
