@@ -16,7 +16,7 @@ use Rattle.lg_history.specs.Meaning.History.{Entry, Answered, events}
 use Rattle.lg_history.specs.Meaning.Rest.{StandsFor}
 use Rattle.lg_history.proofs.Legal.{length-events}
 use Rattle.lg_history.proofs.Rests.{answered_from, answered_after}
-use Rattle.lg_agent.specs.Meaning.Closing.{Left, IsWell}
+use Rattle.lg_agent.specs.Meaning.Closing.{ClosedValue, IsWell}
 
 -- What stands for one list of events stands for lists of the same length alone, and entries that are answered after one
 -- of them are answered after each.
@@ -52,7 +52,7 @@ chosen_more f h i d told answered low is =
     ∙ ap (λ (l : List Event). targets_after l ++ option_to_list told) (sym first))
 
 -- the list of whom they chose grows with each entry
-pub names_more : (c : Left) (w : IsWell c) (from place i : ℕ) (d : Entry) (told : Option (List ℕ)) (names more : List (List ℕ)) → i < length c.history → place ≡ c.base + i → told ≡ choice_of_reply (get_or c.history i d).reply
+pub names_more : (c : ClosedValue) (w : IsWell c) (from place i : ℕ) (d : Entry) (told : Option (List ℕ)) (names more : List (List ℕ)) → i < length c.history → place ≡ c.base + i → told ≡ choice_of_reply (get_or c.history i d).reply
     → ((f : List Event) → StandsFor c.summary f → is_accepted (f ++ events c.history) ≡ true → chosen_before f c.history place ≡ chosen_before f c.history from ++ names)
     → more ≡ names ++ option_to_list told
     → (f : List Event) → StandsFor c.summary f → is_accepted (f ++ events c.history) ≡ true → chosen_before f c.history (place + 1) ≡ chosen_before f c.history from ++ more

@@ -13,7 +13,7 @@ use Rattle.lg_history.specs.Meaning.History.{positions}
 use Rattle.lg_history.specs.Meaning.Rest.{of_seat}
 use Rattle.lg_agent.specs.declared.refusal.CloseFault.{CloseFault}
 use Rattle.lg_agent.specs.declared.refusal.CloseFault.TheVariants.{Missing, Foreign, Differs}
-use Rattle.lg_agent.specs.Meaning.Ledger.{Ledger, Own, own_name, all_events}
+use Rattle.lg_agent.specs.Meaning.Values.{KeptValue, PassValue, own_name, all_events}
 use Rattle.lg_agent.specs.Meaning.Closing.{times, is_foreign, is_missing, below, first_difference, difference, difference_at, least_difference, close_fault}
 
 -- The places in order, one step on.
@@ -46,7 +46,7 @@ no_fault false true d e = absurd cc
 no_fault false false d e = (refl, refl, e)
 
 -- A pass that belongs here.
-pub record Belongs (name : List ℕ) (places : ℕ) (all : List Own) (s : Own) : Type 0 where
+pub record Belongs (name : List ℕ) (places : ℕ) (all : List PassValue) (s : PassValue) : Type 0 where
   pub name_is : s.name ≡ name
   pub low : 0 < s.seat
   pub high : s.seat ≤ places
@@ -56,7 +56,7 @@ not_false : (a : Bool) → not a ≡ false → a ≡ true
 not_false true e = refl
 not_false false e = absurd cc
 
-pub belongs : (name : List ℕ) (places : ℕ) (all : List Own) (s : Own) → is_foreign name places all s ≡ false → Belongs name places all s
+pub belongs : (name : List ℕ) (places : ℕ) (all : List PassValue) (s : PassValue) → is_foreign name places all s ≡ false → Belongs name places all s
 belongs name places all s e =
     let one = or_false (not (pointwise nat_eq s.name name)) _ e in
     let two = or_false (s.seat == 0) _ one.1 in
@@ -68,24 +68,24 @@ belongs name places all s e =
       once = grind (arith, nat_tests, three.1);
     }
 
-pub times-cons : (x : Own) (all : List Own) (p : ℕ) → times (x ∷ all) p ≡ cond (x.seat == p) 1 0 + times all p
-times-cons x all p = sum_by-cons (λ (s : Own). cond (s.seat == p) 1 0) x all
+pub times-cons : (x : PassValue) (all : List PassValue) (p : ℕ) → times (x ∷ all) p ≡ cond (x.seat == p) 1 0 + times all p
+times-cons x all p = sum_by-cons (λ (s : PassValue). cond (s.seat == p) 1 0) x all
 
-pub times_yes : (x : Own) (all : List Own) (p : ℕ) → (x.seat == p) ≡ true → times (x ∷ all) p ≡ 1 + times all p
+pub times_yes : (x : PassValue) (all : List PassValue) (p : ℕ) → (x.seat == p) ≡ true → times (x ∷ all) p ≡ 1 + times all p
 times_yes x all p is = times-cons x all p ∙ ap (λ (b : Bool). cond b 1 0 + times all p) is
 
-pub times_no : (x : Own) (all : List Own) (p : ℕ) → (x.seat == p) ≡ false → times (x ∷ all) p ≡ times all p
+pub times_no : (x : PassValue) (all : List PassValue) (p : ℕ) → (x.seat == p) ≡ false → times (x ∷ all) p ≡ times all p
 times_no x all p isnt = times-cons x all p ∙ (ap (λ (b : Bool). cond b 1 0 + times all p) isnt ∙ zero-add (times all p))
 
 -- where some pass has a place, what holds of all holds of one with that place
-pub one_with : (P : Own → Type 0) (all : List Own) (p : ℕ) → All P all → 0 < times all p → (s : Own) × P s × (s.seat ≡ p)
+pub one_with : (P : PassValue → Type 0) (all : List PassValue) (p : ℕ) → All P all → 0 < times all p → (s : PassValue) × P s × (s.seat ≡ p)
 one_with P [] p holds some = absurd (omega arith)
-one_with P (x ∷ all) p holds some = elim (x.seat == p) as (λ (b : Bool). (x.seat == p) ≡ b → (s : Own) × P s × (s.seat ≡ p)) [
+one_with P (x ∷ all) p holds some = elim (x.seat == p) as (λ (b : Bool). (x.seat == p) ≡ b → (s : PassValue) × P s × (s.seat ≡ p)) [
   | true ↦ λ is. (x, All-head P x all holds, eqb-true x.seat p is)
   | false ↦ λ isnt. one_with P all p (All-tail P x all holds) (let e = times_no x all p isnt in omega arith)
 ] refl
 
-pub times-at : (all : List Own) (k : ℕ) (d : Own) → k < length all → 0 < times all (get_or all k d).seat
+pub times-at : (all : List PassValue) (k : ℕ) (d : PassValue) → k < length all → 0 < times all (get_or all k d).seat
 times-at [] k d low = absurd (omega arith)
 times-at (x ∷ all) zero d low = let e = times_yes x all x.seat (eq-eqb x.seat x.seat refl) in omega arith
 times-at (x ∷ all) (suc k) d low =
@@ -93,7 +93,7 @@ times-at (x ∷ all) (suc k) d low =
     let e = times-cons x all (get_or all k d).seat in omega arith
 
 -- the one pass with a place is the one that is found
-pub find_only : (all : List Own) (k : ℕ) (d : Own) → k < length all → times all (get_or all k d).seat ≤ 1 → find (λ s. s.seat == (get_or all k d).seat) all ≡ Some (get_or all k d)
+pub find_only : (all : List PassValue) (k : ℕ) (d : PassValue) → k < length all → times all (get_or all k d).seat ≤ 1 → find (λ s. s.seat == (get_or all k d).seat) all ≡ Some (get_or all k d)
 find_only [] k d low once = absurd (omega arith)
 find_only (x ∷ all) zero d low once = rw (eq-eqb x.seat x.seat refl) refl
 find_only (x ∷ all) (suc k) d low once =
@@ -108,7 +108,7 @@ or_none : (a b : Option CloseFault) → option_or a b ≡ None → (a ≡ None) 
 or_none None b e = (refl, e)
 or_none (Some x) b e = absurd cc
 
-pub no_difference : (h : Ledger) (all : List Own) (a n p : ℕ) → least_difference h all (range_with_len a n) ≡ None → a ≤ p → p < a + n → difference_at h (find (λ s. s.seat == p) all) ≡ None
+pub no_difference : (h : KeptValue) (all : List PassValue) (a n p : ℕ) → least_difference h all (range_with_len a n) ≡ None → a ≤ p → p < a + n → difference_at h (find (λ s. s.seat == p) all) ≡ None
 no_difference h all a zero p e low high = absurd (omega arith)
 no_difference h all a (suc n) p e low high = elim (nat_eq p a) as (λ (b : Bool). nat_eq p a ≡ b → difference_at h (find (λ s. s.seat == p) all) ≡ None) [
   | true ↦ λ is. ap (λ (q : ℕ). difference_at h (find (λ s. s.seat == q) all)) (eqb-true p a is) ∙ (or_none _ _ e).0
@@ -137,22 +137,22 @@ same_calls seat calls cut lesser o e = elim (calls == cut) as (λ (b : Bool). (c
 ] refl e
 
 -- What no fault says.
-pub record Found (l : Ledger) (all : List Own) : Type 0 where
+pub record Found (l : KeptValue) (all : List PassValue) : Type 0 where
   pub belong : All (Belongs (own_name (all_events l)) l.places all) all
   pub one_each : (p : ℕ) → 0 < p → p ≤ l.places → times all p ≡ 1
   pub cut : All (λ s. s.gone + below (length l.past) s.mine ≡ of_seat l.cut s.seat) all
   pub mine : All (λ s. drop (below (length l.past) s.mine) s.mine ≡ positions s.seat (length l.past) l.history) all
 
-pub found : (l : Ledger) (all : List Own) → close_fault l all ≡ None → Found l all
+pub found : (l : KeptValue) (all : List PassValue) → close_fault l all ≡ None → Found l all
 found l all e =
     let name : List ℕ = own_name (all_events l) in
     let three = no_fault _ _ _ e in
     let none = none_in_list (is_foreign name l.places all) all three.0 in
     let each : All (Belongs name l.places all) all = λ k d low. belongs name l.places all (get_or all k d) (none k d low) in
-    let same : (k : ℕ) (d : Own) → k < length all → difference l (get_or all k d) ≡ None = λ k d low.
-    let s : Own = get_or all k d in
+    let same : (k : ℕ) (d : PassValue) → k < length all → difference l (get_or all k d) ≡ None = λ k d low.
+    let s : PassValue = get_or all k d in
     let b : Belongs name l.places all s = each k d low in
-    let at : difference_at l (find (λ (o : Own). o.seat == s.seat) all) ≡ None = no_difference l all 1 l.places s.seat three.2 (omega (arith, b.low)) (omega (arith, b.high)) in
+    let at : difference_at l (find (λ (o : PassValue). o.seat == s.seat) all) ≡ None = no_difference l all 1 l.places s.seat three.2 (omega (arith, b.low)) (omega (arith, b.high)) in
     sym (ap (difference_at l) (find_only all k d low b.once)) ∙ at in
     record {
       belong = each;

@@ -19,7 +19,7 @@ use Rattle.lg_history.proofs.Rests.{whole_events, whole_length, rest_accepted, r
 use Rattle.lg_view.specs.Meaning.Views.{begins_open}
 use Rattle.lg_agent.specs.declared.refusal.Refusal.{Refusal}
 use Rattle.lg_agent.specs.declared.refusal.Refusal.TheVariants.{NoPlace, HistoryFull, NoMemory}
-use Rattle.lg_agent.specs.Meaning.Ledger.{Ledger, own_name, own_limit, count_of}
+use Rattle.lg_agent.specs.Meaning.Values.{KeptValue, own_name, own_limit, count_of}
 use Rattle.lg_agent.specs.Meaning.Calls.{refusal_of, IsRefusal}
 
 -- the name stays where events follow
@@ -104,7 +104,7 @@ refused_by false false false limit seen e has own is = absurd cc
 has_place : (places seat : ℕ) → 0 < seat → seat ≤ places → (eqb seat 0) || (ltb places seat) ≡ false
 has_place places seat low high = grind arith
 
-pub refused_so : (l : Ledger) (seat : ℕ) (seen : List Event) (e : Refusal) → 0 < seat → seat ≤ l.places → l.limit ≡ own_limit seen → (refusal_of l seat ≡ Some e) ⊎ ((e ≡ NoMemory) × (refusal_of l seat ≡ None)) → IsRefusal seen e
+pub refused_so : (l : KeptValue) (seat : ℕ) (seen : List Event) (e : Refusal) → 0 < seat → seat ≤ l.places → l.limit ≡ own_limit seen → (refusal_of l seat ≡ Some e) ⊎ ((e ≡ NoMemory) × (refusal_of l seat ≡ None)) → IsRefusal seen e
 refused_so l seat seen e low high own (inl is) = refused_by ((eqb seat 0) || (ltb l.places seat)) (leb most_events (count_of l)) (leb l.limit (length l.history)) l.limit seen e (has_place l.places seat low high) own is
 refused_so l seat seen e low high own (inr is) = subst (IsRefusal seen) (sym is.0) tt
 
@@ -114,6 +114,6 @@ limit-front [] g begun front = absurd cc
 limit-front (x ∷ f) g begun (rest, is) = let whole : x ∷ f ++ rest ≡ g = is in ap own_limit (sym whole)
 
 -- what a call of a place is refused for, by a ledger whose events begin with those that its caller has seen
-pub refusal_if : (l : Ledger) (seat : ℕ) (seen : List Event) (r : Result ℕ Refusal) → 0 < seat → seat ≤ l.places → l.limit ≡ own_limit seen → MatchResult r (λ _. refusal_of l seat ≡ None) (λ e. (refusal_of l seat ≡ Some e) ⊎ ((e ≡ NoMemory) × (refusal_of l seat ≡ None))) → IfErr r (IsRefusal seen)
+pub refusal_if : (l : KeptValue) (seat : ℕ) (seen : List Event) (r : Result ℕ Refusal) → 0 < seat → seat ≤ l.places → l.limit ≡ own_limit seen → MatchResult r (λ _. refusal_of l seat ≡ None) (λ e. (refusal_of l seat ≡ Some e) ⊎ ((e ≡ NoMemory) × (refusal_of l seat ≡ None))) → IfErr r (IsRefusal seen)
 refusal_if l seat seen (Ok r) low high own is = tt
 refusal_if l seat seen (Err e) low high own is = refused_so l seat seen e low high own is

@@ -13,10 +13,10 @@ use Rattle.lg_view.proofs.Fronts.{prefix_shorter}
 use Rattle.lg_view.specs.Meaning.Views.{begins_open}
 use Rattle.lg_agent.specs.declared.receipt.Receipt.{Receipt}
 use Rattle.lg_agent.specs.declared.refusal.Refusal.{Refusal}
-use Rattle.lg_agent.specs.Meaning.Ledger.{Ledger, Own, all_events, count_of}
+use Rattle.lg_agent.specs.Meaning.Values.{KeptValue, PassValue, all_events, count_of}
 use Rattle.lg_agent.specs.Meaning.Calls.{with_entry, receipt_of, IsAnswered, IsCall, IsFresh, AreFresh}
 
-pub answered_by : (l : Ledger) (seat : ℕ) (seen : List Event) (e : Event) (r : Receipt) (now : List Event)
+pub answered_by : (l : KeptValue) (seat : ℕ) (seen : List Event) (e : Event) (r : Receipt) (now : List Event)
     → length seen ≤ count_of l → r.place ≡ count_of l → r.reply ≡ reply_after (all_events l) e
     → IsPrefix seen (all_events (with_entry l seat e)) → now ≡ all_events (with_entry l seat e) → is_accepted now ≡ true
     → IsAnswered seen e r now
@@ -36,7 +36,7 @@ answered_by l seat seen e r now short place reply begins all accepted =
 pub all_below : (m n : ℕ) (xs : List ℕ) → m ≤ n → All (λ k. k < m) xs → All (λ k. k < n) xs
 all_below m n xs le all k d at = let h = all k d at in omega arith
 
-pub fresh-append : (name : List ℕ) (n : ℕ) (passes : List Own) (p : Own) → AreFresh name n passes → IsFresh name (n + length passes + 1) p → AreFresh name n (passes ++ p ∷ [])
+pub fresh-append : (name : List ℕ) (n : ℕ) (passes : List PassValue) (p : PassValue) → AreFresh name n passes → IsFresh name (n + length passes + 1) p → AreFresh name n (passes ++ p ∷ [])
 fresh-append name n [] p fresh last = (record { name = last.name; seat = last.seat ∙ omega arith; seen = last.seen; gone = last.gone; mine = last.mine }, tt)
 fresh-append name n (x ∷ passes) p fresh last = (fresh.0, fresh-append name (n + 1) passes p fresh.1 (record { name = last.name; seat = last.seat ∙ omega arith; seen = last.seen; gone = last.gone; mine = last.mine }))
 
@@ -48,13 +48,13 @@ pub all-last : {A : Type 0} (P : A → Type 0) (xs : List A) (x : A) → All P (
 all-last P [] x a = All-head P x [] a
 all-last P (y ∷ xs) x a = all-last P xs x (All-tail P y (xs ++ x ∷ []) a)
 
-pub answered_if : (l : Ledger) (seat : ℕ) (seen : List Event) (e : Event) (result : Result ℕ Refusal) (reply : Reply) (after : Ledger) (now : List Event)
+pub answered_if : (l : KeptValue) (seat : ℕ) (seen : List Event) (e : Event) (result : Result ℕ Refusal) (reply : Reply) (after : KeptValue) (now : List Event)
     → length seen ≤ count_of l → IfOk result (λ place. (after ≡ with_entry l seat e) × (place ≡ count_of l) × (reply ≡ reply_after (all_events l) e))
     → IsPrefix seen (all_events after) → now ≡ all_events after → is_accepted now ≡ true
     → IfOk result (λ place. IsAnswered seen e (receipt_of place reply) now)
 answered_if l seat seen e (Ok place) reply after now short done begins all accepted =
     let is : after ≡ with_entry l seat e = done.0 in
-    answered_by l seat seen e (receipt_of place reply) now short done.1 done.2 (subst (λ (k : Ledger). IsPrefix seen (all_events k)) is begins) (all ∙ ap all_events is) accepted
+    answered_by l seat seen e (receipt_of place reply) now short done.1 done.2 (subst (λ (k : KeptValue). IsPrefix seen (all_events k)) is begins) (all ∙ ap all_events is) accepted
 answered_if l seat seen e (Err f) reply after now short done begins all accepted = tt
 
 pub open_prefix : (xs ys : List Event) → IsPrefix xs ys → begins_open xs ≡ true → begins_open ys ≡ true
@@ -86,7 +86,7 @@ keeps_up seen e r now gone moved mine more opens below fewer few answered grown 
       omega (arith, step, front, rest, count, fewer),
     )
 
-pub call_of : (before after : Own) (e : Event) (r : Receipt) (moved : ℕ) → All (λ k. k < length before.seen) before.mine → IsAnswered before.seen e r after.seen → moved ≤ length before.mine → after.gone ≡ before.gone + moved → after.mine ≡ drop moved before.mine ++ r.place ∷ [] → after.seat ≡ before.seat → after.name ≡ before.name → IsCall before e r after
+pub call_of : (before after : PassValue) (e : Event) (r : Receipt) (moved : ℕ) → All (λ k. k < length before.seen) before.mine → IsAnswered before.seen e r after.seen → moved ≤ length before.mine → after.gone ≡ before.gone + moved → after.mine ≡ drop moved before.mine ++ r.place ∷ [] → after.seat ≡ before.seat → after.name ≡ before.name → IsCall before e r after
 call_of before after e r moved below answered few gone mine seat name =
     let front : length answered.before ≡ length before.seen + length answered.begins.0 = ap length (sym answered.begins.1) ∙ length-append before.seen answered.begins.0 in
     record {

@@ -1,5 +1,5 @@
 -- What is right: whoever wants to believe the contracts reads these.
-pub mod Ledger
+pub mod Values
 pub mod Numbers
 pub mod Calls
 pub mod Closing

@@ -1,6 +1,6 @@
 //! The agent: the value under its lock, and the looks that wait for a pass.
 //!
-//! Defined in: `specs/Meaning/Ledger.antt`, `specs/Meaning/Calls.antt`.
+//! Defined in: `specs/Meaning/Values.antt`, `specs/Meaning/Calls.antt`.
 //! Tested in: `lg_agent_tests/src/agent/rows.rt`.
 ghost use Rattle.std.specs.Prelude.{◌≡◌, ◌<◌, ◌≤◌, ◌+◌, ◌⊎◌, [], ◌∷◌, List, true};
 ghost use Rattle.std.specs.Prelude.{All, length, vec_len, IfOk, IfErr};
@@ -11,7 +11,7 @@ ghost use Rattle.lg_detector.specs.declared.event.Event.TheVariants.{Open};
 ghost use Rattle.lg_view.specs.Meaning.Views.{begins_open};
 ghost use Rattle.lg_agent.specs.declared.refusal.Refusal.TheVariants.{NoMemory, NoPlace};
 ghost use Rattle.lg_agent.specs.Meaning.Calls.{AreFresh};
-ghost use Rattle.lg_agent.specs.Meaning.Ledger.{all_events};
+ghost use Rattle.lg_agent.specs.Meaning.Values.{all_events};
 
 use crate::kept::{Kept, MAX_PLACES};
 use crate::name::AgentName;
@@ -48,9 +48,9 @@ where
 {
     ghost use Rattle.std.specs.Prelude.{◌≡◌, ◌≤◌, true, All, length};
     ghost use Rattle.lg_view.specs.Meaning.Views.{begins_open};
-    ghost use Rattle.lg_agent.specs.Meaning.Ledger.{Waiting};
+    ghost use Rattle.lg_agent.specs.Meaning.Values.{AgentValue};
 
-    ghost Value = { Waiting };
+    ghost Value = { AgentValue };
 
     ghost view = { λ a. record { name = a.name; told = a.waiting.items } };
 

@@ -27,9 +27,9 @@ pub struct Closed {
 }
 
 impl Model for Closed {
-    ghost use Rattle.lg_agent.specs.Meaning.Closing.{Left, IsWell};
+    ghost use Rattle.lg_agent.specs.Meaning.Closing.{ClosedValue, IsWell};
 
-    ghost Value = { Left };
+    ghost Value = { ClosedValue };
 
     ghost view = { λ c. record { summary = c.summary; base = c.base; history = c.entries.items } };
 

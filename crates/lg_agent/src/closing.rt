@@ -1,6 +1,6 @@
 //! Closing: what the passes left is compared with the history.
 //!
-//! Defined in: `specs/Meaning/Closing.antt`, `specs/Meaning/Ledger.antt`.
+//! Defined in: `specs/Meaning/Closing.antt`, `specs/Meaning/Values.antt`.
 //! Tested in: `lg_agent_tests/src/agent/choosing.rt`.
 ghost use Rattle.std.specs.Prelude.{◌≡◌, ◌≤◌, ◌<◌, ◌+◌, ◌^◌, ◌==◌, All, Any, drop, length, None};
 ghost use Rattle.std.specs.Prelude.{OnOk, IfOk, IfErr, IsErrAnd};
@@ -8,7 +8,7 @@ ghost use Rattle.std.specs.List.{list_any, find, range_with_len};
 ghost use mathlib.Core.List.{IsPrefix};
 ghost use Rattle.lg_history.specs.Meaning.History.{positions};
 ghost use Rattle.lg_history.specs.Meaning.Rest.{IsRest, StandsFor, of_seat};
-ghost use Rattle.lg_agent.specs.Meaning.Ledger.{own_name, all_events, count_of};
+ghost use Rattle.lg_agent.specs.Meaning.Values.{own_name, all_events, count_of};
 ghost use Rattle.lg_agent.specs.Meaning.Closing.{times, is_foreign, is_missing, first_difference};
 ghost use Rattle.lg_agent.specs.Meaning.Closing.{difference, difference_at, least_difference};
 ghost use Rattle.lg_agent.specs.Meaning.Closing.{close_fault, unless_fault, IsClosed};

@@ -1,6 +1,6 @@
 //! The value under the lock: a history, the detector that is after its events, and the feed that publishes them.
 //!
-//! Defined in: `specs/Meaning/Calls.antt`, `specs/Meaning/Ledger.antt`, `lg_history/specs/Meaning/Rest.antt`.
+//! Defined in: `specs/Meaning/Calls.antt`, `specs/Meaning/Values.antt`, `lg_history/specs/Meaning/Rest.antt`.
 //! Tested in: `lg_agent_tests/src/agent/rows.rt`, `lg_agent_tests/src/agent/rotating.rt`.
 ghost use Rattle.std.specs.Prelude.{◌≡◌, ◌<◌, ◌≤◌, ◌+◌, ◌⊎◌, [], ℕ, All, length, true, false, Some, None, get_or};
 ghost use Rattle.std.specs.Prelude.{MatchResult, MatchOption, IfOk, IfErr, OnErr};
@@ -11,7 +11,7 @@ ghost use Rattle.lg_history.specs.Meaning.History.{IsLegal, Answered};
 ghost use Rattle.lg_view.specs.Meaning.Views.{begins_open};
 ghost use Rattle.lg_history.specs.Meaning.Rest.{IsRest, StandsFor, AnsweredFrom, AreCut, made_by, of_seat};
 ghost use Rattle.lg_agent.specs.declared.refusal.Refusal.TheVariants.{Behind, NoMemory};
-ghost use Rattle.lg_agent.specs.Meaning.Ledger.{own_name, own_limit, all_events, count_of};
+ghost use Rattle.lg_agent.specs.Meaning.Values.{own_name, own_limit, all_events, count_of};
 ghost use Rattle.lg_agent.specs.Meaning.Calls.{with_entry, refusal_of, receipt_of, IsAnswered, IsRefusal, IsRotated};
 
 use crate::name::AgentName;
@@ -67,11 +67,11 @@ where
     ghost use Rattle.lg_detector.specs.Support.Step.{state_after};
     ghost use Rattle.lg_history.specs.Meaning.History.{events};
     ghost use Rattle.lg_history.specs.Meaning.Rest.{IsRest, StandsFor};
-    ghost use Rattle.lg_agent.specs.Meaning.Ledger.{Ledger, own_name, own_limit};
+    ghost use Rattle.lg_agent.specs.Meaning.Values.{KeptValue, own_name, own_limit};
     ghost use Rattle.lg_detector.specs.declared.detector.TheConstants.{MAX_EVENTS};
     ghost use Rattle.lg_agent.specs.declared.kept.TheConstants.{MAX_PLACES, SEATS};
 
-    ghost Value = { Ledger };
+    ghost Value = { KeptValue };
 
     ghost view = { λ k. record {
       places = k.places;

@@ -1,6 +1,6 @@
 //! A pass and its calls. Each call takes the lock once.
 //!
-//! Defined in: `specs/Meaning/Calls.antt`, `specs/Meaning/Ledger.antt`, `lg_packet/specs/Meaning/Reading.antt`.
+//! Defined in: `specs/Meaning/Calls.antt`, `specs/Meaning/Values.antt`, `lg_packet/specs/Meaning/Reading.antt`.
 //! Tested in: `lg_agent_tests/src/agent/rows.rt`.
 ghost use Rattle.std.specs.Prelude.{◌≡◌, ◌⊎◌, Ok, Err, false, MatchResult, IfOk, IfErr, OnErr};
 ghost use Rattle.lg_packet.specs.declared.fault.Fault.{Fault as Broken};
@@ -50,9 +50,9 @@ impl<'a, A: AgentName> Model for Pass<'a, A>
 where
     Published<A>: Absorb<Update<A>, State = [Event; 0]>,
 {
-    ghost use Rattle.lg_agent.specs.Meaning.Ledger.{Own};
+    ghost use Rattle.lg_agent.specs.Meaning.Values.{PassValue};
 
-    ghost Value = { Own };
+    ghost Value = { PassValue };
 
     ghost view = { λ p. p.own };
 }

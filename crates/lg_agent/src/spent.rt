@@ -1,6 +1,6 @@
 //! What a pass keeps, and leaves when it is finished.
 //!
-//! Defined in: `specs/Meaning/Calls.antt`, `specs/Meaning/Ledger.antt`.
+//! Defined in: `specs/Meaning/Calls.antt`, `specs/Meaning/Values.antt`.
 //! Tested in: `lg_agent_tests/src/agent/leaving.rt`.
 ghost use Rattle.std.specs.Prelude.{◌≡◌, ◌+◌, ◌≤◌, drop, length, vec_len, false, MatchResult, IfErr, IfOk, OnErr};
 ghost use Rattle.std.specs.Vec.{vec_capacity};
@@ -34,9 +34,9 @@ pub struct Spent<A: AgentName> {
 impl<A: AgentName> Model for Spent<A> {
     ghost use Rattle.std.specs.Prelude.{◌≡◌, ◌<◌, ◌≤◌, ◌+◌, length, true, All};
     ghost use Rattle.lg_view.specs.Meaning.Views.{begins_open};
-    ghost use Rattle.lg_agent.specs.Meaning.Ledger.{Own};
+    ghost use Rattle.lg_agent.specs.Meaning.Values.{PassValue};
 
-    ghost Value = { Own };
+    ghost Value = { PassValue };
 
     ghost view = { λ s. record { name = s.name; seat = s.seat; seen = s.look; gone = s.gone; mine = s.mine.items } };
 

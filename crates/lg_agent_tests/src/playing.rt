@@ -34,7 +34,7 @@ pub enum Play<'a> {
     /// Calls and looks. Then the passes tell what they leave.
     Leaves(&'a [Row]),
     /// One loop of a node after the other: many datagrams, and then many ticks.
-    Stream,
+    FeedValue,
 }
 
 /// An agent, and what is done with it.
@@ -80,7 +80,7 @@ pub enum Shown {
     Threads(Tally),
     /// What the passes left.
     Leaves(Leaving),
-    Stream(StreamSeen),
+    FeedValue(StreamSeen),
 }
 
 /// How an agent ended.
@@ -177,7 +177,7 @@ where
         Play::Both { fails } => run_both(rt, alloc, passes, fails, spents),
         Play::Threads(tasks) => work_all(rt, alloc, passes, tasks, spents),
         Play::Leaves(rows) => leave(rt, alloc, passes, rows, spents),
-        Play::Stream => run_stream(rt, alloc, passes, spents),
+        Play::FeedValue => run_stream(rt, alloc, passes, spents),
     }
 }
 

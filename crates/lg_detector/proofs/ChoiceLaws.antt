@@ -8,7 +8,7 @@ use Rattle.std.proofs.lemmas.List.{append-nil, reverse-append}
 use Rattle.std.proofs.lemmas.List.Folds.{list_any-append}
 use Rattle.lg_rules.specs.declared.claim.Claim.{Claim}
 use Rattle.lg_rules.specs.Meaning.Claim.{name_of}
-use Rattle.lg_rules.specs.Meaning.Own.{Oneself, own_record}
+use Rattle.lg_rules.specs.Meaning.Own.{OwnValue, own_record}
 use Rattle.lg_rules.specs.Meaning.Rows.{name_cmp, is_same, is_among}
 use Rattle.lg_rules.specs.Meaning.View.{view_of}
 use Rattle.lg_rules.proofs.Cases.{Missing, Holding, held, held_once}
@@ -64,7 +64,7 @@ row_in_table g m among =
     ]
 
 -- and so in the member table, where the member was opened.
-row_in_view : (opening : Option Config) (own : Oneself) (rows : List Claim) (m : List ℕ) → is_some opening ≡ true → HasRow m rows → HasRow m (group.view_in opening own rows)
+row_in_view : (opening : Option Config) (own : OwnValue) (rows : List Claim) (m : List ℕ) → is_some opening ≡ true → HasRow m rows → HasRow m (group.view_in opening own rows)
 row_in_view None own rows m opened has = absurd (false≢true opened)
 row_in_view (Some opening) own rows m opened has =
     let me = own_record own in

@@ -14,13 +14,13 @@ use Rattle.lg_rules.proofs.KeyOrder.{names_order}
 use Rattle.lg_rules.proofs.RowLaws.{Keyed, AgreeBut, rows-put, rises-rows}
 use Rattle.lg_rules.proofs.Tests.{both}
 use Rattle.lg_gossip.specs.declared.queued.Queued.{Queued}
-use Rattle.lg_gossip.specs.Meaning.Queue.{GossipQueue, queued_name, queued_claim, fresh, put_of, limit_of, buddy_of, room_beside, is_beside, rows_taken, taken_of, fill_of, sent_once, filled}
+use Rattle.lg_gossip.specs.Meaning.Queue.{QueueValue, queued_name, queued_claim, fresh, put_of, limit_of, buddy_of, room_beside, is_beside, rows_taken, taken_of, fill_of, sent_once, filled}
 use Rattle.lg_gossip.specs.Support.Sound.{AreInOrder}
 use Rattle.lg_gossip.proofs.Distinct.{distinct-taken, distinct-packet}
 use Rattle.lg_gossip.proofs.Taken.{IsTaken, are_taken}
 
 -- a queue of the rows that a function gives
-abbrev pub queue_by : ℕ → (List ℕ → Option Queued) → List (List ℕ) → GossipQueue
+abbrev pub queue_by : ℕ → (List ℕ → Option Queued) → List (List ℕ) → QueueValue
 queue_by lambda f names = record { lambda = lambda; rows = filter_map f names }
 
 -- its rows are in the order of their names
@@ -73,13 +73,13 @@ module _ (taken : List Claim) (f : List ℕ → Option Queued) (keyed : Keyed qu
   ]
 
 -- A claim that a packet takes is the queue's claim about its member, below the limit.
-pub record IsStanding (queue : GossipQueue) (n : ℕ) (c : Claim) : Type 0 where
+pub record IsStanding (queue : QueueValue) (n : ℕ) (c : Claim) : Type 0 where
   pub row : Queued
   pub stands : row_at name_cmp queued_name c.name queue.rows ≡ Some row
   pub claim : row.claim ≡ c
   pub below : row.sends < limit_of queue.lambda n
 
-standing : (queue : GossipQueue) (n : ℕ) (buddy : Option Claim) (taken : List Queued) → AllByRecursion (IsTaken buddy (limit_of queue.lambda n) queue.rows) taken
+standing : (queue : QueueValue) (n : ℕ) (buddy : Option Claim) (taken : List Queued) → AllByRecursion (IsTaken buddy (limit_of queue.lambda n) queue.rows) taken
     → AllByRecursion (IsStanding queue n) (map queued_claim taken)
 standing queue n buddy [] a = tt
 standing queue n buddy (q ∷ qs) a =
@@ -87,18 +87,18 @@ standing queue n buddy (q ∷ qs) a =
     let open_still = (both (nat_lt q.sends limit) (is_beside buddy q) a.0.may).0 in
     (record { row = q; stands = a.0.its_own; claim = refl; below = ltb-true q.sends limit open_still }, standing queue n buddy qs a.1)
 
-pub standing-taken : (queue : GossipQueue) (to : Option Claim) (n : ℕ) → AreInOrder queue.rows → AllByRecursion (IsStanding queue n) (taken_of queue to n)
+pub standing-taken : (queue : QueueValue) (to : Option Claim) (n : ℕ) → AreInOrder queue.rows → AllByRecursion (IsStanding queue n) (taken_of queue to n)
 unfolding taken_of
 standing-taken queue to n o =
     let limit = limit_of queue.lambda n in
     standing queue n (buddy_of to) (rows_taken (buddy_of to) limit queue.rows) (are_taken (buddy_of to) limit queue.rows o)
 
 -- they are about different members, and so are the claims of the packet
-pub distinct-taken_of : (queue : GossipQueue) (to : Option Claim) (n : ℕ) → AreInOrder queue.rows → IsDistinct (is_same name_cmp) (map name_of (taken_of queue to n))
+pub distinct-taken_of : (queue : QueueValue) (to : Option Claim) (n : ℕ) → AreInOrder queue.rows → IsDistinct (is_same name_cmp) (map name_of (taken_of queue to n))
 unfolding taken_of
 distinct-taken_of queue to n o = distinct-taken (buddy_of to) (limit_of queue.lambda n) queue.rows o
 
-pub distinct-fill_of : (queue : GossipQueue) (to : Option Claim) (n : ℕ) → AreInOrder queue.rows → IsDistinct (is_same name_cmp) (map name_of (fill_of queue to n))
+pub distinct-fill_of : (queue : QueueValue) (to : Option Claim) (n : ℕ) → AreInOrder queue.rows → IsDistinct (is_same name_cmp) (map name_of (fill_of queue to n))
 unfolding taken_of
 distinct-fill_of queue to n o = distinct-packet (buddy_of to) (limit_of queue.lambda n) queue.rows o
 
@@ -106,11 +106,11 @@ distinct-fill_of queue to n o = distinct-packet (buddy_of to) (limit_of queue.la
 few : (k : ℕ) (rows : List Queued) → length (map queued_claim (take k rows)) ≤ k
 few k rows = omega (arith, length-map (take k rows) queued_claim, length-take k rows)
 
-pub length-taken_of : (queue : GossipQueue) (to : Option Claim) (n : ℕ) → length (taken_of queue to n) ≤ room_beside (buddy_of to)
+pub length-taken_of : (queue : QueueValue) (to : Option Claim) (n : ℕ) → length (taken_of queue to n) ≤ room_beside (buddy_of to)
 unfolding taken_of
 length-taken_of queue to n = few (room_beside (buddy_of to)) _
 
-pub length-fill_of : (queue : GossipQueue) (to : Option Claim) (n : ℕ) → length (fill_of queue to n) ≤ most_claims
+pub length-fill_of : (queue : QueueValue) (to : Option Claim) (n : ℕ) → length (fill_of queue to n) ≤ most_claims
 length-fill_of queue to n = with_buddy (buddy_of to) (taken_of queue to n) (length-taken_of queue to n)
   where
     with_buddy : (buddy : Option Claim) (taken : List Claim) → length taken ≤ room_beside buddy → length (option_to_list buddy ++ taken) ≤ most_claims
@@ -118,5 +118,5 @@ length-fill_of queue to n = with_buddy (buddy_of to) (taken_of queue to n) (leng
     with_buddy (Some b) taken l = omega (arith, l)
 
 -- a packet without a buddy holds what it took
-pub fill_of-alone : (queue : GossipQueue) (n : ℕ) → fill_of queue None n ≡ taken_of queue None n
+pub fill_of-alone : (queue : QueueValue) (n : ℕ) → fill_of queue None n ≡ taken_of queue None n
 fill_of-alone queue n = refl

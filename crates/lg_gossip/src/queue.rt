@@ -32,9 +32,9 @@ pub struct Queue {
 }
 
 impl Model for Queue {
-    ghost use Rattle.lg_gossip.specs.Meaning.Queue.{GossipQueue};
+    ghost use Rattle.lg_gossip.specs.Meaning.Queue.{QueueValue};
 
-    ghost Value = { GossipQueue };
+    ghost Value = { QueueValue };
 
     ghost use Rattle.lg_gossip.specs.Support.Sound.{IsSound};
 

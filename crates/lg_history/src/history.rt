@@ -20,9 +20,9 @@ struct Waiting {
 }
 
 impl Model for Waiting {
-    ghost use Rattle.lg_history.specs.Meaning.History.{Prepared};
+    ghost use Rattle.lg_history.specs.Meaning.History.{WaitingValue};
 
-    ghost Value = { Prepared };
+    ghost Value = { WaitingValue };
 
     ghost view = { λ w. record { seat = w.seat; event = w.event } };
 }

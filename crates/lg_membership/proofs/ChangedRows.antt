@@ -6,7 +6,7 @@ use Rattle.lg_rules.specs.declared.claim.Claim.{Claim}
 use Rattle.lg_rules.specs.declared.own.OwnHeard.{OwnHeard}
 use Rattle.lg_rules.specs.declared.own.OwnHeard.TheVariants.{Refuted, Raised, Ousted, Ignored}
 use Rattle.lg_rules.specs.Meaning.Claim.{name_of}
-use Rattle.lg_rules.specs.Meaning.Own.{Oneself, own_hearing, oneself_changed}
+use Rattle.lg_rules.specs.Meaning.Own.{OwnValue, own_hearing, oneself_changed}
 use Rattle.lg_rules.specs.Meaning.Table.{takes}
 use Rattle.lg_rules.specs.Support.Standing.{is_rise, changes_record}
 use Rattle.lg_rules.proofs.Cases.{Missing, Holding, held, held_once}
@@ -30,7 +30,7 @@ pub record IsChanged (c : Claim) (o : Option Config) (b : Bool) (r : Claim) : Ty
   pub opened : is_some o ≡ true
   pub changes : b ≡ true
 
-own_changed : (c : Claim) (o : Option Config) (h : OwnHeard) (i : ℕ) (me : Oneself) (r : Claim) → c.name ≡ me.name
+own_changed : (c : Claim) (o : Option Config) (h : OwnHeard) (i : ℕ) (me : OwnValue) (r : Claim) → c.name ≡ me.name
     → if_open o (put_of_own h (oneself_changed h i me)) ≡ Some r → IsChanged c o (is_rise h) r
 own_changed c None h i me r same is = absurd cc
 own_changed c (Some opening) Refuted i me r same is =
@@ -46,7 +46,7 @@ other_changed c (Some opening) true r is = record { named = ap name_of (sym (hel
 other_changed c (Some opening) false r is = absurd cc
 
 -- A claim that changes nothing after the opening changes no record.
-own_unchanged : (o : Option Config) (h : OwnHeard) (i : ℕ) (me : Oneself) → is_some o ≡ true
+own_unchanged : (o : Option Config) (h : OwnHeard) (i : ℕ) (me : OwnValue) → is_some o ≡ true
     → if_open o (put_of_own h (oneself_changed h i me)) ≡ None → is_rise h ≡ false
 own_unchanged None h i me opened none = absurd cc
 own_unchanged (Some opening) Refuted i me opened none = absurd cc

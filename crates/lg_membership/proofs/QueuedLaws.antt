@@ -6,7 +6,7 @@ use Rattle.lg_rules.specs.Meaning.Claim.{name_of}
 use Rattle.lg_rules.specs.declared.claim.Claim.{Claim}
 use Rattle.lg_rules.specs.declared.own.OwnHeard.{OwnHeard}
 use Rattle.lg_rules.specs.declared.own.OwnHeard.TheVariants.{Refuted, Raised, Ousted, Ignored}
-use Rattle.lg_rules.specs.Meaning.Own.{Oneself, own_hearing, own_heard, own_record}
+use Rattle.lg_rules.specs.Meaning.Own.{OwnValue, own_hearing, own_heard, own_record}
 use Rattle.lg_rules.specs.Meaning.Rows.{name_cmp, is_same, is_among, put_key, row_at}
 use Rattle.lg_rules.specs.Meaning.Table.{takes, roster}
 use Rattle.lg_rules.proofs.Cases.{Missing, Holding, held, held_once}
@@ -36,7 +36,7 @@ pub put_by-other : (origin : Origin) (log : GroupLog) (c : Claim) → c.name ≢
 unfolding put_by
 put_by-other origin log c other = rw (other_key names_order c.name (me log) other) refl
 
-put_own_name : (o : OwnHeard) (oneself : Oneself) (p : Claim) → put_of_own o oneself ≡ Some p → p.name ≡ oneself.name
+put_own_name : (o : OwnHeard) (oneself : OwnValue) (p : Claim) → put_of_own o oneself ≡ Some p → p.name ≡ oneself.name
 put_own_name Refuted oneself p e = ap (λ (r : Claim). r.name) (sym (held_once (own_record oneself) p e))
 put_own_name Raised oneself p e = ap (λ (r : Claim). r.name) (sym (held_once (own_record oneself) p e))
 put_own_name Ousted oneself p e = absurd cc

@@ -6,7 +6,7 @@ use Rattle.lg_rules.specs.declared.claim.Claim.{Claim}
 use Rattle.lg_rules.specs.declared.own.OwnHeard.{OwnHeard}
 use Rattle.lg_rules.specs.declared.own.OwnHeard.TheVariants.{Refuted, Raised, Ousted, Ignored}
 use Rattle.lg_rules.specs.Meaning.Claim.{name_of}
-use Rattle.lg_rules.specs.Meaning.Own.{Oneself, own_record, own_hearing, own_heard, oneself_changed}
+use Rattle.lg_rules.specs.Meaning.Own.{OwnValue, own_record, own_hearing, own_heard, oneself_changed}
 use Rattle.lg_rules.specs.Meaning.Rows.{name_cmp, is_same, put_row, row_at, Rises}
 use Rattle.lg_rules.specs.Meaning.Table.{takes, heard}
 use Rattle.lg_rules.proofs.KeyOrder.{names_order, cases_key}
@@ -27,21 +27,21 @@ use Rattle.lg_membership.proofs.Reaching.{apply-own, apply-other}
 use Rattle.lg_membership.proofs.Rooms.{reached-ordered}
 
 -- after the opening oneself is shown among the others
-pub view-opened : (o : Option Config) (oneself : Oneself) (rows : List Claim) → is_some o ≡ true → view_in o oneself rows ≡ put_row name_cmp name_of (own_record oneself) rows
+pub view-opened : (o : Option Config) (oneself : OwnValue) (rows : List Claim) → is_some o ≡ true → view_in o oneself rows ≡ put_row name_cmp name_of (own_record oneself) rows
 view-opened None oneself rows e = absurd cc
 view-opened (Some opening) oneself rows e = refl
 
-pub view-unopened : (o : Option Config) (oneself : Oneself) (rows : List Claim) → is_some o ≡ false → view_in o oneself rows ≡ []
+pub view-unopened : (o : Option Config) (oneself : OwnValue) (rows : List Claim) → is_some o ≡ false → view_in o oneself rows ≡ []
 view-unopened None oneself rows e = refl
 view-unopened (Some opening) oneself rows e = absurd cc
 
 -- the record that is found for a name
-pub found-opened : (o : Option Config) (oneself : Oneself) (rows : List Claim) (m : List ℕ) → is_some o ≡ true
+pub found-opened : (o : Option Config) (oneself : OwnValue) (rows : List Claim) (m : List ℕ) → is_some o ≡ true
     → row_at name_cmp name_of m (view_in o oneself rows) ≡ cond (is_same name_cmp oneself.name m) (Some (own_record oneself)) (row_at name_cmp name_of m rows)
 found-opened o oneself rows m e = ap (row_at name_cmp name_of m) (view-opened o oneself rows e) ∙ row_at-put names_order name_of m (own_record oneself) rows
 
 -- what is shown is in the order of names
-rises-view : (o : Option Config) (oneself : Oneself) (rows : List Claim) → Rises name_cmp (map name_of rows) → Rises name_cmp (map name_of (view_in o oneself rows))
+rises-view : (o : Option Config) (oneself : OwnValue) (rows : List Claim) → Rises name_cmp (map name_of rows) → Rises name_cmp (map name_of (view_in o oneself rows))
 rises-view None oneself rows rise = tt
 rises-view (Some opening) oneself rows rise = rises-put_row names_order name_of (own_record oneself) rows rise
 
@@ -49,7 +49,7 @@ pub rises-shown : (s : GroupState) → IsGroupReached s → Rises name_cmp (map 
 rises-shown s r = rises-view s.config s.own s.members.table (reached-ordered s r).rises
 
 -- What is shown once a claim about this member is heard: its record, where that changed, among what was shown.
-own_shown : (o : Option Config) (me : Oneself) (c : Claim) (rows : List Claim) → Rises name_cmp (map name_of rows)
+own_shown : (o : Option Config) (me : OwnValue) (c : Claim) (rows : List Claim) → Rises name_cmp (map name_of rows)
     → view_in o (own_heard me c) rows ≡ with_found (if_open o (put_of_own (own_hearing me c) (own_heard me c))) (view_in o me rows)
 own_shown None me c rows rise = refl
 own_shown (Some opening) me c rows rise = step (own_hearing me c) c.incarnation
@@ -62,7 +62,7 @@ own_shown (Some opening) me c rows rise = step (own_hearing me c) c.incarnation
     step Ignored i = refl
 
 -- The same of a claim about another.
-other_shown : (o : Option Config) (me : Oneself) (c : Claim) (rows : List Claim) → c.name ≢ me.name → Rises name_cmp (map name_of rows)
+other_shown : (o : Option Config) (me : OwnValue) (c : Claim) (rows : List Claim) → c.name ≢ me.name → Rises name_cmp (map name_of rows)
     → view_in o me (heard rows c) ≡ with_found (if_open o (taken_if (takes rows c) c)) (view_in o me rows)
 other_shown None me c rows other rise = refl
 other_shown (Some opening) me c rows other rise = elim (cases_Bool (takes rows c)) [

@@ -9,15 +9,15 @@ use Rattle.lg_rules.specs.declared.addr.Addr.{Addr}
 use Rattle.lg_timing.specs.declared.config.Seed.{Seed}
 use Rattle.lg_detector.specs.declared.event.Event.TheVariants as events
 use Rattle.lg_agent.specs.declared.receipt.Receipt.{Receipt}
-use Rattle.lg_agent.specs.Meaning.Ledger.{Own}
+use Rattle.lg_agent.specs.Meaning.Values.{PassValue}
 use Rattle.lg_agent.specs.Meaning.Calls.{IsCall}
 use Rattle.lg_node.specs.Meaning.Links.{WereHanded}
 use Rattle.lg_node.specs.Meaning.Nodes.{Asked}
-use Rattle.lg_node.specs.Meaning.Turns.{Turn, Line, is_pull, peers_in, losses}
+use Rattle.lg_node.specs.Meaning.Turns.{Turn, LinkValue, is_pull, peers_in, losses}
 use Rattle.lg_node.specs.Meaning.Turns.Turn.{Pulled}
 use Rattle.lg_node.proofs.TurnLaws.{made_more}
 
-pub asked_none : (tells : Bool) (a : Line) (p : Own) → Asked tells [] a a p p 0
+pub asked_none : (tells : Bool) (a : LinkValue) (p : PassValue) → Asked tells [] a a p p 0
 asked_none tells a p = record {
   turns = [];
   made = record { kinds = All-nil (λ s. is_pull s ≡ true); follows = refl; told = λ yes. sym (append-nil a.log); failed = omega arith };
@@ -25,7 +25,7 @@ asked_none tells a p = record {
   unsent_is = refl;
 }
 
-pub asked_more : (tells : Bool) (seeds : List Seed) (seed : Seed) (now : ℕ) (r : Receipt) (a b c : Line) (p m q : Own) (unsent more : ℕ)
+pub asked_more : (tells : Bool) (seeds : List Seed) (seed : Seed) (now : ℕ) (r : Receipt) (a b c : LinkValue) (p m q : PassValue) (unsent more : ℕ)
     → Asked tells seeds a b p m unsent → IsCall m (events.Pull now seed.addr) r q → WereHanded tells b.log c.log b.failed c.failed r.reply.sends.items more
     → Asked tells (seeds ++ seed ∷ []) a c p q (unsent + more)
 asked_more tells seeds seed now r a b c p m q unsent more asked call handed =

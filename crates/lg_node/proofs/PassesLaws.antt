@@ -3,23 +3,23 @@ use Rattle.std.proofs.Common.{◌≡◌, ℕ, List, [], ◌∷◌, ◌++◌, len
 use Rattle.std.proofs.lemmas.List.Elements.{All-head, All-tail}
 use Rattle.lg_timing.specs.declared.config.Config.{Config}
 use Rattle.lg_detector.specs.declared.event.Event.TheVariants.{Open}
-use Rattle.lg_agent.specs.Meaning.Ledger.{Own}
+use Rattle.lg_agent.specs.Meaning.Values.{PassValue}
 use Rattle.lg_agent.specs.Meaning.Calls.{IsFresh, AreFresh}
 use Rattle.lg_node.specs.Meaning.Nodes.{fresh_own}
 
 -- three passes, taken from the end of a list one after another
-pub three_are : (all two one none : List Own) (r t a : Own) → length all ≡ 3 → all ≡ two ++ a ∷ [] → two ≡ one ++ t ∷ [] → one ≡ none ++ r ∷ [] → all ≡ r ∷ t ∷ a ∷ []
+pub three_are : (all two one none : List PassValue) (r t a : PassValue) → length all ≡ 3 → all ≡ two ++ a ∷ [] → two ≡ one ++ t ∷ [] → one ≡ none ++ r ∷ [] → all ≡ r ∷ t ∷ a ∷ []
 three_are all two one [] r t a len x y z = rw (x, y, z) refl
 three_are all two one (n ∷ none) r t a len x y z =
     absurd (omega (arith, len, ap length x ∙ length-append two (a ∷ []), ap length y ∙ length-append one (t ∷ []), ap length z ∙ length-append (n ∷ none) (r ∷ [])))
 
-fresh_is : (config : Config) (start place : ℕ) (p : Own) → IsFresh config.name place p → p.seen ≡ Open start config ∷ [] → p ≡ fresh_own config start place
+fresh_is : (config : Config) (start place : ℕ) (p : PassValue) → IsFresh config.name place p → p.seen ≡ Open start config ∷ [] → p ≡ fresh_own config start place
 fresh_is config start place p is seen = let a = is.name in let b = is.seat in let c = is.gone in let d = is.mine in rw (← seen, ← a, ← b, ← c, ← d) refl
 
-pub three_fresh : (config : Config) (start : ℕ) (r t a : Own) → AreFresh config.name 0 (r ∷ t ∷ a ∷ []) → All (λ (p : Own). p.seen ≡ Open start config ∷ []) (r ∷ t ∷ a ∷ [])
+pub three_fresh : (config : Config) (start : ℕ) (r t a : PassValue) → AreFresh config.name 0 (r ∷ t ∷ a ∷ []) → All (λ (p : PassValue). p.seen ≡ Open start config ∷ []) (r ∷ t ∷ a ∷ [])
     → (r ≡ fresh_own config start 1) × (t ≡ fresh_own config start 2) × (a ≡ fresh_own config start 3)
 three_fresh config start r t a are seen =
-    let Saw : Own → Type 0 = λ p. p.seen ≡ Open start config ∷ [] in
+    let Saw : PassValue → Type 0 = λ p. p.seen ≡ Open start config ∷ [] in
     let later = All-tail Saw r (t ∷ a ∷ []) seen in
     let last = All-tail Saw t (a ∷ []) later in (
       fresh_is config start 1 r are.0 (All-head Saw r (t ∷ a ∷ []) seen),

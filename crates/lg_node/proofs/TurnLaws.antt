@@ -6,21 +6,21 @@ use Rattle.std.specs.List.{flat_map}
 use Rattle.std.proofs.lemmas.List.Elements.{All-nil, All-cons, All-append}
 use Rattle.std.proofs.lemmas.List.Sums.{sum_by-append}
 use Rattle.std.proofs.lemmas.List.Concat.{flat_map-append}
-use Rattle.lg_agent.specs.Meaning.Ledger.{Own}
+use Rattle.lg_agent.specs.Meaning.Values.{PassValue}
 use Rattle.lg_node.specs.Meaning.Links.{LinkEvent}
 use Rattle.lg_node.specs.declared.ending.Why.{Why}
 use Rattle.lg_node.specs.declared.ending.Why.TheVariants.{Stopped, Ousted, LinkFailed, Refused, ReadBound}
 use Rattle.lg_node.specs.declared.turned.Turned.{Turned}
-use Rattle.lg_node.specs.Meaning.Turns.{Turn, deeds, drops, losses, breaks, stops, goes_on, IsTurn, Follows, Line, Made, Counts, Ends, Ran, Threw, words_in}
+use Rattle.lg_node.specs.Meaning.Turns.{Turn, deeds, drops, losses, breaks, stops, goes_on, IsTurn, Follows, LinkValue, Made, Counts, Ends, Ran, Threw, words_in}
 use Rattle.lg_node.specs.Meaning.Turns.Turn.{Quiet, Broken, Dropped, Heard, Unheard, Paused, Ticked, Unticked, Unseen, Pulled}
 use Rattle.lg_node.specs.Support.Took.{Took}
 
-pub follows-append : (p m q : Own) (turns : List Turn) (t : Turn) → Follows p turns m → IsTurn m t q → Follows p (turns ++ t ∷ []) q
-follows-append p m q [] t before last = (q, subst (λ (o : Own). IsTurn o t q) before last, refl)
+pub follows-append : (p m q : PassValue) (turns : List Turn) (t : Turn) → Follows p turns m → IsTurn m t q → Follows p (turns ++ t ∷ []) q
+follows-append p m q [] t before last = (q, subst (λ (o : PassValue). IsTurn o t q) before last, refl)
 follows-append p m q (s ∷ turns) t before last = (before.0, before.1, follows-append before.0 m q turns t before.2 last)
 
 -- turns of one kind, and one more of it
-pub made_more : (kind : Turn → Bool) (tells : Bool) (turns : List Turn) (t : Turn) (a b c : Line) (p m q : Own)
+pub made_more : (kind : Turn → Bool) (tells : Bool) (turns : List Turn) (t : Turn) (a b c : LinkValue) (p m q : PassValue)
     → Made kind tells turns a b p m → kind t ≡ true → IsTurn m t q → (tells ≡ true → c.log ≡ b.log ++ deeds t) → c.failed ≡ b.failed + breaks t
     → Made kind tells (turns ++ t ∷ []) a c p q
 made_more kind tells turns t a b c p m q made is turn told failed = record {
@@ -75,13 +75,13 @@ ends_by bound before t LinkFailed on is = record { before = before; last = t; ar
 ends_by bound before t (Refused e) on is = record { before = before; last = t; are = refl; went_on = on; ended = is }
 
 -- The turns of a loop so far: none of them ended it.
-pub record Going (kind : Turn → Bool) (tells : Bool) (a b : Line) (p q : Own) (dropped unsent n : ℕ) : Type 0 where
+pub record Going (kind : Turn → Bool) (tells : Bool) (a b : LinkValue) (p q : PassValue) (dropped unsent n : ℕ) : Type 0 where
   pub turns : List Turn
   pub made : Made kind tells turns a b p q
   pub counts : Counts turns dropped unsent n
   pub went_on : All goes_on turns
 
-unfoldable pub none_yet : (kind : Turn → Bool) (tells : Bool) (a : Line) (p : Own) → Going kind tells a a p p 0 0 0
+unfoldable pub none_yet : (kind : Turn → Bool) (tells : Bool) (a : LinkValue) (p : PassValue) → Going kind tells a a p p 0 0 0
 none_yet kind tells a p = record {
   turns = [];
   made = record { kinds = All-nil (λ s. kind s ≡ true); follows = refl; told = λ yes. sym (append-nil a.log); failed = omega arith };
@@ -90,7 +90,7 @@ none_yet kind tells a p = record {
 }
 
 -- a turn more, which doesn't end the loop
-unfoldable pub on : (kind : Turn → Bool) (tells : Bool) (a b c : Line) (p m q : Own) (dropped unsent n : ℕ) (turned : Turned)
+unfoldable pub on : (kind : Turn → Bool) (tells : Bool) (a b c : LinkValue) (p m q : PassValue) (dropped unsent n : ℕ) (turned : Turned)
     → Going kind tells a b p m dropped unsent n → Took kind tells b c m q turned → turned.why ≡ None
     → Going kind tells a c p q (dropped + turned.dropped) (unsent + turned.unsent) (n + 1)
 on kind tells a b c p m q dropped unsent n turned going took none = record {
@@ -101,7 +101,7 @@ on kind tells a b c p m q dropped unsent n turned going took none = record {
 }
 
 -- a turn more, which ends it
-unfoldable pub over : (kind : Turn → Bool) (tells : Bool) (bound : ℕ) (a b c : Line) (p m q : Own) (dropped unsent n : ℕ) (turned : Turned) (why : Why)
+unfoldable pub over : (kind : Turn → Bool) (tells : Bool) (bound : ℕ) (a b c : LinkValue) (p m q : PassValue) (dropped unsent n : ℕ) (turned : Turned) (why : Why)
     → Going kind tells a b p m dropped unsent n → Took kind tells b c m q turned → turned.why ≡ Some why
     → Ran kind tells bound a c p q (record { why = why; dropped = dropped + turned.dropped; unsent = unsent + turned.unsent; turns = n + 1 })
 over kind tells bound a b c p m q dropped unsent n turned why going took some = record {
@@ -112,11 +112,11 @@ over kind tells bound a b c p m q dropped unsent n turned why going took some = 
 }
 
 -- it was stopped, or made as many turns as it may
-unfoldable pub stopped : (kind : Turn → Bool) (tells : Bool) (bound : ℕ) (a b : Line) (p q : Own) (dropped unsent n : ℕ) → Going kind tells a b p q dropped unsent n
+unfoldable pub stopped : (kind : Turn → Bool) (tells : Bool) (bound : ℕ) (a b : LinkValue) (p q : PassValue) (dropped unsent n : ℕ) → Going kind tells a b p q dropped unsent n
     → Ran kind tells bound a b p q (record { why = Stopped; dropped = dropped; unsent = unsent; turns = n })
 stopped kind tells bound a b p q dropped unsent n going = record { turns = going.turns; made = going.made; counts = going.counts; why = going.went_on }
 
-unfoldable pub bounded : (kind : Turn → Bool) (tells : Bool) (bound : ℕ) (a b : Line) (p q : Own) (dropped unsent n : ℕ) → n ≡ bound → Going kind tells a b p q dropped unsent n
+unfoldable pub bounded : (kind : Turn → Bool) (tells : Bool) (bound : ℕ) (a b : LinkValue) (p q : PassValue) (dropped unsent n : ℕ) → n ≡ bound → Going kind tells a b p q dropped unsent n
     → Ran kind tells bound a b p q (record { why = ReadBound; dropped = dropped; unsent = unsent; turns = bound })
 bounded kind tells bound a b p q dropped unsent n is going =
     let all : bound ≡ length going.turns = sym is ∙ going.counts.turns_is in

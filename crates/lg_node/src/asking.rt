@@ -3,7 +3,7 @@
 //! Defined in: `specs/Meaning/Nodes.antt`, `specs/Meaning/Turns.antt`.
 //! Tested in: `lg_agent_tests/src/node/asking.rt`.
 ghost use Rattle.std.specs.Prelude.{◌≤◌, ◌*◌, length, IfOk, IfErr};
-ghost use Rattle.lg_agent.specs.Meaning.Ledger.{Own};
+ghost use Rattle.lg_agent.specs.Meaning.Values.{PassValue};
 ghost use Rattle.lg_agent.specs.Meaning.Calls.{IsRefusal};
 ghost use Rattle.lg_node.specs.Meaning.Turns.{line};
 ghost use Rattle.lg_node.specs.Meaning.Nodes.{Asked};
@@ -30,7 +30,7 @@ pub(crate) fn ask_each<A: AgentName, R: Wait, L: Link, C: Clock>(
     ensures asked { IfOk result (Asked L.tells seeds.now (line (L.log link.old) (L.failed link.old))
         (line (L.log link.new) (L.failed link.new)) pass.old pass.new) }
     ensures few { IfOk result (λ unsent. unsent ≤ 8 * MAX_SEEDS) }
-    ensures refused { IfErr result (λ e. (p : Own) × IsRefusal p.seen e) }
+    ensures refused { IfErr result (λ e. (p : PassValue) × IsRefusal p.seen e) }
 {
     let mut unsent = 0;
     let mut reply = Reply::default();

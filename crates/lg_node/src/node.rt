@@ -5,7 +5,7 @@
 ghost use Rattle.std.specs.Prelude.{false, IfOk, IfErr};
 ghost use Rattle.lg_timing.specs.Meaning.Config.{IsChecked};
 ghost use Rattle.lg_node.specs.Meaning.Nodes.{IsRun, IsEarly};
-ghost use Rattle.lg_node.specs.Meaning.Turns.{Line};
+ghost use Rattle.lg_node.specs.Meaning.Turns.{LinkValue};
 ghost use Rattle.lg_node.specs.Meaning.Words.{seeded, DrawsEight};
 
 use crate::ending::End;
@@ -75,7 +75,8 @@ where
     R: Wait + Threads + Net + rt::Clock + Sync,
     requires { IsChecked config.now }
     // Of a link over UDP contracts see only the failures.
-    ensures ran { IfOk result (λ e. (hears : Line) × (hears' : Line) × (sends : Line) × (sends' : Line)
+    ensures ran { IfOk result (λ e. (hears : LinkValue) × (hears' : LinkValue) × (sends : LinkValue)
+        × (sends' : LinkValue)
         × IsRun DrawsEight (seeded dice) false MAX_TURNS config.now until hears hears' sends sends' e) }
     ensures refused { IfErr result IsEarly }
 {

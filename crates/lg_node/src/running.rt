@@ -26,12 +26,12 @@ use std::thread::{Promise, Threads};
 /// Names the state in which a loop starts, and how many turns it may make.
 trait Start {
     ghost use Rattle.std.specs.Prelude.{ℕ};
-    ghost use Rattle.lg_agent.specs.Meaning.Ledger.{Own};
-    ghost use Rattle.lg_node.specs.Meaning.Turns.{Line};
+    ghost use Rattle.lg_agent.specs.Meaning.Values.{PassValue};
+    ghost use Rattle.lg_node.specs.Meaning.Turns.{LinkValue};
 
-    ghost own: { Own };
+    ghost own: { PassValue };
 
-    ghost line: { Line };
+    ghost line: { LinkValue };
 
     ghost bound: { ℕ };
 }

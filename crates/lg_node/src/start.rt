@@ -13,11 +13,11 @@ ghost use Rattle.lg_timing.specs.declared.config.Config.{Config as Opened};
 ghost use Rattle.lg_detector.specs.declared.event.Event.TheVariants.{Open};
 ghost use Rattle.lg_detector.specs.Meaning.Step.{view_after};
 ghost use Rattle.lg_agent.specs.declared.refusal.Refusal.TheVariants.{NoMemory, NoView};
-ghost use Rattle.lg_agent.specs.Meaning.Ledger.{Own};
+ghost use Rattle.lg_agent.specs.Meaning.Values.{PassValue};
 ghost use Rattle.lg_agent.specs.Meaning.Calls.{IsLook, IsRefusal};
 ghost use Rattle.lg_agent.specs.Meaning.Closing.{IsClosed, IsRefusedClosing};
 ghost use Rattle.lg_node.specs.Meaning.Nodes.{HasServed, IsRun, IsEarly, fresh_own};
-ghost use Rattle.lg_node.specs.Meaning.Turns.{Line};
+ghost use Rattle.lg_node.specs.Meaning.Turns.{LinkValue};
 ghost use Rattle.lg_node.specs.Meaning.Words.{seeded, DrawsEight};
 
 use crate::asking::ask_each;
@@ -57,7 +57,8 @@ where
     requires book { book.seen.book ≡ A.book }
     requires places { A.places ≡ PLACES }
     requires config { IsChecked config.now }
-    ensures ran { IfOk result (λ e. (hears : Line) × (hears' : Line) × (sends : Line) × (sends' : Line)
+    ensures ran { IfOk result (λ e. (hears : LinkValue) × (hears' : LinkValue) × (sends : LinkValue)
+        × (sends' : LinkValue)
         × IsRun DrawsEight (seeded dice) false MAX_TURNS config.now until hears hears' sends sends' e) }
     ensures refused { IfErr result IsEarly }
 {
@@ -121,12 +122,13 @@ where
     requires bound { shared.now.bound ≤ MAX_TURNS }
     ensures left { (start : ℕ) → agent.old.name ≡ config.now.name
         → All (λ seen. seen ≡ Open start config.now ∷ []) agent.old.told
-        → IfOk result (λ l. (hears : Line) × (hears' : Line) × (sends : Line) × (sends' : Line) × (asker : Own)
+        → IfOk result (λ l. (hears : LinkValue) × (hears' : LinkValue) × (sends : LinkValue) × (sends' : LinkValue)
+        × (asker : PassValue)
         × HasServed DrawsEight (seeded dice) false shared.now.bound config.now until start hears hears' sends sends'
         l.received l.ticked l.receiver l.ticker asker
         × MatchResult l.members (λ records. (records.items ≡ view_after l.reader.seen) × IsLook asker l.reader)
         (λ r. ((r ≡ NoView) ⊎ (r ≡ NoMemory)) × (l.reader ≡ asker))) }
-    ensures refused { IfErr result (λ e. (p : Own) × IsRefusal p.seen e) }
+    ensures refused { IfErr result (λ e. (p : PassValue) × IsRefusal p.seen e) }
 {
     let Some(passes) = passes_of(shared.alloc, agent) else {
         return Err(Refusal::NoMemory);

@@ -10,7 +10,7 @@ use Rattle.lg_rules.specs.declared.own.OwnHeard.{OwnHeard}
 use Rattle.lg_rules.specs.declared.own.OwnHeard.TheVariants.{Refuted, Raised, Ousted, Ignored}
 use Rattle.lg_rules.specs.Meaning.Beats.{beats_of}
 use Rattle.lg_rules.specs.Meaning.Claim.{name_of}
-use Rattle.lg_rules.specs.Meaning.Own.{Oneself, beyond, own_hearing, own_hearing_at, oneself_changed, own_heard, own_of}
+use Rattle.lg_rules.specs.Meaning.Own.{OwnValue, beyond, own_hearing, own_hearing_at, oneself_changed, own_heard, own_of}
 use Rattle.lg_rules.specs.Meaning.Own.{own_record}
 use Rattle.lg_rules.specs.Meaning.Rows.{name_cmp, is_same, put_row, row_at, Rises}
 use Rattle.lg_rules.specs.Meaning.Table.{record_of, roster, table_of, takes, heard}
@@ -95,19 +95,19 @@ pub data ViewHearing (name : List ℕ) (addr : Addr) (c : Claim) (past : List Cl
   Leaves : changes_record (standing_of name addr past) c ≡ false → view_after name addr (c ∷ past) ≡ view_after name addr past → ViewHearing name addr c past
 
 -- the own record changes where the own number rises, and nowhere else
-stays : (o : OwnHeard) (i : ℕ) (me : Oneself) → is_rise o ≡ false → own_record (oneself_changed o i me) ≡ own_record me
+stays : (o : OwnHeard) (i : ℕ) (me : OwnValue) → is_rise o ≡ false → own_record (oneself_changed o i me) ≡ own_record me
 stays Refuted i me f = absurd (false≢true (sym f))
 stays Raised i me f = absurd (false≢true (sym f))
 stays Ousted i me f = refl
 stays Ignored i me f = refl
 
-beyond_rises : (o : OwnHeard) (i : ℕ) (me : Oneself) → ((j : ℕ) → (oneself_changed o j me).number ≡ j + 1) → me.number ≤ i → is_rise (beyond i o) ≡ true → me.number < (oneself_changed (beyond i o) i me).number
+beyond_rises : (o : OwnHeard) (i : ℕ) (me : OwnValue) → ((j : ℕ) → (oneself_changed o j me).number ≡ j + 1) → me.number ≤ i → is_rise (beyond i o) ≡ true → me.number < (oneself_changed (beyond i o) i me).number
 beyond_rises o i me h l t = elim (cases_Bool (ltb i 1000000000)) [
   | inl few ↦ rw few (omega (arith, h i, l))
   | inr many ↦ absurd (false≢true (sym (ap is_rise (ap (λ b. cond b o Ousted) many)) ∙ t))
 ]
 
-rises : (s : Status) (i : ℕ) (me : Oneself) → is_rise (own_hearing_at s i me.number) ≡ true → me.number < (oneself_changed (own_hearing_at s i me.number) i me).number
+rises : (s : Status) (i : ℕ) (me : OwnValue) → is_rise (own_hearing_at s i me.number) ≡ true → me.number < (oneself_changed (own_hearing_at s i me.number) i me).number
 rises Alive i me t = elim (cases_Bool (ltb me.number i)) [
   | inl l ↦ (
       let less : me.number < i = ltb-true me.number i l in
@@ -123,7 +123,7 @@ rises Failed i me t = elim (cases_Bool (leb me.number i)) [
   | inr f ↦ absurd (false≢true (sym (ap is_rise (ap (λ b. cond b (beyond i Raised) Ignored) f)) ∙ t))
 ]
 
-rises_heard : (me : Oneself) (c : Claim) → is_rise (own_hearing me c) ≡ true → me.number < (own_heard me c).number
+rises_heard : (me : OwnValue) (c : Claim) → is_rise (own_hearing me c) ≡ true → me.number < (own_heard me c).number
 rises_heard me c t = elim (cases_key names_order c.name me.name) [
   | inl e ↦ rw (same_key names_order c.name me.name e) (rises c.status c.incarnation me (sym (ap is_rise (own_hearing-same me c e)) ∙ t))
   | inr d ↦ absurd (false≢true (sym (ap is_rise (own_hearing-other me c d)) ∙ t))

@@ -57,9 +57,9 @@ pub struct Members {
 }
 
 impl Model for Members {
-    ghost use Rattle.lg_rules.specs.Meaning.Table.{Known};
+    ghost use Rattle.lg_rules.specs.Meaning.Table.{MembersValue};
 
-    ghost Value = { Known };
+    ghost Value = { MembersValue };
 
     ghost view = { λ m. record { own = m.own; table = m.records.items } };
 

@@ -44,9 +44,9 @@ pub struct Own {
 }
 
 impl Model for Own {
-    ghost use Rattle.lg_rules.specs.Meaning.Own.{Oneself};
+    ghost use Rattle.lg_rules.specs.Meaning.Own.{OwnValue};
 
-    ghost Value = { Oneself };
+    ghost Value = { OwnValue };
 
     ghost view = { λ o. record { name = o.name; addr = o.addr; number = o.number; ousted = o.ousted } };
 

@@ -11,7 +11,7 @@ use Rattle.std.specs.Cmp.Lexicographic.{pointwise}
 use Rattle.lg_rules.proofs.KeyOrder.{names_order, names_eq}
 use Rattle.lg_rules.proofs.PastLaws.{oldest-all, oldest-more}
 use Rattle.lg_rules.proofs.Rises.{among-distinct, among-in_order, rises-in_order, put-there, length-put, same_members}
-use Rattle.lg_timing.specs.Meaning.TimeoutRange.{TimeoutRange}
+use Rattle.lg_timing.specs.Meaning.TimeoutValue.{TimeoutValue}
 use Rattle.lg_timing.specs.Meaning.Timeouts.{timeout_of}
 use Rattle.lg_suspicion.specs.Meaning.Accusers.{SuspicionValue, counted_accusers, suspicion_after, would_count, accused, deadline_of, deadline_by_set, set_of}
 
@@ -99,7 +99,7 @@ counted-cons k a past =
     changed few other = rw (le-leb (length (counted_accusers k past)) k (omega (arith, length-counted k past)), among-counted k a past (omega arith) ∙ other)
 
 -- a suspicion after one more accuser
-pub accused-after : (raised : ℕ) (timeout : TimeoutRange) (a : List ℕ) (past : List (List ℕ)) → accused (suspicion_after raised timeout past) a ≡ suspicion_after raised timeout (a ∷ past)
+pub accused-after : (raised : ℕ) (timeout : TimeoutValue) (a : List ℕ) (past : List (List ℕ)) → accused (suspicion_after raised timeout past) a ≡ suspicion_after raised timeout (a ∷ past)
 accused-after raised timeout a past = field (would_count k (counted_accusers k past) a) ∙ ap put (sym (counted-cons k a past))
   where
     k : ℕ
@@ -129,7 +129,7 @@ length-in_order (n ∷ ns) = elim (cases_Bool (is_among name_cmp n ns)) [
     more e = rw e
 
 -- the deadline is by the set
-pub deadline-after : (raised : ℕ) (timeout : TimeoutRange) (past : List (List ℕ)) → deadline_of (suspicion_after raised timeout past) ≡ deadline_by_set raised timeout (set_of past)
+pub deadline-after : (raised : ℕ) (timeout : TimeoutValue) (past : List (List ℕ)) → deadline_of (suspicion_after raised timeout past) ≡ deadline_by_set raised timeout (set_of past)
 deadline-after raised timeout past =
     let k = timeout.confirmations in
     let confirmed : length (counted_accusers k past) - 1 ≡ min k (length (set_of past) - 1) = omega (arith, length-counted k past, length-in_order past) in
@@ -141,7 +141,7 @@ set-same past other same =
     same_members names_order (set_of past) (set_of other) (rises-in_order names_order past) (rises-in_order names_order other)
     (λ n. among-in_order names_order n past ∙ same n ∙ sym (among-in_order names_order n other))
 
-pub deadline-same : (raised : ℕ) (timeout : TimeoutRange) (past other : List (List ℕ)) → ((n : List ℕ) → is_among name_cmp n past ≡ is_among name_cmp n other) → deadline_of (suspicion_after raised timeout past) ≡ deadline_of (suspicion_after raised timeout other)
+pub deadline-same : (raised : ℕ) (timeout : TimeoutValue) (past other : List (List ℕ)) → ((n : List ℕ) → is_among name_cmp n past ≡ is_among name_cmp n other) → deadline_of (suspicion_after raised timeout past) ≡ deadline_of (suspicion_after raised timeout other)
 deadline-same raised timeout past other same =
     deadline-after raised timeout past ∙ ap (deadline_by_set raised timeout) (set-same past other same) ∙ sym (deadline-after raised timeout other)
 

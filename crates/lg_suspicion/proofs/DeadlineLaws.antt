@@ -2,7 +2,7 @@
 use Rattle.std.proofs.Common.{◌≡◌, ℕ, zero, suc, ◌+◌, ◌-◌, ◌*◌, ◌≤◌, ◌<◌, List, [], ◌∷◌, ◌++◌, length, length-append, arith, lit≤}
 use Rattle.std.proofs.Math.Nat.{mul-le-mul_left}
 use Rattle.lg_timing.specs.Meaning.Tables.{ratio_of}
-use Rattle.lg_timing.specs.Meaning.TimeoutRange.{TimeoutRange}
+use Rattle.lg_timing.specs.Meaning.TimeoutValue.{TimeoutValue}
 use Rattle.lg_timing.specs.Meaning.Timeouts.{timeout_of}
 
 -- the quotients of a row rise
@@ -32,14 +32,14 @@ ratio-rises zero c few within = absurd (omega (arith, within))
 ratio-rises (suc (suc (suc (suc (suc (suc k)))))) c few within = absurd (omega (arith, few))
 
 -- one more confirmation makes no timeout longer
-pub timeout-falls : (t : TimeoutRange) (c : ℕ) → t.confirmations ≤ 5 → c < t.confirmations → timeout_of t (c + 1) ≤ timeout_of t c
+pub timeout-falls : (t : TimeoutValue) (c : ℕ) → t.confirmations ≤ 5 → c < t.confirmations → timeout_of t (c + 1) ≤ timeout_of t c
 unfolding timeout_of
 timeout-falls t c few within =
     let more : (t.max - t.min) * ratio_of t.confirmations c ≤ (t.max - t.min) * ratio_of t.confirmations (c + 1) = mul-le-mul_left (t.max - t.min) (ratio-rises t.confirmations c few within) in
     omega (arith, more)
 
 -- nor does one more accuser move a deadline to a later moment
-pub deadline-falls : (raised : ℕ) (t : TimeoutRange) (accusers : List (List ℕ)) (a : List ℕ) → t.confirmations ≤ 5 → 1 ≤ length accusers → length accusers ≤ t.confirmations
+pub deadline-falls : (raised : ℕ) (t : TimeoutValue) (accusers : List (List ℕ)) (a : List ℕ) → t.confirmations ≤ 5 → 1 ≤ length accusers → length accusers ≤ t.confirmations
     → raised + timeout_of t (length (accusers ++ a ∷ []) - 1) ≤ raised + timeout_of t (length accusers - 1)
 deadline-falls raised t accusers a few some fits =
     let one : length (accusers ++ a ∷ []) - 1 ≡ (length accusers - 1) + 1 = omega (arith, length-append accusers (a ∷ [])) in

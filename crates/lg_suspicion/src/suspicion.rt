@@ -11,7 +11,7 @@
 ghost use Rattle.std.specs.Prelude.{◌≡◌, ℕ, ◌≤◌, List, [], ◌∷◌};
 ghost use Rattle.lg_rules.specs.Meaning.Rows.{name_cmp, is_among};
 ghost use Rattle.lg_timing.specs.Meaning.Config.{IsChecked};
-ghost use Rattle.lg_timing.specs.Meaning.TimeoutRange.{TimeoutRange};
+ghost use Rattle.lg_timing.specs.Meaning.TimeoutValue.{TimeoutValue};
 ghost use Rattle.lg_timing.specs.Meaning.Timeouts.{range_of};
 ghost use Rattle.lg_suspicion.specs.Meaning.Accusers.{suspicion_after, accuser_counts, accused};
 ghost use Rattle.lg_suspicion.specs.Meaning.Accusers.{deadline_of, deadline_by_set, set_of};
@@ -163,7 +163,7 @@ impl Suspicion {
 /// with the same names, in any order and each any number of times, give the same deadline. This is a law, and the
 /// call does nothing.
 pub fn deadlines_are_by_the_set()
-    ensures { (raised : ℕ) (timeout : TimeoutRange) (past other : List (List ℕ))
+    ensures { (raised : ℕ) (timeout : TimeoutValue) (past other : List (List ℕ))
         → ((name : List ℕ) → is_among name_cmp name past ≡ is_among name_cmp name other)
         → deadline_of (suspicion_after raised timeout past) ≡ deadline_of (suspicion_after raised timeout other) }
 {}

@@ -5,5 +5,5 @@ pub mod Examples
 pub mod Keys
 pub mod Score
 pub mod Tables
-pub mod TimeoutRange
+pub mod TimeoutValue
 pub mod Timeouts

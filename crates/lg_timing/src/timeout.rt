@@ -1,6 +1,6 @@
 //! How long a suspicion lasts: the suspicion timeout, and how confirmations shorten it.
 //!
-//! Defined in: `specs/Meaning/Timeouts.antt`, `specs/Meaning/TimeoutRange.antt`, `specs/Meaning/Config.antt`.
+//! Defined in: `specs/Meaning/Timeouts.antt`, `specs/Meaning/TimeoutValue.antt`, `specs/Meaning/Config.antt`.
 //! Tested in: `lg_detector_tests/src/timing.rt`, `cases/timeouts.case`.
 ghost use Rattle.std.specs.Prelude.{◌≡◌, ◌≤◌};
 ghost use Rattle.lg_timing.specs.Meaning.Config.{IsChecked};
@@ -27,10 +27,10 @@ pub struct SuspicionTimeout {
 }
 
 impl Model for SuspicionTimeout {
-    ghost use Rattle.lg_timing.specs.Meaning.TimeoutRange.{TimeoutRange};
+    ghost use Rattle.lg_timing.specs.Meaning.TimeoutValue.{TimeoutValue};
     ghost use Rattle.lg_timing.specs.Support.Timeouts.{HasTimeouts};
 
-    ghost Value = { TimeoutRange };
+    ghost Value = { TimeoutValue };
 
     ghost view = { λ t. record { min = t.min_ms; max = t.max_ms; confirmations = t.confirmations } };
 

@@ -2,22 +2,22 @@
 use Rattle.std.proofs.Common.{◌≡◌, List, [], ◌∷◌, ◌++◌, fold, Option, None, Result, Ok, Err, true, false, refl, ap, ◌∙◌}
 use Rattle.std.specs.Prelude.{is_err, MatchResult}
 use Rattle.lg_detector.specs.declared.event.Event.{Event}
-use Rattle.lg_view.specs.Support.Updates.{Addition, taken_events}
+use Rattle.lg_view.specs.Support.Updates.{AddedValue, taken_events}
 
-taken-append_none : (f : List Event) (us : List (Option Addition)) → fold taken_events f (us ++ None ∷ []) ≡ fold taken_events f us
+taken-append_none : (f : List Event) (us : List (Option AddedValue)) → fold taken_events f (us ++ None ∷ []) ≡ fold taken_events f us
 taken-append_none f [] = refl
 taken-append_none f (u ∷ us) = taken-append_none (taken_events f u) us
 
 -- where the updates before left the list as it is, those with one that only makes room do too
-pub room_taken : (f : List Event) (us vs : List (Option Addition)) → vs ≡ us ++ None ∷ [] → fold taken_events f us ≡ f → fold taken_events f vs ≡ f
-room_taken f us vs more same = ap (λ (l : List (Option Addition)). fold taken_events f l) more ∙ (taken-append_none f us ∙ same)
+pub room_taken : (f : List Event) (us vs : List (Option AddedValue)) → vs ≡ us ++ None ∷ [] → fold taken_events f us ≡ f → fold taken_events f vs ≡ f
+room_taken f us vs more same = ap (λ (l : List (Option AddedValue)). fold taken_events f l) more ∙ (taken-append_none f us ∙ same)
 
 -- the same, where the list is named twice
-pub room_kept : (f g : List Event) (us vs : List (Option Addition)) → g ≡ f → vs ≡ us ++ None ∷ [] → fold taken_events f us ≡ f → fold taken_events g vs ≡ g
+pub room_kept : (f g : List Event) (us vs : List (Option AddedValue)) → g ≡ f → vs ≡ us ++ None ∷ [] → fold taken_events f us ≡ f → fold taken_events g vs ≡ g
 room_kept f g us vs here more same = rw here (room_taken f us vs more same)
 
 -- and where no update was put
-pub none_kept : (f g : List Event) (us vs : List (Option Addition)) → g ≡ f → vs ≡ us → fold taken_events f us ≡ f → fold taken_events g vs ≡ g
+pub none_kept : (f g : List Event) (us vs : List (Option AddedValue)) → g ≡ f → vs ≡ us → fold taken_events f us ≡ f → fold taken_events g vs ≡ g
 none_kept f g us vs here more same = rw (here, more) same
 
 -- what holds of a result that is no error, and of one that is

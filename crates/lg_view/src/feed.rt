@@ -58,10 +58,10 @@ where
     Published<P>: Absorb<Update<P>, State = [Event; 0]>,
 {
     ghost use Rattle.std.specs.Prelude.{◌≡◌, ◌++◌, ◌∷◌, [], drop, fold, MatchOption};
-    ghost use Rattle.lg_view.specs.Meaning.Views.{Stream};
+    ghost use Rattle.lg_view.specs.Meaning.Views.{FeedValue};
     ghost use Rattle.lg_view.specs.Support.Updates.{waiting_of, taken_events};
 
-    ghost Value = { Stream };
+    ghost Value = { FeedValue };
 
     ghost view = { λ f. record { events = f.writer.desk.shown.value; waiting = waiting_of f.waiting } };
 

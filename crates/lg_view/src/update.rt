@@ -16,9 +16,9 @@ pub struct Added<P: PairName> {
 impl<P: PairName> Model for Added<P> {
     ghost use Rattle.std.specs.Prelude.{◌≡◌, ◌++◌, ◌∷◌, [], List};
     ghost use Rattle.lg_detector.specs.declared.event.Event.{Event};
-    ghost use Rattle.lg_view.specs.Support.Updates.{Addition};
+    ghost use Rattle.lg_view.specs.Support.Updates.{AddedValue};
 
-    ghost Value = { Addition };
+    ghost Value = { AddedValue };
 
     ghost view = { λ a. record { events = a.front; event = a.event.value } };
 
@@ -34,9 +34,9 @@ pub struct Update<P: PairName> {
 
 impl<P: PairName> Model for Update<P> {
     ghost use Rattle.std.specs.Prelude.{Option};
-    ghost use Rattle.lg_view.specs.Support.Updates.{Addition};
+    ghost use Rattle.lg_view.specs.Support.Updates.{AddedValue};
 
-    ghost Value = { Option Addition };
+    ghost Value = { Option AddedValue };
 
     ghost view = { λ u. u.added };
 }

@@ -16,15 +16,15 @@ use Rattle.lg_agent.specs.declared.receipt.Receipt.{Receipt}
 use Rattle.lg_agent.specs.declared.refusal.Refusal.{Refusal}
 use Rattle.lg_agent.specs.declared.refusal.Refusal.TheVariants.{BadPacket, NoMemory, HistoryFull}
 use Rattle.lg_agent.specs.declared.refusal.Refusal.TheVariants.{Behind, NoPlace, NoView}
-use Rattle.lg_agent.specs.Meaning.Ledger.{Ledger, Own, all_events, count_of, own_limit}
+use Rattle.lg_agent.specs.Meaning.Values.{KeptValue, PassValue, all_events, count_of, own_limit}
 
 -- the ledger with one more entry: the seat's event, and the reply that the definitions give to it there
-abbrev pub with_entry : Ledger → ℕ → Event → Ledger
+abbrev pub with_entry : KeptValue → ℕ → Event → KeptValue
 with_entry l seat e = record l { history = l.history ++ entry seat e (reply_after (all_events l) e) ∷ [] }
 
 -- A ledger after a rotation. All entries are cut off and none is stored; there is a summary of all events so far.
 -- Each seat's count of entries that were cut off has grown by those of it that were stored.
-pub record IsRotated (before after : Ledger) : Type 0 where
+pub record IsRotated (before after : KeptValue) : Type 0 where
   pub history : after.history ≡ []
   pub past : after.past ≡ all_events before
   pub summary : State
@@ -36,7 +36,7 @@ pub record IsRotated (before after : Ledger) : Type 0 where
 
 -- Why the ledger refuses a call of a seat, if it does: there is no such seat, a detector accepts no more events, or
 -- as many entries are stored as are allowed.
-abbrev pub refusal_of : Ledger → ℕ → Option Refusal
+abbrev pub refusal_of : KeptValue → ℕ → Option Refusal
 refusal_of l seat =
     if (seat == 0) || nat_lt l.places seat
     then Some NoPlace
@@ -61,7 +61,7 @@ pub record IsAnswered (seen : List Event) (e : Event) (r : Receipt) (now : List 
 
 -- An answered call of a pass: its position is one more of the pass's positions, and later than all of them. Of the
 -- first of these, whose entries were cut off, perhaps only the number is kept from then on.
-pub record IsCall (before : Own) (e : Event) (r : Receipt) (after : Own) : Type 0 where
+pub record IsCall (before : PassValue) (e : Event) (r : Receipt) (after : PassValue) : Type 0 where
   pub answered : IsAnswered before.seen e r after.seen
   pub moved : ℕ
   pub few : moved ≤ length before.mine
@@ -73,7 +73,7 @@ pub record IsCall (before : Own) (e : Event) (r : Receipt) (after : Own) : Type 
 
 -- A pass after a rotation: it has seen what it had seen, all its calls among it, and made as many calls. Of the first
 -- of its positions perhaps only the number is kept from then on.
-pub record IsRotatedPass (before after : Own) : Type 0 where
+pub record IsRotatedPass (before after : PassValue) : Type 0 where
   pub early : All (λ k. k < length before.seen) before.mine
   pub moved : ℕ
   pub few : moved ≤ length before.mine
@@ -101,7 +101,7 @@ IsBadPacket r = (fault : Fault) × (r ≡ BadPacket fault)
 
 -- A look: what is seen afterwards is an accepted list of events that begins with all that was seen before. Nothing else
 -- changes.
-pub record IsLook (before after : Own) : Type 0 where
+pub record IsLook (before after : PassValue) : Type 0 where
   pub begins : IsPrefix before.seen after.seen
   pub accepted : is_accepted after.seen ≡ true
   pub gone : after.gone ≡ before.gone
@@ -110,7 +110,7 @@ pub record IsLook (before after : Own) : Type 0 where
   pub name : after.name ≡ before.name
 
 -- A fresh pass of an agent with this name: it has seen the opening, and made no call.
-pub record IsFresh (agent : List ℕ) (place : ℕ) (pass : Own) : Type 0 where
+pub record IsFresh (agent : List ℕ) (place : ℕ) (pass : PassValue) : Type 0 where
   pub name : pass.name ≡ agent
   pub seat : pass.seat ≡ place
   pub seen : begins_open pass.seen ≡ true
@@ -118,6 +118,6 @@ pub record IsFresh (agent : List ℕ) (place : ℕ) (pass : Own) : Type 0 where
   pub mine : pass.mine ≡ []
 
 -- fresh passes, in the order of their seats, which follow n
-abbrev pub AreFresh : List ℕ → ℕ → List Own → Type 0
+abbrev pub AreFresh : List ℕ → ℕ → List PassValue → Type 0
 AreFresh agent n [] = Unit {0}
 AreFresh agent n (pass ∷ passes) = IsFresh agent (n + 1) pass × AreFresh agent (n + 1) passes

@@ -12,7 +12,7 @@ use Rattle.lg_history.specs.Meaning.History.{Entry, entry, events, positions, Is
 use Rattle.lg_history.specs.Meaning.Rest.{of_seat}
 use Rattle.lg_agent.specs.declared.refusal.Refusal.TheVariants.{HistoryFull, NoPlace}
 use Rattle.lg_agent.specs.declared.refusal.CloseFault.TheVariants.{Missing, Foreign, Differs}
-use Rattle.lg_agent.specs.Meaning.Ledger.{Ledger, Own, own_name}
+use Rattle.lg_agent.specs.Meaning.Values.{KeptValue, PassValue, own_name}
 use Rattle.lg_agent.specs.Meaning.Calls.{refusal_of}
 use Rattle.lg_agent.specs.Meaning.Closing.{first_difference, close_fault, IsLegalLedger, IsRefusedClosing, LacksOne}
 use Rattle.lg_agent.specs.Meaning.Closing.{IsMisplaced}
@@ -27,10 +27,10 @@ it_is_the_history_of_b : own_name (events history) ≡ b ∷ []
 it_is_the_history_of_b = refl
 
 -- There are two places, and at most four entries may be stored.
-abbrev ledger : Ledger
+abbrev ledger : KeptValue
 ledger = record { places = 2; limit = 4; summary = None; cut = []; past = []; history = history }
 
-abbrev alone : Ledger
+abbrev alone : KeptValue
 alone = record ledger { places = 1 }
 
 nobody_is_at_zero : refusal_of ledger 0 ≡ Some NoPlace
@@ -53,13 +53,13 @@ with_room_for_one : refusal_of (record ledger { limit = 5 }) 2 ≡ None
 with_room_for_one = refl
 
 -- What the passes left.
-abbrev left_by : List ℕ → ℕ → List ℕ → Own
+abbrev left_by : List ℕ → ℕ → List ℕ → PassValue
 left_by name seat mine = record { name = name; seat = seat; seen = []; gone = 0; mine = mine }
 
-abbrev first : Own
+abbrev first : PassValue
 first = left_by (b ∷ []) 1 (1 ∷ 3 ∷ [])
 
-abbrev second : Own
+abbrev second : PassValue
 second = left_by (b ∷ []) 2 (2 ∷ [])
 
 they_agree_in_any_order : close_fault ledger (second ∷ first ∷ []) ≡ None
@@ -93,7 +93,7 @@ they_are_the_same : first_difference 0 (1 ∷ 3 ∷ []) (positions 1 0 history) 
 they_are_the_same = refl
 
 -- All four entries are cut off, and the second pass makes a call, which is the fifth.
-abbrev rotated : Ledger
+abbrev rotated : KeptValue
 rotated = record {
   places = 2;
   limit = 4;
@@ -107,10 +107,10 @@ there_is_room_again : refusal_of rotated 2 ≡ None
 there_is_room_again = refl
 
 -- A pass that kept only the number of its calls, and one that still has their positions.
-abbrev counts : Own
+abbrev counts : PassValue
 counts = record (left_by (b ∷ []) 1 []) { gone = 2 }
 
-abbrev lists : Own
+abbrev lists : PassValue
 lists = left_by (b ∷ []) 2 (2 ∷ 4 ∷ [])
 
 they_agree_by_number_and_position : close_fault rotated (counts ∷ lists ∷ []) ≡ None
@@ -133,7 +133,7 @@ it_is_legal places = record { accepted = refl; seated = (refl, All-nil (IsSeat p
 nobody : (seat : ℕ) → of_seat [] seat ≡ 0
 nobody seat = refl
 
-abbrev begun : ℕ → Ledger
+abbrev begun : ℕ → KeptValue
 begun places = record { places = places; limit = 4; summary = None; cut = []; past = []; history = fresh }
 
 its_ledger_is_legal : (places : ℕ) → IsLegalLedger places (begun places)
@@ -143,7 +143,7 @@ its_ledger_is_legal places = record {
   base = refl;
 }
 
-abbrev idle : Own
+abbrev idle : PassValue
 idle = left_by (b ∷ []) 1 []
 
 one_of_two_alone_is_refused : IsRefusedClosing 2 (idle ∷ []) Missing
@@ -156,7 +156,7 @@ the_first_place_is_there_twice : IsMisplaced 2 (idle ∷ idle ∷ []) idle
 the_first_place_is_there_twice = inr (inr (lt-suc_self 1))
 
 -- A pass that made no call, and has seen one event more than there is.
-abbrev ahead : Own
+abbrev ahead : PassValue
 ahead = record idle { seen = opening 0 ∷ Health 20 ∷ [] }
 
 what_it_saw_is_told_behind_its_calls : IsRefusedClosing 1 (ahead ∷ []) (Differs 1 0)

@@ -1,6 +1,6 @@
 //! How the value under the lock begins: with the entry of the opening, which is published.
 //!
-//! Defined in: `specs/Meaning/Ledger.antt`, `lg_history/specs/Meaning/History.antt`.
+//! Defined in: `specs/Meaning/Values.antt`, `lg_history/specs/Meaning/History.antt`.
 //! Tested in: `lg_agent_tests/src/agent/rows.rt`.
 ghost use Rattle.std.specs.Prelude.{◌≡◌, ℕ, ◌<◌, ◌≤◌, ◌⊎◌, [], ◌∷◌, ◌++◌};
 ghost use Rattle.std.specs.Prelude.{All, IfOk, IfErr, OnOk, IsTrue, vec_len, None, true};

@@ -6,7 +6,7 @@ ghost use Rattle.lg_detector.specs.declared.event.Event.{Event};
 ghost use Rattle.lg_detector.specs.declared.event.Event.TheVariants.{Open};
 ghost use Rattle.lg_detector.specs.declared.reply.Reply.{Reply};
 ghost use Rattle.lg_history.specs.Meaning.History.{entry};
-ghost use Rattle.lg_agent.specs.Meaning.Ledger.{Own};
+ghost use Rattle.lg_agent.specs.Meaning.Values.{PassValue};
 ghost use Rattle.lg_agent.specs.Meaning.Closing.{close_fault};
 ghost use Rattle.lg_agent.specs.declared.refusal.CloseFault.TheVariants.{Missing, Foreign, Differs};
 

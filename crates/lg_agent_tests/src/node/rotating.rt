@@ -153,7 +153,7 @@ pub fn run_stream<A: AgentName, R: Wait>(
         made: [received.spent.made(), ticked.spent.made()],
     };
     let _refused = spents.push(received.spent).is_err() || spents.push(ticked.spent).is_err();
-    let shown = Shown::Stream(seen);
+    let shown = Shown::FeedValue(seen);
     Left { spents, shown }
 }
 
@@ -162,11 +162,11 @@ fn played<R>(rt: &R, alloc: Global, limit: u64) -> Option<(StreamSeen, Ending)>
 where
     R: Threads + Wait + rt::Clock + Sync,
 {
-    let mut case = Case::new(2, Play::Stream);
+    let mut case = Case::new(2, Play::FeedValue);
     case.limit = limit;
     let outcome = told(rt, alloc, case).ok()?;
     match outcome.shown {
-        Shown::Stream(seen) => Some((seen, outcome.ending)),
+        Shown::FeedValue(seen) => Some((seen, outcome.ending)),
         _ => None,
     }
 }

@@ -2,7 +2,7 @@
 use Rattle.std.specs.Prelude.{ℕ, ◌+◌, Bool, ◌&&◌, List, [], ◌∷◌, ◌++◌, codes, decimal}
 use Rattle.std.specs.List.{flat_map, range_with_len}
 use Rattle.lg_rules.specs.declared.addr.Addr.{Addr}
-use Rattle.lg_timing.specs.Meaning.TimeoutRange.{TimeoutRange}
+use Rattle.lg_timing.specs.Meaning.TimeoutValue.{TimeoutValue}
 use Rattle.lg_timing.specs.Meaning.Timeouts.{range_of, timeout_of}
 use Rattle.lg_timing.specs.declared.config.Config.{Config}
 use Rattle.lg_text.specs.Meaning.Lines.{newline}
@@ -38,15 +38,15 @@ abbrev pub ms_line : List ℕ → ℕ → List ℕ
 ms_line word ms = word ++ (32 ∷ (decimal ms ++ newline))
 
 -- the line of the timeout after c confirmations
-abbrev pub after_line : TimeoutRange → ℕ → List ℕ
+abbrev pub after_line : TimeoutValue → ℕ → List ℕ
 after_line r c = ms_line (decimal c) (timeout_of r c)
 
 -- the lines from no confirmation to as many as count
-abbrev pub after_lines : TimeoutRange → List ℕ
+abbrev pub after_lines : TimeoutValue → List ℕ
 after_lines r = flat_map (after_line r) (range_with_len 0 (r.confirmations + 1))
 
 -- the least and the greatest timeout, then those lines
-abbrev pub range_text : TimeoutRange → List ℕ
+abbrev pub range_text : TimeoutValue → List ℕ
 range_text r = ms_line (codes "min") r.min ++ ms_line (codes "max") r.max ++ after_lines r
 
 -- what is written for some numbers

@@ -6,7 +6,7 @@ use Rattle.lg_rules.specs.declared.addr.Addr.{Addr}
 use Rattle.lg_rules.specs.declared.claim.Claim.{Claim}
 use Rattle.lg_rules.specs.declared.claim.Status.{Status}
 use Rattle.lg_rules.specs.declared.claim.Status.TheVariants.{Alive, Suspect, Failed}
-use Rattle.lg_rules.specs.Meaning.Own.{Oneself, own_of}
+use Rattle.lg_rules.specs.Meaning.Own.{OwnValue, own_of}
 use Rattle.lg_rules.specs.Meaning.Table.{record_of, roster, table_of, takes}
 use Rattle.lg_timing.specs.declared.config.Seed.{Seed}
 use Rattle.lg_timing.specs.Meaning.Config.{check_of, defaults}
@@ -227,10 +227,10 @@ unfolding by_computing
 refutes_once = refl
 
 -- this member's incarnation, and whether it was ousted
-abbrev oneself_after : List Event → Oneself
+abbrev oneself_after : List Event → OwnValue
 oneself_after f = own (group_log (log_after f))
 
-abbrev b_is : ℕ → Bool → Oneself
+abbrev b_is : ℕ → Bool → OwnValue
 b_is number ousted = record { name = b ∷ []; addr = at 7000; number = number; ousted = ousted }
 
 a_refutation_raises_the_number : oneself_after (opening 0 ∷ accused_twice ∷ []) ≡ b_is 1 false

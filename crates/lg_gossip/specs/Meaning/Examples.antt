@@ -5,7 +5,7 @@ use Rattle.lg_rules.specs.declared.claim.Claim.{Claim}
 use Rattle.lg_rules.specs.declared.claim.Status.{Status}
 use Rattle.lg_rules.specs.declared.claim.Status.TheVariants.{Alive, Suspect}
 use Rattle.lg_gossip.specs.declared.queued.Queued.{Queued}
-use Rattle.lg_gossip.specs.Meaning.Queue.{GossipQueue, put_of, taken_of, fill_of, filled}
+use Rattle.lg_gossip.specs.Meaning.Queue.{QueueValue, put_of, taken_of, fill_of, filled}
 use Rattle.std.specs.Fmt.{digits}
 
 -- a claim about the member with a name of one letter
@@ -23,7 +23,7 @@ alive letter = on letter Alive 0
 abbrev row : Claim → ℕ → Queued
 row c sends = record { claim = c; sends = sends }
 
-abbrev of_rows : List Queued → GossipQueue
+abbrev of_rows : List Queued → QueueValue
 of_rows rows = record { lambda = 4; rows = rows }
 
 -- Suspect(c, 2) and Alive(d, 0) are put, and a packet goes to c.
@@ -59,7 +59,7 @@ unfolding taken_of digits
 sent_less_first = refl
 
 -- seven claims about d to j
-abbrev seven : GossipQueue
+abbrev seven : QueueValue
 seven =
     let four = row (alive 100) 0 ∷ row (alive 101) 0 ∷ row (alive 102) 0 ∷ row (alive 103) 0 ∷ [] in
     of_rows (four ++ row (alive 104) 0 ∷ row (alive 105) 0 ∷ row (alive 106) 0 ∷ [])

@@ -22,7 +22,7 @@ use Rattle.lg_gossip.specs.declared.queued.Queued.{Queued}
 
 -- How often a claim may be sent for each decimal digit of the number of members (lambda), and the claims that wait.
 -- These are in the order of the names of the members that they are about.
-pub record GossipQueue : Type 0 where
+pub record QueueValue : Type 0 where
   pub lambda : ℕ
   pub rows : List Queued
 
@@ -39,7 +39,7 @@ abbrev pub fresh : Claim → Queued
 fresh c = record { claim = c; sends = 0 }
 
 -- a queue once a claim was put, which replaces an older one about its member
-abbrev pub put_of : Claim → GossipQueue → GossipQueue
+abbrev pub put_of : Claim → QueueValue → QueueValue
 put_of c queue = record { lambda = queue.lambda; rows = put_row name_cmp queued_name (fresh c) queue.rows }
 
 -- how many decimal digits a number has
@@ -93,11 +93,11 @@ rows_taken buddy limit rows = take (room_beside buddy) (by_sends (filter (may_go
 
 -- The claims that a packet takes from the queue among n live members. The record is that of the member that it pings,
 -- if it pings one.
-unfoldable pub taken_of : GossipQueue → Option Claim → ℕ → List Claim
+unfoldable pub taken_of : QueueValue → Option Claim → ℕ → List Claim
 taken_of queue to n = map queued_claim (rows_taken (buddy_of to) (limit_of queue.lambda n) queue.rows)
 
 -- all claims of that packet: its buddy, if it has one, and then those taken
-abbrev pub fill_of : GossipQueue → Option Claim → ℕ → List Claim
+abbrev pub fill_of : QueueValue → Option Claim → ℕ → List Claim
 fill_of queue to n = option_to_list (buddy_of to) ++ taken_of queue to n
 
 -- a row after a packet that took these claims: one more send if its claim is among them
@@ -107,5 +107,5 @@ sent_once taken q =
     record { claim = q.claim; sends = if is_taken then q.sends + 1 else q.sends }
 
 -- the queue after that packet
-abbrev pub filled : GossipQueue → Option Claim → ℕ → GossipQueue
+abbrev pub filled : QueueValue → Option Claim → ℕ → QueueValue
 filled queue to n = record { lambda = queue.lambda; rows = map (sent_once (taken_of queue to n)) queue.rows }

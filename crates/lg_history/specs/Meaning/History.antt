@@ -15,17 +15,17 @@ abbrev pub entry : ℕ → Event → Reply → Entry
 entry seat event reply = record { seat = seat; event = event; reply = reply }
 
 -- what is prepared: an entry that has no reply yet
-pub record Prepared : Type 0 where
+pub record WaitingValue : Type 0 where
   pub seat : ℕ
   pub event : Event
 
 -- what a contract sees of a history: its entries, the earliest first, and what is prepared, if anything is
 pub record HistoryValue : Type 0 where
   pub entries : List Entry
-  pub prepared : Option Prepared
+  pub prepared : Option WaitingValue
 
 -- what is prepared becomes the last entry, with this reply
-abbrev pub completed_by : Reply → List Entry → Option Prepared → List Entry
+abbrev pub completed_by : Reply → List Entry → Option WaitingValue → List Entry
 completed_by reply entries None = entries
 completed_by reply entries (Some p) = entries ++ entry p.seat p.event reply ∷ []
 

@@ -16,7 +16,7 @@ use Rattle.lg_config.specs.Meaning.Answer.{IsAnswer}
 use Rattle.lg_node.specs.declared.node.NodeEnd.{NodeEnd}
 use Rattle.lg_node.specs.declared.node.NodeFault.{NodeFault}
 use Rattle.lg_node.specs.Meaning.Nodes.{IsRun, IsEarly}
-use Rattle.lg_node.specs.Meaning.Turns.{Line}
+use Rattle.lg_node.specs.Meaning.Turns.{LinkValue}
 use Rattle.lg_node.specs.Meaning.Words.{seeded, DrawsEight}
 use Rattle.lg_launch.specs.declared.told.Told.{Told}
 use Rattle.lg_launch.specs.declared.told.Told.TheVariants.{Config, Memory, Read}
@@ -42,7 +42,7 @@ Writes before after held holds (Some records) (Err fault.Write) = ⊤
 -- The node of a configuration ran until a moment. Its links tell nothing but their failures. Each loop makes at most
 -- 1,000,000,000 turns.
 abbrev pub HasRun : NodeConfig → ℕ → NodeEnd → Type 0
-HasRun n until e = (hears : Line) × (hears' : Line) × (sends : Line) × (sends' : Line)
+HasRun n until e = (hears : LinkValue) × (hears' : LinkValue) × (sends : LinkValue) × (sends' : LinkValue)
     × IsRun DrawsEight (seeded n.dice) false 1000000000 n.config until hears hears' sends sends' e
 
 -- The node of a configuration ran, or ended before its loops. Its table was written, if it was to be. What is told of

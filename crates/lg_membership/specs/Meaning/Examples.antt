@@ -9,7 +9,7 @@ use Rattle.lg_rules.specs.Meaning.Own.{own_of}
 use Rattle.lg_rules.specs.Meaning.Table.{record_of, roster, table_of, takes}
 use Rattle.lg_timing.specs.Meaning.Config.{defaults}
 use Rattle.lg_timing.specs.Meaning.Tables.{log10_of, ratio_of}
-use Rattle.lg_timing.specs.Meaning.TimeoutRange.{TimeoutRange}
+use Rattle.lg_timing.specs.Meaning.TimeoutValue.{TimeoutValue}
 use Rattle.lg_timing.specs.Meaning.Timeouts.{range_of, timeout_of}
 use Rattle.lg_suspicion.specs.Meaning.Accusers.{counted_accusers, deadline_of}
 use Rattle.lg_gossip.specs.declared.queued.Queued.{Queued}
@@ -75,7 +75,7 @@ by_d_and_e = says 2600 (on c (accused_by e) 0) ∷ says 2500 (on c (accused_by d
 
 abbrev of_c : List (List ℕ) → Suspected
 of_c accusers =
-    let range : TimeoutRange = record { min = 5000; max = 30000; confirmations = 3 } in
+    let range : TimeoutValue = record { min = 5000; max = 30000; confirmations = 3 } in
     record { name = c ∷ []; suspicion = record { raised = 2000; timeout = range; accusers = accusers } }
 
 suspected_by_d : suspicions by_d ≡ of_c ((d ∷ []) ∷ []) ∷ []

@@ -8,10 +8,10 @@ use Rattle.lg_rules.specs.Meaning.Rows.{name_cmp, is_same, is_among, row_at}
 use Rattle.lg_rules.specs.Meaning.Table.{takes}
 use Rattle.lg_rules.specs.declared.own.OwnHeard.{OwnHeard}
 use Rattle.lg_rules.specs.declared.own.OwnHeard.TheVariants.{Refuted, Raised, Ousted, Ignored}
-use Rattle.lg_rules.specs.Meaning.Own.{Oneself, own_hearing, own_heard, own_record}
+use Rattle.lg_rules.specs.Meaning.Own.{OwnValue, own_hearing, own_heard, own_record}
 use Rattle.lg_timing.specs.declared.config.Config.{Config}
 use Rattle.lg_gossip.specs.declared.queued.Queued.{Queued}
-use Rattle.lg_gossip.specs.Meaning.Queue.{GossipQueue, taken_of, fill_of}
+use Rattle.lg_gossip.specs.Meaning.Queue.{QueueValue, taken_of, fill_of}
 use Rattle.lg_membership.specs.declared.origin.Origin.{Origin}
 use Rattle.lg_membership.specs.declared.origin.Origin.TheVariants.{Seed, Group}
 use Rattle.lg_membership.specs.declared.suspected.Suspected.{Suspected}
@@ -21,7 +21,7 @@ use Rattle.lg_membership.specs.Meaning.Suspicions.{suspicions, confirms}
 -- What a claim puts into the queue when it is said. A claim about another member puts itself there if it makes or
 -- replaces a record, or confirms a suspicion, unless the opening says it. A claim about this member puts this
 -- member's own record there if it raises this member's incarnation.
-abbrev pub put_of_own : OwnHeard → Oneself → Option Claim
+abbrev pub put_of_own : OwnHeard → OwnValue → Option Claim
 put_of_own Refuted oneself = Some (own_record oneself)
 put_of_own Raised oneself = Some (own_record oneself)
 put_of_own Ousted oneself = None
@@ -73,7 +73,7 @@ abbrev pub lambda_in : Option Config → ℕ
 lambda_in None = 1
 lambda_in (Some opening) = opening.lambda
 
-abbrev pub queue : GroupLog → GossipQueue
+abbrev pub queue : GroupLog → QueueValue
 queue log = record { lambda = lambda_in (config log); rows = queue_rows log }
 
 -- The record of the member that a Ping goes to, if that is another member that is known. If the record is Suspect, it

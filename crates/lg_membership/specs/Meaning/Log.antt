@@ -5,7 +5,7 @@ use Rattle.lg_rules.specs.declared.claim.Claim.{Claim}
 use Rattle.lg_rules.specs.Meaning.Claim.{name_of}
 use Rattle.lg_rules.specs.Meaning.Rows.{name_cmp, put_key}
 use Rattle.lg_rules.specs.Meaning.Table.{roster, table_of, is_failed, live_in}
-use Rattle.lg_rules.specs.Meaning.Own.{Oneself, own_of, own_record}
+use Rattle.lg_rules.specs.Meaning.Own.{OwnValue, own_of, own_record}
 use Rattle.lg_rules.specs.Meaning.View.{view_of}
 use Rattle.lg_timing.specs.declared.config.Config.{Config}
 use Rattle.lg_membership.specs.declared.origin.Origin.{Origin}
@@ -46,7 +46,7 @@ abbrev pub me : GroupLog → List ℕ
 me log = opening_name (config log)
 
 -- what this member knows of itself: its incarnation, and whether it was ousted
-abbrev pub own : GroupLog → Oneself
+abbrev pub own : GroupLog → OwnValue
 own log = own_of (me log) (opening_addr (config log)) (said log)
 
 -- the records of the others
@@ -70,7 +70,7 @@ abbrev pub known : GroupLog → List (List ℕ)
 known log = put_key name_cmp (me log) (roster (me log) (said log))
 
 -- the member table, this member included, in the order of names; empty before the opening
-abbrev pub view_in : Option Config → Oneself → List Claim → List Claim
+abbrev pub view_in : Option Config → OwnValue → List Claim → List Claim
 view_in None oneself rows = []
 view_in (Some opening) oneself rows = view_of (own_record oneself) rows
 

@@ -8,13 +8,13 @@ use Rattle.lg_rules.specs.Meaning.Claim.{name_of}
 use Rattle.lg_rules.specs.Meaning.Rows.{name_cmp, row_at, Rises}
 use Rattle.lg_rules.specs.Meaning.Table.{takes}
 use Rattle.lg_gossip.specs.declared.queue.TheConstants.{MAX_QUEUED}
-use Rattle.lg_gossip.specs.Meaning.Queue.{GossipQueue, queued_name}
+use Rattle.lg_gossip.specs.Meaning.Queue.{QueueValue, queued_name}
 use Rattle.lg_membership.specs.declared.origin.Origin.{Origin}
 use Rattle.lg_membership.specs.declared.suspected.Suspected.{Suspected}
 use Rattle.lg_membership.specs.Meaning.Suspicions.{suspected_name}
 use Rattle.lg_membership.specs.Support.State.{GroupState, put_in}
 
-abbrev pub HasPlace : Option Claim → GossipQueue → Type 0
+abbrev pub HasPlace : Option Claim → QueueValue → Type 0
 HasPlace None waiting = Unit {0}
 HasPlace (Some c) waiting =
     row_at name_cmp queued_name c.name waiting.rows ≡ None → length waiting.rows < MAX_QUEUED

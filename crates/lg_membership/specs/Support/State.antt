@@ -3,12 +3,12 @@ use Rattle.std.specs.Prelude.{ℕ, Bool, false, List, [], ◌∷◌, map, Option
 use Rattle.lg_rules.specs.declared.claim.Claim.{Claim}
 use Rattle.lg_rules.specs.declared.own.OwnHeard.{OwnHeard}
 use Rattle.lg_rules.specs.Meaning.Claim.{name_of}
-use Rattle.lg_rules.specs.Meaning.Own.{Oneself, own_of, own_hearing, own_heard}
+use Rattle.lg_rules.specs.Meaning.Own.{OwnValue, own_of, own_hearing, own_heard}
 use Rattle.lg_rules.specs.Meaning.Rows.{name_cmp, is_same, put_row}
-use Rattle.lg_rules.specs.Meaning.Table.{Known, known_of, takes, heard, live_in}
+use Rattle.lg_rules.specs.Meaning.Table.{MembersValue, known_of, takes, heard, live_in}
 use Rattle.lg_rules.specs.Support.Standing.{Standing}
 use Rattle.lg_timing.specs.declared.config.Config.{Config}
-use Rattle.lg_gossip.specs.Meaning.Queue.{GossipQueue, put_of, sent_once, taken_of, fill_of}
+use Rattle.lg_gossip.specs.Meaning.Queue.{QueueValue, put_of, sent_once, taken_of, fill_of}
 use Rattle.lg_membership.specs.declared.applied.Applied.{Applied}
 use Rattle.lg_membership.specs.declared.applied.Deadline.TheVariants.{Stays}
 use Rattle.lg_membership.specs.declared.applied.Presence.TheVariants.{Stays as Remains}
@@ -23,10 +23,10 @@ use Rattle.lg_membership.specs.Support.Changes.{Change, change_of, suspicions_af
 
 pub record GroupState : Type 0 where
   pub config : Option Config
-  pub own : Oneself
-  pub members : Known
+  pub own : OwnValue
+  pub members : MembersValue
   pub suspicions : List Suspected
-  pub queue : GossipQueue
+  pub queue : QueueValue
 
 -- the state after a log: each part by its definition
 abbrev pub group_state_of : GroupLog → GroupState
@@ -84,7 +84,7 @@ put_in origin c s =
     then put_of_own (own_hearing_in c s) (own_heard s.own c)
     else put_of_other origin s.members.table s.suspicions c
 
-abbrev pub queue_with : Option Claim → GossipQueue → GossipQueue
+abbrev pub queue_with : Option Claim → QueueValue → QueueValue
 queue_with None waiting = waiting
 queue_with (Some c) waiting = put_of c waiting
 

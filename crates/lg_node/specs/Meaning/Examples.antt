@@ -15,7 +15,7 @@ use Rattle.lg_detector.specs.Meaning.Step.{reply_after}
 use Rattle.lg_detector.specs.Meaning.Examples.{by_computing, a, b, at, opening, nothing, acks, ticks}
 use Rattle.lg_agent.specs.declared.receipt.Receipt.{Receipt}
 use Rattle.lg_agent.specs.declared.refusal.Refusal.TheVariants.{HistoryFull, NoMemory}
-use Rattle.lg_agent.specs.Meaning.Ledger.{Own}
+use Rattle.lg_agent.specs.Meaning.Values.{PassValue}
 use Rattle.lg_agent.specs.Meaning.Calls.{IsCall}
 use Rattle.lg_node.specs.declared.ending.Why.TheVariants.{Ousted, LinkFailed, Refused}
 use Rattle.lg_node.specs.Meaning.Links.{handed, lost}
@@ -41,13 +41,13 @@ asked = events.Heard 20 (at 1) ping
 abbrev answer : Receipt
 answer = record { place = 1; reply = record (nothing 0) { sends = record { items = acks 7 [] } } }
 
-abbrev pass : List Event → List ℕ → Own
+abbrev pass : List Event → List ℕ → PassValue
 pass seen mine = record { name = b ∷ []; seat = 1; seen = seen; gone = 0; mine = mine }
 
-abbrev before : Own
+abbrev before : PassValue
 before = pass (opening 0 ∷ []) []
 
-abbrev after : Own
+abbrev after : PassValue
 after = pass (opening 0 ∷ asked ∷ []) (1 ∷ [])
 
 it_is_read : packet_of ping_bytes ≡ Ok ping
@@ -124,7 +124,7 @@ one_of_three = refl
 abbrev again : Receipt
 again = record { place = 2; reply = reply_after (opening 0 ∷ asked ∷ []) asked }
 
-abbrev rotated : List Event → List ℕ → Own
+abbrev rotated : List Event → List ℕ → PassValue
 rotated seen mine = record (pass seen mine) { gone = 1 }
 
 it_is_one_call : IsCall after asked again (rotated (opening 0 ∷ asked ∷ asked ∷ []) (2 ∷ []))
@@ -182,7 +182,7 @@ a_bad_datagram_does_not = refl
 abbrev started : Receipt
 started = record { place = 1; reply = reply_after (opening 0 ∷ []) (ticks 0) }
 
-abbrev later : Own
+abbrev later : PassValue
 later = pass (opening 0 ∷ ticks 0 ∷ []) (1 ∷ [])
 
 it_is_due : SeesDue before 0 before

@@ -8,7 +8,7 @@ use Rattle.lg_timing.specs.declared.config.Seed.{Seed}
 use Rattle.lg_detector.specs.declared.event.Event.TheVariants.{Open}
 use Rattle.lg_detector.specs.Meaning.Step.{view_after}
 use Rattle.lg_agent.specs.declared.refusal.Refusal.TheVariants.{BadPacket, NoMemory, NoView}
-use Rattle.lg_agent.specs.Meaning.Ledger.{Own}
+use Rattle.lg_agent.specs.Meaning.Values.{PassValue}
 use Rattle.lg_agent.specs.Meaning.Calls.{IsLook}
 use Rattle.lg_agent.specs.Meaning.Closing.{IsClosed, IsRefusedClosing}
 use Rattle.lg_node.specs.declared.ending.End.{End}
@@ -16,7 +16,7 @@ use Rattle.lg_node.specs.declared.ending.Why.TheVariants.{Stopped}
 use Rattle.lg_node.specs.declared.node.NodeEnd.{NodeEnd}
 use Rattle.lg_node.specs.declared.node.NodeFault.{NodeFault}
 use Rattle.lg_node.specs.declared.node.NodeFault.TheVariants.{Refused}
-use Rattle.lg_node.specs.Meaning.Turns.{Turn, Line, Made, Ran, HadNoThread, Threw}
+use Rattle.lg_node.specs.Meaning.Turns.{Turn, LinkValue, Made, Ran, HadNoThread, Threw}
 use Rattle.lg_node.specs.Meaning.Turns.{is_pull, receives, ticks_before, losses, peers_in, words_in}
 
 -- the addresses of the seeds
@@ -24,14 +24,14 @@ abbrev pub addrs : List Seed → List Addr
 addrs seeds = map (λ s. s.addr) seeds
 
 -- Seeds were asked for their tables, each once and in order. `unsent` of the packets weren't sent.
-pub record Asked (tells : Bool) (seeds : List Seed) (k k' : Line) (p q : Own) (unsent : ℕ) : Type 0 where
+pub record Asked (tells : Bool) (seeds : List Seed) (k k' : LinkValue) (p q : PassValue) (unsent : ℕ) : Type 0 where
   pub turns : List Turn
   pub made : Made is_pull tells turns k k' p q
   pub each : flat_map peers_in turns ≡ addrs seeds
   pub unsent_is : unsent ≡ sum_by losses turns
 
 -- the pass with this seat of an agent that was opened at a moment: it has seen the opening, and made no call
-abbrev pub fresh_own : Config → ℕ → ℕ → Own
+abbrev pub fresh_own : Config → ℕ → ℕ → PassValue
 fresh_own config start place =
     record { name = config.name; seat = place; seen = Open start config ∷ []; gone = 0; mine = [] }
 
@@ -43,9 +43,10 @@ unstarted = record { why = Stopped; dropped = 0; unsent = 0; turns = 0 }
 -- by which the seeds were asked. If no thread could be started, the ticking loop made no turn.
 pub record HasServed
     {D : Type 0} (throws : D → List ℕ → D → Type 0) (dice : D) (tells : Bool) (bound : ℕ) (config : Config)
-    (until start : ℕ) (hears hears' sends sends' : Line) (received ticked : End) (receiver ticker asker : Own)
+    (until start : ℕ) (hears hears' sends sends' : LinkValue) (received ticked : End)
+    (receiver ticker asker : PassValue)
     : Type 0 where
-  pub between : Line
+  pub between : LinkValue
   -- how many packets weren't sent to the seeds, and how many later
   pub unsent : ℕ
   pub later : ℕ
@@ -64,12 +65,12 @@ pub record HasServed
 -- been refused.
 pub record IsRun
     {D : Type 0} (throws : D → List ℕ → D → Type 0) (dice : D) (tells : Bool) (bound : ℕ) (config : Config)
-    (until : ℕ) (hears hears' sends sends' : Line) (e : NodeEnd) : Type 0 where
+    (until : ℕ) (hears hears' sends sends' : LinkValue) (e : NodeEnd) : Type 0 where
   pub start : ℕ
-  pub receiver : Own
-  pub ticker : Own
-  pub asker : Own
-  pub reader : Own
+  pub receiver : PassValue
+  pub ticker : PassValue
+  pub asker : PassValue
+  pub reader : PassValue
   pub served : HasServed throws dice tells bound config until start hears hears' sends sends' e.received e.ticked
       receiver ticker asker
   pub members : MatchResult e.members (λ records. (records.items ≡ view_after reader.seen) × IsLook asker reader)

@@ -13,7 +13,7 @@ use Rattle.lg_detector.specs.Meaning.Step.{deadline_after}
 use Rattle.lg_agent.specs.declared.receipt.Receipt.{Receipt}
 use Rattle.lg_agent.specs.declared.refusal.Refusal.{Refusal}
 use Rattle.lg_agent.specs.declared.refusal.Refusal.TheVariants.{NoMemory, NoView}
-use Rattle.lg_agent.specs.Meaning.Ledger.{Own}
+use Rattle.lg_agent.specs.Meaning.Values.{PassValue}
 use Rattle.lg_agent.specs.Meaning.Calls.{IsCall, IsLook, IsRefusal, IsRotatedPass}
 use Rattle.lg_node.specs.declared.ending.End.{End}
 use Rattle.lg_node.specs.declared.ending.Why.{Why}
@@ -115,27 +115,27 @@ abbrev pub IsDeadline : List Event → ℕ → Type 0
 IsDeadline seen due = deadline_after seen ≡ Some due
 
 -- a look of a pass at the next deadline, which has come at this moment
-pub record SeesDue (p : Own) (now : ℕ) (q : Own) : Type 0 where
+pub record SeesDue (p : PassValue) (now : ℕ) (q : PassValue) : Type 0 where
   pub look : IsLook p q
   pub due : ℕ
   pub deadline : IsDeadline q.seen due
   pub come : due ≤ now
 
 -- and a look at a deadline that hasn't come
-pub record SeesNoneDue (p : Own) (now : ℕ) (q : Own) : Type 0 where
+pub record SeesNoneDue (p : PassValue) (now : ℕ) (q : PassValue) : Type 0 where
   pub look : IsLook p q
   pub due : ℕ
   pub deadline : IsDeadline q.seen due
   pub later : now < due
 
 -- A pass whose call was refused: it is as it was, or it was rotated.
-abbrev pub MadeNoCall : Own → Own → Type 0
+abbrev pub MadeNoCall : PassValue → PassValue → Type 0
 MadeNoCall p q = (q ≡ p) ⊎ IsRotatedPass p q
 
 -- What a turn does with the pass. If a datagram is a packet, it is heard. If the next deadline has come, there is a
 -- tick. Each packet of the reply was sent or not. A call counts once, even if it was refused because the history was
 -- full and was made again after a rotation.
-abbrev pub IsTurn : Own → Turn → Own → Type 0
+abbrev pub IsTurn : PassValue → Turn → PassValue → Type 0
 IsTurn p Quiet q = q ≡ p
 IsTurn p Broken q = q ≡ p
 IsTurn p (Dropped source bytes) q = (q ≡ p) × ((fault : Fault) × (packet_of bytes ≡ Err fault))
@@ -145,16 +145,17 @@ IsTurn p (Heard now source bytes k r sent) q =
 IsTurn p (Unheard now source bytes e) q = MadeNoCall p q × IsRefusal p.seen e
 IsTurn p (Paused now) q = SeesNoneDue p now q
 IsTurn p (Ticked now words r sent) q =
-    (m : Own) × SeesDue p now m × IsCall m (events.Tick now words) r q × (length sent ≡ length r.reply.sends.items)
-IsTurn p (Unticked now words e) q = (m : Own) × SeesDue p now m × MadeNoCall m q × IsRefusal m.seen e
+    (m : PassValue) × SeesDue p now m × IsCall m (events.Tick now words) r q
+    × (length sent ≡ length r.reply.sends.items)
+IsTurn p (Unticked now words e) q = (m : PassValue) × SeesDue p now m × MadeNoCall m q × IsRefusal m.seen e
 IsTurn p (Unseen e) q = (q ≡ p) × (e ≡ NoView)
 IsTurn p (Pulled now peer r sent) q =
     IsCall p (events.Pull now peer) r q × (length sent ≡ length r.reply.sends.items)
 
 -- what some turns, one after another, do with the pass
-abbrev pub Follows : Own → List Turn → Own → Type 0
+abbrev pub Follows : PassValue → List Turn → PassValue → Type 0
 Follows p [] q = q ≡ p
-Follows p (t ∷ turns) q = (m : Own) × IsTurn p t m × Follows m turns q
+Follows p (t ∷ turns) q = (m : PassValue) × IsTurn p t m × Follows m turns q
 
 -- why a turn ends the loop, if it does
 abbrev pub stops : Turn → Option Why
@@ -185,17 +186,18 @@ Ends bound turns ReadBound = All goes_on turns × (length turns ≡ bound)
 Ends bound turns why = EndsBy turns why
 
 -- What contracts see of a link: what it did, and how often it failed.
-pub record Line : Type 0 where
+pub record LinkValue : Type 0 where
   pub log : List LinkEvent
   pub failed : ℕ
 
-abbrev pub line : List LinkEvent → ℕ → Line
+abbrev pub line : List LinkEvent → ℕ → LinkValue
 line log failed = record { log = log; failed = failed }
 
 -- Some turns, all of one kind, led a pass and a link from one state to another. Each turn does with the pass what its
 -- definition says. The link did what the turns do, in order and nothing else, and its failures were counted. If
 -- contracts don't see what the link did, nothing is said of its log.
-pub record Made (kind : Turn → Bool) (tells : Bool) (turns : List Turn) (k k' : Line) (p q : Own) : Type 0 where
+pub record Made (kind : Turn → Bool) (tells : Bool) (turns : List Turn) (k k' : LinkValue) (p q : PassValue)
+    : Type 0 where
   pub kinds : All (λ t. kind t ≡ true) turns
   pub follows : Follows p turns q
   pub told : tells ≡ true → k'.log ≡ k.log ++ flat_map deeds turns
@@ -208,7 +210,8 @@ pub record Counts (turns : List Turn) (dropped unsent made : ℕ) : Type 0 where
   pub turns_is : made ≡ length turns
 
 -- A run of a loop: there are turns that it made, and by which it ended.
-pub record Ran (kind : Turn → Bool) (tells : Bool) (bound : ℕ) (k k' : Line) (p q : Own) (end : End) : Type 0 where
+pub record Ran (kind : Turn → Bool) (tells : Bool) (bound : ℕ) (k k' : LinkValue) (p q : PassValue) (end : End)
+    : Type 0 where
   pub turns : List Turn
   pub made : Made kind tells turns k k' p q
   pub counts : Counts turns end.dropped end.unsent end.turns
@@ -216,7 +219,7 @@ pub record Ran (kind : Turn → Bool) (tells : Bool) (bound : ℕ) (k k' : Line)
 
 -- A loop that no thread could be started for: it ran as a loop does, but its end says that memory was refused.
 pub record HadNoThread
-    (kind : Turn → Bool) (tells : Bool) (bound : ℕ) (k k' : Line) (p q : Own) (end : End) : Type 0 where
+    (kind : Turn → Bool) (tells : Bool) (bound : ℕ) (k k' : LinkValue) (p q : PassValue) (end : End) : Type 0 where
   pub was : Why
   pub ran : Ran kind tells bound k k' p q (record end { why = was })
   pub why : end.why ≡ Refused NoMemory

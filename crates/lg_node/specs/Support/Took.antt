@@ -1,12 +1,13 @@
 -- What one turn of a loop does, as the code reports it.
 use Rattle.std.specs.Prelude.{◌≡◌, ◌+◌, ◌≤◌, Bool, true, ◌++◌}
-use Rattle.lg_agent.specs.Meaning.Ledger.{Own}
+use Rattle.lg_agent.specs.Meaning.Values.{PassValue}
 use Rattle.lg_node.specs.declared.turned.Turned.{Turned}
-use Rattle.lg_node.specs.Meaning.Turns.{Turn, Line, IsTurn, deeds, drops, losses, breaks, stops}
+use Rattle.lg_node.specs.Meaning.Turns.{Turn, LinkValue, IsTurn, deeds, drops, losses, breaks, stops}
 
 -- There is a turn of this kind that led a pass and a link from one state to another. Whether it ends the loop, and
 -- what is counted of it, is as reported.
-pub record Took (kind : Turn → Bool) (tells : Bool) (k k' : Line) (p q : Own) (told_of : Turned) : Type 0 where
+pub record Took (kind : Turn → Bool) (tells : Bool) (k k' : LinkValue) (p q : PassValue) (told_of : Turned)
+    : Type 0 where
   pub turn : Turn
   pub kind_is : kind turn ≡ true
   pub is : IsTurn p turn q

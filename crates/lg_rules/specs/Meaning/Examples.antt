@@ -7,7 +7,7 @@ use Rattle.lg_rules.specs.declared.claim.Status.TheVariants.{Alive, Suspect, Fai
 use Rattle.lg_rules.specs.declared.members.Heard.TheVariants.{Accused, Ignored}
 use Rattle.lg_rules.specs.declared.own.OwnHeard.TheVariants.{Ignored as Unheeded}
 use Rattle.lg_rules.specs.Meaning.Beats.{beats_of}
-use Rattle.lg_rules.specs.Meaning.Own.{Oneself, own_hearing, own_of, own_record}
+use Rattle.lg_rules.specs.Meaning.Own.{OwnValue, own_hearing, own_of, own_record}
 use Rattle.lg_rules.specs.Meaning.View.{view_of, changed}
 use Rattle.lg_rules.specs.Meaning.Table.{record_of, roster, table_of, takes, hearing_of}
 
@@ -93,7 +93,7 @@ accused_again = refl
 abbrev pub b_at : Addr
 b_at = at_port 7000
 
-abbrev pub b_is : ℕ → Bool → Oneself
+abbrev pub b_is : ℕ → Bool → OwnValue
 b_is number ousted = record { name = b ∷ []; addr = b_at; number = number; ousted = ousted }
 
 -- b is suspected by a and then by c, both at 0

@@ -12,7 +12,7 @@ use Rattle.lg_rules.specs.Meaning.Rows.{name_cmp, is_same}
 use Rattle.lg_rules.specs.Meaning.Table.{about}
 
 -- what a member knows of itself: its name, its address, its incarnation (number), and whether it was ousted
-pub record Oneself : Type 0 where
+pub record OwnValue : Type 0 where
   pub name : List ℕ
   pub addr : Addr
   pub number : ℕ
@@ -32,29 +32,29 @@ own_hearing_at (Suspect accuser) i number = if nat_le number i then beyond i Ref
 own_hearing_at Failed i number = if nat_le number i then beyond i Raised else Ignored
 
 -- What any claim does. A claim about another member does nothing.
-abbrev pub own_hearing : Oneself → Claim → OwnHeard
+abbrev pub own_hearing : OwnValue → Claim → OwnHeard
 own_hearing me c = if is_same name_cmp c.name me.name then own_hearing_at c.status c.incarnation me.number else Ignored
 
 -- this member, changed as a claim with incarnation i changes it
-abbrev pub oneself_changed : OwnHeard → ℕ → Oneself → Oneself
+abbrev pub oneself_changed : OwnHeard → ℕ → OwnValue → OwnValue
 oneself_changed Refuted i me = record me { number = i + 1 }
 oneself_changed Raised i me = record me { number = i + 1 }
 oneself_changed Ousted i me = record me { ousted = true }
 oneself_changed Ignored i me = me
 
 -- this member once it heard a claim
-abbrev pub own_heard : Oneself → Claim → Oneself
+abbrev pub own_heard : OwnValue → Claim → OwnValue
 own_heard me c = oneself_changed (own_hearing me c) c.incarnation me
 
 -- this member after claims that are all about it, from incarnation 0 on
-abbrev pub own_after : List ℕ → Addr → List Claim → Oneself
+abbrev pub own_after : List ℕ → Addr → List Claim → OwnValue
 own_after name addr [] = record { name = name; addr = addr; number = 0; ousted = false }
 own_after name addr (c ∷ past) = own_heard (own_after name addr past) c
 
 -- this member after a past, in which only the claims about it count
-unfoldable pub own_of : List ℕ → Addr → List Claim → Oneself
+unfoldable pub own_of : List ℕ → Addr → List Claim → OwnValue
 own_of name addr past = own_after name addr (about name past)
 
 -- this member's own record: it is Alive at its incarnation
-abbrev pub own_record : Oneself → Claim
+abbrev pub own_record : OwnValue → Claim
 own_record me = record { name = me.name; addr = me.addr; status = Alive; incarnation = me.number }

@@ -38,11 +38,11 @@ unfoldable pub table_of : List ℕ → List Claim → List Claim
 table_of own past = filter_map (record_of past) (roster own past)
 
 -- what a member knows: its own name, and the records of the others
-pub record Known : Type 0 where
+pub record MembersValue : Type 0 where
   pub own : List ℕ
   pub table : List Claim
 
-abbrev pub known_of : List ℕ → List Claim → Known
+abbrev pub known_of : List ℕ → List Claim → MembersValue
 known_of own past = record { own = own; table = table_of own past }
 
 -- Whether a claim about another is taken. It is if it overrides the record, or if there is no record and fewer than

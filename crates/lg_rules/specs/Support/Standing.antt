@@ -5,14 +5,14 @@ use Rattle.lg_rules.specs.declared.addr.Addr.{Addr}
 use Rattle.lg_rules.specs.declared.claim.Claim.{Claim}
 use Rattle.lg_rules.specs.declared.own.OwnHeard.{OwnHeard}
 use Rattle.lg_rules.specs.declared.own.OwnHeard.TheVariants.{Refuted, Raised, Ousted, Ignored}
-use Rattle.lg_rules.specs.Meaning.Own.{Oneself, own_hearing, own_heard, own_of, own_record}
+use Rattle.lg_rules.specs.Meaning.Own.{OwnValue, own_hearing, own_heard, own_of, own_record}
 use Rattle.lg_rules.specs.Meaning.Rows.{name_cmp, is_same}
 use Rattle.lg_rules.specs.Meaning.Table.{table_of, takes, heard}
 use Rattle.lg_rules.specs.Meaning.View.{view_of}
 
 -- what a member knows of itself, and the records of the others
 pub record Standing : Type 0 where
-  pub own : Oneself
+  pub own : OwnValue
   pub table : List Claim
 
 abbrev pub standing_of : List ℕ → Addr → List Claim → Standing

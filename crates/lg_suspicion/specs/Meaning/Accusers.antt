@@ -20,13 +20,13 @@ use Rattle.std.specs.Prelude.{
 }
 use Rattle.lg_rules.specs.Meaning.Past.{oldest}
 use Rattle.lg_rules.specs.Meaning.Rows.{name_cmp, is_among, distinct, in_order}
-use Rattle.lg_timing.specs.Meaning.TimeoutRange.{TimeoutRange}
+use Rattle.lg_timing.specs.Meaning.TimeoutValue.{TimeoutValue}
 use Rattle.lg_timing.specs.Meaning.Timeouts.{timeout_of}
 
 -- when a suspicion was raised, its timeouts, and the accusers that count, in the order in which they came
 pub record SuspicionValue : Type 0 where
   pub raised : ℕ
-  pub timeout : TimeoutRange
+  pub timeout : TimeoutValue
   pub accusers : List (List ℕ)
 
 -- The accusers that count: the first one, and the first others, as many as confirmations may count.
@@ -34,7 +34,7 @@ unfoldable pub counted_accusers : ℕ → List (List ℕ) → List (List ℕ)
 counted_accusers confirmations past = reverse (oldest (confirmations + 1) (distinct name_cmp past))
 
 -- a suspicion after a past of accusers
-abbrev pub suspicion_after : ℕ → TimeoutRange → List (List ℕ) → SuspicionValue
+abbrev pub suspicion_after : ℕ → TimeoutValue → List (List ℕ) → SuspicionValue
 suspicion_after raised timeout past =
     record { raised = raised; timeout = timeout; accusers = counted_accusers timeout.confirmations past }
 
@@ -58,7 +58,7 @@ deadline_of s = s.raised + timeout_of s.timeout (length s.accusers - 1)
 
 -- The same deadline by the set of all accusers, in the order of names. All but one of them are confirmations, but no
 -- more than may count.
-abbrev pub deadline_by_set : ℕ → TimeoutRange → List (List ℕ) → ℕ
+abbrev pub deadline_by_set : ℕ → TimeoutValue → List (List ℕ) → ℕ
 deadline_by_set raised timeout set = raised + timeout_of timeout (min timeout.confirmations (length set - 1))
 
 abbrev pub set_of : List (List ℕ) → List (List ℕ)

@@ -1,7 +1,7 @@
 -- Worked rows: what the definitions give for some accusers.
 use Rattle.std.specs.Prelude.{◌≡◌, ℕ, List, [], ◌∷◌, refl}
 use Rattle.lg_timing.specs.Meaning.Tables.{ratio_of}
-use Rattle.lg_timing.specs.Meaning.TimeoutRange.{TimeoutRange}
+use Rattle.lg_timing.specs.Meaning.TimeoutValue.{TimeoutValue}
 use Rattle.lg_timing.specs.Meaning.Timeouts.{timeout_of}
 use Rattle.lg_suspicion.specs.Meaning.Accusers.{counted_accusers, suspicion_after, deadline_of, deadline_by_set, set_of}
 
@@ -12,7 +12,7 @@ abbrev e : List ℕ
 e = 101 ∷ []
 
 -- five members, three confirmations
-abbrev five : TimeoutRange
+abbrev five : TimeoutValue
 five = record { min = 5000; max = 30000; confirmations = 3 }
 
 -- d accuses twice, and then e

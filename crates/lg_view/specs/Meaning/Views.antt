@@ -5,6 +5,6 @@ use Rattle.lg_detector.specs.declared.event.Event.{Event}
 pub use Rattle.lg_detector.specs.Meaning.Step.{begins_open}
 
 -- the events that are published, and those that were appended since
-pub record Stream : Type 0 where
+pub record FeedValue : Type 0 where
   pub events : List Event
   pub waiting : List Event

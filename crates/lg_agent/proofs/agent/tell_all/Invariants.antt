@@ -1,6 +1,6 @@
 use Rattle.std.proofs.Common.{◌≡◌, ℕ, ◌<◌, ◌≤◌, List, [], length, get_or}
 use Rattle.lg_detector.specs.declared.event.Event.{Event}
-use Rattle.lg_agent.specs.Meaning.Ledger.{all_events}
+use Rattle.lg_agent.specs.Meaning.Values.{all_events}
 use Rattle.lg_agent.proofs.agent.tell_all.Given as goal
 
 abbrev pub invariant-loop-look : goal.invariant-loop-look

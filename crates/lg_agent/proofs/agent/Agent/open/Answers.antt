@@ -2,7 +2,7 @@ use Rattle.std.proofs.Common.{◌≡◌, ◌≤◌, ◌∷◌, [], List, All, le
 use Rattle.std.proofs.lemmas.List.{take_at}
 use Rattle.lg_detector.specs.declared.event.Event.{Event}
 use Rattle.lg_detector.specs.declared.event.Event.TheVariants.{Open}
-use Rattle.lg_agent.specs.Meaning.Ledger.{all_events}
+use Rattle.lg_agent.specs.Meaning.Values.{all_events}
 use Rattle.lg_agent.proofs.PassLaws.{all_begin}
 use Rattle.lg_agent.proofs.agent.Agent.open.Goals as goal
 

@@ -7,7 +7,7 @@ use Rattle.lg_detector.specs.Meaning.Step.{is_accepted}
 use Rattle.lg_history.specs.Meaning.History.{Entry, events}
 use Rattle.lg_history.specs.Meaning.Rest.{StandsFor}
 use Rattle.lg_history.proofs.Legal.{length-events}
-use Rattle.lg_agent.specs.Meaning.Closing.{Left}
+use Rattle.lg_agent.specs.Meaning.Closing.{ClosedValue}
 use Rattle.lg_agent.proofs.ChoiceSteps.{names_more, stands_long, ends_same}
 use Rattle.lg_agent.proofs.WindowSteps.{has_windows}
 use Rattle.lg_agent.proofs.closed.Closed.choices.Goals.{in-Some+in_ok-push, in_default}
@@ -15,13 +15,13 @@ use Rattle.lg_agent.proofs.closed.Closed.choices.Goals as goal
 
 pub loop-place-preserved : goal.loop-place-preserved
 loop-place-preserved c =
-    let me : Left = record { summary = c.self.inside.summary; base = c.self.inside.base; history = c.self.inside.entries.items } in
+    let me : ClosedValue = record { summary = c.self.inside.summary; base = c.self.inside.base; history = c.self.inside.entries.items } in
     let h : List Entry = c.self.inside.entries.items in
     let place : ℕ = c.loop-place.place in
     let above : c.self.inside.base ≤ place = c.loop-place.invariant.above in
     let i : ℕ = place - c.self.inside.base in
     let names : List (List ℕ) = c.loop-place.names.items in
-    let long : c.count.result ≡ length h + c.self.inside.base = c.count.ensures ∙ ap (λ (l : Left). length l.history + l.base) (sym c.self.view_is) in
+    let long : c.count.result ≡ length h + c.self.inside.base = c.count.ensures ∙ ap (λ (l : ClosedValue). length l.history + l.base) (sym c.self.view_is) in
     let low : i < length h = omega (arith, c.min-place-end.ensures, long, c.loop-place-test.true, above) in
     let is : c.chosen.result ≡ choice_of_reply (get_or h i c.index.result.now).reply = c.chosen.ensures ∙ ap (λ (x : Entry). choice_of_reply x.reply) c.index.ensures in
     let grown : c.match-chosen.names.items ≡ names ++ option_to_list c.chosen.result = elim c.match-chosen.branch [
@@ -38,8 +38,8 @@ loop-place-preserved c =
 
 pub returns-clause-gained : goal.returns-clause-gained
 returns-clause-gained c =
-    let me : Left = record { summary = c.self.inside.summary; base = c.self.inside.base; history = c.self.inside.entries.items } in
-    let long : c.count.result ≡ length me.history + me.base = c.count.ensures ∙ ap (λ (l : Left). length l.history + l.base) (sym c.self.view_is) in
+    let me : ClosedValue = record { summary = c.self.inside.summary; base = c.self.inside.base; history = c.self.inside.entries.items } in
+    let long : c.count.result ≡ length me.history + me.base = c.count.ensures ∙ ap (λ (l : ClosedValue). length l.history + l.base) (sym c.self.view_is) in
     let known : (f : List Event) → StandsFor me.summary f → is_accepted (f ++ events me.history) ≡ true → max c.args.from me.base ≤ c.args.to
     → targets_after (take c.args.to (f ++ events me.history)) ≡ targets_after (take (max c.args.from me.base) (f ++ events me.history)) ++ c.loop-place.names.items =
     λ f stands accepted le.

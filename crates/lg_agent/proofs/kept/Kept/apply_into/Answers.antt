@@ -4,8 +4,8 @@ use Rattle.lg_detector.specs.declared.event.Event.{Event}
 use Rattle.lg_detector.specs.Meaning.Step.{reply_after}
 use Rattle.lg_detector.specs.Support.Step.{state_after}
 use Rattle.lg_history.specs.Meaning.History.{Entry, HistoryValue, entry, events, completed}
-use Rattle.lg_view.specs.Meaning.Views.{Stream}
-use Rattle.lg_agent.specs.Meaning.Ledger.{own_name, own_limit}
+use Rattle.lg_view.specs.Meaning.Views.{FeedValue}
+use Rattle.lg_agent.specs.Meaning.Values.{own_name, own_limit}
 use Rattle.lg_agent.proofs.LedgerLaws.{goes_on, GoesOn, past_stays}
 use Rattle.lg_agent.proofs.kept.Kept.apply_into.Goals as goal
 
@@ -32,8 +32,8 @@ invariant_of-self-2 g c =
     let grown : c.complete.new.self ≡ record { entries = h ++ entry c.args.seat e c.step.new.reply ∷ []; prepared = None } = c.complete.ensures ∙ ap (λ (v : HistoryValue). completed c.step.new.reply v) ready in
     let is : c.complete.new.self.entries ≡ h ++ x ∷ [] = ap (λ (v : HistoryValue). v.entries) grown ∙ rw replied refl in
     let waits : c.append.new.self ≡ record k.feed { waiting = e ∷ [] } = search rules in
-    let now : c.publish.new.self ≡ record k.feed { events = k.feed.events ++ e ∷ []; waiting = [] } = c.publish.ensures ∙ ap (λ (s : Stream). record s { events = s.events ++ s.waiting; waiting = [] }) waits in
-    let published : c.publish.new.self.events ≡ k.feed.events ++ e ∷ [] = ap (λ (s : Stream). s.events) now in
+    let now : c.publish.new.self ≡ record k.feed { events = k.feed.events ++ e ∷ []; waiting = [] } = c.publish.ensures ∙ ap (λ (s : FeedValue). record s { events = s.events ++ s.waiting; waiting = [] }) waits in
+    let published : c.publish.new.self.events ≡ k.feed.events ++ e ∷ [] = ap (λ (s : FeedValue). s.events) now in
     let stays : take k.base c.publish.new.self.events ≡ past = ap (take k.base) published ∙ past_stays k.base k.feed.events (events h) e c.self.invariant.4 c.self.invariant.7 in
     let whole : k.feed.events ++ e ∷ [] ≡ past ++ events (h ++ x ∷ []) = ap (λ (l : List Event). l ++ e ∷ []) c.self.invariant.4 ∙ sym more.events_are in (
       rw (is, stays) more.rest,
@@ -41,7 +41,7 @@ invariant_of-self-2 g c =
       ap (λ (v : HistoryValue). v.prepared) grown,
       c.step.ensures.after k.feed.events c.self.invariant.3 ∙ ap state_after (sym published),
       published ∙ (whole ∙ sym (rw (is, stays) refl)),
-      ap (λ (s : Stream). s.waiting) now,
+      ap (λ (s : FeedValue). s.waiting) now,
       rw (is, stays) (omega (arith, more.counted, c.self.invariant.6)),
       rw stays c.self.invariant.7,
       c.self.invariant.8 ∙ (ap own_name c.self.invariant.4 ∙ (sym more.name ∙ ap own_name (sym (published ∙ whole)))),

@@ -1,5 +1,5 @@
 use Rattle.std.proofs.Common.{arith, ◌≡◌, ◌≤◌, ◌∙◌}
-use Rattle.lg_agent.specs.Meaning.Ledger.{own_limit}
+use Rattle.lg_agent.specs.Meaning.Values.{own_limit}
 use Rattle.lg_agent.proofs.LedgerLaws.{limit-front, refusal_if}
 use Rattle.lg_agent.proofs.PassLaws.{answered_if}
 use Rattle.lg_agent.proofs.kept.Kept.call_into.Goals as goal

@@ -1,6 +1,6 @@
 use Rattle.std.proofs.Common.{sym, ◌∙◌, ap, arith}
 use Rattle.std.proofs.lemmas.List.Folds.{list_any_at}
-use Rattle.lg_agent.specs.Meaning.Ledger.{own_name, all_events}
+use Rattle.lg_agent.specs.Meaning.Values.{own_name, all_events}
 use Rattle.lg_agent.specs.Meaning.Closing.{is_foreign}
 use Rattle.lg_agent.proofs.kept.Kept.has_foreign.Goals as goal
 

@@ -1,6 +1,6 @@
 use Rattle.std.proofs.Common.{◌≡◌, false, take}
 use Rattle.std.specs.List.{list_any}
-use Rattle.lg_agent.specs.Meaning.Ledger.{own_name, all_events}
+use Rattle.lg_agent.specs.Meaning.Values.{own_name, all_events}
 use Rattle.lg_agent.specs.Meaning.Closing.{is_foreign}
 use Rattle.lg_agent.proofs.kept.Kept.has_foreign.Given as goal
 

@@ -5,7 +5,7 @@ use Rattle.lg_detector.specs.Meaning.Step.{reply_after}
 use Rattle.lg_detector.specs.Support.Step.{state_after}
 use Rattle.lg_history.specs.Meaning.History.{Entry, HistoryValue, entry, events}
 use Rattle.lg_history.proofs.Rests.{rest_whole}
-use Rattle.lg_view.specs.Meaning.Views.{Stream}
+use Rattle.lg_view.specs.Meaning.Views.{FeedValue}
 use Rattle.lg_agent.proofs.LedgerLaws.{begins, Begins}
 use Rattle.lg_agent.proofs.SeatCounts.{nobody, none_yet}
 use Rattle.lg_agent.proofs.kept.Kept.over.Goals as goal
@@ -16,14 +16,14 @@ invariant_of-result g c =
     let x : Entry = entry 0 e (reply_after [] e) in
     let all : Begins c.args.places c.args.now c.args.config = begins _ _ _ c.requires.config in
     let is : c.in-Ok.history.entries ≡ x ∷ [] = ap (λ (v : HistoryValue). v.entries) c.in-Ok.ensures.history in
-    let now : c.publish.new.self ≡ record c.args.feed { events = c.args.feed.events ++ e ∷ []; waiting = [] } = c.publish.ensures ∙ ap (λ (s : Stream). record s { events = s.events ++ s.waiting; waiting = [] }) c.in-Ok.ensures.waits in
-    let published : c.publish.new.self.events ≡ e ∷ [] = ap (λ (s : Stream). s.events) now ∙ ap (λ (l : List Event). l ++ e ∷ []) c.requires.feed.0 in (
+    let now : c.publish.new.self ≡ record c.args.feed { events = c.args.feed.events ++ e ∷ []; waiting = [] } = c.publish.ensures ∙ ap (λ (s : FeedValue). record s { events = s.events ++ s.waiting; waiting = [] }) c.in-Ok.ensures.waits in
+    let published : c.publish.new.self.events ≡ e ∷ [] = ap (λ (s : FeedValue). s.events) now ∙ ap (λ (l : List Event). l ++ e ∷ []) c.requires.feed.0 in (
       rw is (rest_whole c.args.places _ (x ∷ []) (nobody none_yet refl) all.legal),
       refl,
       ap (λ (v : HistoryValue). v.prepared) c.in-Ok.ensures.history,
       c.in-Ok.ensures.detector ∙ ap state_after (sym published),
       published ∙ ap events (sym is),
-      ap (λ (s : Stream). s.waiting) now,
+      ap (λ (s : FeedValue). s.waiting) now,
       rw is refl,
       refl,
       rw published refl,

@@ -5,7 +5,7 @@ use Rattle.std.specs.Option.{option_to_list}
 use Rattle.arrayvec.specs.ArrayVec.{array_vec_len}
 use Rattle.lg_rules.specs.Meaning.Claim.{name_of}
 use Rattle.lg_rules.specs.Meaning.Rows.{name_cmp, is_same}
-use Rattle.lg_gossip.specs.Meaning.Queue.{GossipQueue, queued_claim, fill_of, filled, rows_taken, sent_once}
+use Rattle.lg_gossip.specs.Meaning.Queue.{QueueValue, queued_claim, fill_of, filled, rows_taken, sent_once}
 use Rattle.lg_gossip.specs.Support.Sound.{IsSound}
 use Rattle.lg_gossip.proofs.Distinct.{distinct-packet}
 use Rattle.lg_gossip.proofs.Filling.{IsChosen, fills, counts, taken-at, counted-whole}
@@ -29,7 +29,7 @@ returns-clause-apart c =
 
 pub returns-clause-claims : goal.returns-clause-claims
 returns-clause-claims c =
-    let queue : GossipQueue = record { lambda = c.self.inside.lambda; rows = c.self.inside.rows.items } in
+    let queue : QueueValue = record { lambda = c.self.inside.lambda; rows = c.self.inside.rows.items } in
     let to = option_copied c.args.to in
     let buddy = c.buddy_of-buddy.result in
     let limit = c.send_limit-limit.result in
@@ -39,11 +39,11 @@ returns-clause-claims c =
 
 pub returns-clause-queue : goal.returns-clause-queue
 returns-clause-queue c =
-    let queue : GossipQueue = record { lambda = c.self.inside.lambda; rows = c.self.inside.rows.items } in
+    let queue : QueueValue = record { lambda = c.self.inside.lambda; rows = c.self.inside.rows.items } in
     let to = option_copied c.args.to in
     let buddy = c.buddy_of-buddy.result in
     let limit = c.send_limit-limit.result in
     let chosen : IsChosen queue to c.args.live buddy limit (rows_taken buddy limit queue.rows) = record { buddy_is = c.buddy_of-buddy.ensures; limit_is = c.send_limit-limit.ensures.limit; taken_is = refl } in
     let counted = counted-whole queue.rows c.as_mut_slice.result.now _ _ _ _ buddy limit c.as_slice.ensures.value c.as_slice-4.ensures.value c.rows_taken-taken.ensures.rows c.as_mut_slice.ensures.value c.count_sends.ensures in
-    let after : ◌≡◌ {A = GossipQueue} record { lambda = c.self.inside.lambda; rows = refill (array_vec_len c.self.inside.rows) c.self.inside.rows.items c.count_sends.new.rows } record { lambda = c.self.inside.lambda; rows = map (sent_once (map queued_claim (rows_taken buddy limit queue.rows))) queue.rows } = λ i. record { lambda = c.self.inside.lambda; rows = counted i } in
+    let after : ◌≡◌ {A = QueueValue} record { lambda = c.self.inside.lambda; rows = refill (array_vec_len c.self.inside.rows) c.self.inside.rows.items c.count_sends.new.rows } record { lambda = c.self.inside.lambda; rows = map (sent_once (map queued_claim (rows_taken buddy limit queue.rows))) queue.rows } = λ i. record { lambda = c.self.inside.lambda; rows = counted i } in
     after ∙ counts queue to c.args.live _ _ _ chosen ∙ ap (λ q. filled q to c.args.live) c.self.view_is

@@ -2,7 +2,7 @@ use Rattle.std.proofs.Common.{ap, ◌∙◌, sym, subst, map, List}
 use Rattle.lg_rules.specs.declared.claim.Claim.{Claim}
 use Rattle.lg_rules.specs.Meaning.Claim.{name_of}
 use Rattle.lg_rules.specs.Meaning.Rows.{name_cmp, Rises}
-use Rattle.lg_rules.specs.Meaning.Table.{Known, heard}
+use Rattle.lg_rules.specs.Meaning.Table.{MembersValue, heard}
 use Rattle.lg_rules.proofs.Tables.{heard-table, table-own, rises-heard}
 use Rattle.lg_rules.proofs.members.Members.hear.Goals as goal
 
@@ -16,9 +16,9 @@ invariant_of-self c = record {
 
 pub returns-clause-past : goal.returns-clause-past
 returns-clause-past c = λ past e.
-    let before = ap (λ (k : Known). k.table) (c.self.view_is ∙ e) in
+    let before = ap (λ (k : MembersValue). k.table) (c.self.view_is ∙ e) in
     let table = c.hear_in.ensures.table ∙ ap (λ t. heard t c.args.claim.now) before ∙ heard-table c.args.self.now.own c.args.claim.now past c.requires in
-    λ i. record { own = ap (λ (k : Known). k.own) c.self.view_is i; table = table i }
+    λ i. record { own = ap (λ (k : MembersValue). k.own) c.self.view_is i; table = table i }
 
 pub returns-clause-oneself : goal.returns-clause-oneself
 returns-clause-oneself c = λ past d e i. record { own = c.args.self.now.own; table = table-own c.args.self.now.own d past e i }

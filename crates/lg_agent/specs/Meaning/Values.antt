@@ -7,7 +7,7 @@ use Rattle.lg_history.specs.Meaning.History.{Entry, events}
 
 -- The value under the lock: how many passes there are, how many entries may be stored, and the stored entries. If
 -- others were cut off before them, it also has a summary of those, how many of them each seat made, and their events.
-pub record Ledger : Type 0 where
+pub record KeptValue : Type 0 where
   pub places : ℕ
   pub limit : ℕ
   pub summary : Option State
@@ -16,16 +16,16 @@ pub record Ledger : Type 0 where
   pub history : List Entry
 
 -- all events since the opening, that one included
-abbrev pub all_events : Ledger → List Event
+abbrev pub all_events : KeptValue → List Event
 all_events l = l.past ++ events l.history
 
 -- how many
-abbrev pub count_of : Ledger → ℕ
+abbrev pub count_of : KeptValue → ℕ
 count_of l = length l.history + length l.past
 
 -- A pass: the name of its agent, its seat, the events that it has seen, and the positions of its answered calls in
 -- the history. Of the first calls, whose entries were cut off, only the number is kept.
-pub record Own : Type 0 where
+pub record PassValue : Type 0 where
   pub name : List ℕ
   pub seat : ℕ
   pub seen : List Event
@@ -33,7 +33,7 @@ pub record Own : Type 0 where
   pub mine : List ℕ
 
 -- An agent: its name, and for each seat that waits for a pass the events that its look has seen.
-pub record Waiting : Type 0 where
+pub record AgentValue : Type 0 where
   pub name : List ℕ
   pub told : List (List Event)
 
