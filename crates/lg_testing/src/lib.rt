@@ -1,9 +1,11 @@
 //! Values that the tests of several crates share: names, addresses, moments, claims and packets, each made from a
-//! letter or a number.
+//! letter or a number. Also comparisons of packets and replies.
 #![tactic(auto)]
 
 mod claims;
 mod packets;
+mod replies;
 
 pub use claims::{alive, at, claim, failed, incarnation, letter, local, name, numbered, suspect};
 pub use packets::{ack, packet, ping, said};
+pub use replies::{is_same_packet, is_same_reply};
