@@ -1,10 +1,12 @@
-//! Agents: their calls and looks, how they are closed, and threads that share one.
+//! Agents: their calls and looks, both forms of the calls, how they are closed, and threads that share one.
 pub mod calls;
 mod choosing;
 mod faults;
-pub mod leaving;
+pub mod forms;
+mod leaving;
 pub mod many;
 mod refused_memory;
 mod rotating;
 mod rows;
 mod seats;
+mod wanted;

@@ -1,14 +1,7 @@
-//! Compares events and replies.
-use lg_detector::{Event, Outgoing, Reply};
-use lg_packet::Packet;
+//! Compares events.
+use lg_detector::Event;
+use lg_testing::is_same_packet;
 use lg_timing::Config;
-
-fn is_same_packet(one: &Packet, other: &Packet) -> bool {
-    one.version == other.version
-        && one.sender == other.sender
-        && one.body == other.body
-        && one.claims.as_slice() == other.claims.as_slice()
-}
 
 fn is_same_config(one: &Config, other: &Config) -> bool {
     one.interval_ms == other.interval_ms
@@ -65,23 +58,4 @@ pub fn is_same_event(one: &Event, other: &Event) -> bool {
         ) => { now == then && peer == stored }
         _ => false,
     }
-}
-
-fn is_same_outgoing(one: &Outgoing, other: &Outgoing) -> bool {
-    one.to == other.to && is_same_packet(&one.packet, &other.packet)
-}
-
-/// Whether two replies are equal.
-pub fn is_same_reply(one: &Reply, other: &Reply) -> bool {
-    one.fired == other.fired
-        && one.sends.len() == other.sends.len()
-        && one
-            .sends
-            .iter()
-            .zip(other.sends.iter())
-            .all(|(sent, stored)| is_same_outgoing(sent, stored))
-        && one.changed.as_slice() == other.changed.as_slice()
-        && one.answer == other.answer
-        && one.ousted == other.ousted
-        && one.next == other.next
 }

@@ -5,6 +5,7 @@ pub mod both;
 mod clocks;
 mod dice;
 mod links;
+mod loops;
 mod machine;
 mod receiving;
 mod refused_memory;

@@ -2,16 +2,15 @@
 //! between, and its outcome tells what was seen and how the agent ended.
 ghost use Rattle.std.specs.Prelude.{◌≡◌, ◌<◌, ◌≤◌};
 
-use crate::agent::calls::{Row, Seen, steps};
-use crate::agent::leaving::{Leaving, leave};
+use crate::agent::calls::{Played, Row, steps};
+use crate::agent::forms::{After, Form, run_form};
 use crate::agent::many::{Tally, Task, work_all};
-use crate::comparing::is_same_reply;
 use crate::node::alone::{LoopSeen, Run, run_alone};
 use crate::node::both::{BothSeen, run_both};
 use crate::node::rotating::{StreamSeen, run_stream};
-use lg_agent::{Agent, AgentName, CloseFault, Closed, Refusal, Spent, Unclosed};
+use lg_agent::{Agent, AgentName, CloseFault, Closed, Pass, Refusal, Spent, Unclosed};
 use lg_detector::{Detector, Reply};
-use lg_testing::{at, letter, local};
+use lg_testing::{at, is_same_reply, letter, local};
 use lg_timing::{Config, Seed};
 use lg_view::UnnamedBook;
 use std::alloc::Global;
@@ -31,10 +30,10 @@ pub enum Play<'a> {
     Both { fails: bool },
     /// Each pass has a task, in a thread of its own.
     Threads(&'a [Task]),
-    /// Calls and looks. Then the passes tell what they leave.
-    Leaves(&'a [Row]),
     /// One loop of a node after the other: many datagrams, and then many ticks.
-    FeedValue,
+    Stream,
+    /// Calls of one form.
+    Form(Form),
 }
 
 /// An agent, and what is done with it.
@@ -72,15 +71,14 @@ impl<'a> Case<'a> {
 pub enum Shown {
     /// The passes weren't given out.
     Nothing,
-    /// The first step that gave something else than it should, and what it gave.
-    Steps(Option<(usize, Seen)>),
+    Steps(Played),
     Loop(LoopSeen),
     Both(BothSeen),
     /// What the calls of the threads came to.
     Threads(Tally),
-    /// What the passes left.
-    Leaves(Leaving),
-    FeedValue(StreamSeen),
+    Stream(StreamSeen),
+    /// What the caller has after each call.
+    Form(Vec<After>),
 }
 
 /// How an agent ended.
@@ -108,6 +106,16 @@ impl Ending {
             replayed: Some(entries),
         }
     }
+
+    /// An agent that wasn't closed, for this reason.
+    fn unclosed(fault: CloseFault) -> Ending {
+        Ending {
+            fault: Some(fault),
+            entries: None,
+            base: None,
+            replayed: None,
+        }
+    }
 }
 
 /// What a case tells.
@@ -124,6 +132,44 @@ pub struct Outcome {
 pub struct Left<A: AgentName> {
     pub spents: Vec<Spent<A>>,
     pub shown: Shown,
+}
+
+impl<A: AgentName> Left<A> {
+    /// What these passes left, and no more. Nothing was seen.
+    pub fn nothing(spents: Vec<Spent<A>>) -> Left<A> {
+        let shown = Shown::Nothing;
+        Left { spents, shown }
+    }
+
+    /// What was seen, and one more of what the passes left.
+    pub fn with(spents: Vec<Spent<A>>, spent: Spent<A>, shown: Shown) -> Left<A> {
+        let mut spents = spents;
+        let _refused = spents.push(spent).is_err();
+        Left { spents, shown }
+    }
+
+    /// The same, with two more.
+    pub fn with_both(spents: Vec<Spent<A>>, both: (Spent<A>, Spent<A>), shown: Shown) -> Left<A> {
+        let (one, two) = both;
+        let Left { spents, shown } = Left::with(spents, one, shown);
+        Left::with(spents, two, shown)
+    }
+}
+
+/// The last pass.
+pub fn last_pass<'a, A: AgentName>(passes: Vec<Pass<'a, A>>) -> Option<Pass<'a, A>> {
+    let mut passes = passes;
+    passes.pop()
+}
+
+/// The first two passes of an agent of two places.
+pub fn both_passes<'a, A: AgentName>(
+    passes: Vec<Pass<'a, A>>,
+) -> Option<(Pass<'a, A>, Pass<'a, A>)> {
+    let mut passes = passes;
+    let second = passes.pop()?;
+    let first = passes.pop()?;
+    Some((first, second))
 }
 
 /// The configuration of b with this limit on its history and the default numbers. It knows the first of c, d and e,
@@ -176,8 +222,8 @@ where
         Play::Loop(run) => run_alone(rt, alloc, passes, run, spents),
         Play::Both { fails } => run_both(rt, alloc, passes, fails, spents),
         Play::Threads(tasks) => work_all(rt, alloc, passes, tasks, spents),
-        Play::Leaves(rows) => leave(rt, alloc, passes, rows, spents),
-        Play::FeedValue => run_stream(rt, alloc, passes, spents),
+        Play::Stream => run_stream(rt, alloc, passes, spents),
+        Play::Form(form) => run_form(rt, alloc, passes, form, spents),
     }
 }
 
@@ -238,6 +284,26 @@ fn told_of(alloc: Global, fault: Option<CloseFault>, closed: &Closed) -> Ending 
     }
 }
 
+/// Closes an agent. What its contract says isn't carried further.
+pub fn close<A: AgentName, R: Wait>(
+    rt: &R,
+    agent: Agent<A>,
+    spents: Vec<Spent<A>>,
+) -> Result<Closed, Unclosed<A>> {
+    agent.close(rt, spents)
+}
+
+/// Abandons an agent that wasn't closed. Returns why it wasn't.
+pub fn abandon<A: AgentName, R: Wait>(rt: &R, unclosed: Unclosed<A>) -> CloseFault {
+    let Unclosed {
+        fault,
+        agent,
+        spents: _,
+    } = unclosed;
+    agent.abandon(rt);
+    fault
+}
+
 /// Closes an agent. If what the first pass left was kept back, a second closing gets it.
 fn end<A: AgentName, R: Wait>(
     rt: &R,
@@ -248,7 +314,7 @@ fn end<A: AgentName, R: Wait>(
 ) -> Ending {
     let mut spents = spents;
     let later = if at_once { None } else { spents.pop() };
-    match agent.close(rt, spents) {
+    match close(rt, agent, spents) {
         Ok(closed) => told_of(alloc, None, &closed),
         Err(unclosed) => end_again(rt, alloc, unclosed, later),
     }
@@ -270,22 +336,46 @@ fn end_again<A: AgentName, R: Wait>(
     if let Some(spent) = later {
         let _refused = spents.push(spent).is_err();
     }
-    match agent.close(rt, spents) {
+    match close(rt, agent, spents) {
         Ok(closed) => told_of(alloc, Some(fault), &closed),
-        Err(unclosed) => {
-            let Unclosed {
-                fault,
-                agent,
-                spents: _,
-            } = unclosed;
-            agent.abandon(rt);
-            Ending {
-                fault: Some(fault),
-                entries: None,
-                base: None,
-                replayed: None,
-            }
-        }
+        Err(unclosed) => Ending::unclosed(abandon(rt, unclosed)),
+    }
+}
+
+/// Opens an agent at 0.
+pub fn open<A: AgentName, R: Wait>(
+    rt: &R,
+    alloc: Global,
+    book: UnnamedBook,
+    config: Config,
+    places: usize,
+) -> Result<Agent<A>, Refusal>
+    requires book { book.seen.book ≡ A.book }
+    requires places { (places ≡ A.places) × (0 < places) × (places ≤ 32) }
+{
+    let Ok(()) = config.check() else {
+        return Err(Refusal::NoPlace);
+    };
+    Agent::<A>::open(rt, alloc, book, at(0), config, places)
+}
+
+/// Plays an agent, and closes it.
+fn play_agent<A, R>(rt: &R, alloc: Global, agent: Agent<A>, case: Case<'_>) -> Outcome
+where
+    A: AgentName + Send + Sync,
+    R: Threads + Wait + rt::Clock + Sync,
+{
+    let mut agent = agent;
+    let spents = room(alloc, case.places);
+    let Left { spents, shown } = run_at_last(rt, alloc, &mut agent, spents, case.play);
+    let later = match agent.passes(alloc) {
+        Ok(passes) => passes.len(),
+        Err(_) => 0,
+    };
+    Outcome {
+        shown,
+        later,
+        ending: end(rt, alloc, agent, spents, case.at_once),
     }
 }
 
@@ -304,21 +394,8 @@ where
     requires places { (places ≡ A.places) × (0 < places) × (places ≤ 32) }
 {
     let config = config_from(case.limit, case.others, case.first_port);
-    let Ok(()) = config.check() else {
-        return Err(Refusal::NoPlace);
-    };
-    let mut agent = Agent::<A>::open(rt, alloc, book, at(0), config, places)?;
-    let spents = room(alloc, places);
-    let Left { spents, shown } = run_at_last(rt, alloc, &mut agent, spents, case.play);
-    let later = match agent.passes(alloc) {
-        Ok(passes) => passes.len(),
-        Err(_) => 0,
-    };
-    Ok(Outcome {
-        shown,
-        later,
-        ending: end(rt, alloc, agent, spents, case.at_once),
-    })
+    let agent = open::<A, R>(rt, alloc, book, config, places)?;
+    Ok(play_agent(rt, alloc, agent, case))
 }
 
 /// What a case tells. The error is that the opening was refused.

@@ -3,55 +3,29 @@
 //! and 5 the one that is left.
 ghost use Rattle.std.specs.Prelude.{◌≡◌};
 
-use crate::playing::config;
-use arrayvec::ArrayVec;
-use lg_agent::{Agent, AgentName, Closed, Pass, Receipt, Refusal, Spent, Unclosed};
-use lg_packet::{MAX_PACKET, encode};
-use lg_testing::{ack, at, letter, local, packet};
+use super::calls::Happens::{self, Datagram, Tick};
+use super::calls::{Heard, make_call};
+use crate::playing::{abandon, close, config, last_pass, open};
+use lg_agent::{Agent, AgentName, Closed, Pass, Refusal, Spent};
+use lg_testing::letter;
 use lg_view::UnnamedBook;
 use std::alloc::Global;
 use std::marker::Brand;
 use std::sync::Wait;
 
-/// What happens to b, with its moment in milliseconds.
-#[derive(Clone, Copy)]
-enum Call {
-    /// A tick whose words are all this one.
-    Tick(u64, u32),
-    /// The member named by a letter acks the Ping with a number.
-    Ack(u64, u8, u32),
-}
-
 /// Three rounds, which start at the positions 1, 4 and 7. The ticks between end a round.
-const CALLS: [Call; 7] = [
-    Call::Tick(0, 4),
-    Call::Ack(10, b'd', 1),
-    Call::Tick(1000, 0),
-    Call::Tick(1000, 0),
-    Call::Ack(1010, b'c', 2),
-    Call::Tick(2000, 0),
-    Call::Tick(2000, 5),
+const CALLS: &[Happens] = &[
+    Tick(0, 4),
+    Datagram(10, Heard::Ack(b'd', 1)),
+    Tick(1000, 0),
+    Tick(1000, 0),
+    Datagram(1010, Heard::Ack(b'c', 2)),
+    Tick(2000, 0),
+    Tick(2000, 5),
 ];
 
 /// A number of calls after which there is no rotation.
 const NEVER: usize = 8;
-
-/// One call.
-fn make<A: AgentName, R: Wait>(
-    rt: &R,
-    alloc: Global,
-    pass: &mut Pass<'_, A>,
-    call: Call,
-) -> Result<Receipt, Refusal> {
-    match call {
-        Call::Tick(now, word) => pass.tick(rt, alloc, at(now), [word; 8]),
-        Call::Ack(now, sender, number) => {
-            let mut bytes: ArrayVec<u8, MAX_PACKET> = ArrayVec::new();
-            encode(&packet(sender, ack(number), &[]), &mut bytes);
-            pass.datagram(rt, alloc, at(now), local(7003), bytes.as_slice())
-        }
-    }
-}
 
 /// All calls, with a rotation after `cut` of them.
 fn make_all<A: AgentName, R: Wait>(
@@ -64,7 +38,7 @@ fn make_all<A: AgentName, R: Wait>(
         if made == cut {
             pass.rotate(rt, alloc)?;
         }
-        make(rt, alloc, pass, *call)?;
+        make_call(rt, alloc, pass, *call)?;
     }
     if cut == CALLS.len() {
         pass.rotate(rt, alloc)?;
@@ -72,8 +46,20 @@ fn make_all<A: AgentName, R: Wait>(
     Ok(())
 }
 
-/// What the passes leave, if all went well.
+/// What a pass leaves, if all went well.
 fn spent<A: AgentName, R: Wait>(
+    rt: &R,
+    alloc: Global,
+    pass: Pass<'_, A>,
+    cut: usize,
+) -> Result<Spent<A>, Refusal> {
+    let mut pass = pass;
+    make_all(rt, alloc, &mut pass, cut)?;
+    Ok(pass.finish())
+}
+
+/// What the only pass leaves, if all went well.
+fn spents<A: AgentName, R: Wait>(
     rt: &R,
     alloc: Global,
     agent: &mut Agent<A>,
@@ -83,17 +69,17 @@ fn spent<A: AgentName, R: Wait>(
     let Ok(passes) = agent.passes(alloc) else {
         return spents;
     };
-    for pass in passes {
-        let mut pass = pass;
-        if make_all(rt, alloc, &mut pass, cut).is_ok() {
-            let _refused = spents.push(pass.finish()).is_err();
-        }
+    let Some(pass) = last_pass(passes) else {
+        return spents;
+    };
+    if let Ok(spent) = spent(rt, alloc, pass, cut) {
+        let _refused = spents.push(spent).is_err();
     }
     spents
 }
 
 /// What is left of an agent.
-fn close<A: AgentName, R: Wait>(
+fn closed<A: AgentName, R: Wait>(
     rt: &R,
     alloc: Global,
     book: UnnamedBook,
@@ -103,21 +89,12 @@ fn close<A: AgentName, R: Wait>(
     requires book { book.seen.book ≡ A.book }
     requires places { (places ≡ A.places) × (places ≡ 1) }
 {
-    let config = config(20_000, 3);
-    let Ok(()) = config.check() else {
-        return Err(Refusal::NoPlace);
-    };
-    let mut agent = Agent::<A>::open(rt, alloc, book, at(0), config, places)?;
-    let spents = spent(rt, alloc, &mut agent, cut);
-    match agent.close(rt, spents) {
+    let mut agent = open::<A, R>(rt, alloc, book, config(20_000, 3), places)?;
+    let spents = spents(rt, alloc, &mut agent, cut);
+    match close(rt, agent, spents) {
         Ok(closed) => Ok(closed),
         Err(unclosed) => {
-            let Unclosed {
-                fault: _,
-                agent,
-                spents: _,
-            } = unclosed;
-            agent.abandon(rt);
+            abandon(rt, unclosed);
             Err(Refusal::NoPlace)
         }
     }
@@ -125,7 +102,7 @@ fn close<A: AgentName, R: Wait>(
 
 /// What is left of an agent with one pass, whose history is rotated after `cut` calls.
 fn told<R: Wait>(rt: &R, alloc: Global, cut: usize) -> Result<Closed, Refusal> {
-    close::<Brand, R>(rt, alloc, UnnamedBook::new(), 1, cut)
+    closed::<Brand, R>(rt, alloc, UnnamedBook::new(), 1, cut)
 }
 
 /// Whether the rounds from one position up to another chose the members named by these letters.
@@ -145,7 +122,7 @@ fn chose(alloc: Global, closed: &Closed, from: u64, to: u64, letters: &[u8]) -> 
 /// A name, after how many calls the history is rotated, the positions, and the letters of those that were chosen.
 type Row = (&'static str, usize, u64, u64, &'static [u8]);
 
-const ROWS: [Row; 10] = [
+const ROWS: &[Row] = &[
     ("all", NEVER, 0, 8, b"dce"),
     ("more than there are", NEVER, 0, 100, b"dce"),
     ("two rounds", NEVER, 0, 7, b"dc"),
@@ -158,14 +135,20 @@ const ROWS: [Row; 10] = [
     ("nothing is stored", 7, 0, 8, b""),
 ];
 
+/// Whether the rounds of an agent are told as a row says.
+fn is_told<R: Wait>(rt: &R, alloc: Global, row: &Row) -> bool {
+    let (_, cut, from, to, letters) = *row;
+    match told(rt, alloc, cut) {
+        Ok(closed) => chose(alloc, &closed, from, to, letters),
+        Err(_) => false,
+    }
+}
+
 #[test]
 fn tells_whom_rounds_chose(rt: HostRuntime) {
-    for (name, cut, from, to, letters) in ROWS {
-        let closed = told(&rt, rt.alloc(), cut);
-        let met = closed
-            .as_ref()
-            .is_ok_and(|closed| chose(rt.alloc(), closed, from, to, letters));
-        assert!(rt; met, "{name}");
+    for row in ROWS {
+        let (name, ..) = row;
+        assert!(rt; is_told(&rt, rt.alloc(), row), "{name}");
     }
 }
 

@@ -1,9 +1,9 @@
 //! What passes leave: how many calls each made, how many of its positions it cut off, and those that are left.
-use super::calls::{Call, Heard, Row, Seen, first_wrong};
-use super::rows::healthy;
-use crate::playing::{Case, Left, Play, Shown, told};
-use arrayvec::ArrayVec;
-use lg_agent::{AgentName, Pass, Refusal, Spent};
+use super::calls::Happens::{Datagram, Health};
+use super::calls::{Call, Heard, Row};
+use super::wanted::Want::{Healthy, Number, Refused};
+use crate::playing::{Case, Play, Shown, told};
+use lg_agent::{AgentName, Refusal, Spent};
 use lg_packet::Fault;
 use lg_testing::letter;
 use std::alloc::Global;
@@ -13,6 +13,8 @@ use std::thread::Threads;
 /// What one pass left.
 #[derive(Clone, Copy, Debug, Default, PartialEq, Eq)]
 pub struct LeftBy {
+    /// Its seat.
+    seat: usize,
     /// How many calls it made.
     made: u64,
     /// How many of its positions it cut off.
@@ -23,11 +25,22 @@ pub struct LeftBy {
     seen: u64,
 }
 
-/// What the passes left, the last one first, if each step gave what it should.
-pub type Leaving = Option<ArrayVec<LeftBy, 2>>;
+impl LeftBy {
+    /// What is left where there is no pass of this seat.
+    pub fn nothing(seat: usize) -> LeftBy {
+        let mut left = LeftBy::default();
+        left.seat = seat;
+        left
+    }
+
+    /// Whether it is of this seat.
+    pub fn is_of(&self, seat: usize) -> bool {
+        self.seat == seat
+    }
+}
 
 /// What a pass of this member, b, left.
-fn left_by<A: AgentName>(spent: &Spent<A>) -> LeftBy {
+pub fn left_by<A: AgentName>(spent: &Spent<A>) -> LeftBy {
     if spent.name() != letter(b'b') {
         return LeftBy::default();
     }
@@ -36,6 +49,7 @@ fn left_by<A: AgentName>(spent: &Spent<A>) -> LeftBy {
         sum = sum.wrapping_add(*place);
     }
     LeftBy {
+        seat: spent.seat(),
         made: spent.made(),
         gone: spent.gone(),
         sum,
@@ -43,137 +57,110 @@ fn left_by<A: AgentName>(spent: &Spent<A>) -> LeftBy {
     }
 }
 
-/// Plays the rows, and finishes the passes, the last one first.
-pub fn leave<A: AgentName + Send + Sync, R: Threads + Wait + Sync>(
-    rt: &R,
-    alloc: Global,
-    passes: Vec<Pass<'_, A>>,
-    rows: &[Row],
-    spents: Vec<Spent<A>>,
-) -> Left<A> {
-    let (mut passes, mut spents) = (passes, spents);
-    let wrong = first_wrong(rt, alloc, passes.as_mut_slice(), rows);
-    let mut left = ArrayVec::new();
-    for _ in 0..passes.len() {
-        let Some(pass) = passes.pop() else {
-            break;
-        };
-        let spent = pass.finish();
-        if !left.is_full() {
-            left.push(left_by(&spent));
-        }
-        let _refused = spents.push(spent).is_err();
-    }
-    let shown = Shown::Leaves(if wrong.is_none() { Some(left) } else { None });
-    Left { spents, shown }
-}
-
-/// What each of two passes leaves after these steps, the last one first.
-fn played<R>(rt: &R, alloc: Global, rows: &[Row]) -> Leaving
+/// What each of two passes leaves after these steps, if each step gave what it should.
+fn played<R>(rt: &R, alloc: Global, rows: &[Row]) -> Option<[LeftBy; 2]>
 where
     R: Threads + Wait + std::rt::Clock + Sync,
 {
-    let outcome = told(rt, alloc, Case::new(2, Play::Leaves(rows))).ok()?;
-    match outcome.shown {
-        Shown::Leaves(left) => left,
+    let outcome = told(rt, alloc, Case::new(2, Play::Steps(rows))).ok()?;
+    match &outcome.shown {
+        Shown::Steps(played) if played.wrong.is_none() => Some(played.left),
         _ => None,
     }
 }
 
-/// A pass that made this many calls and cut off this many positions. The positions left have this sum, and it has
-/// seen this many events.
-const fn left(made: u64, gone: u64, sum: u64, seen: u64) -> LeftBy {
-    LeftBy {
-        made,
-        gone,
-        sum,
-        seen,
+/// What a pass leaves: how many calls it made, how many of its positions it cut off, the sum of those that are left,
+/// and how many events it has seen.
+type Leaves = (u64, u64, u64, u64);
+
+impl LeftBy {
+    /// The pass in this seat left this.
+    fn of(seat: usize, leaves: Leaves) -> LeftBy {
+        let (made, gone, sum, seen) = leaves;
+        LeftBy {
+            seat,
+            made,
+            gone,
+            sum,
+            seen,
+        }
     }
 }
 
-/// A call of the first pass, at this place.
-fn calls(place: u64) -> Row {
-    (0, Call::Health(1), healthy(place, 1, 0))
-}
+/// The first call of the first pass, and two more at these places.
+const CALLS: Row = (0, Call::Event(Health(1)), Healthy(1, 1, 0));
+
+const CALLS_AT_2: Row = (0, Call::Event(Health(1)), Healthy(2, 1, 0));
+
+const CALLS_AT_3: Row = (0, Call::Event(Health(1)), Healthy(3, 1, 0));
 
 /// A call of the second pass, after one of the first.
-fn other_calls() -> Row {
-    (1, Call::Health(1), healthy(2, 1, 0))
-}
+const OTHER_CALLS: Row = (1, Call::Event(Health(1)), Healthy(2, 1, 0));
 
-/// A rotation of a pass, which cuts off this many entries.
-fn rotates(who: usize, cut: u64) -> Row {
-    (who, Call::Rotate, Seen::Number(cut))
-}
+/// A rotation of the second pass, which cuts off the opening and two calls.
+const OTHER_ROTATES: Row = (1, Call::Rotate, Number(3));
+
+/// A rotation of the first pass, when nothing is stored.
+const ROTATES: Row = (0, Call::Rotate, Number(0));
 
 /// A look of the first pass, after two calls.
-fn looks() -> Row {
-    (0, Call::Version, Seen::Number(3))
-}
+const LOOKS: Row = (0, Call::Version, Number(3));
 
 /// A datagram of the first pass that is no packet.
-fn is_refused() -> Row {
-    let refused = Seen::Refused(Refusal::BadPacket(Fault::Short));
-    (0, Call::Datagram(1, Heard::OneByte), refused)
-}
+const IS_REFUSED: Row = (
+    0,
+    Call::Event(Datagram(1, Heard::OneByte)),
+    Refused(Refusal::BadPacket(Fault::Short)),
+);
+
+/// A name, the steps, and what each pass left.
+type LeavingRow = (&'static str, &'static [Row], Leaves, Leaves);
+
+const LEAVING: &[LeavingRow] = &[
+    (
+        "no rotation",
+        &[CALLS, OTHER_CALLS, LOOKS, CALLS_AT_3],
+        (2, 0, 4, 4),
+        (1, 0, 2, 3),
+    ),
+    (
+        "an answered call",
+        &[CALLS, OTHER_CALLS, OTHER_ROTATES, CALLS_AT_3],
+        (2, 1, 3, 4),
+        (1, 1, 0, 3),
+    ),
+    (
+        "two positions",
+        &[CALLS, CALLS_AT_2, OTHER_ROTATES, CALLS_AT_3],
+        (3, 2, 3, 4),
+        (0, 0, 0, 1),
+    ),
+    (
+        "a refused call",
+        &[CALLS, OTHER_CALLS, OTHER_ROTATES, IS_REFUSED],
+        (1, 0, 1, 2),
+        (1, 1, 0, 3),
+    ),
+    (
+        "a look",
+        &[CALLS, OTHER_CALLS, OTHER_ROTATES, LOOKS],
+        (1, 0, 1, 3),
+        (1, 1, 0, 3),
+    ),
+    (
+        "a rotation",
+        &[CALLS, OTHER_CALLS, OTHER_ROTATES, ROTATES],
+        (1, 1, 0, 2),
+        (1, 1, 0, 3),
+    ),
+];
 
 /// The first pass makes one call or two. The second may make another one, and rotates. A pass cuts off its own
 /// positions at its next answered call or at its own rotation, and never before.
 #[test]
 fn cuts_its_positions(rt: HostRuntime) {
-    let alloc = rt.alloc();
-    let rows = [
-        (
-            "no rotation",
-            played(&rt, alloc, &[calls(1), other_calls(), looks(), calls(3)]),
-            [left(1, 0, 2, 3), left(2, 0, 4, 4)],
-        ),
-        (
-            "an answered call",
-            played(
-                &rt,
-                alloc,
-                &[calls(1), other_calls(), rotates(1, 3), calls(3)],
-            ),
-            [left(1, 1, 0, 3), left(2, 1, 3, 4)],
-        ),
-        (
-            "two positions",
-            played(&rt, alloc, &[calls(1), calls(2), rotates(1, 3), calls(3)]),
-            [left(0, 0, 0, 1), left(3, 2, 3, 4)],
-        ),
-        (
-            "a refused call",
-            played(
-                &rt,
-                alloc,
-                &[calls(1), other_calls(), rotates(1, 3), is_refused()],
-            ),
-            [left(1, 1, 0, 3), left(1, 0, 1, 2)],
-        ),
-        (
-            "a look",
-            played(
-                &rt,
-                alloc,
-                &[calls(1), other_calls(), rotates(1, 3), looks()],
-            ),
-            [left(1, 1, 0, 3), left(1, 0, 1, 3)],
-        ),
-        (
-            "a rotation",
-            played(
-                &rt,
-                alloc,
-                &[calls(1), other_calls(), rotates(1, 3), rotates(0, 0)],
-            ),
-            [left(1, 1, 0, 3), left(1, 1, 0, 2)],
-        ),
-    ];
-    for (name, seen, want) in rows {
-        let met = seen
-            .as_ref()
-            .is_some_and(|left| left.as_slice() == want.as_slice());
-        assert!(rt; met, "{name}: {seen:?}");
+    for (name, steps, first, second) in LEAVING {
+        let want = Some([LeftBy::of(1, *first), LeftBy::of(2, *second)]);
+        assert_eq!(rt; played(&rt, rt.alloc(), steps), want, "{name}");
     }
 }

@@ -1,9 +1,12 @@
 //! Threads that make calls and look at once, and some of which cut entries off. Afterwards a detector is given the
 //! events of the history, and has to give the history's replies. It has heard the entries that were cut off; if there
 //! are none, it is a fresh one.
-use super::calls::{Call, Heard, Seen, step};
+use super::calls::{Call, Happens, Heard, is_known, make_call_into, number};
 use crate::playing::{Case, Ending, Left, Play, Shown, told};
+use left_right::Absorb;
 use lg_agent::{AgentName, Pass, Refusal, Spent};
+use lg_detector::{Event, Reply};
+use lg_view::{Published, Update};
 use std::alloc::Global;
 use std::sync::{Mutex, Wait};
 use std::thread::{Threads, scope, scope_env};
@@ -13,7 +16,7 @@ use std::thread::{Threads, scope, scope_env};
 const TRIES: u32 = 10_000;
 
 /// What a thread does when a call finds the history full.
-#[derive(Clone, Copy, Debug, PartialEq, Eq)]
+#[derive(Clone, Copy, PartialEq, Eq)]
 pub enum WhenFull {
     /// It rotates, and makes the call again.
     Rotates,
@@ -22,7 +25,7 @@ pub enum WhenFull {
 }
 
 /// What one thread does.
-#[derive(Clone, Copy, Debug)]
+#[derive(Clone, Copy)]
 pub struct Task {
     /// How many calls it makes.
     pub calls: u32,
@@ -34,26 +37,26 @@ pub struct Task {
 }
 
 impl Task {
-    /// This many calls between looks, and no rotation.
-    fn new(calls: u32) -> Task {
+    /// This many calls between looks, and no rotation unless the history is full.
+    fn new(calls: u32, when_full: WhenFull) -> Task {
         Task {
             calls,
             rotates_after: u32::MAX,
-            when_full: WhenFull::Rotates,
+            when_full,
             looks: true,
         }
     }
 }
 
 /// The call of a turn: a datagram, a tick or a question.
-fn call_of(turn: u32) -> Call {
+fn call_of(turn: u32) -> Happens {
     let now = 10 * u64::from(turn);
     match turn % 5 {
-        0 => Call::Datagram(now, Heard::Turn(turn)),
-        1 => Call::Tick(now, turn),
-        2 => Call::Ask(now),
-        3 => Call::Health(now),
-        _ => Call::Pull(now),
+        0 => Happens::Datagram(now, Heard::Turn(turn)),
+        1 => Happens::Tick(now, turn),
+        2 => Happens::Ask(now),
+        3 => Happens::Health(now),
+        _ => Happens::Pull(now),
     }
 }
 
@@ -69,31 +72,22 @@ enum Came {
 }
 
 /// What a call came to, by itself.
-fn came_of(call: Seen, when_full: WhenFull) -> Came {
-    match call {
-        Seen::Answered(answered) => Came::At(answered.place),
-        Seen::Refused(Refusal::HistoryFull(limit)) if when_full == WhenFull::GoesOn(limit) => {
-            Came::Full
-        }
-        _ => Came::Wrong,
+fn came_of(place: Result<u64, Refusal>, when_full: WhenFull) -> Came {
+    match place {
+        Ok(place) => Came::At(place),
+        Err(Refusal::HistoryFull(limit)) if when_full == WhenFull::GoesOn(limit) => Came::Full,
+        Err(_) => Came::Wrong,
     }
 }
 
 /// Whether the look before an answered call has seen no more than came before it, and the look after it has seen the
 /// call at least. For a refused call, whether no look beside it went back.
-fn is_between(before: Seen, came: Came, after: Seen) -> bool {
+fn is_between(before: Option<u64>, came: Came, after: Option<u64>) -> bool {
     match (before, came, after) {
-        (Seen::Number(before), Came::At(place), Seen::Number(after)) => {
-            before <= place && place < after
-        }
-        (Seen::Number(before), Came::Full, Seen::Number(after)) => before <= after,
+        (Some(before), Came::At(place), Some(after)) => before <= place && place < after,
+        (Some(before), Came::Full, Some(after)) => before <= after,
         _ => false,
     }
-}
-
-/// Whether a look shows a record.
-fn is_known(seen: Seen) -> bool {
-    matches!(seen, Seen::Record(Some(_)))
 }
 
 /// What the calls of threads came to.
@@ -123,9 +117,9 @@ impl Tally {
 
 /// A rotation of a thread.
 fn rotate<A: AgentName, R: Wait>(rt: &R, alloc: Global, pass: &mut Pass<'_, A>, tally: &mut Tally) {
-    match step(rt, alloc, pass, Call::Rotate) {
-        Seen::Number(cut) => tally.cut = tally.cut.wrapping_add(cut),
-        _ => tally.miss(),
+    match number(rt, alloc, pass, Call::Rotate) {
+        Some(cut) => tally.cut = tally.cut.wrapping_add(cut),
+        None => tally.miss(),
     }
 }
 
@@ -134,19 +128,21 @@ fn make<A: AgentName, R: Wait>(
     rt: &R,
     alloc: Global,
     pass: &mut Pass<'_, A>,
-    call: Call,
+    happens: Happens,
     when_full: WhenFull,
     tally: &mut Tally,
 ) -> Came {
+    let mut reply = Reply::default();
     for _ in 1..TRIES {
-        let seen = step(rt, alloc, pass, call);
-        let is_full = matches!(seen, Seen::Refused(Refusal::HistoryFull(_)));
+        let place = make_call_into(rt, alloc, pass, happens, &mut reply);
+        let is_full = matches!(place, Err(Refusal::HistoryFull(_)));
         if !is_full || when_full != WhenFull::Rotates {
-            return came_of(seen, when_full);
+            return came_of(place, when_full);
         }
         rotate(rt, alloc, pass, tally);
     }
-    came_of(step(rt, alloc, pass, call), when_full)
+    let place = make_call_into(rt, alloc, pass, happens, &mut reply);
+    came_of(place, when_full)
 }
 
 /// One call between two looks, neither of which may go back. b's own record has to be known.
@@ -154,15 +150,15 @@ fn make_between_looks<A: AgentName, R: Wait>(
     rt: &R,
     alloc: Global,
     pass: &mut Pass<'_, A>,
-    call: Call,
+    happens: Happens,
     when_full: WhenFull,
     tally: &mut Tally,
 ) -> Came {
-    let before = step(rt, alloc, pass, Call::Version);
-    let came = make(rt, alloc, pass, call, when_full, tally);
-    let own = step(rt, alloc, pass, Call::StatusOf(b'b'));
-    let after = step(rt, alloc, pass, Call::Version);
-    if is_between(before, came, after) && is_known(own) {
+    let before = number(rt, alloc, pass, Call::Version);
+    let came = make(rt, alloc, pass, happens, when_full, tally);
+    let knows_itself = is_known(rt, alloc, pass, b'b');
+    let after = number(rt, alloc, pass, Call::Version);
+    if is_between(before, came, after) && knows_itself {
         came
     } else {
         Came::Wrong
@@ -180,11 +176,11 @@ fn make_all<A: AgentName, R: Wait>(
     // The opening's place.
     let mut last: u64 = 0;
     for turn in 1..=task.calls {
-        let call = call_of(turn);
+        let happens = call_of(turn);
         let came = if task.looks {
-            make_between_looks(rt, alloc, pass, call, task.when_full, &mut tally)
+            make_between_looks(rt, alloc, pass, happens, task.when_full, &mut tally)
         } else {
-            make(rt, alloc, pass, call, task.when_full, &mut tally)
+            make(rt, alloc, pass, happens, task.when_full, &mut tally)
         };
         match came {
             Came::At(place) if last < place => last = place,
@@ -205,20 +201,33 @@ struct Done<A: AgentName> {
     tally: Tally,
 }
 
-/// All calls of one thread, and what it leaves. That has to count each call that was answered.
-fn work<A: AgentName, R: Wait>(
-    rt: &R,
-    alloc: Global,
-    pass: Pass<'_, A>,
+/// A pass with its task, for a thread of its own.
+#[derive(Drop)]
+struct Worker<'a, 'b, A: AgentName>
+where
+    Published<A>: Absorb<Update<A>, State = [Event; 0]>,
+{
+    pass: Pass<'a, A>,
     task: Task,
-    done: &Mutex<Done<A>>,
-) {
-    let mut pass = pass;
-    let mut tally = make_all(rt, alloc, &mut pass, task);
-    let spent = pass.finish();
-    if spent.made().wrapping_add(tally.full) != u64::from(task.calls) {
-        tally.miss();
+    done: &'b Mutex<Done<A>>,
+}
+
+impl<'a, 'b, A: AgentName> Worker<'a, 'b, A> {
+    /// All calls of the thread, and what it leaves. That has to count each call that was answered.
+    fn work<R: Wait>(self, rt: &R, alloc: Global) {
+        let Worker { pass, task, done } = self;
+        let mut pass = pass;
+        let mut tally = make_all(rt, alloc, &mut pass, task);
+        let spent = pass.finish();
+        if spent.made().wrapping_add(tally.full) != u64::from(task.calls) {
+            tally.miss();
+        }
+        hand_in(rt, done, spent, tally);
     }
+}
+
+/// Hands in what a thread leaves.
+fn hand_in<A: AgentName, R: Wait>(rt: &R, done: &Mutex<Done<A>>, spent: Spent<A>, tally: Tally) {
     let mut done = done.lock(rt);
     done.tally.add(tally);
     if done.spents.push(spent).is_err() {
@@ -240,10 +249,17 @@ pub fn work_all<A: AgentName + Send + Sync, R: Threads + Wait + Sync>(
     });
     let shared = &done;
     scope(scope_env(), rt, |scope| {
-        for (pass, &task) in passes.into_iter().zip(tasks) {
-            let _refused = scope
-                .spawn(move || work(rt, alloc, pass, task, shared))
-                .is_err();
+        let mut passes = passes;
+        for &task in tasks {
+            let Some(pass) = passes.pop() else {
+                break;
+            };
+            let worker = Worker {
+                pass,
+                task,
+                done: shared,
+            };
+            let _refused = scope.spawn(move || worker.work(rt, alloc)).is_err();
         }
     });
     let Done { spents, tally } = done.into_inner();
@@ -265,27 +281,57 @@ where
     }
 }
 
-/// Eight threads with the same number of calls. Three threads, the third of which ends with no call made. Eight
-/// threads for whose last 4,001 calls there is no room.
+/// How many calls each thread makes, what it does when the history is full, how many entries there are in the end,
+/// and how many calls were given up. Eight threads with the same number of calls. Three threads, the third of which
+/// ends with no call made. Eight threads for whose last 4,001 calls there is no room.
+const ROWS: &[(&[u32], WhenFull, u64, u64)] = &[
+    (&[2000; 8], WhenFull::Rotates, 16_001, 0),
+    (&[100, 50, 0], WhenFull::Rotates, 151, 0),
+    (&[3000; 8], WhenFull::GoesOn(20_000), 20_000, 4001),
+];
+
+/// Tasks of eight threads, the first of which make these numbers of calls, and the others none.
+fn tasks_of(calls: &[u32], when_full: WhenFull) -> [Task; 8] {
+    let mut tasks = [Task::new(0, when_full); 8];
+    for (task, count) in tasks.iter_mut().zip(calls) {
+        task.calls = *count;
+    }
+    tasks
+}
+
+/// What calls that all went well come to, if this many were given up, and how their agent ends.
+fn wanted(entries: u64, full: u64) -> (Tally, Ending) {
+    let mut tally = Tally::default();
+    tally.full = full;
+    (tally, Ending::closed(None, entries))
+}
+
+/// The calls of all threads make one history.
 #[test]
 fn threads_make_one_history(rt: HostRuntime) {
-    let eight = [Task::new(2000); 8];
-    let three = [Task::new(100), Task::new(50), Task::new(0)];
-    let mut filling = [Task::new(3000); 8];
-    for task in &mut filling {
-        task.when_full = WhenFull::GoesOn(20_000);
+    for (calls, when_full, entries, full) in ROWS {
+        let tasks = tasks_of(calls, *when_full);
+        let threads = &tasks[..calls.len().min(8)];
+        let want = Some(wanted(*entries, *full));
+        assert_eq!(rt; played(&rt, rt.alloc(), 20_000, threads), want, "{entries}");
     }
-    let rows = [
-        (eight.as_slice(), 16_001, 0),
-        (three.as_slice(), 151, 0),
-        (filling.as_slice(), 20_000, 4001),
-    ];
-    for (tasks, entries, full) in rows {
-        let mut tally = Tally::default();
-        tally.full = full;
-        let want = Some((tally, Ending::closed(None, entries)));
-        assert_eq!(rt; played(&rt, rt.alloc(), 20_000, tasks), want, "{entries}");
-    }
+}
+
+/// Eight threads, one of which rotates after each hundred of its calls.
+fn rotating(looks: bool) -> [Task; 8] {
+    let mut task = Task::new(3000, WhenFull::Rotates);
+    task.looks = looks;
+    let mut tasks = [task; 8];
+    tasks[0].rotates_after = 100;
+    tasks
+}
+
+/// Whether all 24,000 calls were answered, and an agent with room for 200 entries was closed. Its last rotation left
+/// room for all of them.
+fn is_rotated(tally: Tally, ending: Ending) -> bool {
+    let mut want = Ending::closed(None, 24_001);
+    want.base = Some(tally.cut);
+    tally.wrong == 0 && tally.full == 0 && ending == want && 23_801 <= tally.cut
 }
 
 /// Eight threads, one of which rotates after each hundred of its calls. The others make some 700 calls meanwhile.
@@ -293,18 +339,10 @@ fn threads_make_one_history(rt: HostRuntime) {
 #[test]
 fn threads_that_rotate(rt: HostRuntime) {
     for looks in [false, true] {
-        let mut tasks = [Task::new(3000); 8];
-        for task in &mut tasks {
-            task.looks = looks;
-        }
-        tasks[0].rotates_after = 100;
-        let seen = played(&rt, rt.alloc(), 200, &tasks);
-        let met = seen.is_some_and(|(tally, ending)| {
-            let mut want = Ending::closed(None, 24_001);
-            want.base = Some(tally.cut);
-            // The last rotation left room for 200 entries.
-            tally.wrong == 0 && tally.full == 0 && ending == want && 23_801 <= tally.cut
-        });
-        assert!(rt; met, "{looks}: {seen:?}");
+        let met = match played(&rt, rt.alloc(), 200, &rotating(looks)) {
+            Some((tally, ending)) => is_rotated(tally, ending),
+            None => false,
+        };
+        assert!(rt; met, "{looks}");
     }
 }

@@ -1,5 +1,5 @@
 //! Memory that is refused once: what fails because of it has changed nothing, and goes well the next time.
-use super::rotating::fills_it;
+use super::rotating::FILLS_IT;
 use super::rows::{case, play_each_call, seen_in};
 use crate::playing::{Outcome, told_at_last};
 
@@ -28,8 +28,7 @@ fn goes_on_after_refused_memory(rt: HostRuntime) {
 /// cuts off all that there is.
 #[test]
 fn rotates_after_refused_memory(rt: HostRuntime) {
-    let rows = fills_it();
-    let met = match told_at_last(&rt, rt.alloc(), case(1, 0, 3, &rows)) {
+    let met = match told_at_last(&rt, rt.alloc(), case(1, 0, 3, FILLS_IT)) {
         Ok(outcome) => is_whole(&outcome, 4, 3),
         Err(_) => false,
     };

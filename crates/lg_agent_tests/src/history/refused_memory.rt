@@ -1,7 +1,8 @@
 //! Entries that are stored and read back. If memory is refused once, a second try succeeds.
 use super::rows::{Row, all, opening, ping, question};
-use crate::comparing::{is_same_event, is_same_reply};
+use crate::comparing::is_same_event;
 use lg_history::{Entry, History};
+use lg_testing::is_same_reply;
 use std::alloc::Global;
 
 /// Whether an entry has this seat and what a row has.

@@ -1,11 +1,12 @@
 //! One loop of a node, of at most a hundred turns. A run says what the loop meets, and a row what is seen of it.
-use super::clocks::{FixedDice, MemoryClock, Pauses};
+use super::clocks::{MemoryClock, Pauses};
 use super::links::{Call, MemoryLink, QUIET, Script};
-use crate::playing::{Case, Left, Outcome, Play, Shown};
+use super::loops::{receive, tick};
+use crate::agent::calls::{Happens, make_call};
+use crate::playing::{Case, Left, Outcome, Play, Shown, last_pass};
 use arrayvec::ArrayVec;
 use lg_agent::{AgentName, Pass, Spent};
-use lg_node::{End, Ended, Shared, Side, Why, receive_loop, tick_loop};
-use lg_testing::at;
+use lg_node::{End, Ended, Why};
 use std::alloc::Global;
 use std::sync::Wait;
 use std::sync::atomic::AtomicBool;
@@ -89,39 +90,22 @@ fn run_loop<'a, A: AgentName, R: Wait>(
     runs: Loop,
     stop: &AtomicBool,
 ) -> Ended<MemoryLink<'a>, A> {
-    let side = Side { pass, link };
-    let bound = BOUND;
-    let shared = Shared {
-        rt,
-        alloc,
-        clock,
-        stop,
-        bound,
-    };
     match runs {
-        Loop::Receiving => receive_loop(&shared, side),
-        Loop::Ticking { until } => {
-            let dice = FixedDice { word: 0 };
-            tick_loop(&shared, side, dice, at(until))
-        }
+        Loop::Receiving => receive(rt, alloc, pass, link, clock, stop, BOUND),
+        Loop::Ticking { until } => tick(rt, alloc, pass, link, clock, until, stop, BOUND),
     }
 }
 
-/// Runs the loop with the last pass.
-pub fn run_alone<A: AgentName, R: Wait>(
+/// Makes the call before the loop, if there is one, and runs the loop with a pass.
+fn run_pass<A: AgentName, R: Wait>(
     rt: &R,
     alloc: Global,
-    passes: Vec<Pass<'_, A>>,
+    pass: Pass<'_, A>,
     run: Run,
-    spents: Vec<Spent<A>>,
-) -> Left<A> {
-    let (mut passes, mut spents) = (passes, spents);
-    let Some(mut pass) = passes.pop() else {
-        let shown = Shown::Nothing;
-        return Left { spents, shown };
-    };
+) -> (LoopSeen, Spent<A>) {
+    let mut pass = pass;
     if let Some(moment) = run.called_at {
-        let _refused = pass.health(rt, alloc, at(moment)).is_err();
+        let _refused = make_call(rt, alloc, &mut pass, Happens::Health(moment)).is_err();
     }
     let stop = AtomicBool::new(false);
     let clock = MemoryClock::new(run.now);
@@ -136,9 +120,22 @@ pub fn run_alone<A: AgentName, R: Wait>(
         stop: stop.load(SeqCst),
         answered: spent.made() as usize,
     };
-    let _refused = spents.push(spent).is_err();
-    let shown = Shown::Loop(seen);
-    Left { spents, shown }
+    (seen, spent)
+}
+
+/// Runs the loop with the last pass.
+pub fn run_alone<A: AgentName, R: Wait>(
+    rt: &R,
+    alloc: Global,
+    passes: Vec<Pass<'_, A>>,
+    run: Run,
+    spents: Vec<Spent<A>>,
+) -> Left<A> {
+    let Some(pass) = last_pass(passes) else {
+        return Left::nothing(spents);
+    };
+    let (seen, spent) = run_pass(rt, alloc, pass, run);
+    Left::with(spents, spent, Shown::Loop(seen))
 }
 
 /// What the calls of a link should be.

@@ -1,13 +1,17 @@
 //! A node over UDP asks its seeds before its loops run. The ticking loop ends at once.
 use lg_agent::{CloseFault, Closed};
 use lg_detector::Event;
-use lg_node::{End, NodeEnd, Why, run_node};
+use lg_node::{End, Why, run_node};
 use lg_rules::Addr;
 use lg_testing::{at, letter, local};
 use lg_timing::{Config, Seed};
+use std::alloc::Global;
 use std::io;
 use std::net::{Ipv4Addr, Net, UdpSocket};
+use std::rt::Clock;
+use std::sync::Wait;
 use std::test::Fail;
+use std::thread::Threads;
 use std::time::Duration;
 
 /// The Pull of b at 127.0.0.1:17130 for the first records.
@@ -18,7 +22,9 @@ const PULL_OF_B: &[u8; 21] =
 const NOWHERE: u16 = 0;
 
 /// The ports at which the seeds listen.
-const PORTS: [u16; 2] = [17131, 17132];
+const FIRST: u16 = 17131;
+
+const SECOND: u16 = 17132;
 
 /// The configuration of b, which knows c and d at these ports.
 fn config(first: u16, second: u16) -> Config {
@@ -66,38 +72,43 @@ fn asked(closed: &Result<Closed, CloseFault>) -> Option<(Addr, Addr)> {
     }
 }
 
-/// How the ticking loop ended, and whom the node asked, in order.
-fn seen_of(ran: &NodeEnd) -> (End, Option<(Addr, Addr)>) {
-    (ran.ticked, asked(&ran.closed))
+/// How the ticking loop of a node ended, and whom the node asked, in order. The node knows seeds at these ports.
+fn ran<R>(rt: &R, alloc: Global, first: u16, second: u16) -> Option<(End, Option<(Addr, Addr)>)>
+where
+    R: Threads + Wait + Net + Clock + Sync,
+{
+    let config = config(first, second);
+    config.check().ok()?;
+    let ran = run_node(rt, alloc, &config, 1, at(0)).ok()?;
+    Some((ran.ticked, asked(&ran.closed)))
 }
+
+/// A ticking loop that ended at once. This many packets weren't sent.
+fn ended(unsent: u64) -> End {
+    End {
+        why: Why::Stopped,
+        dropped: 0,
+        unsent,
+        turns: 0,
+    }
+}
+
+/// The ports of the seeds, and how many packets aren't sent.
+const ROWS: &[(u16, u16, u64)] = &[
+    (FIRST, SECOND, 0),
+    (NOWHERE, SECOND, 1),
+    (FIRST, NOWHERE, 1),
+];
 
 /// Both seeds are asked, in order, even if a packet isn't sent. The ticking loop counts that packet.
 #[test]
 fn each_seed_is_asked(rt: HostRuntime) -> Result<(), Fail> {
-    let [first, second] = PORTS;
-    let (one, two) = (listening(&rt, first)?, listening(&rt, second)?);
-    for (first, second, unsent) in [
-        (first, second, 0),
-        (NOWHERE, second, 1),
-        (first, NOWHERE, 1),
-    ] {
-        let config = config(first, second);
-        config.check()?;
-        let ran = run_node(&rt, rt.alloc(), &config, 1, at(0))?;
-        let end = End {
-            why: Why::Stopped,
-            dropped: 0,
-            unsent,
-            turns: 0,
-        };
-        let came = (
-            first == NOWHERE || has_come(&one),
-            second == NOWHERE || has_come(&two),
-        );
-        assert_eq!(rt;
-            (seen_of(&ran), came),
-            ((end, Some((local(first), local(second)))), (true, true))
-        );
+    let (one, two) = (listening(&rt, FIRST)?, listening(&rt, SECOND)?);
+    for &(first, second, unsent) in ROWS {
+        let seen = ran(&rt, rt.alloc(), first, second);
+        let want = Some((ended(unsent), Some((local(first), local(second)))));
+        let came = (first == NOWHERE || has_come(&one)) && (second == NOWHERE || has_come(&two));
+        assert!(rt; seen == want && came, "{first}, {second}");
     }
     Ok(())
 }

@@ -5,9 +5,9 @@ ghost use Rattle.std.specs.Prelude.{◌≡◌, ◌+◌, MatchBool};
 
 use super::clocks::FixedDice;
 use super::links::{PING_7, put};
-use crate::playing::{Case, Ending, Left, Outcome, Play, Shown, told};
+use crate::playing::{Case, Ending, Left, Outcome, Play, Shown, both_passes, told};
 use lg_agent::{AgentName, Pass, Spent};
-use lg_node::{Clock, End, Link, LinkFault, MAX_DATAGRAM, Shared, Side, Why, run_loops};
+use lg_node::{Clock, End, Ended, Link, LinkFault, MAX_DATAGRAM, Shared, Side, Why, run_loops};
 use lg_rules::Addr;
 use lg_testing::{at, local};
 use lg_timing::{MAX_MOMENT, Moment};
@@ -157,6 +157,73 @@ pub struct BothSeen {
     pub ticking_failures: u64,
 }
 
+/// What the loops wait for, as they begin.
+fn begun() -> Meeting {
+    Meeting {
+        sent: AtomicBool::new(false),
+        received: AtomicBool::new(false),
+        stop: AtomicBool::new(false),
+    }
+}
+
+/// What both loops give back, the receiving one first.
+type BothEnded<'a, A, R> = (Ended<MeetingLink<'a, R>, A>, Ended<MeetingLink<'a, R>, A>);
+
+/// Runs both loops until the last moment.
+fn run<'a, A, R>(
+    rt: &'a R,
+    alloc: Global,
+    meeting: &'a Meeting,
+    receiver: Side<'_, MeetingLink<'a, R>, A>,
+    ticker: Side<'_, MeetingLink<'a, R>, A>,
+) -> BothEnded<'a, A, R>
+where
+    A: AgentName + Send + Sync,
+    R: Threads + Wait + rt::Clock + Sync,
+{
+    let clock = StandingClock { rt };
+    let shared = Shared {
+        rt,
+        alloc,
+        clock: &clock,
+        stop: &meeting.stop,
+        bound: BOUND,
+    };
+    let dice = FixedDice { word: 0 };
+    run_loops(&shared, receiver, ticker, dice, at(MAX_MOMENT))
+}
+
+/// Runs both loops with these passes, the receiving one with the first. The first receiving may fail.
+fn run_passes<A, R>(
+    rt: &R,
+    alloc: Global,
+    first: Pass<'_, A>,
+    second: Pass<'_, A>,
+    fails: bool,
+) -> (BothSeen, (Spent<A>, Spent<A>))
+where
+    A: AgentName + Send + Sync,
+    R: Threads + Wait + rt::Clock + Sync,
+{
+    let meeting = begun();
+    let receiver = Side {
+        pass: first,
+        link: MeetingLink::new(rt, &meeting, fails),
+    };
+    let ticker = Side {
+        pass: second,
+        link: MeetingLink::new(rt, &meeting, false),
+    };
+    let (received, ticked) = run(rt, alloc, &meeting, receiver, ticker);
+    let seen = BothSeen {
+        receiving: received.end,
+        ticking: ticked.end,
+        receiving_failures: received.link.failures,
+        ticking_failures: ticked.link.failures,
+    };
+    (seen, (received.spent, ticked.spent))
+}
+
 /// Runs both loops with the last two passes.
 pub fn run_both<A, R>(
     rt: &R,
@@ -169,43 +236,11 @@ where
     A: AgentName + Send + Sync,
     R: Threads + Wait + rt::Clock + Sync,
 {
-    let (mut passes, mut spents) = (passes, spents);
-    let (Some(second), Some(first)) = (passes.pop(), passes.pop()) else {
-        let shown = Shown::Nothing;
-        return Left { spents, shown };
+    let Some((first, second)) = both_passes(passes) else {
+        return Left::nothing(spents);
     };
-    let meeting = Meeting {
-        sent: AtomicBool::new(false),
-        received: AtomicBool::new(false),
-        stop: AtomicBool::new(false),
-    };
-    let receiver = Side {
-        pass: first,
-        link: MeetingLink::new(rt, &meeting, fails),
-    };
-    let ticker = Side {
-        pass: second,
-        link: MeetingLink::new(rt, &meeting, false),
-    };
-    let clock = StandingClock { rt };
-    let dice = FixedDice { word: 0 };
-    let shared = Shared {
-        rt,
-        alloc,
-        clock: &clock,
-        stop: &meeting.stop,
-        bound: BOUND,
-    };
-    let (received, ticked) = run_loops(&shared, receiver, ticker, dice, at(MAX_MOMENT));
-    let seen = BothSeen {
-        receiving: received.end,
-        ticking: ticked.end,
-        receiving_failures: received.link.failures,
-        ticking_failures: ticked.link.failures,
-    };
-    let _refused = spents.push(received.spent).is_err() || spents.push(ticked.spent).is_err();
-    let shown = Shown::Both(seen);
-    Left { spents, shown }
+    let (seen, both) = run_passes(rt, alloc, first, second, fails);
+    Left::with_both(spents, both, Shown::Both(seen))
 }
 
 /// An agent that knows c, and runs both loops. The first receiving may fail.

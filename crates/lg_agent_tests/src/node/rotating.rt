@@ -1,15 +1,14 @@
 //! A node whose history is full again and again goes on like one that has room for all entries. The same datagrams
 //! and ticks give the same packets, in the same order.
-use super::clocks::{FixedDice, MemoryClock};
+use super::clocks::MemoryClock;
 use super::links::put;
+use super::loops::{receive, tick};
 use crate::agent::calls::ping_of;
-use crate::playing::{Case, Ending, Left, Play, Shown, told};
+use crate::playing::{Case, Ending, Left, Play, Shown, both_passes, told};
 use lg_agent::{AgentName, Pass, Spent};
-use lg_node::{
-    Clock, End, Link, LinkFault, MAX_DATAGRAM, Shared, Side, Why, receive_loop, tick_loop,
-};
+use lg_node::{Clock, End, Ended, Link, LinkFault, MAX_DATAGRAM, Why};
 use lg_rules::Addr;
-use lg_testing::{at, local};
+use lg_testing::local;
 use std::alloc::Global;
 use std::rt;
 use std::sync::Wait;
@@ -118,6 +117,54 @@ pub struct StreamSeen {
     made: [u64; 2],
 }
 
+/// Runs the receiving loop until all datagrams have come.
+fn receive_all<'a, A: AgentName, R: Wait>(
+    rt: &R,
+    alloc: Global,
+    pass: Pass<'_, A>,
+    clock: &'a MemoryClock,
+    stop: &'a AtomicBool,
+) -> (End, Sent, Spent<A>) {
+    let link = StreamLink::new(clock, stop);
+    let Ended { link, spent, end } = receive(rt, alloc, pass, link, clock, stop, BOUND);
+    (end, link.sent, spent)
+}
+
+/// Runs the ticking loop until its time is over.
+fn tick_on<'a, A: AgentName, R: Wait>(
+    rt: &R,
+    alloc: Global,
+    pass: Pass<'_, A>,
+    clock: &'a MemoryClock,
+    stop: &'a AtomicBool,
+) -> (End, Sent, Spent<A>) {
+    let until = u64::from(DATAGRAMS) + TICKING_MS;
+    let link = StreamLink::new(clock, stop);
+    let Ended { link, spent, end } = tick(rt, alloc, pass, link, clock, until, stop, BOUND);
+    (end, link.sent, spent)
+}
+
+/// Runs the receiving loop with one pass, and then the ticking one with another.
+fn run_passes<A: AgentName, R: Wait>(
+    rt: &R,
+    alloc: Global,
+    first: Pass<'_, A>,
+    second: Pass<'_, A>,
+) -> (StreamSeen, (Spent<A>, Spent<A>)) {
+    let clock = MemoryClock::new(0);
+    let stop = AtomicBool::new(false);
+    let (receiving, heard, one) = receive_all(rt, alloc, first, &clock, &stop);
+    stop.store(false, SeqCst);
+    let (ticking, ticked, two) = tick_on(rt, alloc, second, &clock, &stop);
+    let seen = StreamSeen {
+        receiving,
+        ticking,
+        sent: [heard, ticked],
+        made: [one.made(), two.made()],
+    };
+    (seen, (one, two))
+}
+
 /// Runs the receiving loop until all datagrams have come, and then the ticking one.
 pub fn run_stream<A: AgentName, R: Wait>(
     rt: &R,
@@ -125,36 +172,11 @@ pub fn run_stream<A: AgentName, R: Wait>(
     passes: Vec<Pass<'_, A>>,
     spents: Vec<Spent<A>>,
 ) -> Left<A> {
-    let (mut passes, mut spents) = (passes, spents);
-    let (Some(second), Some(first)) = (passes.pop(), passes.pop()) else {
-        let shown = Shown::Nothing;
-        return Left { spents, shown };
+    let Some((first, second)) = both_passes(passes) else {
+        return Left::nothing(spents);
     };
-    let clock = MemoryClock::new(0);
-    let stop = AtomicBool::new(false);
-    let shared = Shared {
-        rt,
-        alloc,
-        clock: &clock,
-        stop: &stop,
-        bound: BOUND,
-    };
-    let link = StreamLink::new(&clock, &stop);
-    let received = receive_loop(&shared, Side { pass: first, link });
-    stop.store(false, SeqCst);
-    let until = at(u64::from(DATAGRAMS) + TICKING_MS);
-    let link = StreamLink::new(&clock, &stop);
-    let dice = FixedDice { word: 0 };
-    let ticked = tick_loop(&shared, Side { pass: second, link }, dice, until);
-    let seen = StreamSeen {
-        receiving: received.end,
-        ticking: ticked.end,
-        sent: [received.link.sent, ticked.link.sent],
-        made: [received.spent.made(), ticked.spent.made()],
-    };
-    let _refused = spents.push(received.spent).is_err() || spents.push(ticked.spent).is_err();
-    let shown = Shown::FeedValue(seen);
-    Left { spents, shown }
+    let (seen, both) = run_passes(rt, alloc, first, second);
+    Left::with_both(spents, both, Shown::Stream(seen))
 }
 
 /// What a node with this limit on its history did, and how its agent ended.
@@ -162,11 +184,11 @@ fn played<R>(rt: &R, alloc: Global, limit: u64) -> Option<(StreamSeen, Ending)>
 where
     R: Threads + Wait + rt::Clock + Sync,
 {
-    let mut case = Case::new(2, Play::FeedValue);
+    let mut case = Case::new(2, Play::Stream);
     case.limit = limit;
     let outcome = told(rt, alloc, case).ok()?;
     match outcome.shown {
-        Shown::FeedValue(seen) => Some((seen, outcome.ending)),
+        Shown::Stream(seen) => Some((seen, outcome.ending)),
         _ => None,
     }
 }

@@ -1,11 +1,11 @@
 //! Pairs with two looks that are made, played and ended.
-ghost use Rattle.std.specs.Prelude.{◌≡◌};
+ghost use Rattle.std.specs.Prelude.{◌≡◌, []};
 
 use super::keeper::Keeper;
 use super::looks::{Rows, play_looks};
 use super::refused_memory::goes_on;
 use super::threads::{Read, play_threads};
-use lg_view::{NoView, PairFault, PairName, UnnamedBook};
+use lg_view::{Look, NoView, PairFault, PairName, UnnamedBook};
 use std::alloc::Global;
 use std::marker::Brand;
 use std::sync::Wait;
@@ -41,6 +41,24 @@ pub(super) struct Outcome {
     pub(super) seen: u64,
 }
 
+/// Plays a pair.
+fn play_kept<P: PairName + Send + Sync, R: Threads + Wait + Sync>(
+    rt: &R,
+    alloc: Global,
+    keeper: &mut Keeper<P>,
+    one: &mut Look<P>,
+    two: &mut Look<P>,
+    what: Play,
+) -> Shown
+    requires { keeper.old ≡ [] }
+{
+    match what {
+        Play::Looks => Shown::Looks(play_looks(rt, alloc, keeper, one, two)),
+        Play::Refused => Shown::Refused(goes_on(rt, alloc, keeper, one)),
+        Play::Threads => play_threads(rt, alloc, keeper, one, two),
+    }
+}
+
 /// Makes a pair, plays it, and ends it.
 fn play_pair<P: PairName + Send + Sync, R: Threads + Wait + Sync>(
     rt: &R,
@@ -55,11 +73,7 @@ fn play_pair<P: PairName + Send + Sync, R: Threads + Wait + Sync>(
         keeper.end(rt);
         return Err(PairFault::NoPlace);
     };
-    let shown = match what {
-        Play::Looks => Shown::Looks(play_looks(rt, alloc, &mut keeper, &mut one, &mut two)),
-        Play::Refused => Shown::Refused(goes_on(rt, alloc, &mut keeper, &mut one)),
-        Play::Threads => play_threads(rt, alloc, &mut keeper, &mut one, &mut two),
-    };
+    let shown = play_kept(rt, alloc, &mut keeper, &mut one, &mut two, what);
     keeper.end(rt);
     Ok(Outcome {
         shown,

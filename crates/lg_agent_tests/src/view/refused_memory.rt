@@ -8,6 +8,37 @@ use lg_view::{Look, MembersFault, PairFault, PairName};
 use std::alloc::Global;
 use std::sync::Wait;
 
+/// Publishes an event, at the second try if need be. Returns whether it was published, and nothing had changed before
+/// that. There are `count` events before it.
+fn takes<P: PairName, R: Wait>(
+    rt: &R,
+    alloc: Global,
+    keeper: &mut Keeper<P>,
+    look: &mut Look<P>,
+    event: &Event,
+    count: u64,
+) -> bool {
+    if keeper.take(rt, alloc, event) {
+        return true;
+    }
+    look.version() == Ok(count) && keeper.take(rt, alloc, event)
+}
+
+/// Whether b is the only member, as a look sees it, or that memory for the list was refused.
+fn has_own<P: PairName>(alloc: Global, look: &mut Look<P>) -> Result<bool, MembersFault> {
+    let members = look.members(alloc)?;
+    Ok(members.as_slice() == [alive(b'b', 0)].as_slice())
+}
+
+/// The same, at the second try if memory was refused.
+fn has_own_at_last<P: PairName>(alloc: Global, look: &mut Look<P>) -> bool {
+    let mut has = has_own(alloc, look);
+    if has == Err(MembersFault::NoMemory) {
+        has = has_own(alloc, look);
+    }
+    has == Ok(true)
+}
+
 /// Publishes an opening and an event, and looks at the members, each twice if need be. Returns whether all went well.
 pub(super) fn goes_on<P: PairName, R: Wait>(
     rt: &R,
@@ -15,22 +46,9 @@ pub(super) fn goes_on<P: PairName, R: Wait>(
     keeper: &mut Keeper<P>,
     look: &mut Look<P>,
 ) -> bool {
-    let events = [opening(), Event::Health { now: at(0) }];
-    let mut met = true;
-    for index in 0..2 {
-        let taken = keeper.take(rt, alloc, &events[index]);
-        let unchanged = look.version() == Ok(index as u64);
-        met = met && (taken || unchanged && keeper.take(rt, alloc, &events[index]));
-    }
-    let own = [alive(b'b', 0)];
-    match look.members(alloc) {
-        Ok(table) => met && table.as_slice() == own.as_slice(),
-        Err(fault) => {
-            let again = look.members(alloc);
-            met && fault == MembersFault::NoMemory
-                && again.is_ok_and(|table| table.as_slice() == own.as_slice())
-        }
-    }
+    takes(rt, alloc, keeper, look, &opening(), 0)
+        && takes(rt, alloc, keeper, look, &Event::Health { now: at(0) }, 1)
+        && has_own_at_last(alloc, look)
 }
 
 /// Whether all went well, or why no pair was made.

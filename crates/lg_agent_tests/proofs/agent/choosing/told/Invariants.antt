@@ -1,7 +1,7 @@
 use Rattle.lg_agent_tests.proofs.agent.choosing.told.Given as goal
 
-abbrev pub ghosts-close-A-PairName : goal.ghosts-close-A-PairName
-ghosts-close-A-PairName g a = record { book = a.book.seen.book }
+abbrev pub ghosts-closed-A-PairName : goal.ghosts-closed-A-PairName
+ghosts-closed-A-PairName g a = record { book = a.book.seen.book }
 
-abbrev pub ghosts-close-A-AgentName : goal.ghosts-close-A-AgentName
-ghosts-close-A-AgentName g a = record { places = a.places }
+abbrev pub ghosts-closed-A-AgentName : goal.ghosts-closed-A-AgentName
+ghosts-closed-A-AgentName g a = record { places = a.places }
