@@ -97,12 +97,12 @@ pub struct Room {
 }
 
 impl Room {
-    /// An empty writer, whose calls don't fail.
-    fn empty() -> Self {
+    /// An empty writer. The call with this number fails, counted from 1, or none if it is 0.
+    pub fn failing(fails_at: usize) -> Self {
         Room {
             bytes: [0; ROOM],
             len: 0,
-            fails_at: 0,
+            fails_at,
             calls: 0,
         }
     }
@@ -164,8 +164,8 @@ impl<'a> Streams<'a> {
         };
         Streams {
             reader,
-            writer: Room::empty(),
-            faults: Room::empty(),
+            writer: Room::failing(0),
+            faults: Room::failing(0),
         }
     }
 }

@@ -1,5 +1,5 @@
 //! Runs of nodes and of files, over writers that fail and while memory is refused.
-use super::rooms::Room;
+use crate::streams::Room;
 use lg_launch::{run_bytes, run_file};
 use lg_testing::at;
 use std::alloc::Global;
@@ -32,10 +32,16 @@ struct Outcome {
     faults: Room,
 }
 
+/// Whether this was written, and nothing else. With an empty text, no call may have been made except up to the one
+/// that fails.
+fn has(room: &Room, text: &str) -> bool {
+    room.has(text.as_bytes()) && (!text.is_empty() || room.calls <= room.fails_at)
+}
+
 impl Outcome {
     /// Whether a run ended with this status, and wrote and told this.
     fn is(&self, status: u8, written: &str, told: &str) -> bool {
-        self.status == status && self.writer.has(written) && self.faults.has(told)
+        self.status == status && has(&self.writer, written) && has(&self.faults, told)
     }
 }
 
