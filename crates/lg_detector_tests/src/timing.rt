@@ -157,9 +157,15 @@ const FAULTS: &[(&[Key], ConfigFault)] = &[
     (&[Key::TimeoutMs, Key::IntervalMs], ConfigFault::Interval),
     (&[Key::TimeoutMs, Key::Indirect], ConfigFault::Timeout),
     (&[Key::Beta, Key::Alpha], ConfigFault::Alpha),
-    (&[Key::HistoryLimit, Key::NackThousandths], ConfigFault::Nack),
+    (
+        &[Key::HistoryLimit, Key::NackThousandths],
+        ConfigFault::Nack,
+    ),
     (&[Key::HistoryLimit, Key::MaxScore], ConfigFault::MaxScore),
-    (&[Key::Lambda, Key::Confirmations], ConfigFault::Confirmations),
+    (
+        &[Key::Lambda, Key::Confirmations],
+        ConfigFault::Confirmations,
+    ),
     (&[Key::Wire, Key::HistoryLimit], ConfigFault::History),
     (&[Key::Wire], ConfigFault::Seeds),
     (&[], ConfigFault::Seeds),

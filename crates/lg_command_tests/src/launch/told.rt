@@ -118,7 +118,10 @@ const FAULTS: [(FileFault, u8, &str); 15] = [
 fn statuses_and_lines(rt: HostRuntime) {
     for (of, status, line) in ENDS {
         let told = told_of(of);
-        assert!(rt; told.status() == status && told.line().as_str() == line, "{of:?}");
+        assert!(rt;
+            told.status() == status && told.line().as_str() == line,
+            "{of:?}"
+        );
     }
     for (fault, number, line) in FAULTS {
         let told = Told::Config(fault);

@@ -321,8 +321,20 @@ const VERSIONS: &[VersionCase] = &[
     ("an Ack of version two", 2, Two, PINGED, Two),
     ("a Nack to version one", 2, One, NACKS, Two),
     ("a Nack to version two", 1, Two, NACKS, One),
-    ("an Ack that is passed on to version one", 2, One, PASSES_ON, Two),
-    ("an Ack that is passed on to version two", 1, Two, PASSES_ON, One),
+    (
+        "an Ack that is passed on to version one",
+        2,
+        One,
+        PASSES_ON,
+        Two,
+    ),
+    (
+        "an Ack that is passed on to version two",
+        1,
+        Two,
+        PASSES_ON,
+        One,
+    ),
     ("a request", 2, One, ASKS_A_HELPER, Two),
 ];
 

@@ -38,11 +38,7 @@ fn plays(
     happens: &[Happens<'_>],
     reply: &mut Reply,
 ) -> bool {
-    let mut accepted = takes(
-        detector,
-        &versioned(&Opens(0, &[]), wire, version),
-        reply,
-    );
+    let mut accepted = takes(detector, &versioned(&Opens(0, &[]), wire, version), reply);
     for one in happens {
         accepted = takes(detector, &versioned(one, wire, version), reply) && accepted;
     }

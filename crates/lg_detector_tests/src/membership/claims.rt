@@ -1,7 +1,7 @@
 //! What claims change, and what is asked of the table.
 use super::playing::Step::{
-    self, Hears, Known, Lambda, Live, Members, Number, Opens, Ousted, Own, OwnRecord, Places,
-    Says, Seeds, Sends, Table,
+    self, Hears, Known, Lambda, Live, Members, Number, Opens, Ousted, Own, OwnRecord, Places, Says,
+    Seeds, Sends, Table,
 };
 use super::playing::{CHANGED, Case, Did, JOINED, NOTHING, hears, play, play_on};
 use crate::says::Said::{Alive, Failed, Numbered, Suspect};
