@@ -12,6 +12,7 @@ use Rattle.lg_timers.specs.declared.timer.TimerId.TheVariants.{RoundEnd, Suspici
 use Rattle.lg_timers.specs.declared.timer.TimerId.TheVariants.{RelayNack, RelayEnd, RoundStart}
 use Rattle.lg_packet.specs.declared.packet.Body.{Body}
 use Rattle.lg_packet.specs.declared.packet.Body.TheVariants.{Ping, PingReq, Ack, Nack}
+use Rattle.lg_packet.specs.declared.packet.Version.TheVariants.{One}
 use Rattle.lg_packet.specs.Meaning.Spelling.{spelling}
 use Rattle.lg_detector.specs.declared.event.Event.TheVariants.{Ask, Health}
 use Rattle.lg_detector.specs.declared.reply.Answer.TheVariants.{Status as OfStatus, Health as OfHealth}
@@ -38,7 +39,10 @@ claimed letter port status i = record { name = letter ∷ []; addr = at port; st
 -- what the member whose name is a letter sends to a port
 abbrev sent : ℕ → ℕ → Body → List Claim → Outgoing
 sent sender port body claims =
-    record { to = at port; packet = record { sender = sender ∷ []; body = body; claims = record { items = claims } } }
+    record {
+      to = at port;
+      packet = record { version = One; sender = sender ∷ []; body = body; claims = record { items = claims } };
+    }
 
 -- a reply that sends one packet
 abbrev sends : Outgoing → ℕ → Reply
@@ -72,7 +76,7 @@ unfolding by_computing
 hears_an_ack = refl
 
 -- an Ack of b, numbered 7
-acked : packet_text record { sender = 98 ∷ []; body = Ack 7; claims = record { items = [] } }
+acked : packet_text record { version = One; sender = 98 ∷ []; body = Ack 7; claims = record { items = [] } }
     ≡ codes "534c010301620000000700"
 unfolding by_computing
 acked = refl
