@@ -15,13 +15,13 @@ struct Row {
     octets: [u8; 4],
     port: u16,
     dice: u64,
-    /// The ten numbers, from `interval_ms` to `history_limit`.
-    numbers: [u64; 10],
+    /// The numbers, in the order of the keys: from `interval_ms` to `history_limit`, and `wire`.
+    numbers: [u64; 11],
     seeds: &'static [Known],
 }
 
 /// The numbers of a file that gives none.
-const USUAL: [u64; 10] = [1000, 500, 3, 8, 5, 6, 3, 4, 800, 20_000];
+const USUAL: [u64; 11] = [1000, 500, 3, 8, 5, 6, 3, 4, 800, 20_000, 1];
 
 /// A file with all keys.
 const ALL: &str = "\
@@ -39,6 +39,7 @@ confirmations = 4
 lambda = 5
 nack_thousandths = 6
 history_limit = 7
+wire = 2
 seeds = [\"c@127.0.0.1:7002\", \"a@1.2.3.4:5\"]
 ";
 
@@ -64,6 +65,7 @@ fn is_of(node: &NodeConfig, row: &Row) -> bool {
         config.lambda,
         config.nack_thousandths,
         config.history_limit,
+        config.wire,
     ];
     config.name == name(b"b")
         && (config.addr.octets, config.addr.port, node.dice) == (row.octets, row.port, row.dice)
@@ -97,7 +99,7 @@ fn each_value(rt: HostRuntime) {
             octets: [10, 1, 2, 3],
             port: 7001,
             dice: 42,
-            numbers: [200, 50, 0, 1, 2, 3, 4, 5, 6, 7],
+            numbers: [200, 50, 0, 1, 2, 3, 4, 5, 6, 7, 2],
             seeds: &[(b"c", [127, 0, 0, 1], 7002), (b"a", [1, 2, 3, 4], 5)],
         },
         Row {

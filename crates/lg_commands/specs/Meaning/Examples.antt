@@ -8,6 +8,7 @@ use Rattle.lg_rules.specs.declared.claim.Claim.{Claim}
 use Rattle.lg_rules.specs.declared.claim.Status.TheVariants.{Alive}
 use Rattle.lg_packet.specs.declared.packet.Body.TheVariants.{Ack, Ping}
 use Rattle.lg_packet.specs.declared.packet.Packet.{Packet}
+use Rattle.lg_packet.specs.declared.packet.Version.TheVariants.{One}
 use Rattle.lg_packet.specs.Meaning.Reading.{addr_at, body_at, claim_at, claims_at, head_at, incarnation_at}
 use Rattle.lg_packet.specs.Meaning.Reading.{name_at, packet_at, packet_of, status_at}
 use Rattle.lg_packet.specs.Meaning.Spelling.{spelling}
@@ -28,13 +29,13 @@ abbrev ping : List ℕ
 ping = codes "534c0101016100000007016200"
 
 pinged : Packet
-pinged = record { sender = 97 ∷ []; body = Ping 7 (98 ∷ []); claims = record { items = [] } }
+pinged = record { version = One; sender = 97 ∷ []; body = Ping 7 (98 ∷ []); claims = record { items = [] } }
 
 heard-ping : events_of_lines (codes "b") (lines_of (ping ++ 10 ∷ [])) ≡ opening (98 ∷ []) ∷ heard_event pinged ∷ []
 unfolding events_of_lines packet_in hex_on_literals packet_of packet_at head_at name_at body_at claims_at pinged
 heard-ping = refl
 
-acked : sent_text record { sender = 98 ∷ []; body = Ack 7; claims = record { items = [] } }
+acked : sent_text record { version = One; sender = 98 ∷ []; body = Ack 7; claims = record { items = [] } }
     ≡ codes "534c010301620000000700" ++ 10 ∷ []
 unfolding hex_on_literals spelling
 acked = refl
@@ -48,12 +49,22 @@ c-alive : Claim
 c-alive = record { name = 99 ∷ []; addr = local 7003; status = Alive; incarnation = 0 }
 
 heard-claim : packet_in (codes "534c01010161000000070163010101637f0000011b5b00000000")
-    ≡ Ok record { sender = 97 ∷ []; body = Ping 7 (99 ∷ []); claims = record { items = c-alive ∷ [] } }
+    ≡ Ok record {
+      version = One;
+      sender = 97 ∷ [];
+      body = Ping 7 (99 ∷ []);
+      claims = record { items = c-alive ∷ [] };
+    }
 unfolding packet_in hex_on_literals packet_of packet_at head_at name_at body_at claims_at claim_at addr_at
     incarnation_at status_at c-alive
 heard-claim = refl
 
-acked-with-claim : sent_text record { sender = 98 ∷ []; body = Ack 8; claims = record { items = c-alive ∷ [] } }
+acked-with-claim : sent_text record {
+  version = One;
+  sender = 98 ∷ [];
+  body = Ack 8;
+  claims = record { items = c-alive ∷ [] };
+}
     ≡ codes "534c0103016200000008010101637f0000011b5b00000000" ++ 10 ∷ []
 unfolding hex_on_literals spelling c-alive
 acked-with-claim = refl

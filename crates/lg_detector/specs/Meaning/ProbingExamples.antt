@@ -113,9 +113,9 @@ both_are_chosen : cycle_names started_twice ≡ (d ∷ []) ∷ (c ∷ []) ∷ []
 unfolding by_computing
 both_are_chosen = refl
 
-a_new_round_begins : cycle_names (started 5 started_twice) ≡ (d ∷ []) ∷ []
+a_new_cycle_begins : cycle_names (started 5 started_twice) ≡ (d ∷ []) ∷ []
 unfolding by_computing
-a_new_round_begins = refl
+a_new_cycle_begins = refl
 
 -- The stretch in which these three rounds start: its targets, of which any three must include both names; and that
 -- both names are the others that haven't failed throughout it.
