@@ -3,6 +3,7 @@ use lg_detector::Event;
 use lg_testing::is_same_packet;
 use lg_timing::Config;
 
+/// Whether two configurations are equal in the fields that these tests set, and in all but numbers.
 fn is_same_config(one: &Config, other: &Config) -> bool {
     one.interval_ms == other.interval_ms
         && one.timeout_ms == other.timeout_ms
@@ -12,7 +13,7 @@ fn is_same_config(one: &Config, other: &Config) -> bool {
         && one.addr == other.addr
 }
 
-/// Whether two events are equal.
+/// Whether two events are equal, with configurations compared as above.
 pub fn is_same_event(one: &Event, other: &Event) -> bool {
     match (one, other) {
         (

@@ -267,7 +267,7 @@ const OF_ITSELF: &[(Said, OwnHeard, u32, bool)] = &[
     ),
 ];
 
-/// What is said of others does nothing.
+/// What is said of this member raises its incarnation, ousts it or does nothing. What is said of others does nothing.
 #[test]
 fn refutes(rt: HostRuntime) {
     let mut own = Own::new(letter(b'b'), local(7000));

@@ -1,6 +1,7 @@
 //! Reading packets, from the first byte on.
 //!
-//! Defined in: `specs/Meaning/Decoding.antt`, `specs/Meaning/Fault.antt`, `specs/Meaning/Reading.antt`.
+//! Defined in: `specs/Meaning/Decoding.antt`, `specs/Meaning/Spelling.antt`, `specs/Meaning/Fault.antt`,
+//! `specs/Meaning/Reading.antt`.
 //! Tested in: `lg_detector_tests/src/packet.rt`.
 ghost use Rattle.std.specs.Prelude.{◌≡◌, ◌≤◌, [], length, IfOk, IfErr};
 ghost use Rattle.std.specs.Prelude.{OnOk, OnErr, Ok, Err, if◌then◌else◌};

@@ -1,4 +1,4 @@
-//! Worked events with their replies: each kind of event, each part of a reply, and what takes the most memory.
+//! Made-up events and replies: each kind of event, each part of a reply, and what takes the most memory.
 use arrayvec::ArrayVec;
 use lg_detector::{Answer, Event, MAX_SENDS, Outgoing, Reply, Timer, TimerId};
 use lg_packet::{Body, Version};

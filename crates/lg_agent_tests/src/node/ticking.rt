@@ -19,7 +19,8 @@ const REFUSED_PING_OF_C: Call = Call::Send {
     sent: false,
 };
 
-/// A loop that ends after this many turns, of which `count` pause, for `sum` milliseconds in all.
+/// A loop that ends after this many turns, of which `count` pause, for `sum` milliseconds in all and 20 at most each,
+/// and after this many entries.
 fn ended(why: Why, turns: u64, count: u64, sum: u64, entries: u64) -> Want<'static> {
     Want {
         why,
@@ -63,7 +64,7 @@ fn refused<'a>(want: Want<'a>, calls: &'a [Call]) -> Want<'a> {
     want
 }
 
-/// A loop that knows this many others. Its link fails at one call, counted from 1, or at none.
+/// A loop that knows this many others. Its link fails at the call `fails_at`, counted from 1, or at none if that is 0.
 fn knows<'a>(until: u64, others: u8, fails_at: u64) -> Case<'a> {
     let mut run = Run::ticking(until);
     run.script.fails_at = fails_at;
