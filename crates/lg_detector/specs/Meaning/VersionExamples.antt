@@ -13,7 +13,7 @@ use Rattle.lg_detector.specs.declared.event.Event.TheVariants.{Open, Pull as Pul
 use Rattle.lg_detector.specs.declared.reply.Reply.{Reply}
 use Rattle.lg_detector.specs.Meaning.Send.{version_sent}
 use Rattle.lg_detector.specs.Meaning.Step.{reply_after}
-use Rattle.lg_detector.specs.Meaning.Examples.{by_computing, a, b, c, d, at, alive, opening, says, says_in, ticks}
+use Rattle.lg_detector.specs.Meaning.Examples.{by_computing, a, b, c, d, at, alive, says, says_in, ticks}
 use Rattle.lg_detector.specs.Meaning.Examples.{timer_of, start_of_round, nothing, sent_in}
 
 -- b is opened with a `wire`
