@@ -10,7 +10,7 @@ use Rattle.lg_agent.specs.declared.refusal.Refusal.{Refusal}
 use Rattle.lg_agent.specs.declared.refusal.Refusal.TheVariants as refusal
 use Rattle.lg_agent.specs.declared.refusal.CloseFault.{CloseFault}
 use Rattle.lg_agent.specs.declared.refusal.CloseFault.TheVariants.{Missing}
-use Rattle.lg_agent.specs.Meaning.Closing.{Left}
+use Rattle.lg_agent.specs.Meaning.Closing.{ClosedValue}
 use Rattle.lg_config.specs.declared.fault.FileFault.TheVariants.{Value}
 use Rattle.lg_node.specs.declared.ending.Why.{Why}
 use Rattle.lg_node.specs.declared.ending.Why.TheVariants.{Stopped, Ousted, LinkFailed, Refused, ReadBound}
@@ -82,7 +82,7 @@ abbrev Members : Type 0
 Members = Vec Claim Global
 
 -- a node whose loops ended like this, with these members and this closing
-abbrev left : NodeEnd → Why → Why → Result Members Refusal → Result Left CloseFault → NodeEnd
+abbrev left : NodeEnd → Why → Why → Result Members Refusal → Result ClosedValue CloseFault → NodeEnd
 left e received ticked members closed =
     record e {
       received = record e.received { why = received };
@@ -93,25 +93,25 @@ left e received ticked members closed =
 
 -- If the node was ousted and its members were refused, the refusal is told, and no table is written.
 refused_members :
-    (e : NodeEnd) (closed : Result Left CloseFault) (written : Result (Unit {0}) RunFault)
+    (e : NodeEnd) (closed : Result ClosedValue CloseFault) (written : Result (Unit {0}) RunFault)
     → run_told (Ok (left e Ousted (Refused (refusal.HistoryFull 2)) (Err refusal.NoMemory) closed)) written
     ≡ told.Memory
 refused_members e closed written = refl
 
 no_table :
-    (e : NodeEnd) (closed : Result Left CloseFault)
+    (e : NodeEnd) (closed : Result ClosedValue CloseFault)
     → table_at_end (Ok (left e Ousted Stopped (Err refusal.NoView) closed)) ≡ None
 no_table e closed = refl
 
 -- Otherwise its members are the table. Why that wasn't written is told before a closing that was refused, and that
 -- before the ousting.
 the_table :
-    (e : NodeEnd) (records : Members) (closed : Result Left CloseFault)
+    (e : NodeEnd) (records : Members) (closed : Result ClosedValue CloseFault)
     → table_at_end (Ok (left e Stopped Ousted (Ok records) closed)) ≡ Some records.items
 the_table e records closed = refl
 
 unwritten :
-    (e : NodeEnd) (records : Members) (closed : Result Left CloseFault)
+    (e : NodeEnd) (records : Members) (closed : Result ClosedValue CloseFault)
     → run_told (Ok (left e Stopped Ousted (Ok records) closed)) (Err fault.Write) ≡ told.Write
 unwritten e records closed = refl
 
@@ -121,18 +121,18 @@ unclosed :
 unclosed e records = refl
 
 nothing_else :
-    (e : NodeEnd) (records : Members) (whole : Left)
+    (e : NodeEnd) (records : Members) (whole : ClosedValue)
     → run_told (Ok (left e Stopped Ousted (Ok records) (Ok whole))) (Ok tt) ≡ told.Ousted
 nothing_else e records whole = refl
 
 -- If the link failed, no table is written, and nothing else is told.
 link_without_table :
-    (e : NodeEnd) (members : Result Members Refusal) (closed : Result Left CloseFault)
+    (e : NodeEnd) (members : Result Members Refusal) (closed : Result ClosedValue CloseFault)
     → table_at_end (Ok (left e Stopped LinkFailed members closed)) ≡ None
 link_without_table e members closed = refl
 
 link_alone :
-    (e : NodeEnd) (members : Result Members Refusal) (closed : Result Left CloseFault)
+    (e : NodeEnd) (members : Result Members Refusal) (closed : Result ClosedValue CloseFault)
     (written : Result (Unit {0}) RunFault)
     → run_told (Ok (left e Stopped LinkFailed members closed)) written ≡ told.Link
 link_alone e members closed written = refl
