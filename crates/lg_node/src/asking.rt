@@ -9,7 +9,7 @@ ghost use Rattle.lg_node.specs.Meaning.Turns.{line};
 ghost use Rattle.lg_node.specs.Meaning.Nodes.{Asked};
 
 use crate::calling;
-use crate::clock::Clock;
+use lg_clock::Clock;
 use crate::link::Link;
 use crate::shared::Shared;
 use crate::turned::Turned;

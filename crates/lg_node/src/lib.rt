@@ -3,7 +3,6 @@
 
 mod asking;
 mod calling;
-mod clock;
 mod dice;
 mod ending;
 mod link;
@@ -17,7 +16,7 @@ mod ticking;
 mod turned;
 mod udp;
 
-pub use clock::{Clock, MachineClock};
+pub use lg_clock::{Clock, Loop, MachineClock};
 pub use dice::{Dice, PcgDice};
 pub use ending::{End, Ended, Why};
 pub use link::{Link, LinkFault, MAX_DATAGRAM};

@@ -9,7 +9,7 @@ ghost use Rattle.lg_node.specs.Meaning.Turns.{line, receives, Ran};
 ghost use Rattle.lg_node.specs.Support.Took.{Took};
 
 use crate::calling;
-use crate::clock::Clock;
+use lg_clock::Clock;
 use crate::ending::{End, Ended, Why};
 use crate::link::{Link, MAX_DATAGRAM};
 use crate::shared::{MAX_TURNS, Shared, Side};

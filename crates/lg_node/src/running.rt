@@ -8,7 +8,7 @@ ghost use Rattle.lg_node.specs.declared.ending.Why.TheVariants.{Stopped};
 ghost use Rattle.lg_node.specs.Meaning.Turns.{line, receives, ticks_before, words_in};
 ghost use Rattle.lg_node.specs.Meaning.Turns.{Ran, Threw, HadNoThread};
 
-use crate::clock::Clock;
+use lg_clock::Clock;
 use crate::dice::Dice;
 use crate::ending::{End, Ended, Why};
 use crate::link::Link;

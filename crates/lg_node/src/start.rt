@@ -21,7 +21,7 @@ ghost use Rattle.lg_node.specs.Meaning.Turns.{LinkValue};
 ghost use Rattle.lg_node.specs.Meaning.Words.{seeded, DrawsEight};
 
 use crate::asking::ask_each;
-use crate::clock::{Clock, MachineClock};
+use lg_clock::{Clock, MachineClock};
 use crate::dice::PcgDice;
 use crate::ending::End;
 use crate::node::{NodeEnd, NodeFault};

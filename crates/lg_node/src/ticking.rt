@@ -8,7 +8,7 @@ ghost use Rattle.lg_node.specs.Meaning.Turns.{line, ticks_before, words_in, Ran,
 ghost use Rattle.lg_node.specs.Support.Took.{Took};
 
 use crate::calling;
-use crate::clock::Clock;
+use lg_clock::Clock;
 use crate::dice::Dice;
 use crate::ending::{End, Ended, Why};
 use crate::link::Link;

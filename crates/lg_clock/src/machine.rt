@@ -1,19 +1,13 @@
-//! Clocks.
+//! The machine's clock.
+//!
+//! Tested in: `lg_command_tests/src/node/machine.rt`.
 
+use crate::clock::Clock;
 use lg_timing::{MAX_MOMENT, Moment};
 use std::sync::atomic::AtomicU64;
 use std::sync::atomic::Ordering::SeqCst;
 use std::time::{Duration, Instant};
 use std::{io, rt, thread};
-
-/// Gives the moment, and waits.
-pub trait Clock {
-    /// The current moment.
-    fn now(&self) -> Moment;
-
-    /// Waits this many milliseconds.
-    fn pause(&self, ms: u64);
-}
 
 /// The machine's clock, which counts milliseconds from when it was made. If it can't be read, it stays at the moment
 /// that was read last.
