@@ -1,12 +1,13 @@
 //! Agents: their calls and looks, both forms of the calls, how they are closed, and threads that share one.
-pub mod calls;
+mod calls;
 mod choosing;
 mod faults;
-pub mod forms;
+mod forms;
 mod leaving;
-pub mod many;
+mod many;
 mod refused_memory;
 mod rotating;
 mod rows;
 mod seats;
+mod steps;
 mod wanted;

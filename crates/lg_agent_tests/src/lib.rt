@@ -1,4 +1,4 @@
-//! Tests of the histories, the published views, the agent and the node, over their public calls.
+//! Tests of the histories, the published views and the agent, over their public calls.
 #![tactic(auto)]
 
 #[cfg(test)]
@@ -7,9 +7,5 @@ mod agent;
 mod comparing;
 #[cfg(test)]
 mod history;
-#[cfg(test)]
-mod node;
-#[cfg(test)]
-mod playing;
 #[cfg(test)]
 mod view;

@@ -1,4 +1,4 @@
-//! Tests of the commands over values and streams in memory. They show what only such a call can show.
+//! Tests of the commands over values and streams in memory, and of the node. They show what only such a call can show.
 #![tactic(auto)]
 
 #[cfg(test)]
@@ -9,6 +9,8 @@ mod launch;
 mod limits;
 #[cfg(test)]
 mod messages;
+#[cfg(test)]
+mod node;
 #[cfg(test)]
 mod plays;
 #[cfg(test)]

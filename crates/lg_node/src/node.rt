@@ -1,7 +1,7 @@
 //! A node: an agent whose two loops run over UDP. `start.rt` has what it does, in order.
 //!
 //! Defined in: `specs/Meaning/Nodes.antt`, `specs/Meaning/Turns.antt`, `specs/Meaning/Words.antt`.
-//! Tested in: `lg_agent_tests/src/node/asking.rt`, `cases/nodes`.
+//! Tested in: `lg_command_tests/src/node/asking.rt`, `cases/nodes`.
 ghost use Rattle.std.specs.Prelude.{false, IfOk, IfErr};
 ghost use Rattle.lg_timing.specs.Meaning.Config.{IsChecked};
 ghost use Rattle.lg_node.specs.Meaning.Nodes.{IsRun, IsEarly};

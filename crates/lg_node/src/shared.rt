@@ -1,6 +1,6 @@
 //! What a loop takes: what the loops of a node share, and its own side.
 //!
-//! Tested in: `lg_agent_tests/src/node/both.rt`.
+//! Tested in: `lg_command_tests/src/node/both.rt`.
 
 use left_right::Absorb;
 use lg_agent::{AgentName, Pass};

@@ -4,7 +4,7 @@
 //! out the passes, asks the seeds, runs both loops and reads the members.
 //!
 //! Defined in: `specs/Meaning/Nodes.antt`, `specs/Meaning/Turns.antt`, `specs/Meaning/Words.antt`.
-//! Tested in: `lg_agent_tests/src/node/asking.rt`, `cases/nodes`.
+//! Tested in: `lg_command_tests/src/node/asking.rt`, `cases/nodes`.
 ghost use Rattle.std.specs.Prelude.{◌≡◌, ◌≤◌, ◌⊎◌, ◌∷◌, [], ℕ, false};
 ghost use Rattle.std.specs.Prelude.{All, IfOk, IfErr, IfSome, MatchResult, length};
 ghost use Rattle.std.specs.Vec.{vec_capacity};

@@ -1,7 +1,7 @@
 //! The ticking loop.
 //!
 //! Defined in: `specs/Meaning/Turns.antt`, `specs/Support/Took.antt`.
-//! Tested in: `lg_agent_tests/src/node/ticking.rt`.
+//! Tested in: `lg_command_tests/src/node/ticking.rt`.
 ghost use Rattle.std.specs.Prelude.{◌≡◌, ◌≤◌, ◌<◌, ℕ, IfSome};
 ghost use Rattle.std.specs.List.{flat_map};
 ghost use Rattle.lg_node.specs.Meaning.Turns.{line, ticks_before, words_in, Ran, Threw};

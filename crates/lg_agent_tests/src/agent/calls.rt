@@ -1,16 +1,13 @@
 //! Calls and looks of the passes of one agent, and what they give.
-use super::leaving::{LeftBy, left_by};
-use super::wanted::Want;
-use crate::playing::{Left, Shown};
 use arrayvec::ArrayVec;
-use lg_agent::{AgentName, Pass, Receipt, Refusal, Spent};
+use lg_agent::{AgentName, Pass, Receipt, Refusal};
 use lg_detector::{Answer, Reply, TimerId};
-use lg_packet::{Body, MAX_PACKET, encode};
-use lg_rules::{Claim, Record, Status};
-use lg_testing::{ack, at, claim, letter, local, packet, ping};
+use lg_packet::MAX_PACKET;
+use lg_playing::{ping_of, spelled};
+use lg_rules::Record;
+use lg_testing::{ack, at, letter, local};
 use std::alloc::Global;
 use std::sync::Wait;
-use std::thread::{Threads, join};
 
 /// A Ping of a for b, numbered 7, that says that c is alive at 127.0.0.1:7003 with the incarnation 0.
 const PING: &[u8] =
@@ -23,8 +20,7 @@ pub enum Heard {
     PingOfC,
     /// One byte, which is no packet.
     OneByte,
-    /// The Ping of a thread's turn. It says that one of sixteen members is alive, from time to time at a greater
-    /// incarnation.
+    /// The Ping of a thread's turn, as `ping_of` gives it.
     Turn(u32),
     /// The Ack of the member named by a letter, with a number.
     Ack(u8, u32),
@@ -106,26 +102,6 @@ impl Seen {
             _ => false,
         }
     }
-}
-
-/// The index of a pass, what it does, and what that should give.
-pub type Row = (usize, Call, Want);
-
-/// The bytes of a packet of the member named by a letter.
-fn spelled(sender: u8, body: Body, claims: &[Claim]) -> ArrayVec<u8, MAX_PACKET> {
-    let mut bytes = ArrayVec::new();
-    encode(&packet(sender, body, claims), &mut bytes);
-    bytes
-}
-
-/// The bytes of the Ping of a turn.
-pub fn ping_of(turn: u32) -> ArrayVec<u8, MAX_PACKET> {
-    let member = letter(b'c' + (turn % 16) as u8);
-    spelled(
-        b'a',
-        ping(turn, b'b'),
-        &[claim(member, Status::Alive, turn / 64)],
-    )
 }
 
 /// The bytes of a datagram.
@@ -229,7 +205,12 @@ pub fn make_call_into<A: AgentName, R: Wait>(
 }
 
 /// One call or look.
-fn step<A: AgentName, R: Wait>(rt: &R, alloc: Global, pass: &mut Pass<'_, A>, step: Call) -> Seen {
+pub fn step<A: AgentName, R: Wait>(
+    rt: &R,
+    alloc: Global,
+    pass: &mut Pass<'_, A>,
+    step: Call,
+) -> Seen {
     match step {
         Call::Event(happens) => seen_of(make_call(rt, alloc, pass, happens)),
         Call::Rotate => number_of(pass.rotate(rt, alloc)),
@@ -264,124 +245,4 @@ pub fn is_known<A: AgentName, R: Wait>(
         step(rt, alloc, pass, Call::StatusOf(member)),
         Seen::Record(Some(_))
     )
-}
-
-/// One call or look. If memory is refused, it is tried once more, and nothing may have changed before that.
-fn step_at_last<A: AgentName, R: Wait>(
-    rt: &R,
-    alloc: Global,
-    pass: &mut Pass<'_, A>,
-    call: Call,
-) -> Seen {
-    let seen = step(rt, alloc, pass, call);
-    if !seen.is(&Seen::Refused(Refusal::NoMemory)) {
-        return seen;
-    }
-    let between = step(rt, alloc, pass, Call::Version);
-    let again = step(rt, alloc, pass, call);
-    let unchanged = match &again {
-        Seen::Answered(answered) => between.is(&Seen::Number(answered.place)),
-        _ => true,
-    };
-    if unchanged { again } else { Seen::Wrong }
-}
-
-/// What a step of a pass, counted from 0, gives. A step of the second pass is made in another thread, if one can be
-/// started.
-fn step_of<A: AgentName + Send + Sync, R: Threads + Wait + Sync>(
-    rt: &R,
-    alloc: Global,
-    first: &mut Pass<'_, A>,
-    second: &mut Option<Pass<'_, A>>,
-    who: usize,
-    call: Call,
-) -> Seen {
-    match (who, second) {
-        (0, _) => step_at_last(rt, alloc, first, call),
-        (1, Some(pass)) => join(rt, || step_at_last(rt, alloc, pass, call), || ()).0,
-        _ => Seen::Wrong,
-    }
-}
-
-/// Makes the calls and looks in order, up to the first that gives something else than it should. Returns its index.
-fn first_wrong<A: AgentName + Send + Sync, R: Threads + Wait + Sync>(
-    rt: &R,
-    alloc: Global,
-    first: &mut Pass<'_, A>,
-    second: &mut Option<Pass<'_, A>>,
-    rows: &[Row],
-) -> Option<usize> {
-    for (index, (who, call, want)) in rows.iter().enumerate() {
-        let seen = step_of(rt, alloc, first, second, *who, *call);
-        if !want.is(&seen) {
-            return Some(index);
-        }
-    }
-    None
-}
-
-/// What the steps of a case gave, and what its passes left.
-#[derive(Clone, Copy)]
-pub struct Played {
-    /// The index of the first step that gave something else than it should. A pass that has another seat than its
-    /// own counts as a step behind the last one.
-    pub wrong: Option<usize>,
-    /// What the two passes left.
-    pub left: [LeftBy; 2],
-}
-
-impl Played {
-    /// What these steps gave, of this count, and what the passes left.
-    fn of(wrong: Option<usize>, count: usize, left: [LeftBy; 2]) -> Played {
-        let wrong = if left[0].is_of(1) && left[1].is_of(2) {
-            wrong
-        } else {
-            Some(count)
-        };
-        Played { wrong, left }
-    }
-}
-
-/// The first pass, and the second one if there are two.
-fn first_and_second<'a, A: AgentName>(
-    passes: Vec<Pass<'a, A>>,
-) -> Option<(Pass<'a, A>, Option<Pass<'a, A>>)> {
-    let mut passes = passes;
-    let second = if passes.len() == 2 {
-        passes.pop()
-    } else {
-        None
-    };
-    let first = passes.pop()?;
-    Some((first, second))
-}
-
-/// Hands in what a pass left. Returns what that is.
-fn hand_in<A: AgentName>(spent: Spent<A>, spents: &mut Vec<Spent<A>>) -> LeftBy {
-    let left = left_by(&spent);
-    let _refused = spents.push(spent).is_err();
-    left
-}
-
-/// Plays the rows with an agent of two places or of one, and finishes the passes, the last one first. Each pass has
-/// to have its seat.
-pub fn steps<A: AgentName + Send + Sync, R: Threads + Wait + Sync>(
-    rt: &R,
-    alloc: Global,
-    passes: Vec<Pass<'_, A>>,
-    rows: &[Row],
-    spents: Vec<Spent<A>>,
-) -> Left<A> {
-    let Some((first, second)) = first_and_second(passes) else {
-        return Left::nothing(spents);
-    };
-    let (mut first, mut second, mut spents) = (first, second, spents);
-    let wrong = first_wrong(rt, alloc, &mut first, &mut second, rows);
-    let two = match second {
-        Some(pass) => hand_in(pass.finish(), &mut spents),
-        None => LeftBy::nothing(2),
-    };
-    let one = hand_in(first.finish(), &mut spents);
-    let shown = Shown::Steps(Played::of(wrong, rows.len(), [one, two]));
-    Left { spents, shown }
 }

@@ -2,12 +2,13 @@
 //! events of the history, and has to give the history's replies. It has heard the entries that were cut off; if there
 //! are none, it is a fresh one.
 use super::calls::{Call, Happens, Heard, is_known, make_call_into, number};
-use crate::playing::{Case, Ending, Left, Play, Shown, told};
 use left_right::Absorb;
 use lg_agent::{AgentName, Pass, Refusal, Spent};
 use lg_detector::{Event, Reply};
+use lg_playing::{Case, Ending, Left, Play, told};
 use lg_view::{Published, Update};
 use std::alloc::Global;
+use std::rt;
 use std::sync::{Mutex, Wait};
 use std::thread::{Threads, scope, scope_env};
 
@@ -235,14 +236,37 @@ fn hand_in<A: AgentName, R: Wait>(rt: &R, done: &Mutex<Done<A>>, spent: Spent<A>
     }
 }
 
+/// Each pass has a task, in a thread of its own.
+#[derive(Clone, Copy)]
+struct Tasks<'a>(&'a [Task]);
+
+impl<'t> Play for Tasks<'t> {
+    /// What the calls of the threads came to.
+    type Seen = Tally;
+
+    fn play<A, R>(
+        self,
+        rt: &R,
+        alloc: Global,
+        passes: Vec<Pass<'_, A>>,
+        spents: Vec<Spent<A>>,
+    ) -> Left<A, Tally>
+    where
+        A: AgentName + Send + Sync,
+        R: Threads + Wait + rt::Clock + Sync,
+    {
+        work_all(rt, alloc, passes, self.0, spents)
+    }
+}
+
 /// A thread for each pass, each with its task.
-pub fn work_all<A: AgentName + Send + Sync, R: Threads + Wait + Sync>(
+fn work_all<A: AgentName + Send + Sync, R: Threads + Wait + Sync>(
     rt: &R,
     alloc: Global,
     passes: Vec<Pass<'_, A>>,
     tasks: &[Task],
     spents: Vec<Spent<A>>,
-) -> Left<A> {
+) -> Left<A, Tally> {
     let done = Mutex::new(Done {
         spents,
         tally: Tally::default(),
@@ -263,22 +287,19 @@ pub fn work_all<A: AgentName + Send + Sync, R: Threads + Wait + Sync>(
         }
     });
     let Done { spents, tally } = done.into_inner();
-    let shown = Shown::Threads(tally);
-    Left { spents, shown }
+    let seen = Some(tally);
+    Left { spents, seen }
 }
 
 /// What the calls of threads with these tasks came to, and how their agent ended.
 fn played<R>(rt: &R, alloc: Global, limit: u64, tasks: &[Task]) -> Option<(Tally, Ending)>
 where
-    R: Threads + Wait + std::rt::Clock + Sync,
+    R: Threads + Wait + rt::Clock + Sync,
 {
-    let mut case = Case::new(tasks.len(), Play::Threads(tasks));
+    let mut case = Case::new(tasks.len(), Tasks(tasks));
     case.limit = limit;
     let outcome = told(rt, alloc, case).ok()?;
-    match outcome.shown {
-        Shown::Threads(tally) => Some((tally, outcome.ending)),
-        _ => None,
-    }
+    Some((outcome.seen?, outcome.ending))
 }
 
 /// How many calls each thread makes, what it does when the history is full, how many entries there are in the end,

@@ -1,10 +1,11 @@
 //! Agents with room for three entries. Some entries are cut off.
+use super::calls::Call;
 use super::calls::Happens::Health;
-use super::calls::{Call, Row};
 use super::rows::{case, play};
+use super::steps::Row;
 use super::wanted::Want::{self, Healthy, Number, Refused};
-use crate::playing::Ending;
 use lg_agent::{CloseFault, Refusal};
+use lg_playing::Ending;
 
 const FULL: Want = Refused(Refusal::HistoryFull(3));
 

@@ -1,9 +1,9 @@
 //! Calls of seats that an agent of one place doesn't have.
 ghost use Rattle.std.specs.Prelude.{◌≡◌};
 
-use crate::playing::config;
 use lg_agent::{AgentName, Kept, Refusal};
 use lg_detector::Event;
+use lg_playing::config;
 use lg_testing::at;
 use lg_view::UnnamedBook;
 use std::alloc::Global;

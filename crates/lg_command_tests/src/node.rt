@@ -1,7 +1,7 @@
 //! The loops of a node over links, clocks and dice in memory, and a node over UDP.
-pub mod alone;
+mod alone;
 mod asking;
-pub mod both;
+mod both;
 mod clocks;
 mod dice;
 mod links;
@@ -9,5 +9,5 @@ mod loops;
 mod machine;
 mod receiving;
 mod refused_memory;
-pub mod rotating;
+mod rotating;
 mod ticking;

@@ -2,8 +2,8 @@
 use super::alone::{BOUND, Calls, Run, Want};
 use super::clocks::Pauses;
 use super::links::{Call, Spelled};
-use crate::playing::{Case, told};
 use lg_node::Why;
+use lg_playing::{Case, told};
 
 /// The first Ping of b, for c.
 const PING_OF_C: Call = Call::Send {
@@ -65,7 +65,7 @@ fn refused<'a>(want: Want<'a>, calls: &'a [Call]) -> Want<'a> {
 }
 
 /// A loop that knows this many others. Its link fails at the call `fails_at`, counted from 1, or at none if that is 0.
-fn knows<'a>(until: u64, others: u8, fails_at: u64) -> Case<'a> {
+fn knows(until: u64, others: u8, fails_at: u64) -> Case<Run> {
     let mut run = Run::ticking(until);
     run.script.fails_at = fails_at;
     let mut case = run.case();
@@ -74,7 +74,7 @@ fn knows<'a>(until: u64, others: u8, fails_at: u64) -> Case<'a> {
 }
 
 /// A loop that knows c at port 0, to which its link can't send.
-fn knows_at_port_0<'a>(until: u64) -> Case<'a> {
+fn knows_at_port_0(until: u64) -> Case<Run> {
     let mut run = Run::ticking(until);
     run.script.refuses = Some(0);
     let mut case = run.case();
@@ -84,7 +84,7 @@ fn knows_at_port_0<'a>(until: u64) -> Case<'a> {
 }
 
 /// A loop that knows c. It begins at a moment, after a call at 5000.
-fn goes_back<'a>(now: u64) -> Case<'a> {
+fn goes_back(now: u64) -> Case<Run> {
     let mut run = Run::ticking(5501);
     run.called_at = Some(5000);
     run.now = now;
@@ -94,7 +94,7 @@ fn goes_back<'a>(now: u64) -> Case<'a> {
 }
 
 /// A loop whose history has room for the opening and one tick. At the second tick it is rotated.
-fn short<'a>() -> Case<'a> {
+fn short() -> Case<Run> {
     let mut case = Run::ticking(1010).case();
     case.limit = 2;
     case

@@ -1,5 +1,6 @@
 //! A clock and dice in memory.
-use lg_node::{Clock, Dice};
+use lg_clock::Clock;
+use lg_node::Dice;
 use lg_testing::at;
 use lg_timing::Moment;
 use std::sync::atomic::AtomicU64;

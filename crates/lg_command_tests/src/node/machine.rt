@@ -1,5 +1,5 @@
 //! The machine's clock, compared with the instants of the machine, by which it counts.
-use lg_node::{Clock, MachineClock};
+use lg_clock::{Clock, MachineClock};
 use std::time::Instant;
 use std::{io, rt};
 

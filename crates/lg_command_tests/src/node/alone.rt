@@ -2,15 +2,17 @@
 use super::clocks::{MemoryClock, Pauses};
 use super::links::{Call, MemoryLink, QUIET, Script};
 use super::loops::{receive, tick};
-use crate::agent::calls::{Happens, make_call};
-use crate::playing::{Case, Left, Outcome, Play, Shown, last_pass};
 use arrayvec::ArrayVec;
 use lg_agent::{AgentName, Pass, Spent};
 use lg_node::{End, Ended, Why};
+use lg_playing::{Case, Left, Outcome, Play, last_pass};
+use lg_testing::at;
 use std::alloc::Global;
+use std::rt;
 use std::sync::Wait;
 use std::sync::atomic::AtomicBool;
 use std::sync::atomic::Ordering::SeqCst;
+use std::thread::Threads;
 
 /// How many turns a loop may make.
 pub(super) const BOUND: u64 = 100;
@@ -58,8 +60,8 @@ impl Run {
     }
 
     /// An agent of one place with this run.
-    pub(super) fn case<'a>(self) -> Case<'a> {
-        Case::new(1, Play::Loop(self))
+    pub(super) fn case(self) -> Case<Run> {
+        Case::new(1, self)
     }
 }
 
@@ -105,7 +107,7 @@ fn run_pass<A: AgentName, R: Wait>(
 ) -> (LoopSeen, Spent<A>) {
     let mut pass = pass;
     if let Some(moment) = run.called_at {
-        let _refused = make_call(rt, alloc, &mut pass, Happens::Health(moment)).is_err();
+        let _refused = pass.health(rt, alloc, at(moment)).is_err();
     }
     let stop = AtomicBool::new(false);
     let clock = MemoryClock::new(run.now);
@@ -123,19 +125,27 @@ fn run_pass<A: AgentName, R: Wait>(
     (seen, spent)
 }
 
-/// Runs the loop with the last pass.
-pub fn run_alone<A: AgentName, R: Wait>(
-    rt: &R,
-    alloc: Global,
-    passes: Vec<Pass<'_, A>>,
-    run: Run,
-    spents: Vec<Spent<A>>,
-) -> Left<A> {
-    let Some(pass) = last_pass(passes) else {
-        return Left::nothing(spents);
-    };
-    let (seen, spent) = run_pass(rt, alloc, pass, run);
-    Left::with(spents, spent, Shown::Loop(seen))
+/// The last pass runs one loop of a node.
+impl Play for Run {
+    type Seen = LoopSeen;
+
+    fn play<A, R>(
+        self,
+        rt: &R,
+        alloc: Global,
+        passes: Vec<Pass<'_, A>>,
+        spents: Vec<Spent<A>>,
+    ) -> Left<A, LoopSeen>
+    where
+        A: AgentName + Send + Sync,
+        R: Threads + Wait + rt::Clock + Sync,
+    {
+        let Some(pass) = last_pass(passes) else {
+            return Left::nothing(spents);
+        };
+        let (seen, spent) = run_pass(rt, alloc, pass, self);
+        Left::with(spents, spent, seen)
+    }
 }
 
 /// What the calls of a link should be.
@@ -191,15 +201,15 @@ impl<'a> Want<'a> {
     }
 
     /// Whether an outcome is what it should be. Whatever the end, the others are told to stop.
-    pub(super) fn is(&self, outcome: &Outcome) -> bool {
+    pub(super) fn is(&self, outcome: &Outcome<LoopSeen>) -> bool {
         let end = End {
             why: self.why,
             dropped: self.dropped,
             unsent: self.unsent,
             turns: self.turns,
         };
-        match &outcome.shown {
-            Shown::Loop(seen) => {
+        match &outcome.seen {
+            Some(seen) => {
                 seen.end == end
                     && seen.received == self.received
                     && seen.failures == self.failures
@@ -211,7 +221,7 @@ impl<'a> Want<'a> {
                     && outcome.ending.base == Some(self.base)
                     && outcome.ending.replayed == Some(self.entries)
             }
-            _ => false,
+            None => false,
         }
     }
 }
