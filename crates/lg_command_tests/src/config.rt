@@ -15,6 +15,8 @@ struct Row {
     octets: [u8; 4],
     port: u16,
     dice: u64,
+    /// `pull_ms` and `stall_ms`.
+    own: [u64; 2],
     /// The numbers, in the order of the keys: from `interval_ms` to `history_limit`, and `wire`.
     numbers: [u64; 11],
     seeds: &'static [Known],
@@ -40,6 +42,8 @@ lambda = 5
 nack_thousandths = 6
 history_limit = 7
 wire = 2
+pull_ms = 3600000
+stall_ms = 0
 seeds = [\"c@127.0.0.1:7002\", \"a@1.2.3.4:5\"]
 ";
 
@@ -70,14 +74,15 @@ fn is_of(node: &NodeConfig, row: &Row) -> bool {
     config.name == name(b"b")
         && (config.addr.octets, config.addr.port, node.dice) == (row.octets, row.port, row.dice)
         && numbers == row.numbers
+        && [node.pull_ms, node.stall_ms] == row.own
         && config.seeds.len() == row.seeds.len()
         && config.seeds.iter().zip(row.seeds).all(|(seed, known)| {
             seed.name == name(known.0) && (seed.addr.octets, seed.addr.port) == (known.1, known.2)
         })
 }
 
-/// Each value of some files: one with only its name, one that writes the defaults, one with all keys, and one whose
-/// address and port the program can't have.
+/// Each value of some files: one with only its name, one that writes the defaults, one with all keys, one at the other
+/// edges of the node's own numbers, and one whose address and port the program can't have.
 #[test]
 fn each_value(rt: HostRuntime) {
     let alone = Row {
@@ -85,13 +90,14 @@ fn each_value(rt: HostRuntime) {
         octets: [127, 0, 0, 1],
         port: 7946,
         dice: 1,
+        own: [30_000, 100],
         numbers: USUAL,
         seeds: &[],
     };
     let rows = [
         alone,
         Row {
-            text: "name = \"b\"\naddress = \"127.0.0.1\"\nport = 7946\ndice = 1",
+            text: "name = \"b\"\naddress = \"127.0.0.1\"\nport = 7946\ndice = 1\npull_ms = 30000\nstall_ms = 100",
             ..alone
         },
         Row {
@@ -99,8 +105,14 @@ fn each_value(rt: HostRuntime) {
             octets: [10, 1, 2, 3],
             port: 7001,
             dice: 42,
+            own: [3_600_000, 0],
             numbers: [200, 50, 0, 1, 2, 3, 4, 5, 6, 7, 2],
             seeds: &[(b"c", [127, 0, 0, 1], 7002), (b"a", [1, 2, 3, 4], 5)],
+        },
+        Row {
+            text: "name = \"b\"\npull_ms = 0\nstall_ms = 60000",
+            own: [0, 60_000],
+            ..alone
         },
         Row {
             text: "name = \"b\"\naddress = \"0000000000000001.02.3.4\"\nport = 0x10\ndice = 9223372036854775807",

@@ -16,10 +16,11 @@ use Rattle.toml.specs.View.{items_view}
 use Rattle.toml.specs.declared.value.Value.{Value}
 use Rattle.lg_config.specs.declared.fault.FileFault.TheVariants as fault
 use Rattle.lg_config.specs.declared.node.NodeConfig.{NodeConfig}
+use Rattle.lg_config.specs.declared.node_keys.NodeKey.TheVariants.{PullMs, StallMs}
 use Rattle.lg_config.specs.Meaning.Answer.{meaning_of, unless_config, unless_node}
 use Rattle.lg_config.specs.Meaning.Keys.{are_right_keys}
 use Rattle.lg_config.specs.Meaning.Settings.{addr_in, dice_in, name_in, seeds_at, seeds_of_items, settings_of}
-use Rattle.lg_config.specs.Meaning.Settings.{with_numbers, with_seeds}
+use Rattle.lg_config.specs.Meaning.Settings.{own_number_in, with_numbers, with_seeds}
 use Rattle.lg_config.specs.Support.Reading.{fault_of_many, kept, with_first_seeds}
 use Rattle.lg_config.proofs.SeedLaws.{seeds-counted}
 
@@ -54,7 +55,7 @@ unfolding settings_of
 settings-seeds m node is = go (name_in m) (addr_in m) (dice_in m) (seeds_of_items (seeds_at m)) is
   where
     go : (name : Option (List ℕ)) (addr : Option Addr) (dice : Option ℕ) (seeds : Option (List Seed))
-        → option_and_then (λ n. option_and_then (λ a. option_and_then (λ d. option_and_then (λ ss. Some (let made : NodeConfig = record { config = with_seeds ss (with_numbers m (defaults n a)); dice = d } in made)) seeds) dice) addr) name ≡ Some node
+        → option_and_then (λ n. option_and_then (λ a. option_and_then (λ d. option_and_then (λ ss. Some (let made : NodeConfig = record { config = with_seeds ss (with_numbers m (defaults n a)); dice = d; pull_ms = own_number_in PullMs m; stall_ms = own_number_in StallMs m } in made)) seeds) dice) addr) name ≡ Some node
         → seeds ≡ Some node.config.seeds.items
     go None addr dice seeds e = absurd cc
     go (Some n) None dice seeds e = absurd cc

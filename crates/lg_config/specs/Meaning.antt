@@ -4,5 +4,6 @@ pub mod Bounds
 pub mod Examples
 pub mod Faults
 pub mod Keys
+pub mod NodeKeys
 pub mod Settings
 pub mod Texts

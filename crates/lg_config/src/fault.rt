@@ -7,6 +7,7 @@ ghost use Rattle.lg_config.specs.Meaning.Faults.{fault_number};
 ghost use Rattle.lg_config.specs.declared.fault.ReadFault.TheVariants.{File};
 
 use crate::document::MAX_FILE;
+use crate::node_keys::{MAX_PULL_MS, MAX_STALL_MS};
 use lg_timing::ConfigFault;
 use thiserror::Error;
 
@@ -26,10 +27,16 @@ pub enum FileFault {
     /// A name, an address, a port or a seed is out of its form, or the dice are negative.
     #[error("a name, an address, a port or a seed is out of its form, or the dice are negative")]
     Value,
+    /// `pull_ms` isn't 0 to 3,600,000.
+    #[error("pull_ms has to be 0 to {most}", most = MAX_PULL_MS)]
+    Pull,
+    /// `stall_ms` isn't 0 to 60,000.
+    #[error("stall_ms has to be 0 to {most}", most = MAX_STALL_MS)]
+    Stall,
 }
 
 impl FileFault {
-    /// The number of the fault: that of [`ConfigFault::number`], or 12, 13 or 14 for the others.
+    /// The number of the fault: that of [`ConfigFault::number`], or 12, 13, 14, 16 or 17 for the others.
     pub fn number(self) -> u8
         ensures { result ≡ fault_number self }
     {
@@ -38,6 +45,8 @@ impl FileFault {
             FileFault::Syntax => 12,
             FileFault::Key => 13,
             FileFault::Value => 14,
+            FileFault::Pull => 16,
+            FileFault::Stall => 17,
         }
     }
 }

@@ -7,6 +7,7 @@ ghost use Rattle.std.specs.List.{list_all};
 ghost use Rattle.toml.specs.View.{view, items_view, table_view};
 ghost use Rattle.lg_config.specs.Meaning.Keys.{are_right_keys, are_texts, is_of_kind, kind_of_key};
 
+use crate::node_keys::NodeKey;
 use lg_timing::Key;
 use toml::{Table, Value};
 
@@ -37,6 +38,7 @@ fn kind_of(key: &str) -> Option<Kind>
         "port" | "dice" => Some(Kind::Number),
         "seeds" => Some(Kind::Texts),
         _ if Key::named(key.as_bytes()).is_some() => Some(Kind::Number),
+        _ if NodeKey::named(key.as_bytes()).is_some() => Some(Kind::Number),
         _ => None,
     }
 }

@@ -2,16 +2,17 @@
 //!
 //! Defined in: `specs/Meaning/Answer.antt`, `lg_timing/specs/Meaning/Config.antt`.
 //! Tested in: `cases/config.case`, `lg_command_tests/src/config.rt`.
-ghost use Rattle.std.specs.Prelude.{◌≡◌, IfOk};
+ghost use Rattle.std.specs.Prelude.{◌≡◌, IfOk, None};
 ghost use Rattle.toml.specs.View.{table_view};
 ghost use Rattle.lg_timing.specs.Meaning.Config.{IsChecked};
-ghost use Rattle.lg_config.specs.Meaning.Answer.{meaning_of, IsAnswer};
+ghost use Rattle.lg_config.specs.Meaning.Answer.{meaning_of, unless_broken, IsAnswer};
 ghost use Rattle.lg_config.specs.Support.Reading.{fault_of_many};
 
 use crate::document::table_in;
 use crate::fault::{FileFault, ReadFault};
 use crate::keys::are_right_keys;
 use crate::lookup::seeds_at;
+use crate::node_keys::{NODE_KEYS, NodeKey};
 use crate::settings::settings_in;
 use lg_timing::{Config, ConfigFault, MAX_SEEDS};
 use std::alloc::Global;
@@ -24,6 +25,12 @@ pub struct NodeConfig {
     pub config: Config,
     /// The number that the dice start from, 0 to 9,223,372,036,854,775,807. The dice choose members.
     pub dice: u64,
+    /// How often the node asks a member that it knows for its table, in milliseconds: 0 to 3,600,000. With 0 it asks
+    /// nobody after its start.
+    pub pull_ms: u64,
+    /// The most by which the node's clock passes a loop's last turn, in milliseconds: 0 to 60,000. With 0 its clock is
+    /// the machine's.
+    pub stall_ms: u64,
 }
 
 /// The fault of a table with too many seeds, given what the check of a configuration with the first of them found. The
@@ -34,6 +41,16 @@ fn fault_of_many(checked: Result<(), ConfigFault>) -> ConfigFault
     match checked {
         Err(fault) if fault.number() < ConfigFault::Seeds.number() => fault,
         _ => ConfigFault::Seeds,
+    }
+}
+
+/// Settings, or the fault of a number of the node's own that is out of its range.
+fn unless_broken(node: NodeConfig, broken: Option<NodeKey>) -> Result<NodeConfig, FileFault>
+    ensures { result ≡ unless_broken node broken }
+{
+    match broken {
+        Some(key) => Err(key.row().fault),
+        None => Ok(node),
     }
 }
 
@@ -50,24 +67,51 @@ fn meaning_in(table: &Table) -> Result<NodeConfig, FileFault>
         return Err(FileFault::Config(fault_of_many(checked)));
     }
     match checked {
-        Ok(()) => Ok(node),
+        Ok(()) => {
+            let broken = node.own_broken();
+            unless_broken(node, broken)
+        }
         Err(fault) => Err(FileFault::Config(fault)),
     }
 }
 
 impl NodeConfig {
+    ghost use Rattle.lg_config.specs.Meaning.NodeKeys.{own_broken, own_number};
+
+    /// The number of a key of the node's own.
+    pub fn own_number(&self, key: NodeKey) -> u64
+        ensures { result ≡ own_number key self.now }
+    {
+        match key {
+            NodeKey::PullMs => self.pull_ms,
+            NodeKey::StallMs => self.stall_ms,
+        }
+    }
+
+    /// The first key of the node's own whose number is out of its range, if there is one.
+    fn own_broken(&self) -> Option<NodeKey>
+        ensures { result ≡ own_broken self.now }
+    {
+        NODE_KEYS
+            .iter()
+            .copied()
+            .find(|key| !key.allows(self.own_number(*key)))
+    }
+
     /// The configuration that the bytes of a file mean.
     ///
-    /// The file is TOML. Its keys are `name`, which it must have, `address`, `port`, `dice`, `seeds` and the
-    /// numbers of [`Config`], by the names of their fields. The error is [`ReadFault::File`] with the first of these:
-    /// [`FileFault::Syntax`], [`FileFault::Key`], [`FileFault::Value`] and [`FileFault::Config`]. Or it is
-    /// [`ReadFault::NoMemory`], and then nothing is known of the file.
+    /// The file is TOML. Its keys are `name`, which it must have, `address`, `port`, `dice`, `seeds`, the numbers of
+    /// [`Config`] and those of [`NodeKey`], by the names of their fields. The error is [`ReadFault::File`] with the
+    /// first of these: [`FileFault::Syntax`], [`FileFault::Key`], [`FileFault::Value`], [`FileFault::Config`],
+    /// [`FileFault::Pull`] and [`FileFault::Stall`]. Or it is [`ReadFault::NoMemory`], and then nothing is known of the
+    /// file.
     ///
     /// Memory is allocated for the table that the file spells, and is freed again. For a file of more than
     /// [`MAX_FILE`](crate::MAX_FILE) bytes none is allocated.
     pub fn read(alloc: Global, bytes: &[u8]) -> Result<NodeConfig, ReadFault>
         ensures answer { IsAnswer bytes.now result }
         ensures checked { IfOk result (λ node. IsChecked node.config) }
+        ensures within { IfOk result (λ node. own_broken node ≡ None) }
     {
         let table = table_in(alloc, bytes)?;
         Ok(meaning_in(&table)?)

@@ -6,12 +6,13 @@ ghost use Rattle.std.specs.Prelude.{◌≡◌};
 ghost use Rattle.std.specs.Option.{option_map};
 ghost use Rattle.toml.specs.View.{table_view};
 ghost use Rattle.lg_config.specs.Meaning.Settings.{addr_in, dice_in, name_in, settings_of};
-ghost use Rattle.lg_config.specs.Meaning.Settings.{with_keys, with_numbers};
+ghost use Rattle.lg_config.specs.Meaning.Settings.{own_number_in, with_keys, with_numbers};
 ghost use Rattle.lg_config.specs.Support.Reading.{with_first_seeds};
 
 use crate::keys::NAME;
 use crate::lookup::{integer_at, number_at, seeds_at, text_at};
 use crate::node::NodeConfig;
+use crate::node_keys::NodeKey;
 use crate::seeds::first_seeds;
 use crate::texts::{name_in, octets_in, port_among};
 use lg_rules::{Addr, Name};
@@ -78,6 +79,13 @@ fn with_numbers(table: &Table, usual: Config) -> Config
     with_keys(table, &KEYS, usual)
 }
 
+/// A number of the node's own, or its default.
+fn own_number_at(table: &Table, key: NodeKey) -> u64
+    ensures { result ≡ own_number_in key (table_view table.now) }
+{
+    number_at(table, key.name(), key.row().default)
+}
+
 /// All that a table says, but only the first 16 seeds. None if a value is out of its form.
 #[tactic(auto, unfolding(crate::specs::Meaning::Settings::settings_of))]
 pub(crate) fn settings_in(table: &Table) -> Option<NodeConfig>
@@ -89,5 +97,10 @@ pub(crate) fn settings_in(table: &Table) -> Option<NodeConfig>
     let seeds = first_seeds(seeds_at(table))?;
     let config = with_numbers(table, Config::new(name, addr));
     let config = Config { seeds, ..config };
-    Some(NodeConfig { config, dice })
+    Some(NodeConfig {
+        config,
+        dice,
+        pull_ms: own_number_at(table, NodeKey::PullMs),
+        stall_ms: own_number_at(table, NodeKey::StallMs),
+    })
 }

@@ -75,7 +75,7 @@ const ENDS: [(Of, u8, &str); 24] = [
 ];
 
 /// Each fault of a file with its number and its line.
-const FAULTS: [(FileFault, u8, &str); 15] = [
+const FAULTS: [(FileFault, u8, &str); 17] = [
     (
         FileFault::Config(ConfigFault::Interval),
         1,
@@ -111,6 +111,8 @@ const FAULTS: [(FileFault, u8, &str); 15] = [
     (FileFault::Key, 13, "lg: config 13\n"),
     (FileFault::Value, 14, "lg: config 14\n"),
     (FileFault::Config(ConfigFault::Wire), 15, "lg: config 15\n"),
+    (FileFault::Pull, 16, "lg: config 16\n"),
+    (FileFault::Stall, 17, "lg: config 17\n"),
 ];
 
 /// Each end has its status and its line, and each fault of a file its number, the status 3 and its line.

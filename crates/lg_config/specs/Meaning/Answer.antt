@@ -1,5 +1,5 @@
 -- What reading a configuration file answers. If there are several faults, the first of these counts: of the document,
--- of its keys and their types, of the form of a value, of the configuration's own check.
+-- of its keys and their types, of the form of a value, of the configuration's own check, of the node's own numbers.
 use Rattle.std.specs.Prelude.{ℕ, Bool, ◌&&◌, nat_le, List, length, Option, Some, None, Result, Ok, Err}
 use Rattle.std.specs.Prelude.{if◌then◌else◌, ◌≡◌, true}
 use Rattle.std.specs.Str.{is_utf8}
@@ -13,8 +13,10 @@ use Rattle.lg_config.specs.declared.fault.FileFault.TheVariants as fault
 use Rattle.lg_config.specs.declared.fault.ReadFault.{ReadFault}
 use Rattle.lg_config.specs.declared.fault.ReadFault.TheVariants.{NoMemory, File}
 use Rattle.lg_config.specs.declared.node.NodeConfig.{NodeConfig}
+use Rattle.lg_config.specs.declared.node_keys.NodeKey.{NodeKey}
 use Rattle.lg_config.specs.Meaning.Bounds.{most_bytes}
 use Rattle.lg_config.specs.Meaning.Keys.{are_right_keys}
+use Rattle.lg_config.specs.Meaning.NodeKeys.{node_row_of, own_broken}
 use Rattle.lg_config.specs.Meaning.Settings.{settings_of}
 
 -- whether bytes are read as TOML: they are few enough, and UTF-8
@@ -25,12 +27,17 @@ is_text_file bytes = nat_le (length bytes) most_bytes && is_utf8 bytes
 abbrev pub document_of : List ℕ → Option Members
 document_of bytes = if is_text_file bytes then parse_document bytes else None
 
--- settings, or the fault that their check finds
+-- settings, or the fault of the first of the node's own numbers that is out of its range, if one is
+abbrev pub unless_broken : NodeConfig → Option NodeKey → Result NodeConfig FileFault
+unless_broken node None = Ok node
+unless_broken node (Some key) = Err (node_row_of key).fault
+
+-- settings, or the fault that the check of their configuration finds, or that of the node's own numbers
 abbrev pub unless_config : NodeConfig → Result (Unit {0}) ConfigFault → Result NodeConfig FileFault
-unless_config node (Ok passed) = Ok node
+unless_config node (Ok passed) = unless_broken node (own_broken node)
 unless_config node (Err broken) = Err (fault.Config broken)
 
--- settings, or their fault: a value is out of its form, or their check finds a fault
+-- settings, or their fault: a value is out of its form, or a check finds a fault
 abbrev pub unless_node : Option NodeConfig → Result NodeConfig FileFault
 unless_node None = Err fault.Value
 unless_node (Some node) = unless_config node (check_of node.config)

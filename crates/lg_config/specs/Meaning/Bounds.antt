@@ -10,6 +10,14 @@ most_bytes = 65536
 abbrev pub most_octet : ℕ
 most_octet = 255
 
+-- the longest times of the node's own, in milliseconds: from one Pull of a member to the next, and by which its clock
+-- passes a loop's last turn
+abbrev pub most_pull_ms : ℕ
+most_pull_ms = 3600000
+
+abbrev pub most_stall_ms : ℕ
+most_stall_ms = 60000
+
 -- what stands for a negative number, which no key accepts: the greatest number of 64 bits
 abbrev pub out_of_range : ℕ
 out_of_range = 2 ^ 64 - 1

@@ -39,7 +39,7 @@ b-by-default = defaults (98 ∷ []) (local 7946)
 
 -- a file that means this configuration, with the default dice
 abbrev means : Config → Result NodeConfig FileFault
-means config = Ok record { config = config; dice = 1 }
+means config = Ok record { config = config; dice = 1; pull_ms = 30000; stall_ms = 100 }
 
 -- ---- files that mean a configuration
 
@@ -57,8 +57,11 @@ timed = codes "interval_ms = 200\ntimeout_ms = 50\nalpha = 2\nbeta = 3\nnack_tho
 abbrev counted : List ℕ
 counted = codes "indirect = 0\nmax_score = 1\nconfirmations = 4\nlambda = 5\nhistory_limit = 7\nwire = 2\n"
 
+abbrev owned : List ℕ
+owned = codes "pull_ms = 0\nstall_ms = 60000\n"
+
 all-keys :
-    answer_of (b-with (addressed ++ timed ++ counted))
+    answer_of (b-with (addressed ++ timed ++ counted ++ owned))
     ≡ Ok record {
       config =
           record (defaults (98 ∷ []) (record { octets = 10 ∷ 0 ∷ 0 ∷ 7 ∷ []; port = 1 })) {
@@ -76,6 +79,8 @@ all-keys :
             seeds = record { items = record { name = 99 ∷ []; addr = local 7001 } ∷ [] };
           };
       dice = 9223372036854775807;
+      pull_ms = 0;
+      stall_ms = 60000;
     }
 unfolding on_files
 all-keys = refl
@@ -197,6 +202,29 @@ seeds-17-and-wire = refl
 third-version : answer_of (b-with (codes "wire = 3")) ≡ Err (fault.Config Wire)
 unfolding on_files
 third-version = refl
+
+-- ---- files with a number of the node's own out of its range
+
+rare-pulls : answer_of (b-with (codes "pull_ms = 3600001")) ≡ Err fault.Pull
+unfolding on_files
+rare-pulls = refl
+
+negative-pulls : answer_of (b-with (codes "pull_ms = -1")) ≡ Err fault.Pull
+unfolding on_files
+negative-pulls = refl
+
+long-stall : answer_of (b-with (codes "stall_ms = 60001")) ≡ Err fault.Stall
+unfolding on_files
+long-stall = refl
+
+-- they are judged last, in this order
+pulls-before-stall : answer_of (b-with (codes "stall_ms = -1\npull_ms = -1")) ≡ Err fault.Pull
+unfolding on_files
+pulls-before-stall = refl
+
+wire-before-pulls : answer_of (b-with (codes "pull_ms = -1\nwire = 3")) ≡ Err (fault.Config Wire)
+unfolding on_files
+wire-before-pulls = refl
 
 -- ---- texts
 

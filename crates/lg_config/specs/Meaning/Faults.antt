@@ -2,10 +2,12 @@
 use Rattle.std.specs.Prelude.{ℕ}
 use Rattle.lg_timing.specs.Meaning.Keys.{config_fault_number}
 use Rattle.lg_config.specs.declared.fault.FileFault.{FileFault}
-use Rattle.lg_config.specs.declared.fault.FileFault.TheVariants.{Config, Syntax, Key, Value}
+use Rattle.lg_config.specs.declared.fault.FileFault.TheVariants.{Config, Syntax, Key, Value, Pull, Stall}
 
 abbrev pub fault_number : FileFault → ℕ
 fault_number (Config fault) = config_fault_number fault
 fault_number Syntax = 12
 fault_number Key = 13
 fault_number Value = 14
+fault_number Pull = 16
+fault_number Stall = 17

@@ -6,6 +6,7 @@ use Rattle.std.specs.Str.{bytes_eq}
 use Rattle.toml.specs.Data.{Data, Items, no_items, item, Members, no_members, member, get_member}
 use Rattle.toml.specs.Data.{as_str, as_integer, as_array}
 use Rattle.lg_timing.specs.Meaning.Keys.{key_named}
+use Rattle.lg_config.specs.Meaning.NodeKeys.{node_key_named}
 use Rattle.lg_config.specs.declared.keys.Kind.{Kind}
 use Rattle.lg_config.specs.declared.keys.Kind.TheVariants.{Text, Number, Texts}
 
@@ -13,7 +14,7 @@ use Rattle.lg_config.specs.declared.keys.Kind.TheVariants.{Text, Number, Texts}
 abbrev pub text_keys : List (List ℕ)
 text_keys = codes "name" ∷ codes "address" ∷ []
 
--- the keys whose value is a whole number, besides those of the configuration's numbers
+-- the keys whose value is a whole number, besides those of the member's numbers and the node's own
 abbrev pub number_keys : List (List ℕ)
 number_keys = codes "port" ∷ codes "dice" ∷ []
 
@@ -32,6 +33,7 @@ kind_of_key key =
     else if is_listed number_keys key then Some Number
     else if bytes_eq key texts_key then Some Texts
     else if is_some (key_named key) then Some Number
+    else if is_some (node_key_named key) then Some Number
     else None
 
 abbrev pub is_text : Data → Bool

@@ -10,8 +10,11 @@ use Rattle.lg_timing.specs.declared.config.Config.{Config}
 use Rattle.lg_timing.specs.declared.config.Seed.{Seed}
 use Rattle.lg_timing.specs.declared.keys.Key.{Key}
 use Rattle.lg_config.specs.declared.node.NodeConfig.{NodeConfig}
+use Rattle.lg_config.specs.declared.node_keys.NodeKey.{NodeKey}
+use Rattle.lg_config.specs.declared.node_keys.NodeKey.TheVariants.{PullMs, StallMs}
 use Rattle.lg_config.specs.Meaning.Bounds.{out_of_range, default_address, default_port, default_dice}
 use Rattle.lg_config.specs.Meaning.Keys.{texts_key}
+use Rattle.lg_config.specs.Meaning.NodeKeys.{node_key_name, node_row_of}
 use Rattle.lg_config.specs.Meaning.Texts.{◌>>=◌, port_among, octets_of, name_of_setting, seed_of_text}
 
 -- the text at a key, and the whole number at a key, if there is one
@@ -79,6 +82,10 @@ with_keys (key ∷ others) members usual = with_keys others members (with_key ke
 unfoldable pub with_numbers : Members → Config → Config
 with_numbers members usual = with_keys keys members usual
 
+-- a number of the node's own, or its default
+abbrev pub own_number_in : NodeKey → Members → ℕ
+own_number_in key members = number_at_key (node_key_name key) (node_row_of key).default members
+
 -- a configuration with these seeds
 abbrev pub with_seeds : List Seed → Config → Config
 with_seeds seeds config = record config { seeds = record { items = seeds } }
@@ -90,4 +97,9 @@ settings_of members = do
   addr ← addr_in members
   dice ← dice_in members
   seeds ← seeds_of_items (seeds_at members)
-  Some record { config = with_seeds seeds (with_numbers members (defaults name addr)); dice = dice }
+  Some record {
+    config = with_seeds seeds (with_numbers members (defaults name addr));
+    dice = dice;
+    pull_ms = own_number_in PullMs members;
+    stall_ms = own_number_in StallMs members;
+  }

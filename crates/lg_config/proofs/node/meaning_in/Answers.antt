@@ -1,7 +1,7 @@
 use Rattle.std.proofs.Common.{Err, ap, sym, ◌∙◌, rules}
 use Rattle.toml.specs.View.{table_view}
 use Rattle.lg_config.specs.declared.fault.FileFault.TheVariants as fault
-use Rattle.lg_config.specs.Meaning.Answer.{unless_config}
+use Rattle.lg_config.specs.Meaning.Answer.{unless_broken, unless_config}
 use Rattle.lg_config.specs.Support.Reading.{fault_of_many}
 use Rattle.lg_config.proofs.MeaningLaws.{judged-few, judged-many}
 use Rattle.lg_config.proofs.node.meaning_in.Goals as goal
@@ -13,7 +13,8 @@ returns-then-seeds_at-gt-MAX_SEEDS c =
 
 pub returns-in-Ok : goal.returns-in-Ok
 returns-in-Ok c =
-    ap (unless_config c.in_ok-node.node) c.in-Ok.ensures
+    c.unless_broken.ensures ∙ ap (unless_broken c.in_ok-node.node) c.own_broken-broken.ensures
+    ∙ ap (unless_config c.in_ok-node.node) c.in-Ok.ensures
     ∙ judged-few (table_view c.args.table.now) c.in_ok-node.node c.seeds_at.result.now (search rules) (sym c.in_ok-node.ensures.ok_part ∙ c.settings_in.ensures) c.seeds_at.ensures c.if-seeds_at-gt-MAX_SEEDS.false
 
 pub returns-in-Err : goal.returns-in-Err
