@@ -1,0 +1,212 @@
+"""Nodes of the built program that run, what they answer to a stranger, and the lines that they write.
+
+All sockets are UDP ports of 127.0.0.1.
+"""
+
+import ctypes
+import pathlib
+import random
+import signal
+import socket
+import subprocess
+import tempfile
+import time
+
+from packets import HOST, IN_A_PACKET, LONGEST, Record, ping, pull, read
+
+SECONDS = 30
+# The longest that a node of a group runs, in milliseconds, and that a check waits for what it isn't about, in seconds.
+LIFE_MS = 140_000
+PATIENCE = 60
+ANY = (HOST, 0)
+
+LIBC = ctypes.CDLL(None)
+PR_SET_PDEATHSIG = 1
+# The TCP ports that stand for the UDP ports which this process has taken.
+HELD = []
+
+
+# ---- Ports
+
+
+def bound_socket(place=ANY):
+    """A UDP socket at a place."""
+    opened = socket.socket(socket.AF_INET, socket.SOCK_DGRAM)
+    opened.bind(place)
+    return opened
+
+
+def is_taken(port):
+    """Whether a socket is bound to a port."""
+    try:
+        bound_socket((HOST, port)).close()
+    except OSError:
+        return True
+    return False
+
+
+def is_reserved(port):
+    """Takes a port for this process until its end, and says so, unless another process of these tests has taken it.
+
+    The TCP port of the same number stands for it: what is tested uses UDP alone.
+    """
+    holder = socket.socket(socket.AF_INET, socket.SOCK_STREAM)
+    try:
+        holder.bind((HOST, port))
+    except OSError:
+        holder.close()
+        return False
+    HELD.append(holder)
+    return not is_taken(port)
+
+
+def free_ports(count):
+    """Ports that are free, all different, and that the machine hands out to nobody: those are from 32768 on."""
+    found = []
+    while len(found) < count:
+        port = random.randrange(20_000, 32_000)
+        if port not in found and is_reserved(port):
+            found.append(port)
+    return found
+
+
+# ---- Nodes
+
+
+def file_of(name, port, seeds=(), keys=""):
+    """The configuration of a member, by the names and ports of its seeds, and by lines of further keys."""
+    known = ", ".join(f'"{seed}@{HOST}:{place}"' for seed, place in seeds)
+    return f'name = "{name}"\nport = {port}\nseeds = [{known}]\n{keys}'
+
+
+def end_with_parent():
+    """Lets the system kill this process once the one that started it has ended, however that was."""
+    LIBC.prctl(PR_SET_PDEATHSIG, signal.SIGKILL)
+
+
+class Node:
+    """A node of a configuration that runs, with these options of the command line.
+
+    Its input is empty unless it is to stay open until `end` or `close_input`. What it writes goes to a pipe, or to a
+    file that is open.
+    """
+
+    def __init__(self, program, text, *options, has_input=False, output=subprocess.PIPE):
+        with tempfile.NamedTemporaryFile("w", prefix="lg-node-", suffix=".toml", delete=False) as file:
+            file.write(text)
+        self.path = pathlib.Path(file.name)
+        self.ended = None
+        self.process = subprocess.Popen(
+            [program, "node", "--config", file.name, *options], stdout=output, stderr=subprocess.PIPE,
+            stdin=subprocess.PIPE if has_input else subprocess.DEVNULL, text=True, preexec_fn=end_with_parent)
+
+    def is_running(self):
+        return self.process.poll() is None
+
+    def close_input(self):
+        self.process.stdin.close()
+        # What reads the output later has nothing to write then.
+        self.process.stdin = None
+
+    def end(self, seconds=SECONDS):
+        """Its status, what it wrote and what it told, once it has ended; one that doesn't end is killed."""
+        if self.ended:
+            return self.ended
+        try:
+            output, errors = self.process.communicate(timeout=seconds)
+        except subprocess.TimeoutExpired:
+            self.process.kill()
+            output, errors = self.process.communicate()
+        self.path.unlink()
+        self.ended = self.process.returncode, output, errors
+        return self.ended
+
+    def kill(self):
+        """Ends it at once, without a word to the others."""
+        self.process.kill()
+        return self.end()
+
+
+# ---- A stranger's questions
+
+
+def asked(data, port, seconds=2.0):
+    """What the sender of a packet hears of the node at the port, within two seconds unless it says otherwise."""
+    with bound_socket() as sender:
+        sender.sendto(data, (HOST, port))
+        sender.settimeout(seconds)
+        try:
+            return sender.recv(LONGEST)
+        except TimeoutError:
+            return b""
+
+
+def wait_until(holds, seconds):
+    """Waits until something holds. Gives how many seconds that took, or None if it still doesn't hold after so many."""
+    begun = time.monotonic()
+    while not holds():
+        if time.monotonic() - begun > seconds:
+            return None
+        time.sleep(0.05)
+    return time.monotonic() - begun
+
+
+def wait_for(name, port):
+    """Waits until the node of a name answers at a port, for at most twenty seconds."""
+    return wait_until(lambda: asked(ping(1, name), port, 0.05), 20)
+
+
+def table_of(port):
+    """What the node at a port knows: the record of each member by its name. Nothing if it doesn't answer."""
+    known, after = {}, ""
+    while True:
+        records, _ = read(asked(pull(after), port))
+        known |= {it.member: it for it in records}
+        if len(records) < IN_A_PACKET:
+            return known
+        after = records[-1].member
+
+
+def statuses(port):
+    """What the node at a port knows: the status of each member by its name."""
+    return {name: record.status for name, record in table_of(port).items()}
+
+
+# ---- What a node writes
+
+
+def record_of(words):
+    """The record that the words `NAME STATUS INCARNATION ADDRESS` of a line tell, and perhaps `by ACCUSER`."""
+    name, status, incarnation, address = words[:4]
+    return Record(name, status, int(incarnation), int(address.rpartition(":")[2]))
+
+
+def told(text):
+    """What the whole lines of a node that is followed tell of its members, from the first to the last: the moment in
+    milliseconds, and the record."""
+    lines = [line.split() for line in text[:text.rfind("\n") + 1].splitlines()]
+    return [(int(words[0]), record_of(words[2:])) for words in lines if words[1] == "record"]
+
+
+def written_table(text):
+    """The members that a node writes at its end, by their names."""
+    lines = [line.split() for line in text.splitlines() if line.startswith("record ")]
+    return {words[1]: record_of(words[1:]) for words in lines}
+
+
+def faults_of_lines(text, at_the_end):
+    """What is wrong with the lines of a node: its last ones are older than its table, or one goes back."""
+    latest, last = {}, 0
+    for moment, record in told(text):
+        if moment < last:
+            return f"a line of {moment} ms came behind one of {last}"
+        last = moment
+        before = latest.get(record.member)
+        if before and record.incarnation < before.incarnation:
+            return f"{record} came behind {before} at {moment}"
+        latest[record.member] = record
+    written = written_table(text)
+    if written and written != latest:
+        return f"its lines end with {latest}, and its table is {written}"
+    older = [it for it in at_the_end.values() if it.member not in latest or latest[it.member].rank() < it.rank()]
+    return f"{older} were known, and its last lines are {latest}" if older else None
