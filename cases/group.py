@@ -1,0 +1,63 @@
+"""Groups of nodes that run."""
+
+from running import LIFE_MS, Node, file_of, free_ports, statuses, wait_for
+
+# How many members each node knows from the start.
+SEEDS = 2
+
+
+class Group:
+    """Nodes of one group. Each knows the first two from the start, and has dice of its own.
+
+    `own` has the port of each name, and `outer` the one at which the others know it. `keys` are lines of the
+    configuration of each, and `options` words of its command line. `outputs` has the open file to which each writes;
+    the input of each stays open then.
+    """
+
+    def __init__(self, program, own, outer, keys, options=(), outputs=None):
+        self.program, self.own, self.keys = program, own, keys
+        self.options = ["--for-ms", str(LIFE_MS), *options]
+        self.outputs = outputs or {}
+        self.seeds = [(name, outer[name]) for name in list(own)[:SEEDS]]
+        self.nodes = {name: self.started(name) for name in own}
+
+    def started(self, name):
+        """The node of a name, which was just started."""
+        keys = f"{self.keys}dice = {1 + list(self.own).index(name)}\n"
+        seeds = [seed for seed in self.seeds if seed[0] != name]
+        how = {"output": self.outputs[name]} if self.outputs else {}
+        return Node(self.program, file_of(name, self.own[name], seeds, keys), *self.options,
+                    has_input=bool(self.outputs), **how)
+
+    def wait_for_all(self):
+        """Waits until each node answers a stranger."""
+        for name, port in self.own.items():
+            wait_for(name, port)
+
+    def knows(self, wanted, names):
+        """Whether each of these nodes knows these statuses."""
+        return all(statuses(self.own[name]) == wanted for name in names)
+
+    def is_whole(self):
+        """Whether each table has all members alive."""
+        return self.knows(dict.fromkeys(self.own, "alive"), self.own)
+
+    def difference(self, wanted):
+        """What the first node that knows something else than these statuses knows; and how a node ended, if one did."""
+        ended = [f"{name} ended: {node.end()}" for name, node in self.nodes.items() if not node.is_running()]
+        tables = [(name, statuses(port)) for name, port in self.own.items()]
+        others = [f"{name} knows {table}" for name, table in tables if table != wanted]
+        return "; ".join([*ended[:1], *others[:1]]) or "and whole just after"
+
+    def __enter__(self):
+        return self
+
+    def __exit__(self, *_):
+        for node in self.nodes.values():
+            node.kill()
+
+
+def own_group(program, names, keys, options=(), outputs=None):
+    """A group without a network between its nodes."""
+    ports = dict(zip(names, free_ports(len(names))))
+    return Group(program, ports, ports, keys, options, outputs)
