@@ -21,7 +21,7 @@ pub trait Clock {
     /// Waits this many milliseconds.
     fn pause(&self, ms: u64);
 
-    /// A loop begins a turn. A clock that leaves out the time in which a loop stands still marks the turn.
+    /// A loop begins a turn. A clock that leaves out the time in which a loop stands still notes when.
     fn begin_turn(&self, _of: Loop) {}
 
     /// How many milliseconds the clock has left out so far.

@@ -2,7 +2,12 @@
 #![tactic(auto)]
 
 mod clock;
+mod last_turns;
 mod machine;
+mod steady;
+mod steady_clock;
 
 pub use clock::{Clock, Loop};
 pub use machine::MachineClock;
+pub use steady::{Steady, steady_clocks_keep_time};
+pub use steady_clock::SteadyClock;

@@ -1,0 +1,4 @@
+-- What is right: to believe the contracts, read these.
+pub mod Examples
+pub mod Keeping
+pub mod Steady

@@ -1,0 +1,2 @@
+-- Definitions that only support the proofs.
+pub mod Steady
