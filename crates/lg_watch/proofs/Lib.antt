@@ -1,0 +1,4 @@
+pub mod LineLaws
+pub mod SameRecords
+pub mod SightLaws
+pub mod TellingLaws
