@@ -75,7 +75,7 @@ held_back zero turns moment = moment
 held_back (suc k) None moment = moment
 held_back (suc k) (Some turns) moment = min moment (older_turn turns + suc k)
 
--- the moment that the clock gives after some readings, if the machine's clock shows this moment: it goes on by as much
+-- the moment that the clock gives after some readings, if the machine's clock shows this moment. It goes on by as much
 -- as the machine's clock did, unless that would pass the older of the last turns by more than a stall. Then it is a
 -- stall after that one. If the machine's clock goes back, no time has passed.
 abbrev pub moment_given : ℕ → List Reading → ℕ → ℕ
