@@ -1,0 +1,250 @@
+-- The command line of the program.
+use Rattle.std.specs.Prelude.{◌≡◌, ℕ, Bool, true, false, List, []}
+use Rattle.std.specs.Prelude.{◌∷◌, Option, Some, codes, decimal, if◌then◌else◌}
+use Rattle.std.specs.Prelude.{unwrap_or}
+use Rattle.std.specs.Option.{option_map, option_map_or}
+use Rattle.std.specs.Str.{bytes_eq}
+use Rattle.std.specs.Str.Parse.{digits_value, without_leading_plus}
+use Rattle.clap.specs.Faults.{fault_of}
+use Rattle.clap.specs.Kinds.{IsAmong, Kinds, or_else}
+use Rattle.clap.specs.Simple.{App, new_app, new_rule, subcommand_of, with_rule, with_subcommand, on_top}
+use Rattle.clap.specs.ValueTests.{accepts}
+use Rattle.clap.specs.Walk.{Row, Rule, Text, first_of, one_of}
+use Rattle.clap.specs.declared.builder.action.ArgAction.TheVariants.{Set, SetTrue}
+use Rattle.clap.specs.declared.builder.value_parser.ValueParser.TheVariants.{Unsigned}
+use Rattle.clap.specs.declared.error.kind.ErrorKind.{ErrorKind}
+use Rattle.clap.specs.declared.error.kind.ErrorKind.TheVariants.{DisplayHelp, DisplayVersion, ValueValidation}
+use Rattle.lg_rules.specs.Meaning.Bounds.{most_members}
+use Rattle.lg_timing.specs.Meaning.Keys.{is_within, row_of}
+use Rattle.lg_timing.specs.declared.keys.Key.{Key}
+use Rattle.lg_timing.specs.declared.keys.Key.TheVariants.{Alpha, Beta, Confirmations, IntervalMs}
+use Rattle.lg_command_line.specs.Meaning.Ranges.{most_run_ms}
+use Rattle.lg_commands.specs.Meaning.Timeouts.{are_good}
+use Rattle.lg_commands.specs.declared.timeouts.Numbers.{Numbers}
+
+-- an option `--ID TEXT`, which is required
+abbrev pub text_rule : Text → Rule
+text_rule id =
+    let named = record (new_rule id) { long = Some id; value_names = 1 } in
+    record named { required = true; action = Some Set }
+
+abbrev pub answer_app : App
+answer_app = with_rule (new_app (codes "answer")) (text_rule (codes "name"))
+
+abbrev pub order_app : App
+order_app = with_rule (with_rule (new_app (codes "order")) (text_rule (codes "names"))) (text_rule (codes "words"))
+
+-- an option `--ID N`, a number that is at least `least` and at most `most`
+abbrev pub number_rule : Text → ℕ → ℕ → Rule
+number_rule id least most =
+    record (new_rule id) { long = Some id; value_names = 1; parser = Some (Unsigned least most); action = Some Set }
+
+-- an option `--ID` that takes no value
+abbrev pub flag_rule : Text → Rule
+flag_rule id = record (new_rule id) { long = Some id; action = Some SetTrue }
+
+abbrev pub required_rule : Rule → Rule
+required_rule rule = record rule { required = true }
+
+abbrev pub default_rule : Rule → Text → Rule
+default_rule rule value = record rule { defaults = value ∷ [] }
+
+abbrev pub members_rule : Rule
+members_rule = required_rule (number_rule (codes "members") 1 most_members)
+
+-- an option `--ID N` of a number of the configuration, which has the range and the default of its key
+abbrev pub key_rule : Text → Key → Rule
+key_rule id key =
+    let row = row_of key in
+    default_rule (number_rule id row.least row.most) (decimal row.default)
+
+abbrev pub confirmations_rule : Rule
+confirmations_rule = key_rule (codes "confirmations") Confirmations
+
+abbrev pub alpha_rule : Rule
+alpha_rule = key_rule (codes "alpha") Alpha
+
+abbrev pub beta_rule : Rule
+beta_rule = key_rule (codes "beta") Beta
+
+abbrev pub interval_rule : Rule
+interval_rule = key_rule (codes "interval-ms") IntervalMs
+
+abbrev pub timeouts_app : App
+timeouts_app =
+    let numbers = with_rule (with_rule (new_app (codes "timeouts")) members_rule) confirmations_rule in
+    with_rule (with_rule (with_rule numbers alpha_rule) beta_rule) interval_rule
+
+abbrev pub sim_app : App
+sim_app = new_app (codes "sim")
+
+abbrev pub for_ms_rule : Rule
+for_ms_rule = number_rule (codes "for-ms") 1 most_run_ms
+
+-- only the file has to be given
+abbrev pub node_app : App
+node_app =
+    let numbered = with_rule (with_rule (new_app (codes "node")) (text_rule (codes "config"))) for_ms_rule in
+    with_rule (with_rule numbered (flag_rule (codes "follow"))) (flag_rule (codes "until-input-ends"))
+
+abbrev pub check_app : App
+check_app = with_rule (new_app (codes "check")) (text_rule (codes "config"))
+
+-- The program has the commands `answer`, `order`, `timeouts`, `sim`, `node` and `check`, and one of them has to be
+-- named. It has a version, which `--version` and `-V` ask for.
+abbrev pub lg_app : App
+lg_app =
+    let lg = on_top (λ s. record s { has_version = true; subcommand_required = true }) (new_app (codes "lg")) in
+    let others = with_subcommand (with_subcommand (with_subcommand lg answer_app.top) order_app.top) timeouts_app.top in
+    with_subcommand (with_subcommand (with_subcommand others sim_app.top) node_app.top) check_app.top
+
+-- the text of an option, or an empty text if it has none
+abbrev pub text_in : List Row → Text → Text
+text_in rows id = unwrap_or (first_of id rows) []
+
+-- the number that a text spells, or 0 if it spells no number of 64 bits
+abbrev pub option_number : Text → ℕ
+option_number text =
+    if accepts false (Unsigned 0 18446744073709551615) text then digits_value 10 (without_leading_plus text) else 0
+
+-- the number of an option, or 0 if it has none
+abbrev pub number_in : List Row → Text → ℕ
+number_in rows id = option_map_or option_number (one_of id rows) 0
+
+-- the number of an option, if it was given
+abbrev pub number_given : List Row → Text → Option ℕ
+number_given rows id = option_map (λ _. number_in rows id) (first_of id rows)
+
+-- whether an option that takes no value was given: the parser gives it the text `true`, and else `false`
+abbrev pub flag_in : List Row → Text → Bool
+flag_in rows id = option_map_or (λ text. bytes_eq text (codes "true")) (one_of id rows) false
+
+abbrev pub numbers_in : List Row → Numbers
+numbers_in rows = record {
+  members = number_in rows (codes "members");
+  confirmations = number_in rows (codes "confirmations");
+  alpha = number_in rows (codes "alpha");
+  beta = number_in rows (codes "beta");
+  interval_ms = number_in rows (codes "interval-ms");
+}
+
+-- What a command line asks for: a command with its options. For `node` these are its file, for how many milliseconds
+-- it runs if it was said, whether it follows what changes, and whether it ends with its input.
+pub data Request : Type 0 where
+  answer : Text → Request
+  order : Text → Text → Request
+  timeouts : Numbers → Request
+  sim : Request
+  node : Text → Option ℕ → Bool → Bool → Request
+  check : Text → Request
+
+-- whether the command of this name was met
+abbrev pub is_met : Text → Option (Text × List Row) → Bool
+is_met name met = option_map_or (λ p. bytes_eq p.0 name) met false
+
+-- the options of the command that was met
+abbrev pub rows_met : Option (Text × List Row) → List Row
+rows_met met = option_map_or (λ p. p.1) met []
+
+-- `node` with its options
+abbrev pub node_of_rows : List Row → Request
+node_of_rows rows = node (text_in rows (codes "config")) (number_given rows (codes "for-ms"))
+    (flag_in rows (codes "follow")) (flag_in rows (codes "until-input-ends"))
+
+-- the command that was met, with its options
+abbrev pub request_of_rows : Option (Text × List Row) → Request
+request_of_rows met =
+    let rows = rows_met met in
+    if is_met (codes "sim") met then sim
+    else if is_met (codes "node") met then node_of_rows rows
+    else if is_met (codes "check") met then check (text_in rows (codes "config"))
+    else if is_met (codes "timeouts") met then timeouts (numbers_in rows)
+    else if is_met (codes "order") met then order (text_in rows (codes "names")) (text_in rows (codes "words"))
+    else answer (text_in rows (codes "name"))
+
+-- what a command line asks for, if it is taken
+unfoldable pub asked : List Text → Request
+asked words = request_of_rows (subcommand_of lg_app words)
+
+-- whether each number is in its range
+abbrev pub has_good_numbers : Request → Bool
+has_good_numbers (answer text) = true
+has_good_numbers (order names words) = true
+has_good_numbers (timeouts numbers) = are_good numbers
+has_good_numbers sim = true
+has_good_numbers (node file for_ms follow until_input_ends) = option_map_or (is_within 1 most_run_ms) for_ms true
+has_good_numbers (check file) = true
+
+-- the fault of numbers that aren't good
+abbrev pub request_faults : Request → Kinds
+request_faults request = if has_good_numbers request then [] else ValueValidation ∷ []
+
+-- Why a command line is refused, or that it asks for help or for the version. It is empty if the line is taken.
+unfoldable pub line_faults : List Text → Kinds
+line_faults words = or_else (fault_of lg_app words) (request_faults (asked words))
+
+-- a fact about the text of `--name` of `answer`
+abbrev pub IfAnswer : Request → (Text → Type 0) → Type 0
+IfAnswer (answer text) P = P text
+IfAnswer (order names words) P = Unit {0}
+IfAnswer (timeouts numbers) P = Unit {0}
+IfAnswer sim P = Unit {0}
+IfAnswer (node file for_ms follow until_input_ends) P = Unit {0}
+IfAnswer (check file) P = Unit {0}
+
+-- a fact about the two texts of `order`: its names and its words
+abbrev pub IfOrder : Request → (Text → Text → Type 0) → Type 0
+IfOrder (answer text) P = Unit {0}
+IfOrder (order names words) P = P names words
+IfOrder (timeouts numbers) P = Unit {0}
+IfOrder sim P = Unit {0}
+IfOrder (node file for_ms follow until_input_ends) P = Unit {0}
+IfOrder (check file) P = Unit {0}
+
+-- a fact about the numbers of `timeouts`
+abbrev pub IfTimeouts : Request → (Numbers → Type 0) → Type 0
+IfTimeouts (answer text) P = Unit {0}
+IfTimeouts (order names words) P = Unit {0}
+IfTimeouts (timeouts numbers) P = P numbers
+IfTimeouts sim P = Unit {0}
+IfTimeouts (node file for_ms follow until_input_ends) P = Unit {0}
+IfTimeouts (check file) P = Unit {0}
+
+-- a fact that holds if `sim` is asked for
+abbrev pub IfSim : Request → Type 0 → Type 0
+IfSim (answer text) P = Unit {0}
+IfSim (order names words) P = Unit {0}
+IfSim (timeouts numbers) P = Unit {0}
+IfSim sim P = P
+IfSim (node file for_ms follow until_input_ends) P = Unit {0}
+IfSim (check file) P = Unit {0}
+
+-- a fact about the options of `node`: its file, its time, whether it follows, and whether it ends with its input
+abbrev pub IfNode : Request → (Text → Option ℕ → Bool → Bool → Type 0) → Type 0
+IfNode (answer text) P = Unit {0}
+IfNode (order names words) P = Unit {0}
+IfNode (timeouts numbers) P = Unit {0}
+IfNode sim P = Unit {0}
+IfNode (node file for_ms follow until_input_ends) P = P file for_ms follow until_input_ends
+IfNode (check file) P = Unit {0}
+
+-- a fact about the file of `check`
+abbrev pub IfCheck : Request → (Text → Type 0) → Type 0
+IfCheck (answer text) P = Unit {0}
+IfCheck (order names words) P = Unit {0}
+IfCheck (timeouts numbers) P = Unit {0}
+IfCheck sim P = Unit {0}
+IfCheck (node file for_ms follow until_input_ends) P = Unit {0}
+IfCheck (check file) P = P file
+
+-- the status of a command line that isn't run: 0 if it asks for help or for the version
+abbrev pub status_of_kind : ErrorKind → ℕ
+status_of_kind DisplayHelp = 0
+status_of_kind DisplayVersion = 0
+status_of_kind _ = 2
+
+-- a status that comes from one of the faults of a command line
+pub record RefusesLine (faults : Kinds) (status : ℕ) : Type 0 where
+  pub kind : ErrorKind
+  pub among : IsAmong kind faults
+  pub is : status ≡ status_of_kind kind

@@ -1,0 +1,159 @@
+-- Worked command lines.
+use Rattle.std.specs.Prelude.{◌≡◌, [], ◌∷◌, None, Some, codes, false, refl, true}
+use Rattle.std.specs.Fmt.{digits}
+use Rattle.clap.proofs.OnLiterals.{clap_on_literals}
+use Rattle.clap.specs.declared.error.kind.ErrorKind.TheVariants as kind
+use Rattle.lg_command_line.specs.Meaning.Commands.{answer, check, node, order, timeouts, asked, line_faults}
+
+taken : line_faults (codes "lg" ∷ codes "answer" ∷ codes "--name" ∷ codes "b" ∷ []) ≡ []
+unfolding line_faults asked clap_on_literals
+taken = refl
+
+named : asked (codes "lg" ∷ codes "answer" ∷ codes "--name" ∷ codes "b" ∷ []) ≡ answer (codes "b")
+unfolding asked clap_on_literals
+named = refl
+
+no-command : line_faults (codes "lg" ∷ []) ≡ kind.MissingSubcommand ∷ []
+unfolding line_faults asked clap_on_literals
+no-command = refl
+
+no-name : line_faults (codes "lg" ∷ codes "answer" ∷ []) ≡ kind.MissingRequiredArgument ∷ []
+unfolding line_faults asked clap_on_literals
+no-name = refl
+
+two-names : line_faults (codes "lg" ∷ codes "answer" ∷ codes "--name=b" ∷ codes "--name=b" ∷ [])
+    ≡ kind.ArgumentConflict ∷ []
+unfolding line_faults asked clap_on_literals
+two-names = refl
+
+stray : line_faults (codes "lg" ∷ codes "answer" ∷ codes "--name=b" ∷ codes "c" ∷ [])
+    ≡ kind.UnknownArgument ∷ []
+unfolding line_faults asked clap_on_literals
+stray = refl
+
+help : line_faults (codes "lg" ∷ codes "--help" ∷ []) ≡ kind.DisplayHelp ∷ []
+unfolding line_faults asked clap_on_literals
+help = refl
+
+timed : asked (codes "lg" ∷ codes "timeouts" ∷ codes "--members" ∷ codes "16"
+    ∷ codes "--confirmations=5" ∷ codes "--interval-ms" ∷ codes "200" ∷ [])
+    ≡ timeouts record { members = 16; confirmations = 5; alpha = 5; beta = 6; interval_ms = 200 }
+unfolding asked clap_on_literals digits
+timed = refl
+
+-- the defaults of the other numbers
+default-numbers : asked (codes "lg" ∷ codes "timeouts" ∷ codes "--members=4" ∷ [])
+    ≡ timeouts record { members = 4; confirmations = 3; alpha = 5; beta = 6; interval_ms = 1000 }
+unfolding asked clap_on_literals digits
+default-numbers = refl
+
+most-members : line_faults (codes "lg" ∷ codes "timeouts" ∷ codes "--members=256" ∷ []) ≡ []
+unfolding line_faults asked clap_on_literals digits
+most-members = refl
+
+too-many-members :
+    line_faults (codes "lg" ∷ codes "timeouts" ∷ codes "--members=257" ∷ []) ≡ kind.ValueValidation ∷ []
+unfolding line_faults asked clap_on_literals digits
+too-many-members = refl
+
+no-members :
+    line_faults (codes "lg" ∷ codes "timeouts" ∷ codes "--alpha=5" ∷ []) ≡ kind.MissingRequiredArgument ∷ []
+unfolding line_faults asked clap_on_literals digits
+no-members = refl
+
+two-alphas : line_faults (codes "lg" ∷ codes "timeouts" ∷ codes "--members=4"
+    ∷ codes "--alpha=5" ∷ codes "--alpha=5" ∷ [])
+    ≡ kind.ArgumentConflict ∷ []
+unfolding line_faults asked clap_on_literals digits
+two-alphas = refl
+
+run-of-a-day :
+    asked (codes "lg" ∷ codes "node" ∷ codes "--for-ms=86400000" ∷ codes "--config" ∷ codes "a.toml" ∷ [])
+    ≡ node (codes "a.toml") (Some 86400000) false false
+unfolding asked clap_on_literals
+run-of-a-day = refl
+
+shortest-run :
+    line_faults (codes "lg" ∷ codes "node" ∷ codes "--config=a.toml" ∷ codes "--for-ms=1" ∷ []) ≡ []
+unfolding line_faults asked clap_on_literals
+shortest-run = refl
+
+run-of-no-time : line_faults (codes "lg" ∷ codes "node" ∷ codes "--config=a.toml" ∷ codes "--for-ms=0" ∷ [])
+    ≡ kind.ValueValidation ∷ []
+unfolding line_faults asked clap_on_literals
+run-of-no-time = refl
+
+longer-than-a-day :
+    line_faults (codes "lg" ∷ codes "node" ∷ codes "--config=a.toml" ∷ codes "--for-ms=86400001" ∷ [])
+    ≡ kind.ValueValidation ∷ []
+unfolding line_faults asked clap_on_literals
+longer-than-a-day = refl
+
+no-end-given : line_faults (codes "lg" ∷ codes "node" ∷ codes "--config=a.toml" ∷ []) ≡ []
+unfolding line_faults asked clap_on_literals
+no-end-given = refl
+
+run-without-end :
+    asked (codes "lg" ∷ codes "node" ∷ codes "--config=a.toml" ∷ []) ≡ node (codes "a.toml") None false false
+unfolding asked clap_on_literals
+run-without-end = refl
+
+followed : asked (codes "lg" ∷ codes "node" ∷ codes "--follow" ∷ codes "--config=a.toml" ∷ codes "--for-ms=5" ∷ [])
+    ≡ node (codes "a.toml") (Some 5) true false
+unfolding asked clap_on_literals
+followed = refl
+
+run-with-its-input :
+    asked (codes "lg" ∷ codes "node" ∷ codes "--config=a.toml" ∷ codes "--until-input-ends" ∷ [])
+    ≡ node (codes "a.toml") None false true
+unfolding asked clap_on_literals
+run-with-its-input = refl
+
+followed-twice :
+    line_faults (codes "lg" ∷ codes "node" ∷ codes "--config=a.toml" ∷ codes "--follow" ∷ codes "--follow" ∷ [])
+    ≡ kind.ArgumentConflict ∷ []
+unfolding line_faults asked clap_on_literals
+followed-twice = refl
+
+flag-with-a-value : line_faults (codes "lg" ∷ codes "node" ∷ codes "--config=a.toml" ∷ codes "--follow=true" ∷ [])
+    ≡ kind.TooManyValues ∷ []
+unfolding line_faults asked clap_on_literals
+flag-with-a-value = refl
+
+checked-file : asked (codes "lg" ∷ codes "check" ∷ codes "--config" ∷ codes "a.toml" ∷ []) ≡ check (codes "a.toml")
+unfolding asked clap_on_literals
+checked-file = refl
+
+no-file-to-check : line_faults (codes "lg" ∷ codes "check" ∷ []) ≡ kind.MissingRequiredArgument ∷ []
+unfolding line_faults asked clap_on_literals
+no-file-to-check = refl
+
+version : line_faults (codes "lg" ∷ codes "--version" ∷ []) ≡ kind.DisplayVersion ∷ []
+unfolding line_faults asked clap_on_literals
+version = refl
+
+no-file :
+    line_faults (codes "lg" ∷ codes "node" ∷ codes "--for-ms=1" ∷ []) ≡ kind.MissingRequiredArgument ∷ []
+unfolding line_faults asked clap_on_literals
+no-file = refl
+
+listed : asked (codes "lg" ∷ codes "order" ∷ codes "--names" ∷ codes "a,b" ∷ codes "--words=0,0,1,0" ∷ [])
+    ≡ order (codes "a,b") (codes "0,0,1,0")
+unfolding asked clap_on_literals
+listed = refl
+
+-- lists are judged after the command line is taken
+any-lists : line_faults (codes "lg" ∷ codes "order" ∷ codes "--words=" ∷ codes "--names=a,a" ∷ []) ≡ []
+unfolding line_faults asked clap_on_literals
+any-lists = refl
+
+missing-words :
+    line_faults (codes "lg" ∷ codes "order" ∷ codes "--names=a" ∷ []) ≡ kind.MissingRequiredArgument ∷ []
+unfolding line_faults asked clap_on_literals
+missing-words = refl
+
+names-twice :
+    line_faults (codes "lg" ∷ codes "order" ∷ codes "--names=a" ∷ codes "--names=a" ∷ codes "--words=1" ∷ [])
+    ≡ kind.ArgumentConflict ∷ []
+unfolding line_faults asked clap_on_literals
+names-twice = refl

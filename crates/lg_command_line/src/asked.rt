@@ -1,0 +1,72 @@
+//! What a command line asks for.
+//!
+//! Defined in: `specs/Meaning/Commands.antt`, `specs/Meaning/Ranges.antt`.
+//! Tested in: `cases/command_line.case`, `cases/timeouts_command.case`, `cases/node_command.case`.
+ghost use Rattle.std.specs.Prelude.{◌≡◌};
+ghost use Rattle.lg_command_line.specs.Meaning.Commands.{has_good_numbers};
+ghost use Rattle.lg_command_line.specs.Support.Requests.{request_of};
+
+use lg_commands::Numbers;
+
+/// The longest run of a node that is given an end, one day, in milliseconds (this project's choice).
+pub const MAX_RUN_MS: u64 = 86_400_000;
+
+/// What a command line asks for.
+#[derive(Clone, Copy, Debug)]
+pub enum Asked<'a> {
+    /// The command `answer`, with the text that should be the detector's name.
+    Answer {
+        /// The text, which may be no name.
+        name: &'a str,
+    },
+    /// The command `order`, with the texts that should list its names and its words.
+    Order {
+        /// The text of the names, which may be bad.
+        names: &'a str,
+        /// The text of the words, which may be bad.
+        words: &'a str,
+    },
+    /// The command `node`, with the path of its configuration, when it ends and whether it tells what changes.
+    Node {
+        /// The path, which may name no file.
+        file: &'a str,
+        /// For how many milliseconds it runs: 1 to [`MAX_RUN_MS`]. If it is none, the time doesn't end it.
+        for_ms: Option<u64>,
+        /// Whether it tells each change of a member as it happens.
+        follow: bool,
+        /// Whether it ends once its standard input has ended.
+        until_input_ends: bool,
+    },
+    /// The command `check`, with the path of a configuration.
+    Check {
+        /// The path, which may name no file.
+        file: &'a str,
+    },
+    /// The command `sim`.
+    Sim,
+    /// The command `timeouts`.
+    Timeouts {
+        /// Its numbers.
+        numbers: Numbers,
+    },
+}
+
+impl Asked<'_> {
+    /// Whether each of its numbers is in its range.
+    pub(crate) fn has_good_numbers(&self) -> bool
+        ensures { result ≡ has_good_numbers (request_of self.now) }
+    {
+        match self {
+            Asked::Node {
+                for_ms: Some(for_ms),
+                ..
+            } => (1..=MAX_RUN_MS).contains(for_ms),
+            Asked::Timeouts { numbers } => numbers.are_good(),
+            Asked::Node { for_ms: None, .. }
+            | Asked::Answer { .. }
+            | Asked::Order { .. }
+            | Asked::Check { .. }
+            | Asked::Sim => true,
+        }
+    }
+}

@@ -1,0 +1,17 @@
+//! The command line of the program `lg`: what its words ask for, and what is told if nothing is run.
+//!
+//! Where to read on:
+//! - which command a command line asks for, and why one is refused: `specs/Meaning/Commands.antt`;
+//! - what becomes of a command line that isn't run: `specs/Meaning/Leaving.antt`;
+//! - what the commands do: `lg_commands` and `lg_launch`, which `lg_cli` calls.
+#![tactic(auto)]
+
+mod asked;
+mod command;
+mod options;
+mod taking;
+mod version;
+mod words;
+
+pub use asked::{Asked, MAX_RUN_MS};
+pub use taking::take_words;

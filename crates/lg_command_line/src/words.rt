@@ -1,0 +1,129 @@
+//! What the words of a command line ask for.
+//!
+//! Defined in: `specs/Meaning/Commands.antt`, `lg_commands/specs/Meaning/Timeouts.antt`.
+//! Tested in: `cases/command_line.case`, `cases/timeouts_command.case`, `cases/node_command.case`.
+ghost use Rattle.std.specs.Prelude.{◌≡◌, ◌≤◌, IfOk, IfSome, map, true};
+ghost use Rattle.clap.specs.Kinds.{FailsBy};
+ghost use Rattle.clap.specs.Matches.{found_of};
+ghost use Rattle.clap.specs.Simple.{subcommand_rows_of};
+ghost use Rattle.clap.specs.Walk.{rows_of};
+ghost use Rattle.lg_commands.specs.Meaning.Timeouts.{are_good};
+ghost use Rattle.lg_command_line.specs.Meaning.Commands.{asked, has_good_numbers, line_faults, request_faults};
+ghost use Rattle.lg_command_line.specs.Meaning.Commands.{flag_in, number_given, number_in, numbers_in};
+ghost use Rattle.lg_command_line.specs.Meaning.Commands.{request_of_rows, text_in, IfNode, IfTimeouts};
+ghost use Rattle.lg_command_line.specs.Support.Requests.{request_of};
+
+use crate::asked::{Asked, MAX_RUN_MS};
+use crate::command::lg_command;
+use clap::error::ErrorKind;
+use clap::{ArgMatches, Command, Error};
+use lg_commands::Numbers;
+use std::alloc::Global;
+use std::convert::AsStr;
+
+/// What the words of a command line ask for. The first word is the program's name.
+///
+/// The numbers of `timeouts` are good, and a node that is given an end runs for 1 to [`MAX_RUN_MS`] milliseconds. The
+/// error is clap's: memory was refused, or the words ask for help or the version, or they aren't a command of the
+/// program. Its text is for the user.
+pub(crate) fn read_words<'a, S: AsStr>(alloc: Global, words: &'a [S]) -> Result<Asked<'a>, Error>
+    ensures asked { IfOk result (λ found. request_of found ≡ asked (map S.text words.entry.now)) }
+    ensures good { IfOk result (λ found. IfTimeouts (request_of found) (λ numbers. are_good numbers ≡ true)) }
+    ensures ending { IfOk result (λ found. IfNode (request_of found) (λ _ for_ms _ _.
+        IfSome for_ms (λ ms. (1 ≤ ms) × (ms ≤ MAX_RUN_MS)))) }
+    ensures refused { FailsBy (line_faults (map S.text words.entry.now)) result }
+{
+    let mut lg = lg_command(alloc)?;
+    match lg.try_get_matches_from_mut(words) {
+        Ok(matches) => checked(asked_in(&matches), &mut lg),
+        Err(error) => Err(error),
+    }
+}
+
+/// What a command line asks for, if its numbers are good.
+///
+/// The options take no number out of its range, so a bad number should never come this far. The check is here for the
+/// proof.
+fn checked<'a>(asked: Asked<'a>, lg: &mut Command) -> Result<Asked<'a>, Error>
+    ensures same { IfOk result (λ found. request_of found ≡ request_of asked.entry) }
+    ensures good { IfOk result (λ found. has_good_numbers (request_of found) ≡ true) }
+    ensures refused { FailsBy (request_faults (request_of asked.entry)) result }
+{
+    if asked.has_good_numbers() {
+        return Ok(asked);
+    }
+    Err(lg.error(ErrorKind::ValueValidation, "a number is out of its range")?)
+}
+
+/// What the matches of a command line ask for.
+fn asked_in<'a>(matches: &ArgMatches<'a>) -> Asked<'a>
+    ensures { request_of result ≡ request_of_rows (subcommand_rows_of matches.now) }
+{
+    match matches.subcommand() {
+        Some(("sim", _)) => Asked::Sim,
+        Some(("node", found)) => Asked::Node {
+            file: text_in(found, "config"),
+            for_ms: number_given(found, "for-ms"),
+            follow: flag_in(found, "follow"),
+            until_input_ends: flag_in(found, "until-input-ends"),
+        },
+        Some(("check", found)) => Asked::Check {
+            file: text_in(found, "config"),
+        },
+        Some(("timeouts", found)) => Asked::Timeouts {
+            numbers: numbers_in(found),
+        },
+        Some(("order", found)) => Asked::Order {
+            names: text_in(found, "names"),
+            words: text_in(found, "words"),
+        },
+        Some((_, found)) => Asked::Answer {
+            name: text_in(found, "name"),
+        },
+        None => Asked::Answer { name: "" },
+    }
+}
+
+/// The numbers of the options of `timeouts`.
+fn numbers_in(found: &ArgMatches) -> Numbers
+    ensures { result ≡ numbers_in (rows_of (found_of found.now)) }
+{
+    Numbers {
+        members: number_in(found, "members"),
+        confirmations: number_in(found, "confirmations"),
+        alpha: number_in(found, "alpha"),
+        beta: number_in(found, "beta"),
+        interval_ms: number_in(found, "interval-ms"),
+    }
+}
+
+/// The number of an option, if it was given.
+fn number_given(found: &ArgMatches, id: &str) -> Option<u64>
+    ensures { result ≡ number_given (rows_of (found_of found.now)) id.now }
+{
+    match found.get_str(id) {
+        Some(_) => Some(number_in(found, id)),
+        None => None,
+    }
+}
+
+/// The number of an option, or 0 if it has none.
+fn number_in(found: &ArgMatches, id: &str) -> u64
+    ensures { result ≡ number_in (rows_of (found_of found.now)) id.now }
+{
+    found.get_one(id).unwrap_or(0)
+}
+
+/// Whether an option that takes no value was given.
+fn flag_in(found: &ArgMatches, id: &str) -> bool
+    ensures { result ≡ flag_in (rows_of (found_of found.now)) id.now }
+{
+    found.get_one(id).unwrap_or(false)
+}
+
+/// The text of an option, or an empty text if it has none.
+fn text_in<'a>(found: &ArgMatches<'a>, id: &str) -> &'a str
+    ensures { result.now ≡ text_in (rows_of (found_of found.now)) id.now }
+{
+    found.get_str(id).unwrap_or("")
+}
