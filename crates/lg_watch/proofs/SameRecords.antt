@@ -1,13 +1,10 @@
 -- What `==` of two records says.
-use Rattle.std.proofs.Common.{◌≡◌, ℕ, Bool, true, false, refl, ◌&&◌, ap, ◌∙◌}
-use Rattle.std.specs.Prelude.{nat_eq, ◌==◌}
-use Rattle.std.specs.Cmp.Lexicographic.{pointwise}
+use Rattle.std.proofs.Common.{◌≡◌, refl}
 use Rattle.lg_rules.specs.declared.claim.Claim.{Claim}
 use Rattle.lg_rules.specs.declared.claim.Status.{Status}
 use Rattle.lg_rules.specs.declared.claim.Status.TheVariants.{Alive, Suspect, Failed}
 use Rattle.lg_rules.specs.contracts.claim.StatusPartialEq.TheImpl as status
 use Rattle.lg_rules.specs.contracts.claim.ClaimPartialEq.TheImpl as claim
-use Rattle.lg_rules.specs.Meaning.Rows.{name_cmp, is_same}
 use Rattle.lg_rules.specs.Meaning.View.{is_same_status, is_same_claim}
 use Rattle.lg_rules.proofs.KeyOrder.{names_eq}
 

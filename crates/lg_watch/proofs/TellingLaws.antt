@@ -1,6 +1,5 @@
 -- What was told so far, with one more turn, and at the end.
-use Rattle.std.proofs.Common.{◌≡◌, ◌⊎◌, ◌≤◌, ℕ, List, [], ◌∷◌, ◌++◌, length, map, Option, Some, None, refl, sym, ap, ◌∙◌, subst, inl, inr, arith, append_assoc, append-nil}
-use Rattle.std.specs.Prelude.{IfSome}
+use Rattle.std.proofs.Common.{◌≡◌, ◌⊎◌, ◌≤◌, ℕ, List, [], ◌∷◌, ◌++◌, length, map, Option, Some, None, refl, sym, ap, ◌∙◌, subst, inl, inr, arith, append_assoc}
 use Rattle.std.specs.Io.KnownBytes.{Appends}
 use Rattle.std.proofs.KnownBytes.{Appends-nil, Appends-trans}
 use mathlib.Core.List.{IsPrefix}
@@ -19,7 +18,7 @@ use Rattle.lg_watch.specs.declared.watched.Watched.{Watched}
 use Rattle.lg_watch.specs.declared.watched.Watched.TheVariants.{Told, Refused, WriterFailed}
 use Rattle.lg_watch.specs.Meaning.Lines.{told_lines, stood_line}
 use Rattle.lg_watch.specs.Meaning.Sights.{Sight, later_text, sights_text, SightsGrow, EndsAt, OnlyLooked, HasWatched}
-use Rattle.lg_watch.specs.Support.Telling.{table_told, Telling, Failing, TurnedAs, ToldAs, FinishedAs}
+use Rattle.lg_watch.specs.Support.Telling.{Telling, Failing, TurnedAs, ToldAs, FinishedAs}
 use Rattle.lg_watch.proofs.SightLaws.{later_text-more, table_told-more, nothing_told, no_text, sights_text-is, prefix_through, grow_none, grow_on, grow_more, grow_last, looked_on, looked_through, looked_prefix}
 
 -- a text that was written, and a beginning of what follows it
@@ -96,7 +95,7 @@ told_more begin mid now held holds more told told' version version' moment n tel
     let ends : EndsAt (telling.sights ++ s ∷ []) now.seen = record { earlier = telling.sights; moment = moment; are = refl } in
     let text : later_text [] (telling.sights ++ s ∷ []) ≡ later_text [] telling.sights ++ told_lines moment (changed told told') =
     later_text-more [] telling.sights s ∙ ap (λ (t : List Claim). later_text [] telling.sights ++ told_lines moment (changed t (view_after now.seen))) (sym telling.table)
-        ∙ ap (λ (t : List Claim). later_text [] telling.sights ++ told_lines moment (changed told t)) (sym table) in (
+    ∙ ap (λ (t : List Claim). later_text [] telling.sights ++ told_lines moment (changed told t)) (sym table) in (
       record {
         looked = looked_on begin mid now telling.looked look;
         sights = telling.sights ++ s ∷ [];
@@ -115,7 +114,7 @@ told_partly begin mid now held holds more told table version moment telling look
     let s : Sight = record { moment = moment; events = now.seen } in
     let text : later_text [] (telling.sights ++ s ∷ []) ≡ later_text [] telling.sights ++ told_lines moment (changed told table) =
     later_text-more [] telling.sights s ∙ ap (λ (t : List Claim). later_text [] telling.sights ++ told_lines moment (changed t (view_after now.seen))) (sym telling.table)
-        ∙ ap (λ (t : List Claim). later_text [] telling.sights ++ told_lines moment (changed told t)) (sym is) in
+    ∙ ap (λ (t : List Claim). later_text [] telling.sights ++ told_lines moment (changed told t)) (sym is) in
     record {
       looked = looked_on begin mid now telling.looked look;
       sights = telling.sights ++ s ∷ [];

@@ -1,3 +1,4 @@
 -- What is right: whoever wants to believe the contracts reads these.
+pub mod Examples
 pub mod Lines
 pub mod Sights

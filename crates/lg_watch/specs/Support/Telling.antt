@@ -1,5 +1,5 @@
 -- How far a watcher has come, and what one turn does.
-use Rattle.std.specs.Prelude.{◌≡◌, ◌⊎◌, ◌≤◌, ℕ, List, [], ◌∷◌, ◌++◌, length, Option, Some, IfSome}
+use Rattle.std.specs.Prelude.{◌≡◌, ◌⊎◌, ◌≤◌, ℕ, List, [], ◌∷◌, length, Option, Some, IfSome}
 use Rattle.std.specs.Io.KnownBytes.{Appends}
 use Rattle.lg_rules.specs.declared.claim.Claim.{Claim}
 use Rattle.lg_text.specs.Meaning.Running.{AppendsFront}

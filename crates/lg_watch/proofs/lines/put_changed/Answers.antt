@@ -1,4 +1,4 @@
-use Rattle.std.proofs.Common.{◌≡◌, ℕ, List, [], true, false, ◌++◌, sym, ap, ◌∙◌, append-nil, arith}
+use Rattle.std.proofs.Common.{ℕ, List, [], true, false, ◌++◌, sym, ap, ◌∙◌, append-nil, arith}
 use Rattle.lg_watch.proofs.LineLaws.{no_lines, changed_more, lines_more}
 use Rattle.lg_watch.proofs.lines.put_changed.Goals.{then-not-is_told+in_ok-put_line, else-not-is_told}
 use Rattle.lg_watch.proofs.lines.put_changed.Goals as goal

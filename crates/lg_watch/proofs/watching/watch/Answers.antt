@@ -1,4 +1,3 @@
-use Rattle.std.proofs.Common.{sym, subst}
 use Rattle.lg_watch.proofs.TellingLaws.{telling_none, still_telling, rises_none, watched_failing, finished}
 use Rattle.lg_watch.proofs.watching.watch.Goals as goal
 

@@ -18,7 +18,7 @@ pub returns-in-Ok-Some-clause-told : goal.returns-in-Ok-Some-clause-told
 returns-in-Ok-Some-clause-told g c = λ begin held telling.
     let found = rw c.in-Ok-Some.field-0-is at c.in-Ok-Some.ensures in
     turned_by c.tell.result begin c.args.pass.now c.look.new.pass held (g.W.Write.contents c.args.writer.now) (g.W.Write.contents c.tell.new.writer) c.args.self.now.told.items c.tell.new.self.told.items
-        c.in-Ok-Some.found.records.items c.args.self.now.version c.tell.new.self.version c.now.result c.in-Ok-Some.found.version telling found.0 found.1.0 found.1.1 c.tell.ensures
+    c.in-Ok-Some.found.records.items c.args.self.now.version c.tell.new.self.version c.now.result c.in-Ok-Some.found.version telling found.0 found.1.0 found.1.1 c.tell.ensures
 
 pub returns-in-Ok-None-clause-told : goal.returns-in-Ok-None-clause-told
 returns-in-Ok-None-clause-told g c = λ begin held telling.
