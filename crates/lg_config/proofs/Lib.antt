@@ -1,4 +1,5 @@
 pub mod KeyLaws
+pub mod ReasonLaws
 pub mod SeedLaws
 pub mod TextLaws
 pub mod MeaningLaws

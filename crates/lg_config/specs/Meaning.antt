@@ -3,7 +3,13 @@ pub mod Answer
 pub mod Bounds
 pub mod Examples
 pub mod Faults
+pub mod FormReasons
+pub mod KeyReasons
 pub mod Keys
 pub mod NodeKeys
+pub mod Quoting
+pub mod Ranges
+pub mod ReasonExamples
+pub mod Reasons
 pub mod Settings
 pub mod Texts

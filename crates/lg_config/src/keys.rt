@@ -30,7 +30,7 @@ pub(crate) const SEEDS: &str = "seeds";
 
 /// The kind of a key's value. None if the key is unknown.
 #[tactic(auto, unfolding(crate::specs::Meaning::Keys::kind_of_key))]
-fn kind_of(key: &str) -> Option<Kind>
+pub(crate) fn kind_of(key: &str) -> Option<Kind>
     ensures { result ≡ kind_of_key key.now }
 {
     match key {
@@ -51,7 +51,7 @@ fn are_texts(values: &[Value]) -> bool
 }
 
 /// Whether a value is of the kind that its key wants.
-fn is_of_kind(kind: Option<Kind>, value: &Value) -> bool
+pub(crate) fn is_of_kind(kind: Option<Kind>, value: &Value) -> bool
     ensures { result ≡ is_of_kind kind (view value.now) }
 {
     match kind {

@@ -1,15 +1,21 @@
 //! The configuration file of a node: the configuration that its bytes mean, or why they mean none.
 //!
-//! [`NodeConfig::read`] reads the bytes of a file, which are TOML. Contracts of other crates cite `IsAnswer` and
-//! `answer_of` (`specs/Meaning/Answer.antt`) and `fault_number` (`Faults.antt`).
+//! [`NodeConfig::read`] reads the bytes of a file, which are TOML, and [`reason`] says in words what is wrong with
+//! them. Contracts of other crates cite `IsAnswer` and `answer_of` (`specs/Meaning/Answer.antt`), `fault_number`
+//! (`Faults.antt`) and `IsReason` (`Reasons.antt`).
 #![tactic(auto)]
 
 mod document;
 mod fault;
+mod form_reasons;
+mod key_reasons;
 mod keys;
 mod lookup;
 mod node;
 mod node_keys;
+mod quoting;
+mod ranges;
+mod reasons;
 mod seeds;
 mod settings;
 mod texts;
@@ -18,4 +24,5 @@ pub use document::MAX_FILE;
 pub use fault::{FileFault, ReadFault};
 pub use node::NodeConfig;
 pub use node_keys::{MAX_PULL_MS, MAX_STALL_MS, NODE_KEYS, NodeKey, NodeKeyRow};
+pub use reasons::reason;
 pub use settings::{DEFAULT_ADDRESS, DEFAULT_DICE, DEFAULT_PORT};

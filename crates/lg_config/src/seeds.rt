@@ -14,7 +14,7 @@ use lg_timing::{MAX_SEEDS, Seed};
 use toml::Value;
 
 /// The seed that a value spells, if it is a text.
-fn seed_of_value(value: &Value) -> Option<Seed>
+pub(crate) fn seed_of_value(value: &Value) -> Option<Seed>
     ensures { result ≡ seed_of_value (view value.now) }
 {
     seed_in(value.as_str()?.as_bytes())

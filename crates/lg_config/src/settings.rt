@@ -5,8 +5,9 @@
 ghost use Rattle.std.specs.Prelude.{◌≡◌};
 ghost use Rattle.std.specs.Option.{option_map};
 ghost use Rattle.toml.specs.View.{table_view};
-ghost use Rattle.lg_config.specs.Meaning.Settings.{addr_in, dice_in, name_in, settings_of};
-ghost use Rattle.lg_config.specs.Meaning.Settings.{own_number_in, with_keys, with_numbers};
+ghost use Rattle.lg_config.specs.Meaning.Settings.{addr_in, address_text, dice_in, name_in, name_text};
+ghost use Rattle.lg_config.specs.Meaning.Settings.{octets_of_member, own_number_in, port_of_member, settings_of};
+ghost use Rattle.lg_config.specs.Meaning.Settings.{with_keys, with_numbers};
 ghost use Rattle.lg_config.specs.Support.Reading.{with_first_seeds};
 
 use crate::keys::NAME;
@@ -28,12 +29,40 @@ pub const DEFAULT_PORT: u16 = 7946;
 /// The number that the dice start from, if the file doesn't give one (this project's choice).
 pub const DEFAULT_DICE: u64 = 1;
 
+/// The text of the member's name.
+pub(crate) fn name_text(table: &Table) -> &str
+    ensures { result.now ≡ name_text (table_view table.now) }
+{
+    text_at(table, NAME).unwrap_or("")
+}
+
+/// The text of the member's address, or its default.
+pub(crate) fn address_text(table: &Table) -> &str
+    ensures { result.now ≡ address_text (table_view table.now) }
+{
+    text_at(table, "address").unwrap_or(DEFAULT_ADDRESS)
+}
+
 /// The member's name. None if the text is no name.
 #[tactic(auto, unfolding(crate::specs::Meaning::Settings::name_in))]
-fn name_at(table: &Table) -> Option<Name>
+pub(crate) fn name_at(table: &Table) -> Option<Name>
     ensures { result ≡ name_in (table_view table.now) }
 {
-    name_in(text_at(table, NAME).unwrap_or("").as_bytes())
+    name_in(name_text(table).as_bytes())
+}
+
+/// The four numbers of the member's address. None if the address of the table is out of its form.
+pub(crate) fn octets_at(table: &Table) -> Option<[u8; 4]>
+    ensures { result ≡ octets_of_member (table_view table.now) }
+{
+    octets_in(address_text(table).as_bytes())
+}
+
+/// The member's port. None if the port of the table isn't 1 to 65535.
+pub(crate) fn port_at(table: &Table) -> Option<u16>
+    ensures { result ≡ port_of_member (table_view table.now) }
+{
+    port_among(number_at(table, "port", u64::from(DEFAULT_PORT)))
 }
 
 /// The member's address. None if the address or the port of the table is out of its form.
@@ -41,15 +70,14 @@ fn name_at(table: &Table) -> Option<Name>
 fn addr_at(table: &Table) -> Option<Addr>
     ensures { result ≡ addr_in (table_view table.now) }
 {
-    let address = text_at(table, "address").unwrap_or(DEFAULT_ADDRESS);
-    let octets = octets_in(address.as_bytes())?;
-    let port = port_among(number_at(table, "port", u64::from(DEFAULT_PORT)))?;
+    let octets = octets_at(table)?;
+    let port = port_at(table)?;
     Some(Addr { octets, port })
 }
 
 /// The number that the dice start from. None if it is negative.
 #[tactic(auto, unfolding(crate::specs::Meaning::Settings::dice_in))]
-fn dice_at(table: &Table) -> Option<u64>
+pub(crate) fn dice_at(table: &Table) -> Option<u64>
     ensures { result ≡ dice_in (table_view table.now) }
 {
     match integer_at(table, "dice") {

@@ -18,6 +18,10 @@ most_pull_ms = 3600000
 abbrev pub most_stall_ms : ℕ
 most_stall_ms = 60000
 
+-- the greatest number that the dice start from: the greatest whole number of TOML
+abbrev pub most_dice : ℕ
+most_dice = 2 ^ 63 - 1
+
 -- what stands for a negative number, which no key accepts: the greatest number of 64 bits
 abbrev pub out_of_range : ℕ
 out_of_range = 2 ^ 64 - 1

@@ -49,15 +49,29 @@ seeds_of_items (item value others) = do
 abbrev pub seeds_at : Members → Items
 seeds_at members = unwrap_or (option_and_then as_array (get_member texts_key members)) no_items
 
+-- the texts of this member's name and of its address
+abbrev pub name_text : Members → List ℕ
+name_text members = unwrap_or (text_at (codes "name") members) []
+
+abbrev pub address_text : Members → List ℕ
+address_text members = unwrap_or (text_at (codes "address") members) default_address
+
 -- this member's name
 unfoldable pub name_in : Members → Option (List ℕ)
-name_in members = name_of_setting (unwrap_or (text_at (codes "name") members) [])
+name_in members = name_of_setting (name_text members)
+
+-- the four numbers of this member's address, and its port
+abbrev pub octets_of_member : Members → Option (List ℕ)
+octets_of_member members = octets_of (address_text members)
+
+abbrev pub port_of_member : Members → Option ℕ
+port_of_member members = port_among (number_at_key (codes "port") default_port members)
 
 -- this member's address
 unfoldable pub addr_in : Members → Option Addr
 addr_in members = do
-  octets ← octets_of (unwrap_or (text_at (codes "address") members) default_address)
-  port ← port_among (number_at_key (codes "port") default_port members)
+  octets ← octets_of_member members
+  port ← port_of_member members
   Some record { octets = octets; port = port }
 
 -- a whole number, if it isn't negative

@@ -1,10 +1,15 @@
 -- What the parts of reading a file give.
-use Rattle.std.specs.Prelude.{◌≡◌, ℕ, nat_lt, List, Option, Some, None, Result, Ok, Err, take, if◌then◌else◌}
+use Rattle.std.specs.Prelude.{◌≡◌, ℕ, Bool, true, false, nat_le, nat_lt, List, length, take, if◌then◌else◌}
+use Rattle.std.specs.Prelude.{Option, Some, None, Result, Ok, Err}
+use Rattle.std.specs.Borrow.{Bor}
+use Rattle.std.specs.Str.{is_utf8}
 use Rattle.std.specs.Prelude.{String}
 use Rattle.std.specs.BTreeMap.{BTreeMap}
 use Rattle.std.specs.declared.alloc.Global.{Global}
 use Rattle.std.specs.Option.{option_map}
 use Rattle.toml.specs.Data.{Items}
+use Rattle.toml.specs.Errors.{IsWithin}
+use Rattle.toml.specs.Parse.{parse_document}
 use Rattle.toml.specs.View.{table_view}
 use Rattle.toml.specs.declared.value.Value.{Value}
 use Rattle.lg_timing.specs.declared.config.ConfigFault.{ConfigFault}
@@ -12,22 +17,47 @@ use Rattle.lg_timing.specs.declared.config.ConfigFault.TheVariants.{Seeds}
 use Rattle.lg_timing.specs.declared.config.Seed.{Seed}
 use Rattle.lg_timing.specs.Meaning.Bounds.{most_seeds}
 use Rattle.lg_timing.specs.Meaning.Keys.{config_fault_number}
+use Rattle.lg_config.specs.declared.document.Unread.{Unread}
+use Rattle.lg_config.specs.declared.document.Unread.TheVariants as unread
 use Rattle.lg_config.specs.declared.fault.FileFault.TheVariants as fault
 use Rattle.lg_config.specs.declared.fault.ReadFault.{ReadFault}
 use Rattle.lg_config.specs.declared.fault.ReadFault.TheVariants.{NoMemory, File}
 use Rattle.lg_config.specs.declared.node.NodeConfig.{NodeConfig}
-use Rattle.lg_config.specs.Meaning.Answer.{is_text_file, document_of, TakesMemory}
+use Rattle.lg_config.specs.Meaning.Answer.{document_of, TakesMemory}
+use Rattle.lg_config.specs.Meaning.Bounds.{most_bytes}
 use Rattle.lg_config.specs.Meaning.Settings.{seeds_of_items, with_seeds}
 
--- the text that bytes spell, if they spell one
-abbrev pub file_text : List ℕ → Option (List ℕ)
-file_text bytes = if is_text_file bytes then Some bytes else None
+-- whether bytes are few enough for a file
+abbrev pub are_few : List ℕ → Bool
+are_few bytes = nat_le (length bytes) most_bytes
+
+-- why bytes are no document, apart from refused memory
+abbrev pub IsUnread : List ℕ → Unread → Type 0
+IsUnread bytes unread.NoMemory = TakesMemory bytes
+IsUnread bytes unread.TooLong = are_few bytes ≡ false
+IsUnread bytes unread.NoUtf8 = (are_few bytes ≡ true) × (is_utf8 bytes ≡ false)
+IsUnread bytes (unread.NoToml error) =
+    (are_few bytes ≡ true) × (is_utf8 bytes ≡ true) × (parse_document bytes ≡ None) × IsWithin bytes error
+
+-- the text that bytes spell, or why they spell none
+abbrev pub IsText : List ℕ → Result (Bor (List ℕ)) Unread → Type 0
+IsText bytes (Ok text) = (text.now ≡ bytes) × (are_few bytes ≡ true) × (is_utf8 bytes ≡ true)
+IsText bytes (Err unread.NoMemory) = ⊥
+IsText bytes (Err unread.TooLong) = are_few bytes ≡ false
+IsText bytes (Err unread.NoUtf8) = (are_few bytes ≡ true) × (is_utf8 bytes ≡ false)
+IsText bytes (Err (unread.NoToml error)) = ⊥
 
 -- what parsing bytes gives
-abbrev pub IsParsed : List ℕ → Result (BTreeMap (String Global) Value) ReadFault → Type 0
+abbrev pub IsParsed : List ℕ → Result (BTreeMap (String Global) Value) Unread → Type 0
 IsParsed bytes (Ok table) = document_of bytes ≡ Some (table_view table)
-IsParsed bytes (Err NoMemory) = TakesMemory bytes
-IsParsed bytes (Err (File found)) = (found ≡ fault.Syntax) × (document_of bytes ≡ None)
+IsParsed bytes (Err why) = IsUnread bytes why
+
+-- the fault of a file that wasn't read as a document
+abbrev pub SaysUnread : Unread → ReadFault → Type 0
+SaysUnread unread.NoMemory told = told ≡ NoMemory
+SaysUnread unread.TooLong told = told ≡ File fault.Syntax
+SaysUnread unread.NoUtf8 told = told ≡ File fault.Syntax
+SaysUnread (unread.NoToml error) told = told ≡ File fault.Syntax
 
 -- the first seeds, as many as a configuration holds
 abbrev pub kept : List Seed → List Seed

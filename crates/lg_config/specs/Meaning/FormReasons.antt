@@ -1,0 +1,72 @@
+-- The reasons of values that are out of their form, and of seeds that don't go together, in words.
+use Rattle.std.specs.Prelude.{ℕ, suc, List, [], ◌∷◌, ◌++◌, codes, decimal, nat_lt, take, if◌then◌else◌}
+use Rattle.std.specs.Prelude.{Option, Some, None, is_none, is_some, unwrap_or}
+use Rattle.std.specs.Option.{option_map}
+use Rattle.toml.specs.Data.{Items, no_items, item, Members, as_str}
+use Rattle.lg_text.specs.Meaning.Lines.{newline}
+use Rattle.lg_timing.specs.Meaning.Bounds.{most_seeds}
+use Rattle.lg_timing.specs.Meaning.Config.{is_seed}
+use Rattle.lg_timing.specs.declared.config.Seed.{Seed}
+use Rattle.lg_config.specs.Meaning.Quoting.{quoted}
+use Rattle.lg_config.specs.Meaning.Ranges.{dice_reason, port_reason}
+use Rattle.lg_config.specs.Meaning.Settings.{address_text, dice_in, name_in, name_text, octets_of_member}
+use Rattle.lg_config.specs.Meaning.Settings.{port_of_member, seed_of_value, seeds_at, seeds_of_items}
+
+-- the first text of an array that is no seed; it is empty if each is one
+abbrev pub bad_seed : Items → List ℕ
+bad_seed no_items = []
+bad_seed (item value others) =
+    if is_some (seed_of_value value) then bad_seed others else unwrap_or (as_str value) []
+
+-- the reasons of a name, an address and a seed that are none
+abbrev pub name_reason : Members → List ℕ
+name_reason members =
+    codes "name is " ++ (quoted (name_text members)
+    ++ codes ", and has to be 1 to 32 of A-Z a-z 0-9 . _ -\n")
+
+abbrev pub address_reason : Members → List ℕ
+address_reason members =
+    codes "address is " ++ (quoted (address_text members)
+    ++ codes ", and has to be A.B.C.D, each from 0 to 255\n")
+
+abbrev pub seed_reason : Members → List ℕ
+seed_reason members =
+    codes "the seed " ++ (quoted (bad_seed (seeds_at members)) ++ codes " has to be NAME@A.B.C.D:PORT\n")
+
+-- the reason of a value that is out of its form: the first of the name, the address, the port, the dice and the seeds
+unfoldable pub value_reason : Members → List ℕ
+value_reason members =
+    if is_none (name_in members) then name_reason members
+    else if is_none (octets_of_member members) then address_reason members
+    else if is_none (port_of_member members) then port_reason members
+    else if is_none (dice_in members) then dice_reason members
+    else seed_reason members
+
+-- how many elements an array has
+abbrev pub item_count : Items → ℕ
+item_count no_items = 0
+item_count (item value others) = suc (item_count others)
+
+-- the name of the first of some seeds that a later one has too
+abbrev pub shared_name : List Seed → Option (List ℕ)
+shared_name [] = None
+shared_name (seed ∷ seeds) = if is_seed seed.name seeds then Some seed.name else shared_name seeds
+
+-- the reason of a few seeds that don't go together, by a name that two of them have
+abbrev pub few_seeds_reason : Option (List ℕ) → List ℕ
+few_seeds_reason (Some name) = codes "two seeds have the name " ++ (quoted name ++ newline)
+few_seeds_reason None = codes "a seed has the member's own name\n"
+
+-- the reason of too many seeds
+abbrev pub many_seeds_reason : ℕ → List ℕ
+many_seeds_reason count = codes "there are " ++ (decimal count ++ codes " seeds, and at most 16 are allowed\n")
+
+-- the first 16 of the seeds that an array spells
+abbrev pub few_seeds : Items → List Seed
+few_seeds values = unwrap_or (option_map (λ seeds. take most_seeds seeds) (seeds_of_items values)) []
+
+-- the reason of seeds that don't go together: they are too many, two of them have a name, or one has the member's
+unfoldable pub seeds_reason : Items → List ℕ
+seeds_reason values =
+    if nat_lt most_seeds (item_count values) then many_seeds_reason (item_count values)
+    else few_seeds_reason (shared_name (few_seeds values))

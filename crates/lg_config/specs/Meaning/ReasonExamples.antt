@@ -1,0 +1,134 @@
+-- Worked reasons of files.
+use Rattle.std.specs.Prelude.{⊤, ◌≡◌, ℕ, ◌++◌, List, [], ◌∷◌, codes, refl, replicate}
+use Rattle.std.specs.Prelude.{Option, Some, None, Result, Ok, Err}
+use Rattle.std.specs.Fmt.{digits}
+use Rattle.std.specs.List.{flat_map}
+use Rattle.std.specs.Str.{chars, is_utf8}
+use Rattle.toml.proofs.OnLiterals.{toml_on_literals}
+use Rattle.toml.specs.Data.{Members}
+use Rattle.lg_timing.specs.Meaning.Config.{check_of}
+use Rattle.lg_config.specs.declared.fault.FileFault.{FileFault}
+use Rattle.lg_config.specs.declared.fault.FileFault.TheVariants as fault
+use Rattle.lg_config.specs.declared.node.NodeConfig.{NodeConfig}
+use Rattle.lg_config.specs.Meaning.Answer.{answer_of, document_of}
+use Rattle.lg_config.specs.Meaning.FormReasons.{seeds_reason, value_reason}
+use Rattle.lg_config.specs.Meaning.Keys.{kind_of_key}
+use Rattle.lg_config.specs.Meaning.Quoting.{quoted}
+use Rattle.lg_config.specs.Meaning.Reasons.{reason_of, IsReason}
+use Rattle.lg_config.specs.Meaning.Settings.{addr_in, dice_in, name_in, settings_of, with_numbers}
+use Rattle.lg_config.specs.Meaning.Texts.{before, behind, octets_of, address_of, seed_of_text}
+
+-- what the rows have to unfold
+unfoldable on_texts : ⊤
+unfolding toml_on_literals is_utf8 chars digits before behind octets_of address_of seed_of_text
+on_texts = tt
+
+unfoldable on_answers : ⊤
+unfolding on_texts answer_of kind_of_key settings_of name_in addr_in dice_in with_numbers check_of
+on_answers = tt
+
+unfoldable on_reasons : ⊤
+unfolding on_answers value_reason seeds_reason
+on_reasons = tt
+
+-- the reason of the fault that a file's document has, if it has one
+abbrev why : Result NodeConfig FileFault → Option Members → Option (List ℕ)
+why (Err found) (Some members) = Some (reason_of found members)
+why (Err found) None = None
+why (Ok node) document = None
+
+-- the reason of a file of the member b that also has this line
+abbrev said : List ℕ → Option (List ℕ)
+said line = let bytes = codes "name = \"b\"\n" ++ line in why (answer_of bytes) (document_of bytes)
+
+long-timeout : said (codes "timeout_ms = 5000") ≡ Some (codes "timeout_ms is 5000, and has to be from 1 to 999\n")
+unfolding on_reasons
+long-timeout = refl
+
+default-timeout :
+    said (codes "interval_ms = 500") ≡ Some (codes "timeout_ms is 500 by default, and has to be from 1 to 499\n")
+unfolding on_reasons
+default-timeout = refl
+
+negative-interval : said (codes "interval_ms = -1") ≡ Some (codes "interval_ms is -1, and has to be from 10 to 60000\n")
+unfolding on_reasons
+negative-interval = refl
+
+third-version : said (codes "wire = 3") ≡ Some (codes "wire is 3, and has to be from 1 to 2\n")
+unfolding on_reasons
+third-version = refl
+
+rare-pulls : said (codes "pull_ms = 3600001") ≡ Some (codes "pull_ms is 3600001, and has to be from 0 to 3600000\n")
+unfolding on_reasons
+rare-pulls = refl
+
+negative-stall : said (codes "stall_ms = -1") ≡ Some (codes "stall_ms is -1, and has to be from 0 to 60000\n")
+unfolding on_reasons
+negative-stall = refl
+
+port-65536 : said (codes "port = 65536") ≡ Some (codes "port is 65536, and has to be from 1 to 65535\n")
+unfolding on_reasons
+port-65536 = refl
+
+negative-dice : said (codes "dice = -1") ≡ Some (codes "dice is -1, and has to be from 0 to 9223372036854775807\n")
+unfolding on_reasons
+negative-dice = refl
+
+three-numbers :
+    said (codes "address = \"1.2.3\"")
+    ≡ Some (codes "address is \"1.2.3\", and has to be A.B.C.D, each from 0 to 255\n")
+unfolding on_reasons
+three-numbers = refl
+
+-- the second seed is the first that is none
+bad-seed :
+    said (codes "seeds = [\"c@1.2.3.4:1\", \"c\", \"d\"]")
+    ≡ Some (codes "the seed \"c\" has to be NAME@A.B.C.D:PORT\n")
+unfolding on_reasons
+bad-seed = refl
+
+shared-name :
+    said (codes "seeds = [\"c@1.2.3.4:1\", \"d@1.2.3.4:1\", \"d@1.2.3.4:2\"]")
+    ≡ Some (codes "two seeds have the name \"d\"\n")
+unfolding on_reasons
+shared-name = refl
+
+own-name : said (codes "seeds = [\"b@1.2.3.4:1\"]") ≡ Some (codes "a seed has the member's own name\n")
+unfolding on_reasons
+own-name = refl
+
+seeds-17 :
+    said (codes "seeds = [" ++ flat_map (λ seed. seed) (replicate 17 (codes "\"c@1.2.3.4:1\",")) ++ codes "]")
+    ≡ Some (codes "there are 17 seeds, and at most 16 are allowed\n")
+unfolding on_reasons
+seeds-17 = refl
+
+unknown-key : said (codes "colour = 1") ≡ Some (codes "the key \"colour\" is unknown\n")
+unfolding on_reasons
+unknown-key = refl
+
+text-for-number :
+    said (codes "port = \"5\"") ≡ Some (codes "port is of type string, and has to be of type integer\n")
+unfolding on_reasons
+text-for-number = refl
+
+number-in-seeds :
+    said (codes "seeds = [1]") ≡ Some (codes "seeds is of type array, and has to be of type array of strings\n")
+unfolding on_reasons
+number-in-seeds = refl
+
+no-name : why (answer_of (codes "port = 1")) (document_of (codes "port = 1")) ≡ Some (codes "the key name is missing\n")
+unfolding on_reasons
+no-name = refl
+
+-- a letter of two bytes and an escape character
+quoted-bytes : quoted (195 ∷ 169 ∷ 27 ∷ codes "a") ≡ codes "\"???a\""
+quoted-bytes = refl
+
+-- 65 bytes
+quoted-front : quoted (replicate 65 120) ≡ codes "\"" ++ (replicate 64 120 ++ codes "..\"")
+quoted-front = refl
+
+no-text : IsReason fault.Syntax (255 ∷ []) (codes "the file isn't UTF-8\n")
+unfolding on_reasons
+no-text = refl

@@ -1,0 +1,113 @@
+//! Says in words why a file means no configuration.
+//!
+//! Defined in: `specs/Meaning/Reasons.antt`.
+//! Tested in: `cases/config_reasons.case`, `lg_command_tests/src/config.rt`.
+ghost use Rattle.std.specs.Prelude.{◌≡◌, ◌≤◌, ℕ, IfOk, length, string_bytes};
+ghost use Rattle.toml.specs.Errors.{IsWithin, span_start};
+ghost use Rattle.toml.specs.View.{table_view};
+ghost use Rattle.lg_config.specs.Meaning.Reasons.{config_reason, key_of_fault, line_at, line_reason, reason_of};
+ghost use Rattle.lg_config.specs.Meaning.Reasons.{IsReason, IsTomlReason};
+
+use crate::document::{Unread, table_in};
+use crate::fault::FileFault;
+use crate::form_reasons::{seeds_reason, value_reason};
+use crate::key_reasons::key_reason;
+use crate::lookup::seeds_at;
+use crate::node_keys::NodeKey;
+use crate::ranges::{member_reason, own_reason};
+use lg_timing::{ConfigFault, KEYS, Key};
+use std::alloc::{AllocError, Global};
+use toml::Table;
+use toml::de::Error;
+
+/// The key of the member's number that has a fault. None for the fault of the seeds.
+fn key_of_fault(fault: ConfigFault) -> Option<Key>
+    ensures { result ≡ key_of_fault fault }
+{
+    KEYS.iter()
+        .copied()
+        .find(|key| key.row().fault.number() == fault.number())
+}
+
+/// The reason of a fault that the check of a configuration finds.
+fn config_reason(alloc: Global, key: Option<Key>, table: &Table) -> Result<String, AllocError>
+    ensures { IfOk result (λ text. string_bytes text ≡ config_reason key (table_view table.now)) }
+{
+    match key {
+        Some(key) => member_reason(alloc, key, table),
+        None => seeds_reason(alloc, seeds_at(table)),
+    }
+}
+
+/// The reason of a table's fault.
+fn reason_of(alloc: Global, fault: FileFault, table: &Table) -> Result<String, AllocError>
+    ensures { IfOk result (λ text. string_bytes text ≡ reason_of fault (table_view table.now)) }
+{
+    match fault {
+        FileFault::Config(broken) => config_reason(alloc, key_of_fault(broken), table),
+        FileFault::Syntax => String::from_str(alloc, "the file is TOML\n"),
+        FileFault::Key => key_reason(alloc, table),
+        FileFault::Value => value_reason(alloc, table),
+        FileFault::Pull => own_reason(alloc, NodeKey::PullMs, table),
+        FileFault::Stall => own_reason(alloc, NodeKey::StallMs, table),
+    }
+}
+
+/// The number of the line at a place of a text, from 1 on.
+fn line_at(place: usize, text: &[u8]) -> u64
+    requires { place ≤ length text.now }
+    ensures { result ≡ line_at place text.now }
+{
+    let mut line = 1;
+    for byte in &text[..place] {
+        if *byte == b'\n' {
+            line += 1;
+        }
+    }
+    line
+}
+
+/// The reason of a line that is no TOML.
+fn line_reason(alloc: Global, line: u64, message: &str) -> Result<String, AllocError>
+    ensures { IfOk result (λ text. string_bytes text ≡ line_reason line message.now) }
+{
+    format!(in alloc; "line {line} is no TOML: {message}\n")
+}
+
+/// The place at which an error begins.
+fn place_of(error: &Error) -> usize
+    ensures { (length : ℕ) → span_start error.now ≤ length → result ≤ length }
+{
+    match error.span() {
+        Some(span) => span.start,
+        None => 0,
+    }
+}
+
+/// The reason of a text that is no TOML.
+fn toml_reason(alloc: Global, bytes: &[u8], error: &Error) -> Result<String, AllocError>
+    requires { IsWithin bytes.now error.now }
+    ensures { IfOk result (λ text. IsTomlReason bytes.now (string_bytes text)) }
+{
+    line_reason(alloc, line_at(place_of(error), bytes), error.message())
+}
+
+/// What is wrong with a file whose answer is this fault, in a line of words.
+///
+/// It names the key, its value as the file gives it, and what is allowed. At most 64 bytes of a text are quoted, and
+/// those that aren't printable ASCII are written as `?`, so that a terminal takes them for nothing else (this
+/// project's choice). Of a file that is no TOML it names the line.
+///
+/// The file is read once more. The only error is that memory was refused. Memory is allocated for the table that the
+/// file spells, and for the line.
+pub fn reason(alloc: Global, bytes: &[u8], fault: FileFault) -> Result<String, AllocError>
+    ensures { IfOk result (λ text. IsReason fault bytes.now (string_bytes text)) }
+{
+    match table_in(alloc, bytes) {
+        Ok(table) => reason_of(alloc, fault, &table),
+        Err(Unread::NoMemory) => Err(AllocError),
+        Err(Unread::TooLong) => String::from_str(alloc, "the file has more than 65536 bytes\n"),
+        Err(Unread::NoUtf8) => String::from_str(alloc, "the file isn't UTF-8\n"),
+        Err(Unread::NoToml(error)) => toml_reason(alloc, bytes, &error),
+    }
+}
