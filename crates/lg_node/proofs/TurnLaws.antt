@@ -12,7 +12,7 @@ use Rattle.lg_node.specs.declared.ending.Why.{Why}
 use Rattle.lg_node.specs.declared.ending.Why.TheVariants.{Stopped, Ousted, LinkFailed, Refused, ReadBound}
 use Rattle.lg_node.specs.declared.turned.Turned.{Turned}
 use Rattle.lg_node.specs.Meaning.Turns.{Turn, deeds, drops, losses, breaks, stops, goes_on, IsTurn, Follows, LinkValue, Made, Counts, Ends, Ran, Threw, words_in}
-use Rattle.lg_node.specs.Meaning.Turns.Turn.{Quiet, Broken, Dropped, Heard, Unheard, Paused, Ticked, Unticked, Unseen, Pulled}
+use Rattle.lg_node.specs.Meaning.Turns.Turn.{Quiet, Broken, Dropped, Heard, Unheard, Paused, Ticked, Unticked, Unseen, AskedSeed, UnaskedSeed, Looked, Unlooked, AskedMember, UnaskedMember, FoundNobody, Unfound, Pulled}
 use Rattle.lg_node.specs.Support.Took.{Took}
 
 pub follows-append : (p m q : PassValue) (turns : List Turn) (t : Turn) → Follows p turns m → IsTurn m t q → Follows p (turns ++ t ∷ []) q
@@ -62,6 +62,14 @@ stops_of_turn (Paused now) = refl
 stops_of_turn (Ticked now words r sent) = ousted_of_turn r.reply.ousted
 stops_of_turn (Unticked now words e) = refl
 stops_of_turn (Unseen e) = refl
+stops_of_turn (AskedSeed now peer r sent) = ousted_of_turn r.reply.ousted
+stops_of_turn (UnaskedSeed now peer e) = refl
+stops_of_turn (Looked now seen asks) = refl
+stops_of_turn (Unlooked now) = refl
+stops_of_turn (AskedMember now words seen peer r sent) = ousted_of_turn r.reply.ousted
+stops_of_turn (UnaskedMember now words seen peer e) = refl
+stops_of_turn (FoundNobody now seen) = refl
+stops_of_turn (Unfound now) = refl
 stops_of_turn (Pulled now peer r sent) = refl
 
 of_turn : (t : Turn) (why : Why) → stops t ≡ Some why → is_of_turn why ≡ true

@@ -2,5 +2,6 @@
 pub mod Links
 pub mod Words
 pub mod Turns
+pub mod Pulling
 pub mod Nodes
 pub mod Examples

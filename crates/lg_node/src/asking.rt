@@ -9,11 +9,11 @@ ghost use Rattle.lg_node.specs.Meaning.Turns.{line};
 ghost use Rattle.lg_node.specs.Meaning.Nodes.{Asked};
 
 use crate::calling;
-use lg_clock::Clock;
 use crate::link::Link;
 use crate::shared::Shared;
 use crate::turned::Turned;
 use lg_agent::{AgentName, Pass, Refusal};
+use lg_clock::Clock;
 use lg_detector::Reply;
 use lg_timing::{MAX_SEEDS, Seed};
 use std::sync::Wait;

@@ -1,5 +1,6 @@
 //! How a loop ends.
-ghost use Rattle.std.specs.Prelude.{◌≡◌};
+ghost use Rattle.std.specs.Prelude.{◌≡◌, true, MatchBool};
+ghost use Rattle.lg_node.specs.declared.ending.Why.TheVariants.{ReadBound};
 
 use lg_agent::{AgentName, Refusal, Spent};
 use thiserror::Error;
@@ -20,7 +21,7 @@ pub enum Why {
     /// refused because the history is full, it was made again after a rotation, or memory for that was refused.
     #[error(transparent)]
     Refused(Refusal),
-    /// It made as many turns as are allowed.
+    /// It made as many turns as are allowed, and isn't endless. No loop of a node ends so.
     #[error("the loop made as many turns as it may")]
     ReadBound,
 }
@@ -49,6 +50,14 @@ impl End {
             unsent,
             turns,
         }
+    }
+
+    /// Whether a loop that may be endless ends so.
+    pub(crate) fn is_last(&self, endless: bool) -> bool
+        ensures { MatchBool result (endless ≡ true → self.now.why ≡ ReadBound → ⊥)
+            ((endless ≡ true) × (self.now.why ≡ ReadBound)) }
+    {
+        !endless || !matches!(self.why, Why::ReadBound)
     }
 }
 

@@ -1,12 +1,15 @@
 //! A node: two loops over an agent.
 #![tactic(auto)]
 
+mod agenda;
 mod asking;
 mod calling;
 mod dice;
 mod ending;
+mod finding;
 mod link;
 mod node;
+mod plan;
 mod receiving;
 mod running;
 mod sending;
@@ -16,11 +19,13 @@ mod ticking;
 mod turned;
 mod udp;
 
-pub use lg_clock::{Clock, Loop, MachineClock};
+pub use agenda::LOOK_MS;
 pub use dice::{Dice, PcgDice};
 pub use ending::{End, Ended, Why};
+pub use lg_clock::{Clock, Loop, MachineClock};
 pub use link::{Link, LinkFault, MAX_DATAGRAM};
 pub use node::{NodeEnd, NodeFault, run_node};
+pub use plan::Plan;
 pub use receiving::receive_loop;
 pub use running::run_loops;
 pub use shared::{MAX_TURNS, Shared, Side};

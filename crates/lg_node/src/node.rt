@@ -23,6 +23,16 @@ use std::sync::Wait;
 use std::thread::Threads;
 use thiserror::Error;
 
+/// What a node is told besides its configuration.
+#[derive(Clone, Copy, Debug)]
+pub struct Settings {
+    /// The number that seeds its random words.
+    pub dice: u64,
+    /// How long it is from one Pull for a member that random words choose to the next, in milliseconds. With 0 there is
+    /// none.
+    pub pull_ms: u64,
+}
+
 /// How a node ended whose loops had begun.
 #[derive(Drop)]
 pub struct NodeEnd {
@@ -77,8 +87,9 @@ where
     // Of a link over UDP contracts see only the failures.
     ensures ran { IfOk result (λ e. (hears : LinkValue) × (hears' : LinkValue) × (sends : LinkValue)
         × (sends' : LinkValue)
-        × IsRun DrawsEight (seeded dice) false MAX_TURNS config.now until hears hears' sends sends' e) }
+        × IsRun DrawsEight (seeded dice) false MAX_TURNS config.now 0 until hears hears' sends sends' e) }
     ensures refused { IfErr result IsEarly }
 {
-    open_and_serve::<Brand, R>(rt, alloc, UnnamedBook::new(), config, dice, until)
+    let settings = Settings { dice, pull_ms: 0 };
+    open_and_serve::<Brand, R>(rt, alloc, UnnamedBook::new(), config, &settings, until)
 }

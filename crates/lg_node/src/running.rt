@@ -3,29 +3,28 @@
 //! Defined in: `specs/Meaning/Turns.antt`.
 //! Tested in: `lg_command_tests/src/node/both.rt`.
 ghost use Rattle.std.specs.Prelude.{◌≡◌, ◌≤◌, ◌⊎◌};
-ghost use Rattle.std.specs.List.{flat_map};
 ghost use Rattle.lg_node.specs.declared.ending.Why.TheVariants.{Stopped};
-ghost use Rattle.lg_node.specs.Meaning.Turns.{line, receives, ticks_before, words_in};
-ghost use Rattle.lg_node.specs.Meaning.Turns.{Ran, Threw, HadNoThread};
+ghost use Rattle.lg_node.specs.Meaning.Pulling.{Ticking};
+ghost use Rattle.lg_node.specs.Meaning.Turns.{line, receives, Lasted, HadNoThread};
 
-use lg_clock::Clock;
 use crate::dice::Dice;
 use crate::ending::{End, Ended, Why};
 use crate::link::Link;
+use crate::plan::Plan;
 use crate::receiving::receive_loop;
 use crate::shared::{MAX_TURNS, Shared, Side};
 use crate::ticking::tick_loop;
 use lg_agent::{AgentName, Refusal};
-use lg_timing::Moment;
+use lg_clock::Clock;
 use std::marker::{Brand, PhantomData};
 use std::sync::Wait;
 use std::sync::atomic::Ordering::SeqCst;
 use std::thread;
 use std::thread::{Promise, Threads};
 
-/// Names the state in which a loop starts, and how many turns it may make.
+/// Names the state in which a loop starts, how many turns it may make, and whether it is endless.
 trait Start {
-    ghost use Rattle.std.specs.Prelude.{ℕ};
+    ghost use Rattle.std.specs.Prelude.{ℕ, Bool};
     ghost use Rattle.lg_agent.specs.Meaning.Values.{PassValue};
     ghost use Rattle.lg_node.specs.Meaning.Turns.{LinkValue};
 
@@ -34,16 +33,20 @@ trait Start {
     ghost line: { LinkValue };
 
     ghost bound: { ℕ };
+
+    ghost endless: { Bool };
 }
 
 impl Start for Brand {
-    ghost use Rattle.std.specs.Prelude.{[]};
+    ghost use Rattle.std.specs.Prelude.{[], false};
 
     ghost own = { record { name = []; seat = 0; seen = []; gone = 0; mine = [] } };
 
     ghost line = { record { log = []; failed = 0 } };
 
     ghost bound = { 0 };
+
+    ghost endless = { false };
 }
 
 /// What the receiving loop promises of its end, if it starts in that state.
@@ -53,7 +56,7 @@ struct Receives<S: Start> {
 }
 
 impl<S: Start, L: Link, A: AgentName> Promise<Ended<L, A>> for Receives<S> {
-    ghost kept_by = { λ p r. Ran receives L.tells S.bound S.line (line (L.log r.link) (L.failed r.link))
+    ghost kept_by = { λ p r. Lasted receives L.tells S.bound S.endless S.line (line (L.log r.link) (L.failed r.link))
         S.own r.spent r.end };
 }
 
@@ -76,7 +79,7 @@ fn spawn_and_tick<S, A, R, L, C, D>(
     receiver: Side<'_, L, A>,
     ticker: Side<'_, L, A>,
     dice: D,
-    until: Moment,
+    plan: &Plan,
 ) -> (Ended<L, A>, Ended<L, A>)
 where
     S: Start,
@@ -85,40 +88,40 @@ where
     L: Link + Send + Drop,
     C: Clock + Sync,
     D: Dice + Drop,
-    requires bound { (shared.now.bound ≤ MAX_TURNS) × (shared.now.bound ≡ S.bound) }
+    requires bound { (shared.now.bound ≤ MAX_TURNS) × (shared.now.bound ≡ S.bound)
+        × (shared.now.endless ≡ S.endless) }
     requires start { (receiver.pass ≡ S.own) × (line (L.log receiver.link) (L.failed receiver.link) ≡ S.line) }
-    ensures received { Ran receives L.tells S.bound S.line (line (L.log result.0.link) (L.failed result.0.link))
-        S.own result.0.spent result.0.end
-        ⊎ (HadNoThread receives L.tells S.bound S.line (line (L.log result.0.link) (L.failed result.0.link))
-        S.own result.0.spent result.0.end
+    ensures received { Lasted receives L.tells S.bound S.endless S.line
+        (line (L.log result.0.link) (L.failed result.0.link)) S.own result.0.spent result.0.end
+        ⊎ (HadNoThread receives L.tells S.bound S.endless S.line
+        (line (L.log result.0.link) (L.failed result.0.link)) S.own result.0.spent result.0.end
         × (result.1.end ≡ record { why = Stopped; dropped = 0; unsent = 0; turns = 0 })) }
-    ensures ticked { (ran : Ran (ticks_before until) L.tells shared.now.bound
+    ensures ticked { Ticking D.throws dice plan.now L.tells shared.now.bound shared.now.endless
         (line (L.log ticker.entry.link) (L.failed ticker.entry.link))
-        (line (L.log result.1.link) (L.failed result.1.link)) ticker.entry.pass result.1.spent result.1.end)
-        × ((rest : D) × Threw D.throws dice (flat_map words_in ran.turns) rest) }
+        (line (L.log result.1.link) (L.failed result.1.link)) ticker.entry.pass result.1.spent result.1.end }
 {
     let promise: Receives<S> = Receives { start: PhantomData };
     thread::scope(
         thread::scope_env(),
         shared.rt,
         move |scope| -> (Ended<L, A>, Ended<L, A>)
-            requires bound { (shared.now.bound ≤ MAX_TURNS) × (shared.now.bound ≡ S.bound) }
+            requires bound { (shared.now.bound ≤ MAX_TURNS) × (shared.now.bound ≡ S.bound)
+                × (shared.now.endless ≡ S.endless) }
             requires start { (receiver.pass ≡ S.own) × (line (L.log receiver.link) (L.failed receiver.link) ≡ S.line) }
-            ensures received { Ran receives L.tells S.bound S.line
+            ensures received { Lasted receives L.tells S.bound S.endless S.line
                 (line (L.log result.0.link) (L.failed result.0.link)) S.own result.0.spent result.0.end
-                ⊎ (HadNoThread receives L.tells S.bound S.line
+                ⊎ (HadNoThread receives L.tells S.bound S.endless S.line
                 (line (L.log result.0.link) (L.failed result.0.link)) S.own result.0.spent result.0.end
                 × (result.1.end ≡ record { why = Stopped; dropped = 0; unsent = 0; turns = 0 })) }
-            ensures ticked { (ran : Ran (ticks_before until) L.tells shared.entry.now.bound
-                (line (L.log ticker.entry.link) (L.failed ticker.entry.link))
-                (line (L.log result.1.link) (L.failed result.1.link)) ticker.entry.pass result.1.spent result.1.end)
-                × ((rest : D) × Threw D.throws dice (flat_map words_in ran.turns) rest) }
+            ensures ticked { Ticking D.throws dice plan.entry.now L.tells shared.entry.now.bound
+                shared.entry.now.endless (line (L.log ticker.entry.link) (L.failed ticker.entry.link))
+                (line (L.log result.1.link) (L.failed result.1.link)) ticker.entry.pass result.1.spent result.1.end }
         {
             let spawned = scope.spawn_with(
                 promise,
                 move || -> Ended<L, A>
                     requires { shared.now.bound ≤ MAX_TURNS }
-                    ensures { Ran receives L.tells shared.entry.now.bound
+                    ensures { Lasted receives L.tells shared.entry.now.bound shared.entry.now.endless
                         (line (L.log receiver.entry.link) (L.failed receiver.entry.link))
                         (line (L.log result.link) (L.failed result.link)) receiver.entry.pass result.spent result.end }
                 { receive_loop(shared, receiver) },
@@ -132,7 +135,7 @@ where
                     return (received, unstarted(ticker));
                 }
             };
-            let ticked = tick_loop(shared, ticker, dice, until);
+            let ticked = tick_loop(shared, ticker, dice, plan);
             (child.join(shared.rt), ticked)
         },
     )
@@ -149,7 +152,7 @@ pub fn run_loops<A, R, L, C, D>(
     receiver: Side<'_, L, A>,
     ticker: Side<'_, L, A>,
     dice: D,
-    until: Moment,
+    plan: &Plan,
 ) -> (Ended<L, A>, Ended<L, A>)
 where
     A: AgentName + Send + Sync,
@@ -158,17 +161,16 @@ where
     C: Clock + Sync,
     D: Dice + Drop,
     requires { shared.now.bound ≤ MAX_TURNS }
-    ensures received { Ran receives L.tells shared.now.bound
+    ensures received { Lasted receives L.tells shared.now.bound shared.now.endless
         (line (L.log receiver.entry.link) (L.failed receiver.entry.link))
         (line (L.log result.0.link) (L.failed result.0.link)) receiver.entry.pass result.0.spent result.0.end
-        ⊎ (HadNoThread receives L.tells shared.now.bound
+        ⊎ (HadNoThread receives L.tells shared.now.bound shared.now.endless
         (line (L.log receiver.entry.link) (L.failed receiver.entry.link))
         (line (L.log result.0.link) (L.failed result.0.link)) receiver.entry.pass result.0.spent result.0.end
         × (result.1.end ≡ record { why = Stopped; dropped = 0; unsent = 0; turns = 0 })) }
-    ensures ticked { (ran : Ran (ticks_before until) L.tells shared.now.bound
+    ensures ticked { Ticking D.throws dice plan.now L.tells shared.now.bound shared.now.endless
         (line (L.log ticker.entry.link) (L.failed ticker.entry.link))
-        (line (L.log result.1.link) (L.failed result.1.link)) ticker.entry.pass result.1.spent result.1.end)
-        × ((rest : D) × Threw D.throws dice (flat_map words_in ran.turns) rest) }
+        (line (L.log result.1.link) (L.failed result.1.link)) ticker.entry.pass result.1.spent result.1.end }
 {
-    spawn_and_tick::<Brand, A, R, L, C, D>(shared, receiver, ticker, dice, until)
+    spawn_and_tick::<Brand, A, R, L, C, D>(shared, receiver, ticker, dice, plan)
 }

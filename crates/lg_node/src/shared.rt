@@ -9,7 +9,7 @@ use lg_view::{Published, Update};
 use std::alloc::Global;
 use std::sync::atomic::AtomicBool;
 
-/// How many turns each loop of a node may make: 1,000,000,000.
+/// The most turns that a loop of a node makes before it counts them anew or ends: 1,000,000,000.
 pub const MAX_TURNS: u64 = 1_000_000_000;
 
 /// What the loops of a node share.
@@ -23,8 +23,14 @@ pub struct Shared<'a, R, C> {
     pub clock: &'a C,
     /// Whether the loops are to stop. A loop that ends sets it for the other one.
     pub stop: &'a AtomicBool,
-    /// How many turns each loop may make, at most [`MAX_TURNS`]. With 0 a loop ends at once.
+    /// Whether a Page was heard: then some member's table is known. The receiving loop sets it.
+    pub page_heard: &'a AtomicBool,
+    /// How many turns each loop may make, at most [`MAX_TURNS`]. With 0 a loop ends at once, unless it is endless.
     pub bound: u64,
+    /// Whether a loop that has made so many turns counts them anew and goes on.
+    pub endless: bool,
+    /// How long one turn waits at most, in milliseconds.
+    pub wait_ms: u64,
 }
 
 /// What one loop works with: the pass that it calls, and its link.

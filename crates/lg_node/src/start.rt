@@ -5,7 +5,7 @@
 //!
 //! Defined in: `specs/Meaning/Nodes.antt`, `specs/Meaning/Turns.antt`, `specs/Meaning/Words.antt`.
 //! Tested in: `lg_command_tests/src/node/asking.rt`, `cases/nodes`.
-ghost use Rattle.std.specs.Prelude.{◌≡◌, ◌≤◌, ◌⊎◌, ◌∷◌, [], ℕ, false};
+ghost use Rattle.std.specs.Prelude.{◌≡◌, ◌≤◌, ◌⊎◌, ◌∷◌, [], ℕ, false, true};
 ghost use Rattle.std.specs.Prelude.{All, IfOk, IfErr, IfSome, MatchResult, length};
 ghost use Rattle.std.specs.Vec.{vec_capacity};
 ghost use Rattle.lg_timing.specs.Meaning.Config.{IsChecked};
@@ -21,14 +21,15 @@ ghost use Rattle.lg_node.specs.Meaning.Turns.{LinkValue};
 ghost use Rattle.lg_node.specs.Meaning.Words.{seeded, DrawsEight};
 
 use crate::asking::ask_each;
-use lg_clock::{Clock, MachineClock};
 use crate::dice::PcgDice;
 use crate::ending::End;
-use crate::node::{NodeEnd, NodeFault};
+use crate::node::{NodeEnd, NodeFault, Settings};
+use crate::plan::Plan;
 use crate::running::run_loops;
 use crate::shared::{MAX_TURNS, Shared, Side};
 use crate::udp::UdpLink;
 use lg_agent::{Agent, AgentName, Pass, Refusal, Spent, Unclosed};
+use lg_clock::{Clock, MachineClock};
 use lg_rules::Record;
 use lg_timing::{Config, Moment};
 use lg_view::UnnamedBook;
@@ -48,7 +49,7 @@ pub(crate) fn open_and_serve<A, R>(
     alloc: Global,
     book: UnnamedBook,
     config: &Config,
-    dice: u64,
+    settings: &Settings,
     until: Moment,
 ) -> Result<NodeEnd, NodeFault>
 where
@@ -59,7 +60,8 @@ where
     requires config { IsChecked config.now }
     ensures ran { IfOk result (λ e. (hears : LinkValue) × (hears' : LinkValue) × (sends : LinkValue)
         × (sends' : LinkValue)
-        × IsRun DrawsEight (seeded dice) false MAX_TURNS config.now until hears hears' sends sends' e) }
+        × IsRun DrawsEight (seeded settings.now.dice) false MAX_TURNS config.now settings.now.pull_ms until
+        hears hears' sends sends' e) }
     ensures refused { IfErr result IsEarly }
 {
     let address = (Ipv4Addr::from_octets(config.addr.octets), config.addr.port);
@@ -77,20 +79,30 @@ where
         Err(refusal) => return Err(NodeFault::Refused(refusal)),
     };
     let stop = AtomicBool::new(false);
+    let page_heard = AtomicBool::new(false);
     let shared = Shared {
         rt,
         alloc,
         clock: &clock,
         stop: &stop,
+        page_heard: &page_heard,
         bound: MAX_TURNS,
+        endless: true,
+        wait_ms: wait_of(config),
     };
-    match serve(&shared, &mut agent, &socket, config, dice, until) {
+    match serve(&shared, &mut agent, &socket, config, settings, until) {
         Ok(left) => Ok(close(rt, agent, left, room)),
         Err(refusal) => {
             agent.abandon(rt);
             Err(NodeFault::Refused(refusal))
         }
     }
+}
+
+/// How long a turn of a node waits at most, in milliseconds: a tenth of the configuration's `timeout_ms`, but at least 5
+/// and at most 50.
+fn wait_of(config: &Config) -> u64 {
+    (config.timeout_ms / 10).clamp(5, 50)
 }
 
 /// What the passes of a node leave, its ends, and the members.
@@ -111,7 +123,7 @@ fn serve<A, R, C>(
     agent: &mut Agent<A>,
     socket: &UdpSocket,
     config: &Config,
-    dice: u64,
+    settings: &Settings,
     until: Moment,
 ) -> Result<Left<A>, Refusal>
 where
@@ -119,12 +131,13 @@ where
     R: Wait + Threads + Sync,
     C: Clock + Sync,
     requires places { length agent.old.told ≡ PLACES }
-    requires bound { shared.now.bound ≤ MAX_TURNS }
+    requires bound { (shared.now.bound ≤ MAX_TURNS) × (shared.now.endless ≡ true) }
     ensures left { (start : ℕ) → agent.old.name ≡ config.now.name
         → All (λ seen. seen ≡ Open start config.now ∷ []) agent.old.told
         → IfOk result (λ l. (hears : LinkValue) × (hears' : LinkValue) × (sends : LinkValue) × (sends' : LinkValue)
         × (asker : PassValue)
-        × HasServed DrawsEight (seeded dice) false shared.now.bound config.now until start hears hears' sends sends'
+        × HasServed DrawsEight (seeded settings.now.dice) false shared.now.bound config.now settings.now.pull_ms until
+        start hears hears' sends sends'
         l.received l.ticked l.receiver l.ticker asker
         × MatchResult l.members (λ records. (records.items ≡ view_after l.reader.seen) × IsLook asker l.reader)
         (λ r. ((r ≡ NoView) ⊎ (r ≡ NoMemory)) × (l.reader ≡ asker))) }
@@ -150,8 +163,9 @@ where
         pass: ticker,
         link: sends,
     };
-    let dice = PcgDice::new(dice);
-    let (received, ticked) = run_loops(shared, receiver, ticker, dice, until);
+    let dice = PcgDice::new(settings.dice);
+    let plan = Plan::new(config, settings.pull_ms, until);
+    let (received, ticked) = run_loops(shared, receiver, ticker, dice, &plan);
     let mut ticked = ticked;
     ticked.end.unsent = ticked.end.unsent.saturating_add(unsent);
     let members = asker.members(shared.alloc);

@@ -1,53 +1,82 @@
 //! The ticking loop.
 //!
-//! Defined in: `specs/Meaning/Turns.antt`, `specs/Support/Took.antt`.
-//! Tested in: `lg_command_tests/src/node/ticking.rt`.
-ghost use Rattle.std.specs.Prelude.{◌≡◌, ◌≤◌, ◌<◌, ℕ, IfSome};
-ghost use Rattle.std.specs.List.{flat_map};
-ghost use Rattle.lg_node.specs.Meaning.Turns.{line, ticks_before, words_in, Ran, Threw};
-ghost use Rattle.lg_node.specs.Support.Took.{Took};
+//! Defined in: `specs/Meaning/Turns.antt`, `specs/Meaning/Pulling.antt`, `specs/Support/Acted.antt`.
+//! Tested in: `lg_command_tests/src/node/ticking.rt`, `lg_command_tests/src/node/finding.rt`.
+ghost use Rattle.std.specs.Prelude.{◌≡◌, ◌≤◌, ◌<◌, IfSome, [], ℕ};
+ghost use Rattle.lg_agent.specs.Meaning.Values.{PassValue};
+ghost use Rattle.lg_node.specs.declared.plan.Plan.{Plan as Planned};
+ghost use Rattle.lg_node.specs.Meaning.Pulling.{Ticking};
+ghost use Rattle.lg_node.specs.Meaning.Turns.{line, words_in, SeesDue, Threw};
+ghost use Rattle.lg_node.specs.Support.Acted.{Acted, Stretched, IsAgenda};
 
+use crate::agenda::{Agenda, Duty};
 use crate::calling;
-use lg_clock::Clock;
 use crate::dice::Dice;
 use crate::ending::{End, Ended, Why};
+use crate::finding::{ask_member, ask_seed, look};
 use crate::link::Link;
+use crate::plan::Plan;
 use crate::shared::{MAX_TURNS, Shared, Side};
 use crate::turned::Turned;
 use lg_agent::AgentName;
+use lg_clock::{Clock, Loop};
 use lg_detector::Reply;
 use lg_timing::Moment;
 use std::sync::Wait;
 use std::sync::atomic::Ordering::SeqCst;
 
-/// How long one turn pauses at most, in milliseconds.
-const PAUSE_MS: u64 = 20;
-
-/// One turn at a moment: ticks if the next deadline has come, and otherwise pauses. A reply is written over `reply`.
-fn tick_turn<A: AgentName, R: Wait, L: Link, C: Clock, D: Dice>(
+/// Ticks, since the next deadline has come.
+fn tick<A: AgentName, R: Wait, L: Link, C, D: Dice>(
     shared: &Shared<'_, R, C>,
     side: &mut Side<'_, L, A>,
     dice: &mut D,
     now: Moment,
     reply: &mut Reply,
 ) -> Turned
-    ensures { (until : ℕ) → now < until
-        → (took : Took (ticks_before until) L.tells (line (L.log side.old.link) (L.failed side.old.link))
-        (line (L.log side.new.link) (L.failed side.new.link)) side.old.pass side.new.pass result)
-        × Threw D.throws dice.old (words_in took.turn) dice.new }
+    ensures { (plan : Planned) → (agenda : Agenda) → (p : PassValue) → SeesDue p now side.old.pass → now < plan.until
+        → (acted : Acted plan L.tells (line (L.log side.old.link) (L.failed side.old.link))
+        (line (L.log side.new.link) (L.failed side.new.link)) p side.new.pass agenda agenda result)
+        × Threw D.throws dice.old (words_in acted.took.turn) dice.new }
+{
+    match calling::tick(shared, &mut side.pass, now, dice.words(), reply) {
+        Ok(_) => Turned::of(&mut side.link, reply),
+        Err(refusal) => Turned::end(Why::Refused(refusal)),
+    }
+}
+
+/// One turn at a moment: ticks if the next deadline has come. Otherwise it does what the agenda says, or pauses. A
+/// reply is written over `reply`.
+fn tick_turn<A: AgentName, R: Wait, L: Link, C: Clock, D: Dice>(
+    shared: &Shared<'_, R, C>,
+    side: &mut Side<'_, L, A>,
+    dice: &mut D,
+    plan: &Plan,
+    agenda: &mut Agenda,
+    now: Moment,
+    reply: &mut Reply,
+) -> Turned
+    ensures { now < plan.now.until
+        → (acted : Acted plan.now L.tells (line (L.log side.old.link) (L.failed side.old.link))
+        (line (L.log side.new.link) (L.failed side.new.link)) side.old.pass side.new.pass agenda.old agenda.new result)
+        × Threw D.throws dice.old (words_in acted.took.turn) dice.new }
 {
     let deadline = match side.pass.next_deadline() {
         Ok(deadline) => deadline,
         Err(refusal) => return Turned::end(Why::Refused(refusal)),
     };
     let moment = now.milliseconds();
-    if moment < deadline {
-        shared.clock.pause((deadline - moment).min(PAUSE_MS));
-        return Turned::on();
+    if deadline <= moment {
+        return tick(shared, side, dice, now, reply);
     }
-    match calling::tick(shared, &mut side.pass, now, dice.words(), reply) {
-        Ok(_) => Turned::of(&mut side.link, reply),
-        Err(refusal) => Turned::end(Why::Refused(refusal)),
+    match agenda.duty(plan, now) {
+        Duty::Seed(peer) => ask_seed(shared, side, agenda, now, peer, reply),
+        Duty::Look => look(shared, side, plan, agenda, now),
+        Duty::Member => ask_member(shared, side, dice, plan, agenda, now, reply),
+        Duty::Rest(limit) => {
+            let pause = (deadline - moment).min(limit).min(shared.wait_ms);
+            shared.clock.pause(pause);
+            Turned::on()
+        }
     }
 }
 
@@ -55,6 +84,7 @@ fn tick_turn<A: AgentName, R: Wait, L: Link, C: Clock, D: Dice>(
 fn next_moment<R, C: Clock>(shared: &Shared<'_, R, C>, until: Moment) -> Option<Moment>
     ensures { IfSome result (λ now. now < until) }
 {
+    shared.clock.begin_turn(Loop::Ticking);
     if shared.stop.load(SeqCst) {
         return None;
     }
@@ -71,21 +101,22 @@ fn tick_turns<A: AgentName, R: Wait, L: Link, C: Clock, D: Dice>(
     shared: &Shared<'_, R, C>,
     side: &mut Side<'_, L, A>,
     dice: &mut D,
-    until: Moment,
+    plan: &Plan,
+    agenda: &mut Agenda,
 ) -> End
     requires { shared.now.bound ≤ MAX_TURNS }
-    ensures { (ran : Ran (ticks_before until) L.tells shared.now.bound
+    ensures { Stretched D.throws dice.old dice.new plan.now L.tells shared.now.bound
         (line (L.log side.old.link) (L.failed side.old.link))
-        (line (L.log side.new.link) (L.failed side.new.link)) side.old.pass side.new.pass result)
-        × Threw D.throws dice.old (flat_map words_in ran.turns) dice.new }
+        (line (L.log side.new.link) (L.failed side.new.link)) side.old.pass side.new.pass agenda.old agenda.new
+        result }
 {
     let mut reply = Reply::default();
     let (mut dropped, mut unsent) = (0, 0);
     for turns in 0..shared.bound {
-        let Some(now) = next_moment(shared, until) else {
+        let Some(now) = next_moment(shared, plan.until) else {
             return End::of(Why::Stopped, dropped, unsent, turns);
         };
-        let turned = tick_turn(shared, side, dice, now, &mut reply);
+        let turned = tick_turn(shared, side, dice, plan, agenda, now, &mut reply);
         dropped += turned.dropped;
         unsent += turned.unsent;
         if let Some(why) = turned.why {
@@ -95,31 +126,63 @@ fn tick_turns<A: AgentName, R: Wait, L: Link, C: Clock, D: Dice>(
     End::of(Why::ReadBound, dropped, unsent, shared.bound)
 }
 
+/// The turns of the loop, counted anew if it is endless, until one ends it.
+fn tick_on<A: AgentName, R: Wait, L: Link, C: Clock, D: Dice>(
+    shared: &Shared<'_, R, C>,
+    side: &mut Side<'_, L, A>,
+    dice: &mut D,
+    plan: &Plan,
+) -> End
+    requires { shared.now.bound ≤ MAX_TURNS }
+    ensures { Ticking D.throws dice.old plan.now L.tells shared.now.bound shared.now.endless
+        (line (L.log side.old.link) (L.failed side.old.link))
+        (line (L.log side.new.link) (L.failed side.new.link)) side.old.pass side.new.pass result }
+{
+    let mut agenda = Agenda::begin(plan, shared.clock.now());
+    for _ in shared.rt.forever() {
+        let end = tick_turns(shared, side, dice, plan, &mut agenda);
+        if end.is_last(shared.endless) {
+            return end;
+        }
+    }
+    unreachable!()
+}
+
 /// Ticks whenever the next deadline has come, and hands the packets of the replies to a link, until the stop flag is
-/// set or its end time (`until`) comes.
+/// set or its end time comes. Meanwhile it finds its group, as the plan says.
 ///
-/// It makes at most `shared.bound` turns. One that doesn't tick pauses until the deadline, but 20 ms at most. A
-/// packet that isn't sent is lost, and counted. A full history ends nothing: it is rotated, as
-/// [`Pass::rotate`](lg_agent::Pass::rotate) says, and the tick is made then, with the same words.
+/// A turn makes one tick if a deadline has come. Otherwise it does the first of these that is to be done:
+/// 1. It asks a seed that waits for this, with a Pull.
+/// 2. It looks at the members, once in [`LOOK_MS`](crate::LOOK_MS) milliseconds. If no Page was heard so far, or each
+///    other member that it knows has failed, all seeds wait to be asked.
+/// 3. It asks a member that random words choose of all that it knows, failed ones too, once in `plan.pull_ms`
+///    milliseconds. If it knows nobody, it tries again after that time.
+/// 4. It pauses, until the first of these is due, `shared.wait_ms` milliseconds at most.
 ///
-/// It ends with [`Why::Refused`] if no tick could be made or a look was refused, and with [`Why::Ousted`] after a
-/// reply that says so. No tick can be made if memory was refused, for the call or for the rotation. Nor can one be
-/// made if the history is still full after a rotation: another pass has filled it meanwhile, or there were as many
-/// events as a detector accepts. However the loop ends, it sets the stop flag for the others.
+/// A look that is refused is put off to its next time. It allocates memory for 256 records.
+///
+/// It makes at most `shared.bound` turns. If it is endless it then goes on, and counts them anew. A packet that isn't
+/// sent is lost, and counted. A full history ends nothing: it is rotated, as
+/// [`Pass::rotate`](lg_agent::Pass::rotate) says, and the call is made then, with the same words.
+///
+/// It ends with [`Why::Refused`] if a call was refused or a look at the next deadline, and with [`Why::Ousted`] after a
+/// reply that says so. A call is refused if memory is, for it or for the rotation. It is also refused if the history is
+/// still full after a rotation: another pass has filled it meanwhile, or there were as many events as a detector
+/// accepts. It ends with [`Why::ReadBound`] only if it isn't endless. However the loop ends, it sets the stop flag for
+/// the others.
 pub fn tick_loop<A: AgentName, R: Wait, L: Link, C: Clock, D: Dice + Drop>(
     shared: &Shared<'_, R, C>,
     side: Side<'_, L, A>,
     dice: D,
-    until: Moment,
+    plan: &Plan,
 ) -> Ended<L, A>
     requires { shared.now.bound ≤ MAX_TURNS }
-    ensures { (ran : Ran (ticks_before until) L.tells shared.now.bound
+    ensures { Ticking D.throws dice plan.now L.tells shared.now.bound shared.now.endless
         (line (L.log side.entry.link) (L.failed side.entry.link))
-        (line (L.log result.link) (L.failed result.link)) side.entry.pass result.spent result.end)
-        × ((rest : D) × Threw D.throws dice (flat_map words_in ran.turns) rest) }
+        (line (L.log result.link) (L.failed result.link)) side.entry.pass result.spent result.end }
 {
     let (mut side, mut dice) = (side, dice);
-    let end = tick_turns(shared, &mut side, &mut dice, until);
+    let end = tick_on(shared, &mut side, &mut dice, plan);
     shared.stop.store(true, SeqCst);
     let Side { pass, link } = side;
     Ended {

@@ -1,5 +1,5 @@
 -- What a node does from its opening to its end.
-use Rattle.std.specs.Prelude.{◌≡◌, ◌<◌, ◌⊎◌, ℕ, ◌+◌, ◌^◌, Bool, List, [], ◌∷◌, map}
+use Rattle.std.specs.Prelude.{◌≡◌, ◌<◌, ◌⊎◌, ℕ, ◌+◌, ◌^◌, Bool, true, List, [], ◌∷◌}
 use Rattle.std.specs.Prelude.{MatchResult}
 use Rattle.std.specs.List.{flat_map, sum_by}
 use Rattle.lg_rules.specs.declared.addr.Addr.{Addr}
@@ -16,12 +16,9 @@ use Rattle.lg_node.specs.declared.ending.Why.TheVariants.{Stopped}
 use Rattle.lg_node.specs.declared.node.NodeEnd.{NodeEnd}
 use Rattle.lg_node.specs.declared.node.NodeFault.{NodeFault}
 use Rattle.lg_node.specs.declared.node.NodeFault.TheVariants.{Refused}
-use Rattle.lg_node.specs.Meaning.Turns.{Turn, LinkValue, Made, Ran, HadNoThread, Threw}
-use Rattle.lg_node.specs.Meaning.Turns.{is_pull, receives, ticks_before, losses, peers_in, words_in}
-
--- the addresses of the seeds
-abbrev pub addrs : List Seed → List Addr
-addrs seeds = map (λ s. s.addr) seeds
+use Rattle.lg_node.specs.Meaning.Turns.{Turn, LinkValue, Made, Lasted, HadNoThread}
+use Rattle.lg_node.specs.Meaning.Turns.{is_pull, receives, losses, peers_in}
+use Rattle.lg_node.specs.Meaning.Pulling.{addrs, plan_of, Ticking}
 
 -- Seeds were asked for their tables, each once and in order. `unsent` of the packets weren't sent.
 pub record Asked (tells : Bool) (seeds : List Seed) (k k' : LinkValue) (p q : PassValue) (unsent : ℕ) : Type 0 where
@@ -43,7 +40,7 @@ unstarted = record { why = Stopped; dropped = 0; unsent = 0; turns = 0 }
 -- by which the seeds were asked. If no thread could be started, the ticking loop made no turn.
 pub record HasServed
     {D : Type 0} (throws : D → List ℕ → D → Type 0) (dice : D) (tells : Bool) (bound : ℕ) (config : Config)
-    (until start : ℕ) (hears hears' sends sends' : LinkValue) (received ticked : End)
+    (pull_ms until start : ℕ) (hears hears' sends sends' : LinkValue) (received ticked : End)
     (receiver ticker asker : PassValue)
     : Type 0 where
   pub between : LinkValue
@@ -51,13 +48,11 @@ pub record HasServed
   pub unsent : ℕ
   pub later : ℕ
   pub asked : Asked tells config.seeds.items sends between (fresh_own config start 3) asker unsent
-  pub received_so : Ran receives tells bound hears hears' (fresh_own config start 1) receiver received
-      ⊎ (HadNoThread receives tells bound hears hears' (fresh_own config start 1) receiver received
+  pub received_so : Lasted receives tells bound true hears hears' (fresh_own config start 1) receiver received
+      ⊎ (HadNoThread receives tells bound true hears hears' (fresh_own config start 1) receiver received
       × (record ticked { unsent = later } ≡ unstarted))
-  pub ticked_so :
-      (ran : Ran (ticks_before until) tells bound between sends' (fresh_own config start 2) ticker
-      (record ticked { unsent = later }))
-      × ((rest : D) × Threw throws dice (flat_map words_in ran.turns) rest)
+  pub ticked_so : Ticking throws dice (plan_of config pull_ms until) tells bound true between sends' (fresh_own config start 2) ticker
+      (record ticked { unsent = later })
   pub counted : later + unsent < 2 ^ 64 → ticked.unsent ≡ later + unsent
 
 -- A node ran. It opened an agent with three places, asked its seeds and ran its loops. Then the pass that had asked
@@ -65,13 +60,13 @@ pub record HasServed
 -- been refused.
 pub record IsRun
     {D : Type 0} (throws : D → List ℕ → D → Type 0) (dice : D) (tells : Bool) (bound : ℕ) (config : Config)
-    (until : ℕ) (hears hears' sends sends' : LinkValue) (e : NodeEnd) : Type 0 where
+    (pull_ms until : ℕ) (hears hears' sends sends' : LinkValue) (e : NodeEnd) : Type 0 where
   pub start : ℕ
   pub receiver : PassValue
   pub ticker : PassValue
   pub asker : PassValue
   pub reader : PassValue
-  pub served : HasServed throws dice tells bound config until start hears hears' sends sends' e.received e.ticked
+  pub served : HasServed throws dice tells bound config pull_ms until start hears hears' sends sends' e.received e.ticked
       receiver ticker asker
   pub members : MatchResult e.members (λ records. (records.items ≡ view_after reader.seen) × IsLook asker reader)
       (λ r. ((r ≡ NoView) ⊎ (r ≡ NoMemory)) × (reader ≡ asker))

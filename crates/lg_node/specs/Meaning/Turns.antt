@@ -1,5 +1,5 @@
 -- What a loop does, turn by turn, and how it ends.
-use Rattle.std.specs.Prelude.{◌≡◌, ◌⊎◌, ℕ, ◌+◌, ◌<◌, ◌≤◌}
+use Rattle.std.specs.Prelude.{◌≡◌, ◌⊎◌, ℕ, ◌+◌, ◌*◌, ◌<◌, ◌≤◌}
 use Rattle.std.specs.Prelude.{Bool, true, false, nat_lt, if◌then◌else◌}
 use Rattle.std.specs.Prelude.{List, [], ◌∷◌, ◌++◌, length, All, Option, Some, None, Ok, Err}
 use Rattle.std.specs.List.{flat_map, sum_by}
@@ -30,6 +30,15 @@ use Rattle.lg_node.specs.Meaning.Links.LinkEvent.{Received, Silent, Failed}
 -- - nothing was due at a moment;
 -- - there was a tick at a moment with random words, with this receipt, and these of the reply's packets were sent;
 -- - the call for it was refused, or the look at the next deadline was.
+-- A turn in which the ticking loop finds its group:
+-- - a seed at an address was asked at a moment for its table, with this receipt, and these of the reply's packets were
+--   sent; or the call for it was refused;
+-- - there was a look at the members at a moment, which answered from these events, and then the seeds were to be asked
+--   or not; or that look was refused;
+-- - a member at an address was asked at a moment for its table. Random words had chosen it among the members of a look,
+--   which answered from these events. The receipt and the packets sent are as above. Or the call for it was refused;
+-- - a member was to be asked at a moment, and a look that answered from these events showed no other; or that look was
+--   refused.
 -- A turn of asking:
 -- - a member at an address was asked at a moment for its table, with this receipt, and these of the reply's packets
 --   were sent.
@@ -43,6 +52,14 @@ pub data Turn : Type 0 where
   Ticked : ℕ → List ℕ → Receipt → List Bool → Turn
   Unticked : ℕ → List ℕ → Refusal → Turn
   Unseen : Refusal → Turn
+  AskedSeed : ℕ → Addr → Receipt → List Bool → Turn
+  UnaskedSeed : ℕ → Addr → Refusal → Turn
+  Looked : ℕ → List Event → Bool → Turn
+  Unlooked : ℕ → Turn
+  AskedMember : ℕ → List ℕ → List Event → Addr → Receipt → List Bool → Turn
+  UnaskedMember : ℕ → List ℕ → List Event → Addr → Refusal → Turn
+  FoundNobody : ℕ → List Event → Turn
+  Unfound : ℕ → Turn
   Pulled : ℕ → Addr → Receipt → List Bool → Turn
 
 -- a turn of receiving
@@ -60,6 +77,14 @@ ticks_before until (Paused now) = nat_lt now until
 ticks_before until (Ticked now words r sent) = nat_lt now until
 ticks_before until (Unticked now words e) = nat_lt now until
 ticks_before until (Unseen e) = true
+ticks_before until (AskedSeed now peer r sent) = nat_lt now until
+ticks_before until (UnaskedSeed now peer e) = nat_lt now until
+ticks_before until (Looked now seen asks) = nat_lt now until
+ticks_before until (Unlooked now) = nat_lt now until
+ticks_before until (AskedMember now words seen peer r sent) = nat_lt now until
+ticks_before until (UnaskedMember now words seen peer e) = nat_lt now until
+ticks_before until (FoundNobody now seen) = nat_lt now until
+ticks_before until (Unfound now) = nat_lt now until
 ticks_before until _ = false
 
 -- a turn of asking
@@ -76,6 +101,8 @@ deeds (Dropped source bytes) = Received source bytes ∷ []
 deeds (Heard now source bytes p r sent) = Received source bytes ∷ handed r.reply.sends.items sent
 deeds (Unheard now source bytes e) = Received source bytes ∷ []
 deeds (Ticked now words r sent) = handed r.reply.sends.items sent
+deeds (AskedSeed now peer r sent) = handed r.reply.sends.items sent
+deeds (AskedMember now words seen peer r sent) = handed r.reply.sends.items sent
 deeds (Pulled now peer r sent) = handed r.reply.sends.items sent
 deeds _ = []
 
@@ -87,6 +114,8 @@ drops _ = 0
 abbrev pub losses : Turn → ℕ
 losses (Heard now source bytes p r sent) = lost sent
 losses (Ticked now words r sent) = lost sent
+losses (AskedSeed now peer r sent) = lost sent
+losses (AskedMember now words seen peer r sent) = lost sent
 losses (Pulled now peer r sent) = lost sent
 losses _ = 0
 
@@ -94,10 +123,12 @@ abbrev pub breaks : Turn → ℕ
 breaks Broken = 1
 breaks t = losses t
 
--- the random words of a tick
+-- the random words of a tick, or of the choice of a member
 abbrev pub words_in : Turn → List (List ℕ)
 words_in (Ticked now words r sent) = words ∷ []
 words_in (Unticked now words e) = words ∷ []
+words_in (AskedMember now words seen peer r sent) = words ∷ []
+words_in (UnaskedMember now words seen peer e) = words ∷ []
 words_in _ = []
 
 -- the address that was asked
@@ -128,12 +159,19 @@ pub record SeesNoneDue (p : PassValue) (now : ℕ) (q : PassValue) : Type 0 wher
   pub deadline : IsDeadline q.seen due
   pub later : now < due
 
+-- a look at the members, which answered from these events, after one at a deadline that hasn't come
+pub record SeesMembers (p : PassValue) (now : ℕ) (seen : List Event) (q : PassValue) : Type 0 where
+  pub between : PassValue
+  pub none_due : SeesNoneDue p now between
+  pub look : IsLook between q
+  pub saw : q.seen ≡ seen
+
 -- A pass whose call was refused: it is as it was, or it was rotated.
 abbrev pub MadeNoCall : PassValue → PassValue → Type 0
 MadeNoCall p q = (q ≡ p) ⊎ IsRotatedPass p q
 
 -- What a turn does with the pass. If a datagram is a packet, it is heard. If the next deadline has come, there is a
--- tick. Each packet of the reply was sent or not. A call counts once, even if it was refused because the history was
+-- tick, and only otherwise the loop looks at the members or asks one of them. Each packet of the reply was sent or not. A call counts once, even if it was refused because the history was
 -- full and was made again after a rotation.
 abbrev pub IsTurn : PassValue → Turn → PassValue → Type 0
 IsTurn p Quiet q = q ≡ p
@@ -149,6 +187,20 @@ IsTurn p (Ticked now words r sent) q =
     × (length sent ≡ length r.reply.sends.items)
 IsTurn p (Unticked now words e) q = (m : PassValue) × SeesDue p now m × MadeNoCall m q × IsRefusal m.seen e
 IsTurn p (Unseen e) q = (q ≡ p) × (e ≡ NoView)
+IsTurn p (AskedSeed now peer r sent) q =
+    (m : PassValue) × SeesNoneDue p now m × IsCall m (events.Pull now peer) r q
+    × (length sent ≡ length r.reply.sends.items)
+IsTurn p (UnaskedSeed now peer e) q =
+    (m : PassValue) × SeesNoneDue p now m × MadeNoCall m q × IsRefusal m.seen e
+IsTurn p (Looked now seen asks) q = SeesMembers p now seen q
+IsTurn p (Unlooked now) q = SeesNoneDue p now q
+IsTurn p (AskedMember now words seen peer r sent) q =
+    (m : PassValue) × SeesMembers p now seen m × IsCall m (events.Pull now peer) r q
+    × (length sent ≡ length r.reply.sends.items)
+IsTurn p (UnaskedMember now words seen peer e) q =
+    (m : PassValue) × SeesMembers p now seen m × MadeNoCall m q × IsRefusal m.seen e
+IsTurn p (FoundNobody now seen) q = SeesMembers p now seen q
+IsTurn p (Unfound now) q = SeesNoneDue p now q
 IsTurn p (Pulled now peer r sent) q =
     IsCall p (events.Pull now peer) r q × (length sent ≡ length r.reply.sends.items)
 
@@ -165,6 +217,10 @@ stops (Unheard now source bytes e) = Some (Refused e)
 stops (Ticked now words r sent) = if r.reply.ousted then Some Ousted else None
 stops (Unticked now words e) = Some (Refused e)
 stops (Unseen e) = Some (Refused e)
+stops (AskedSeed now peer r sent) = if r.reply.ousted then Some Ousted else None
+stops (UnaskedSeed now peer e) = Some (Refused e)
+stops (AskedMember now words seen peer r sent) = if r.reply.ousted then Some Ousted else None
+stops (UnaskedMember now words seen peer e) = Some (Refused e)
 stops _ = None
 
 abbrev pub goes_on : Turn → Type 0
@@ -217,9 +273,30 @@ pub record Ran (kind : Turn → Bool) (tells : Bool) (bound : ℕ) (k k' : LinkV
   pub counts : Counts turns end.dropped end.unsent end.turns
   pub why : Ends bound turns end.why
 
+-- A run of a loop that makes `bound` turns at a time. If it is endless, it goes on when they are made, and counts its
+-- turns anew: so there are earlier stretches, no turn of which ended it, and the bound isn't why it ends. Otherwise
+-- there is one stretch. The end tells why the last stretch ended, and its counts are those of the last stretch.
+pub record Lasted
+    (kind : Turn → Bool) (tells : Bool) (bound : ℕ) (endless : Bool) (k k' : LinkValue) (p q : PassValue) (end : End)
+    : Type 0 where
+  pub stretches : ℕ
+  pub earlier : List Turn
+  pub line_then : LinkValue
+  pub pass_then : PassValue
+  pub made_earlier : Made kind tells earlier k line_then p pass_then
+  pub went_on : All goes_on earlier
+  pub many : length earlier ≡ stretches * bound
+  pub once : endless ≡ false → stretches ≡ 0
+  pub last : Ran kind tells bound line_then k' pass_then q end
+  pub lasts : endless ≡ true → end.why ≡ ReadBound → ⊥
+  -- all its turns
+  pub turns : List Turn
+  pub turns_are : turns ≡ earlier ++ last.turns
+
 -- A loop that no thread could be started for: it ran as a loop does, but its end says that memory was refused.
 pub record HadNoThread
-    (kind : Turn → Bool) (tells : Bool) (bound : ℕ) (k k' : LinkValue) (p q : PassValue) (end : End) : Type 0 where
+    (kind : Turn → Bool) (tells : Bool) (bound : ℕ) (endless : Bool) (k k' : LinkValue) (p q : PassValue) (end : End)
+    : Type 0 where
   pub was : Why
-  pub ran : Ran kind tells bound k k' p q (record end { why = was })
+  pub ran : Lasted kind tells bound endless k k' p q (record end { why = was })
   pub why : end.why ≡ Refused NoMemory

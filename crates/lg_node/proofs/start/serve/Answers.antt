@@ -19,8 +19,8 @@ returns-clause-left g c = λ start name told.
         unsent = c.in_ok-unsent.unsent;
         later = c.run_loops-received.result.1.end.unsent;
         asked = rw (ready.2, seeds) at c.in_ok-unsent.ensures.asked;
-        received_so = rw ready.0 at c.run_loops-received.ensures.received;
-        ticked_so = rw (ready.1, c.new-dice.ensures) at c.run_loops-received.ensures.ticked;
+        received_so = rw (ready.0, c.requires.bound.1) at c.run_loops-received.ensures.received;
+        ticked_so = rw (ready.1, c.new-dice.ensures, c.new-plan.ensures, c.requires.bound.1) at c.run_loops-received.ensures.ticked;
         counted = λ low. omega (arith, low);
       },
       rw c.finish.ensures c.members-members.ensures,

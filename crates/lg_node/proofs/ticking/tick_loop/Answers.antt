@@ -1,4 +1,4 @@
 use Rattle.lg_node.proofs.ticking.tick_loop.Goals as goal
 
 pub returns : goal.returns
-returns g c = rw c.finish.ensures (c.tick_turns-end.ensures.0, (c.tick_turns-end.new.dice, c.tick_turns-end.ensures.1))
+returns g c = rw c.finish.ensures c.tick_on-end.ensures

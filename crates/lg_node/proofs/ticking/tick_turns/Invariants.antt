@@ -1,13 +1,12 @@
 use Rattle.std.proofs.Common.{◌≤◌, ◌*◌}
-use Rattle.std.specs.List.{flat_map}
-use Rattle.lg_node.specs.Meaning.Turns.{line, ticks_before, words_in, Threw}
-use Rattle.lg_node.proofs.TurnLaws.{Going}
+use Rattle.lg_node.specs.Meaning.Turns.{line}
+use Rattle.lg_node.proofs.StretchLaws.{Stretching}
 use Rattle.lg_node.proofs.ticking.tick_turns.Given as goal
 
 abbrev pub invariant-loop-turns : goal.invariant-loop-turns
 invariant-loop-turns g l = record {
   dropped : l.dropped ≤ l.turns;
   unsent : l.unsent ≤ 8 * l.turns;
-  going : (going : Going (ticks_before l.until) g.L.Link.tells (line (g.L.Link.log l.fn.side.link) (g.L.Link.failed l.fn.side.link)) (line (g.L.Link.log l.side.link) (g.L.Link.failed l.side.link)) l.fn.side.pass l.side.pass l.dropped l.unsent l.turns)
-      × Threw g.D.Dice.throws l.fn.dice (flat_map words_in going.turns) l.dice;
+  stretching : Stretching g.D.Dice.throws l.fn.dice l.dice l.plan g.L.Link.tells (line (g.L.Link.log l.fn.side.link) (g.L.Link.failed l.fn.side.link)) (line (g.L.Link.log l.side.link) (g.L.Link.failed l.side.link)) l.fn.side.pass l.side.pass
+      l.fn.agenda l.agenda l.dropped l.unsent l.turns;
 }
