@@ -11,7 +11,7 @@ use Rattle.lg_node.specs.declared.agenda.Agenda.{Agenda}
 use Rattle.lg_node.specs.declared.plan.Plan.{Plan}
 use Rattle.lg_node.specs.Meaning.Turns.{Turn}
 use Rattle.lg_node.specs.Meaning.Pulling.{addrs, looks_in, choices_in, last_moment, waiting, waiting_from, look_ms, AreTimely, IsFirstWaiting, IsLookTime, IsChoiceTime, IsIdleTime}
-use Rattle.lg_node.specs.Support.Acted.{IsAgenda, waiting_by}
+use Rattle.lg_node.specs.Support.Acted.{IsAgenda, IsNoLook, IsNoChoice, waiting_by}
 
 pub last_moment-append : (since : ℕ) (xs ys : List ℕ) → last_moment since (xs ++ ys) ≡ last_moment (last_moment since xs) ys
 last_moment-append since [] ys = refl
@@ -61,12 +61,13 @@ pub seed_gone : (plan : Plan) (a : Agenda) (peer : Addr) → waiting_by plan a �
     → waiting_by plan (record a { asked = a.asked + 1 }) ≡ drop 1 (waiting_by plan a)
 seed_gone plan a peer is = sym (ap (λ (l : List Addr). drop 1 l) is)
 
--- a look is timely, and decides who waits
-pub look_time : (plan : Plan) (since : ℕ) (before : List Turn) (a : Agenda) (now : ℕ) → IsAgenda plan since before a → (waiting_by plan a ≡ []) × (a.looked + look_ms ≤ now) → IsLookTime plan since before now
-look_time plan since before a now was is = record { none_waits = sym was.waits ∙ is.0; come = let l = was.looked in let m = is.1 in rw (← l) m }
+-- what is to be done by an agenda is timely
+pub look_time : (plan : Plan) (since : ℕ) (before : List Turn) (a : Agenda) (now : ℕ) → IsAgenda plan since before a → (waiting_by plan a ≡ []) × (0 < length plan.seeds.items) × (a.looked + look_ms ≤ now)
+    → IsLookTime plan since before now
+look_time plan since before a now was is = record { none_waits = sym was.waits ∙ is.0; some = is.1; come = let l = was.looked in let m = is.2 in rw (← l) m }
 
 pub choice_time : (plan : Plan) (since : ℕ) (before : List Turn) (a : Agenda) (now : ℕ) → IsAgenda plan since before a
-    → (waiting_by plan a ≡ []) × (now < a.looked + look_ms) × (0 < plan.pull_ms) × (a.chose + plan.pull_ms ≤ now) → IsChoiceTime plan since before now
+    → (waiting_by plan a ≡ []) × IsNoLook plan a now × (0 < plan.pull_ms) × (a.chose + plan.pull_ms ≤ now) → IsChoiceTime plan since before now
 choice_time plan since before a now was is = record {
   none_waits = sym was.waits ∙ is.0;
   no_look = let l = was.looked in let m = is.1 in rw (← l) m;
@@ -74,8 +75,7 @@ choice_time plan since before a now was is = record {
   come = let l = was.chose in let m = is.3 in rw (← l) m;
 }
 
-pub idle_time : (plan : Plan) (since : ℕ) (before : List Turn) (a : Agenda) (now : ℕ) → IsAgenda plan since before a
-    → (waiting_by plan a ≡ []) × (now < a.looked + look_ms) × ((plan.pull_ms ≡ 0) ⊎ (now < a.chose + plan.pull_ms)) → IsIdleTime plan since before now
+pub idle_time : (plan : Plan) (since : ℕ) (before : List Turn) (a : Agenda) (now : ℕ) → IsAgenda plan since before a → (waiting_by plan a ≡ []) × IsNoLook plan a now × IsNoChoice plan a now → IsIdleTime plan since before now
 idle_time plan since before a now was is = record {
   none_waits = sym was.waits ∙ is.0;
   no_look = let l = was.looked in let m = is.1 in rw (← l) m;

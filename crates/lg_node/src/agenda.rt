@@ -4,7 +4,7 @@
 //! Tested in: `lg_command_tests/src/node/finding.rt`.
 ghost use Rattle.std.specs.Prelude.{◌≡◌, ◌≤◌, ◌<◌, ◌+◌, ◌⊎◌, ℕ, [], length, if◌then◌else◌};
 ghost use Rattle.lg_node.specs.Meaning.Turns.{Turn};
-ghost use Rattle.lg_node.specs.Support.Acted.{IsAgenda, IsDuty};
+ghost use Rattle.lg_node.specs.Support.Acted.{IsAgenda, IsDuty, IsNoLook, IsNoChoice};
 
 use crate::plan::Plan;
 use lg_rules::Addr;
@@ -59,6 +59,28 @@ impl Agenda {
         }
     }
 
+    /// How long it is until the next look. If there are no seeds, there is none, and it is very long.
+    fn until_look(&self, plan: &Plan, now: Moment) -> u64
+        ensures due { result ≡ 0 → (0 < length plan.now.seeds.items) × (self.now.looked + LOOK_MS ≤ now) }
+        ensures later { 0 < result → IsNoLook plan.now self.now now }
+    {
+        if plan.seeds.len() == 0 {
+            return u64::MAX;
+        }
+        remaining(self.looked, LOOK_MS, now)
+    }
+
+    /// How long it is until a member is asked. If none ever is, it is very long.
+    fn until_choice(&self, plan: &Plan, now: Moment) -> u64
+        ensures due { result ≡ 0 → (0 < plan.now.pull_ms) × (self.now.chose + plan.now.pull_ms ≤ now) }
+        ensures later { 0 < result → IsNoChoice plan.now self.now now }
+    {
+        if plan.pull_ms == 0 {
+            return u64::MAX;
+        }
+        remaining(self.chose, plan.pull_ms, now)
+    }
+
     /// What is to be done at a moment.
     pub(crate) fn duty(&self, plan: &Plan, now: Moment) -> Duty
         ensures { IsDuty plan.now self.now now result }
@@ -66,14 +88,11 @@ impl Agenda {
         if self.asked < plan.seeds.len() {
             return Duty::Seed(plan.seeds[self.asked].addr);
         }
-        let look = remaining(self.looked, LOOK_MS, now);
+        let look = self.until_look(plan, now);
         if look == 0 {
             return Duty::Look;
         }
-        if plan.pull_ms == 0 {
-            return Duty::Rest(look);
-        }
-        let choice = remaining(self.chose, plan.pull_ms, now);
+        let choice = self.until_choice(plan, now);
         if choice == 0 {
             return Duty::Member;
         }

@@ -5,6 +5,7 @@ ghost use Rattle.std.specs.Prelude.{◌≡◌, ◌+◌, MatchBool};
 
 use super::clocks::FixedDice;
 use super::links::{PING_7, put};
+use super::loops::{WAIT_MS, ticks_until};
 use lg_agent::{AgentName, Pass, Spent};
 use lg_clock::Clock;
 use lg_node::{End, Ended, Link, LinkFault, MAX_DATAGRAM, Shared, Side, Why, run_loops};
@@ -183,15 +184,25 @@ where
     R: Threads + Wait + rt::Clock + Sync,
 {
     let clock = StandingClock { rt };
+    let page_heard = AtomicBool::new(false);
     let shared = Shared {
         rt,
         alloc,
         clock: &clock,
         stop: &meeting.stop,
+        page_heard: &page_heard,
         bound: BOUND,
+        endless: false,
+        wait_ms: WAIT_MS,
     };
     let dice = FixedDice { word: 0 };
-    run_loops(&shared, receiver, ticker, dice, at(MAX_MOMENT))
+    run_loops(
+        &shared,
+        receiver,
+        ticker,
+        dice,
+        &ticks_until(at(MAX_MOMENT)),
+    )
 }
 
 /// Runs both loops with these passes, the receiving one with the first. The first receiving may fail.

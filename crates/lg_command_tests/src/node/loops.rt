@@ -2,12 +2,18 @@
 ghost use Rattle.std.specs.Prelude.{◌≡◌, ◌≤◌};
 
 use super::clocks::{FixedDice, MemoryClock};
+use arrayvec::ArrayVec;
 use lg_agent::{AgentName, Pass};
-use lg_node::{Ended, Link, MAX_TURNS, Shared, Side, receive_loop, tick_loop};
+use lg_node::{Ended, Link, MAX_TURNS, Plan, Shared, Side, receive_loop, tick_loop};
+use lg_rules::Name;
 use lg_testing::at;
+use lg_timing::Moment;
 use std::alloc::Global;
 use std::sync::Wait;
 use std::sync::atomic::AtomicBool;
+
+/// How long a turn waits at most, in milliseconds.
+pub(super) const WAIT_MS: u64 = 20;
 
 /// What a loop of at most `bound` turns shares with nobody.
 fn shared<'a, R>(
@@ -15,6 +21,7 @@ fn shared<'a, R>(
     alloc: Global,
     clock: &'a MemoryClock,
     stop: &'a AtomicBool,
+    page_heard: &'a AtomicBool,
     bound: u64,
 ) -> Shared<'a, R, MemoryClock>
     ensures { result.bound ≡ bound }
@@ -24,7 +31,10 @@ fn shared<'a, R>(
         alloc,
         clock,
         stop,
+        page_heard,
         bound,
+        endless: false,
+        wait_ms: WAIT_MS,
     }
 }
 
@@ -40,8 +50,19 @@ pub(super) fn receive<A: AgentName, R: Wait, L: Link>(
 ) -> Ended<L, A>
     requires { bound ≤ MAX_TURNS }
 {
-    let shared = shared(rt, alloc, clock, stop, bound);
+    let page_heard = AtomicBool::new(false);
+    let shared = shared(rt, alloc, clock, stop, &page_heard, bound);
     receive_loop(&shared, Side { pass, link })
+}
+
+/// A plan of ticks alone, until a moment.
+pub(super) fn ticks_until(until: Moment) -> Plan {
+    Plan {
+        name: Name::default(),
+        seeds: ArrayVec::new(),
+        pull_ms: 0,
+        until,
+    }
 }
 
 /// Runs a ticking loop of at most `bound` turns until a moment. Its random words are all 0.
@@ -57,7 +78,8 @@ pub(super) fn tick<A: AgentName, R: Wait, L: Link>(
 ) -> Ended<L, A>
     requires { bound ≤ MAX_TURNS }
 {
-    let shared = shared(rt, alloc, clock, stop, bound);
+    let page_heard = AtomicBool::new(false);
+    let shared = shared(rt, alloc, clock, stop, &page_heard, bound);
     let dice = FixedDice { word: 0 };
-    tick_loop(&shared, Side { pass, link }, dice, at(until))
+    tick_loop(&shared, Side { pass, link }, dice, &ticks_until(at(until)))
 }

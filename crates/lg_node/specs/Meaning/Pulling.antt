@@ -98,24 +98,31 @@ waiting_from seeds before (t ∷ turns) = waiting_from seeds (waiting seeds befo
 abbrev pub waiting_after : Plan → List Turn → List Addr
 waiting_after plan turns = waiting_from (addrs plan.seeds.items) [] turns
 
--- The turns before (`before`) leave this moment for a look: no seed waits, and the next look has come.
+-- It is too early for a look, or there are no seeds and so never one; and too early to ask a member, or none is asked.
+abbrev pub IsNoLookTime : Plan → ℕ → List Turn → ℕ → Type 0
+IsNoLookTime plan since before now = (length plan.seeds.items ≡ 0) ⊎ (now < next_look since before)
+
+abbrev pub IsNoChoiceTime : Plan → ℕ → List Turn → ℕ → Type 0
+IsNoChoiceTime plan since before now = (plan.pull_ms ≡ 0) ⊎ (now < next_choice since plan.pull_ms before)
+
+-- After the turns before (`before`) a moment is one for a look: no seed waits, and the next look has come.
 pub record IsLookTime (plan : Plan) (since : ℕ) (before : List Turn) (now : ℕ) : Type 0 where
   pub none_waits : waiting_after plan before ≡ []
+  pub some : 0 < length plan.seeds.items
   pub come : next_look since before ≤ now
 
--- They leave it for asking a member: no seed waits, the next look hasn't come, but the next member's turn has. With a
--- `pull_ms` of 0 it never comes.
+-- It is one for asking a member: no seed waits, it is too early for a look, and the time to ask a member has come.
 pub record IsChoiceTime (plan : Plan) (since : ℕ) (before : List Turn) (now : ℕ) : Type 0 where
   pub none_waits : waiting_after plan before ≡ []
-  pub no_look : now < next_look since before
+  pub no_look : IsNoLookTime plan since before now
   pub some : 0 < plan.pull_ms
   pub come : next_choice since plan.pull_ms before ≤ now
 
--- They leave nothing to do: no seed waits, and neither has come.
+-- There is nothing to do: no seed waits, and it is too early for both.
 pub record IsIdleTime (plan : Plan) (since : ℕ) (before : List Turn) (now : ℕ) : Type 0 where
   pub none_waits : waiting_after plan before ≡ []
-  pub no_look : now < next_look since before
-  pub no_choice : (plan.pull_ms ≡ 0) ⊎ (now < next_choice since plan.pull_ms before)
+  pub no_look : IsNoLookTime plan since before now
+  pub no_choice : IsNoChoiceTime plan since before now
 
 -- the first of the seeds that wait
 abbrev pub IsFirstWaiting : Plan → List Turn → Addr → Type 0

@@ -1,5 +1,5 @@
 -- What a turn of the ticking loop does, as the code reports it.
-use Rattle.std.specs.Prelude.{◌≡◌, ◌⊎◌, ◌+◌, ◌<◌, ◌≤◌, ℕ, Bool, List, [], ◌∷◌, ◌++◌, drop}
+use Rattle.std.specs.Prelude.{◌≡◌, ◌⊎◌, ◌+◌, ◌<◌, ◌≤◌, ℕ, Bool, List, [], ◌∷◌, ◌++◌, length, drop}
 use Rattle.std.specs.List.{flat_map}
 use Rattle.lg_rules.specs.declared.addr.Addr.{Addr}
 use Rattle.lg_agent.specs.Meaning.Values.{PassValue}
@@ -24,16 +24,22 @@ pub record IsAgenda (plan : Plan) (since : ℕ) (turns : List Turn) (a : Agenda)
   pub chose : a.chose ≡ last_moment since (flat_map choices_in turns)
   pub waits : waiting_by plan a ≡ waiting_after plan turns
 
+-- it is too early for a look, and to ask a member
+abbrev pub IsNoLook : Plan → Agenda → ℕ → Type 0
+IsNoLook plan a now = (length plan.seeds.items ≡ 0) ⊎ (now < a.looked + look_ms)
+
+abbrev pub IsNoChoice : Plan → Agenda → ℕ → Type 0
+IsNoChoice plan a now = (plan.pull_ms ≡ 0) ⊎ (now < a.chose + plan.pull_ms)
+
 -- what is to be done by an agenda
 abbrev pub IsDuty : Plan → Agenda → ℕ → Duty → Type 0
 IsDuty plan a now (Seed peer) =
     (a.asked < 16) × (waiting_by plan a ≡ peer ∷ waiting_by plan (record a { asked = a.asked + 1 }))
-IsDuty plan a now Look = (waiting_by plan a ≡ []) × (a.looked + look_ms ≤ now)
+IsDuty plan a now Look =
+    (waiting_by plan a ≡ []) × (0 < length plan.seeds.items) × (a.looked + look_ms ≤ now)
 IsDuty plan a now Member =
-    (waiting_by plan a ≡ []) × (now < a.looked + look_ms) × (0 < plan.pull_ms) × (a.chose + plan.pull_ms ≤ now)
-IsDuty plan a now (Rest limit) =
-    (waiting_by plan a ≡ []) × (now < a.looked + look_ms)
-    × ((plan.pull_ms ≡ 0) ⊎ (now < a.chose + plan.pull_ms))
+    (waiting_by plan a ≡ []) × IsNoLook plan a now × (0 < plan.pull_ms) × (a.chose + plan.pull_ms ≤ now)
+IsDuty plan a now (Rest limit) = (waiting_by plan a ≡ []) × IsNoLook plan a now × IsNoChoice plan a now
 
 -- There is a turn of the ticking loop, timely by the agenda. The new agenda is that after one more turn.
 pub record Acted
