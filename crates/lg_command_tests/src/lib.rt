@@ -24,4 +24,6 @@ mod replies;
 #[cfg(test)]
 mod streams;
 #[cfg(test)]
+mod watching;
+#[cfg(test)]
 mod writers;

@@ -96,6 +96,13 @@ fn hear<A: AgentName, R: Wait>(
 }
 
 impl<'a, 'p, A: AgentName, R: Wait> PausingClock<'a, 'p, A, R> {
+    /// These happen, in this order.
+    fn happen_all(&self, happening: &[Happens]) {
+        for happens in happening {
+            self.happen(*happens);
+        }
+    }
+
     /// What happens.
     fn happen(&self, happens: Happens) {
         let Some(claim) = happens.claim() else {
@@ -117,11 +124,7 @@ impl<'a, 'p, A: AgentName, R: Wait> Clock for PausingClock<'a, 'p, A, R> {
         self.now.fetch_add(ms, SeqCst);
         let made = self.made.fetch_add(1, SeqCst);
         match self.pauses.get(made) {
-            Some(pause) => {
-                for happens in *pause {
-                    self.happen(*happens);
-                }
-            }
+            Some(happening) => self.happen_all(happening),
             None => self.stop.store(true, SeqCst),
         }
     }
@@ -187,12 +190,7 @@ fn run_in<A: AgentName, R: Wait>(
 }
 
 /// Watches an agent, over a writer whose call with this number fails, counted from 1, or none if it is 0.
-fn run<R: Wait>(
-    rt: &R,
-    alloc: Global,
-    watching: &Watching,
-    fails_at: usize,
-) -> Option<Outcome> {
+fn run<R: Wait>(rt: &R, alloc: Global, watching: &Watching, fails_at: usize) -> Option<Outcome> {
     run_in::<Brand, R>(rt, alloc, UnnamedBook::new(), 2, watching, fails_at)
 }
 
@@ -286,9 +284,12 @@ fn ends_at(outcome: &Outcome, text: &str, call: usize) -> bool {
 
 /// Runs a row in which each call of the writer fails in turn.
 fn check_failing_calls(rt: &(impl Abort + Wait + AllocGlobal), row: &Watching) {
-    for call in 0..row.text.len() + row.texts {
-        let met = run(rt, rt.alloc(), row, call + 1)
-            .is_some_and(|outcome| ends_at(&outcome, row.text, call + 1));
+    for call in 0..row.text.len().saturating_add(row.texts) {
+        let met = run(rt, rt.alloc(), row, call + 1).is_some_and(|outcome| ends_at(
+            &outcome,
+            row.text,
+            call + 1,
+        ));
         assert!(rt; met, "{row:?}, behind {call} calls");
     }
 }
