@@ -1,0 +1,2 @@
+pub mod AddressLaws
+pub mod NameLaws

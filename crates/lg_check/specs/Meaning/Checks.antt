@@ -1,0 +1,71 @@
+-- What a check of a configuration writes: a line for each key, and a line for each of four sizes of a group (this
+-- project's choice).
+use Rattle.std.specs.Prelude.{ℕ, ◌==◌, Bool, true, false, List, [], ◌∷◌, ◌++◌, codes, decimal, length}
+use Rattle.std.specs.List.{flat_map}
+use Rattle.std.specs.Str.{bytes_eq}
+use Rattle.lg_timing.specs.declared.config.Config.{Config}
+use Rattle.lg_timing.specs.declared.keys.Key.{Key}
+use Rattle.lg_timing.specs.Meaning.Keys.{key_name, keys, number_of_key, row_of}
+use Rattle.lg_timing.specs.Meaning.Timeouts.{range_of, suspicion_of}
+use Rattle.lg_text.specs.Meaning.Lines.{newline}
+use Rattle.lg_report.specs.Meaning.Records.{dotted}
+use Rattle.lg_config.specs.declared.node.NodeConfig.{NodeConfig}
+use Rattle.lg_config.specs.declared.node_keys.NodeKey.{NodeKey}
+use Rattle.lg_config.specs.Meaning.Bounds.{default_address, default_dice, default_port}
+use Rattle.lg_config.specs.Meaning.NodeKeys.{node_key_name, node_keys, node_row_of, own_number}
+use Rattle.lg_check.specs.Meaning.Spelling.{seeds_spelled}
+
+-- what stands behind a value that is the default of its key
+abbrev pub default_mark : Bool → List ℕ
+default_mark true = codes " (default)"
+default_mark false = []
+
+-- KEY = VALUE, and whether that is the default
+abbrev pub key_line : List ℕ → List ℕ → Bool → List ℕ
+key_line key value usual = key ++ (codes " = " ++ (value ++ (default_mark usual ++ newline)))
+
+-- the same for a number with its default
+abbrev pub number_line : List ℕ → ℕ → ℕ → List ℕ
+number_line key number usual = key_line key (decimal number) (number == usual)
+
+-- the lines of the member's name and its address, of its port, the dice and the seeds
+abbrev pub address_lines : Config → List ℕ
+address_lines c =
+    key_line (codes "name") c.name false
+    ++ key_line (codes "address") (dotted c.addr.octets) (bytes_eq (dotted c.addr.octets) default_address)
+
+abbrev pub start_lines : NodeConfig → List ℕ
+start_lines node =
+    number_line (codes "port") node.config.addr.port default_port
+    ++ number_line (codes "dice") node.dice default_dice
+    ++ key_line (codes "seeds") (seeds_spelled node.config.seeds.items) (length node.config.seeds.items == 0)
+
+-- the line of a number of the member's, and of one of the node's own
+abbrev pub member_line : Config → Key → List ℕ
+member_line c key = number_line (key_name key) (number_of_key key c) (row_of key).default
+
+abbrev pub own_line : NodeConfig → NodeKey → List ℕ
+own_line node key = number_line (node_key_name key) (own_number key node) (node_row_of key).default
+
+-- MEMBERS members: a round takes ROUND ms, a suspicion lasts LEAST to GREATEST ms
+abbrev pub times_line : ℕ → ℕ → ℕ → ℕ → List ℕ
+times_line members round least greatest =
+    let lasting = decimal least ++ (codes " to " ++ (decimal greatest ++ codes " ms\n")) in
+    decimal members
+    ++ (codes " members: a round takes " ++ (decimal round ++ (codes " ms, a suspicion lasts " ++ lasting)))
+
+-- The line of a group of some members: how long a round takes, and between which times a suspicion lasts. It lasts the
+-- least time if all confirmations that count have come, and the greatest if none has.
+abbrev pub group_line : Config → ℕ → List ℕ
+group_line c members = times_line members c.interval_ms (range_of members c).min (suspicion_of members 0 c)
+
+-- the sizes of a group that have a line
+abbrev pub group_sizes : List ℕ
+group_sizes = 4 ∷ 16 ∷ 64 ∷ 256 ∷ []
+
+-- all lines: the keys in the order of the documents, then the groups
+unfoldable pub check_text : NodeConfig → List ℕ
+check_text node =
+    address_lines node.config ++ start_lines node
+    ++ flat_map (member_line node.config) keys ++ flat_map (own_line node) node_keys
+    ++ flat_map (group_line node.config) group_sizes

@@ -1,0 +1,88 @@
+-- Worked checks.
+use Rattle.std.specs.Prelude.{⊤, ◌≡◌, ℕ, List, [], ◌∷◌, codes, refl}
+use Rattle.std.specs.Fmt.{digits}
+use Rattle.lg_rules.specs.declared.addr.Addr.{Addr}
+use Rattle.lg_timing.specs.declared.config.Config.{Config}
+use Rattle.lg_timing.specs.declared.keys.Key.TheVariants.{IntervalMs, TimeoutMs}
+use Rattle.lg_timing.specs.Meaning.Config.{defaults}
+use Rattle.lg_timing.specs.Meaning.Tables.{log10_of, ratio_of}
+use Rattle.lg_timing.specs.Meaning.Timeouts.{range_of, timeout_of}
+use Rattle.lg_config.specs.declared.node.NodeConfig.{NodeConfig}
+use Rattle.lg_config.specs.declared.node_keys.NodeKey.TheVariants.{PullMs, StallMs}
+use Rattle.lg_check.specs.Meaning.Checks.{address_lines, group_line, member_line, own_line, start_lines}
+use Rattle.lg_check.specs.Meaning.Spelling.{seeds_spelled}
+
+-- what the rows have to unfold
+unfoldable on_checks : ⊤
+unfolding digits log10_of ratio_of range_of timeout_of
+on_checks = tt
+
+abbrev addr_of : List ℕ → ℕ → Addr
+addr_of octets port = record { octets = octets; port = port }
+
+-- the member b with the default numbers, at 127.0.0.1:7946
+abbrev b-by-default : Config
+b-by-default = defaults (98 ∷ []) (addr_of (127 ∷ 0 ∷ 0 ∷ 1 ∷ []) 7946)
+
+abbrev usual : NodeConfig
+usual = record { config = b-by-default; dice = 1; pull_ms = 30000; stall_ms = 100 }
+
+-- the times of the table in the documents, by the default numbers: 5.0 s; 6.0 and 36.1 s; 9.0 and 54.2 s; 12.0 and
+-- 72.2 s
+group-4 :
+    group_line b-by-default 4 ≡ codes "4 members: a round takes 1000 ms, a suspicion lasts 5000 to 5000 ms\n"
+unfolding on_checks
+group-4 = refl
+
+group-16 :
+    group_line b-by-default 16 ≡ codes "16 members: a round takes 1000 ms, a suspicion lasts 6020 to 36120 ms\n"
+unfolding on_checks
+group-16 = refl
+
+group-64 :
+    group_line b-by-default 64 ≡ codes "64 members: a round takes 1000 ms, a suspicion lasts 9030 to 54180 ms\n"
+unfolding on_checks
+group-64 = refl
+
+group-256 :
+    group_line b-by-default 256 ≡ codes "256 members: a round takes 1000 ms, a suspicion lasts 12040 to 72240 ms\n"
+unfolding on_checks
+group-256 = refl
+
+name-and-address : address_lines b-by-default ≡ codes "name = b\naddress = 127.0.0.1 (default)\n"
+unfolding on_checks
+name-and-address = refl
+
+other-address :
+    address_lines (record b-by-default { addr = addr_of (10 ∷ 0 ∷ 0 ∷ 7 ∷ []) 1 })
+    ≡ codes "name = b\naddress = 10.0.0.7\n"
+unfolding on_checks
+other-address = refl
+
+start : start_lines usual ≡ codes "port = 7946 (default)\ndice = 1 (default)\nseeds = none (default)\n"
+unfolding on_checks
+start = refl
+
+two-seeds :
+    seeds_spelled
+    (record { name = 97 ∷ []; addr = addr_of (127 ∷ 0 ∷ 0 ∷ 1 ∷ []) 7101 }
+    ∷ record { name = 99 ∷ []; addr = addr_of (1 ∷ 2 ∷ 3 ∷ 4 ∷ []) 5 } ∷ [])
+    ≡ codes "a@127.0.0.1:7101, c@1.2.3.4:5"
+unfolding on_checks
+two-seeds = refl
+
+default-interval : member_line b-by-default IntervalMs ≡ codes "interval_ms = 1000 (default)\n"
+unfolding on_checks
+default-interval = refl
+
+other-timeout : member_line (record b-by-default { timeout_ms = 50 }) TimeoutMs ≡ codes "timeout_ms = 50\n"
+unfolding on_checks
+other-timeout = refl
+
+no-pulls : own_line (record usual { pull_ms = 0 }) PullMs ≡ codes "pull_ms = 0\n"
+unfolding on_checks
+no-pulls = refl
+
+default-stall : own_line usual StallMs ≡ codes "stall_ms = 100 (default)\n"
+unfolding on_checks
+default-stall = refl

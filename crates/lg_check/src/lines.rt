@@ -1,0 +1,109 @@
+//! The lines of a check.
+//!
+//! Defined in: `specs/Meaning/Checks.antt`.
+//! Tested in: `cases/check.case`.
+ghost use Rattle.std.specs.Prelude.{◌≡◌, ◌≤◌, ◌++◌, OnOk, string_bytes};
+ghost use Rattle.lg_timing.specs.Meaning.Config.{IsChecked};
+ghost use Rattle.lg_check.specs.Meaning.Checks.{address_lines, default_mark, group_line, key_line, member_line};
+ghost use Rattle.lg_check.specs.Meaning.Checks.{number_line, own_line, start_lines, times_line};
+
+use crate::spelling::{octets_text, seeds_spelled, text_of_name};
+use lg_config::{DEFAULT_ADDRESS, DEFAULT_DICE, DEFAULT_PORT, NodeConfig, NodeKey};
+use lg_timing::{Config, Key, MAX_LIVE, SuspicionTimeout, suspicion_ms};
+use std::alloc::{AllocError, Global};
+
+/// What stands behind a value that is the default of its key.
+fn default_mark(usual: bool) -> &'static str
+    ensures { result.now ≡ default_mark usual }
+{
+    if usual { " (default)" } else { "" }
+}
+
+/// Appends the line of a key to a text.
+fn put_key(key: &str, value: &str, usual: bool, text: &mut String) -> Result<(), AllocError>
+    ensures { OnOk result (string_bytes text.new ≡ string_bytes text.old ++ key_line key.now value.now usual) }
+{
+    let mark = default_mark(usual);
+    writeln!(text, "{key} = {value}{mark}")
+}
+
+/// Appends the line of a key whose value is a number to a text.
+fn put_number(key: &str, number: u64, usual: u64, text: &mut String) -> Result<(), AllocError>
+    ensures { OnOk result (string_bytes text.new ≡ string_bytes text.old ++ number_line key.now number usual) }
+{
+    let mark = default_mark(number == usual);
+    writeln!(text, "{key} = {number}{mark}")
+}
+
+/// Appends the lines of the member's name and address to a text.
+pub(crate) fn put_address(
+    alloc: Global,
+    config: &Config,
+    text: &mut String,
+) -> Result<(), AllocError>
+    ensures { OnOk result (string_bytes text.new ≡ string_bytes text.old ++ address_lines config.now) }
+{
+    put_key("name", text_of_name(&config.name), false, text)?;
+    let octets = octets_text(alloc, config.addr.octets)?;
+    let is_default = octets.as_str() == DEFAULT_ADDRESS;
+    put_key("address", octets.as_str(), is_default, text)
+}
+
+/// Appends the lines of the port, the dice and the seeds to a text.
+pub(crate) fn put_start(
+    alloc: Global,
+    node: &NodeConfig,
+    text: &mut String,
+) -> Result<(), AllocError>
+    ensures { OnOk result (string_bytes text.new ≡ string_bytes text.old ++ start_lines node.now) }
+{
+    let seeds = node.config.seeds.as_slice();
+    let port = u64::from(node.config.addr.port);
+    put_number("port", port, u64::from(DEFAULT_PORT), text)?;
+    put_number("dice", node.dice, DEFAULT_DICE, text)?;
+    let spelled = seeds_spelled(alloc, seeds)?;
+    put_key("seeds", spelled.as_str(), seeds.is_empty(), text)
+}
+
+/// Appends the line of a number of the member's to a text.
+pub(crate) fn put_member(config: &Config, key: Key, text: &mut String) -> Result<(), AllocError>
+    ensures { OnOk result (string_bytes text.new ≡ string_bytes text.old ++ member_line config.now key) }
+{
+    put_number(key.name(), config.number(key), key.row().default, text)
+}
+
+/// Appends the line of a number of the node's own to a text.
+pub(crate) fn put_own(node: &NodeConfig, key: NodeKey, text: &mut String) -> Result<(), AllocError>
+    ensures { OnOk result (string_bytes text.new ≡ string_bytes text.old ++ own_line node.now key) }
+{
+    put_number(key.name(), node.own_number(key), key.row().default, text)
+}
+
+/// Appends the line of a group of some members to a text, given its times in milliseconds.
+fn put_times(
+    members: u64,
+    round: u64,
+    least: u64,
+    greatest: u64,
+    text: &mut String,
+) -> Result<(), AllocError>
+    ensures { OnOk result
+        (string_bytes text.new ≡ string_bytes text.old ++ times_line members round least greatest) }
+{
+    writeln!(
+        text,
+        "{members} members: a round takes {round} ms, a suspicion lasts {least} to {greatest} ms"
+    )
+}
+
+/// Appends the line of a group of some members to a text.
+pub(crate) fn put_group(config: &Config, members: u64, text: &mut String) -> Result<(), AllocError>
+    requires checked { IsChecked config.now }
+    requires some { 1 ≤ members }
+    requires within { members ≤ MAX_LIVE }
+    ensures { OnOk result (string_bytes text.new ≡ string_bytes text.old ++ group_line config.now members) }
+{
+    let least = SuspicionTimeout::new(members, config).min_ms();
+    let greatest = suspicion_ms(members, 0, config);
+    put_times(members, config.interval_ms, least, greatest, text)
+}

@@ -1,0 +1,74 @@
+//! Spells names, addresses and seeds.
+//!
+//! Defined in: `specs/Meaning/Spelling.antt`, `lg_report/specs/Meaning/Records.antt`.
+//! Tested in: `cases/check.case`.
+ghost use Rattle.std.specs.Prelude.{◌≡◌, ◌++◌, IfOk, OnOk, string_bytes};
+ghost use Rattle.std.specs.List.{flat_map};
+ghost use Rattle.lg_report.specs.Meaning.Records.{addr_text, dotted};
+ghost use Rattle.lg_check.specs.Meaning.Spelling.{next_seed, seed_spelled, seeds_spelled};
+
+use lg_rules::{Addr, Name};
+use lg_timing::Seed;
+use std::alloc::{AllocError, Global};
+use std::str;
+
+/// The text of a name.
+pub fn text_of_name(name: &Name) -> &str
+    ensures { result.now ≡ name.now }
+{
+    match str::from_utf8(name.as_bytes()) {
+        Ok(text) => text,
+        Err(_) => "",
+    }
+}
+
+/// The text A.B.C.D of the four numbers of an address. Allocates the text; the only error is that memory was refused.
+pub(crate) fn octets_text(alloc: Global, octets: [u8; 4]) -> Result<String, AllocError>
+    ensures { IfOk result (λ text. string_bytes text ≡ dotted octets) }
+{
+    let [a, b, c, d] = octets;
+    format!(in alloc; "{a}.{b}.{c}.{d}")
+}
+
+/// The text A.B.C.D:PORT of an address. Allocates the text; the only error is that memory was refused.
+pub fn addr_text(alloc: Global, addr: Addr) -> Result<String, AllocError>
+    ensures { IfOk result (λ text. string_bytes text ≡ addr_text addr) }
+{
+    let octets = octets_text(alloc, addr.octets)?;
+    let port = addr.port;
+    format!(in alloc; "{octets}:{port}")
+}
+
+/// The text NAME@A.B.C.D:PORT of a seed.
+fn seed_spelled(alloc: Global, seed: &Seed) -> Result<String, AllocError>
+    ensures { IfOk result (λ text. string_bytes text ≡ seed_spelled seed.now) }
+{
+    let addr = addr_text(alloc, seed.addr)?;
+    let name = text_of_name(&seed.name);
+    format!(in alloc; "{name}@{addr}")
+}
+
+/// Appends seeds to a text, each behind a comma.
+fn put_seeds(alloc: Global, seeds: &[Seed], text: &mut String) -> Result<(), AllocError>
+    ensures { OnOk result (string_bytes text.new ≡ string_bytes text.old ++ flat_map next_seed seeds.now) }
+{
+    for seed in seeds {
+        let spelled = seed_spelled(alloc, seed)?;
+        write!(text, ", {spelled}")?;
+    }
+    Ok(())
+}
+
+/// The text of some seeds, with commas between them, or a word for none.
+pub(crate) fn seeds_spelled(alloc: Global, seeds: &[Seed]) -> Result<String, AllocError>
+    ensures { IfOk result (λ text. string_bytes text ≡ seeds_spelled seeds.now) }
+{
+    match seeds {
+        [] => String::from_str(alloc, "none"),
+        [seed, others @ ..] => {
+            let mut text = seed_spelled(alloc, seed)?;
+            put_seeds(alloc, others, &mut text)?;
+            Ok(text)
+        }
+    }
+}
