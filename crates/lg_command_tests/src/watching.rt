@@ -1,5 +1,5 @@
-//! A watcher over an agent of b in memory, which is opened at 0. Another pass of the agent hears packets of a during the
-//! pauses of the watcher's clock.
+//! A watcher over an agent of b in memory, which is opened at 0. Another pass of the agent hears packets of a during
+//! the pauses of the watcher's clock.
 ghost use Rattle.std.specs.Prelude.{◌≡◌};
 
 use crate::streams::Room;
