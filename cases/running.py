@@ -188,12 +188,6 @@ def told(text):
     return [(int(words[0]), record_of(words[2:])) for words in lines if words[1] == "record"]
 
 
-def written_table(text):
-    """The members that a node writes at its end, by their names."""
-    lines = [line.split() for line in text.splitlines() if line.startswith("record ")]
-    return {words[1]: record_of(words[1:]) for words in lines}
-
-
 def faults_of_lines(text, at_the_end):
     """What is wrong with the lines of a node: its last ones are older than its table, or one goes back."""
     latest, last = {}, 0
@@ -205,8 +199,5 @@ def faults_of_lines(text, at_the_end):
         if before and record.incarnation < before.incarnation:
             return f"{record} came behind {before} at {moment}"
         latest[record.member] = record
-    written = written_table(text)
-    if written and written != latest:
-        return f"its lines end with {latest}, and its table is {written}"
     older = [it for it in at_the_end.values() if it.member not in latest or latest[it.member].rank() < it.rank()]
     return f"{older} were known, and its last lines are {latest}" if older else None
