@@ -1,13 +1,13 @@
 //! Agents: their calls and looks, both forms of the calls, how they are closed, and threads that share one.
-mod calls;
+pub mod calls;
 mod choosing;
 mod faults;
-mod forms;
+pub mod forms;
 mod leaving;
-mod many;
+pub mod many;
 mod refused_memory;
 mod rotating;
 mod rows;
 mod seats;
-mod steps;
+pub mod steps;
 mod wanted;

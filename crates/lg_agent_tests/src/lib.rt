@@ -8,4 +8,6 @@ mod comparing;
 #[cfg(test)]
 mod history;
 #[cfg(test)]
+mod playing;
+#[cfg(test)]
 mod view;

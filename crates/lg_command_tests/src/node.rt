@@ -7,6 +7,7 @@ mod dice;
 mod links;
 mod loops;
 mod machine;
+mod playing;
 mod receiving;
 mod refused_memory;
 mod rotating;

@@ -1,15 +1,15 @@
-//! Agents that the tests of several crates share. An agent is opened, its passes are played, and it is closed. What
-//! is done with the passes is each test's own.
+//! Agents that the tests of several crates share: how one is opened, what its passes leave, and how it is closed. How
+//! the passes are played is each crate's own.
 #![tactic(auto)]
 
+mod cases;
 mod closing;
 mod datagrams;
 mod opening;
 mod passes;
-mod telling;
 
+pub use cases::{Case, Outcome};
 pub use closing::{Ending, abandon, close};
 pub use datagrams::{ping_of, spelled};
 pub use opening::{config, open};
-pub use passes::{Left, Play, both_passes, last_pass};
-pub use telling::{Case, Outcome, told, told_at_last};
+pub use passes::{Left, both_passes, last_pass, room};

@@ -1,27 +1,6 @@
-//! What is done with the passes of an agent, and what they leave.
+//! What the passes of an agent leave.
 use lg_agent::{AgentName, Pass, Spent};
 use std::alloc::Global;
-use std::rt;
-use std::sync::Wait;
-use std::thread::Threads;
-
-/// What is done with the passes of an agent.
-pub trait Play: Copy {
-    /// What is seen while the agent is open.
-    type Seen: Drop;
-
-    /// Plays all passes, and adds what they leave to `spents`.
-    fn play<A, R>(
-        self,
-        rt: &R,
-        alloc: Global,
-        passes: Vec<Pass<'_, A>>,
-        spents: Vec<Spent<A>>,
-    ) -> Left<A, Self::Seen>
-    where
-        A: AgentName + Send + Sync,
-        R: Threads + Wait + rt::Clock + Sync;
-}
 
 /// What the passes left, and what was seen.
 #[derive(Drop)]
@@ -51,6 +30,14 @@ impl<A: AgentName, S: Drop> Left<A, S> {
         let mut spents = spents;
         let _refused = spents.push(one).is_err();
         Left::with(spents, two, seen)
+    }
+}
+
+/// A list with room for what this many passes leave. If memory is refused, it is asked for once more.
+pub fn room<A: AgentName>(alloc: Global, places: usize) -> Vec<Spent<A>> {
+    match Vec::with_capacity(alloc, places) {
+        Ok(list) => list,
+        Err(_) => Vec::with_capacity(alloc, places).unwrap_or(Vec::new(alloc)),
     }
 }
 

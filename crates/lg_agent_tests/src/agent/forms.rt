@@ -1,10 +1,11 @@
 //! Both forms of a pass's calls: one returns its reply, and the other writes it over a reply that its caller keeps.
 use super::calls::Happens::{self, Ask, Datagram, Health, Pull, Tick};
 use super::calls::{Heard, make_call, make_call_into};
+use crate::playing::{Play, Shown, told};
 use lg_agent::{AgentName, Pass, Refusal, Spent};
 use lg_detector::Reply;
 use lg_packet::Fault;
-use lg_playing::{Case, Left, Play, last_pass, told};
+use lg_playing::{Case, Left, last_pass};
 use lg_testing::is_same_reply;
 use std::alloc::Global;
 use std::rt;
@@ -83,28 +84,20 @@ fn call_all<A: AgentName, R: Wait>(
     afters
 }
 
-/// The calls of the rows are made in this form, with the only pass.
-impl Play for Form {
-    type Seen = Vec<After>;
-
-    fn play<A, R>(
-        self,
-        rt: &R,
-        alloc: Global,
-        passes: Vec<Pass<'_, A>>,
-        spents: Vec<Spent<A>>,
-    ) -> Left<A, Vec<After>>
-    where
-        A: AgentName + Send + Sync,
-        R: Threads + Wait + rt::Clock + Sync,
-    {
-        let Some(pass) = last_pass(passes) else {
-            return Left::nothing(spents);
-        };
-        let mut pass = pass;
-        let afters = call_all(rt, alloc, &mut pass, self);
-        Left::with(spents, pass.finish(), afters)
-    }
+/// Makes the calls of the rows in one form, with the only pass.
+pub fn run_form<A: AgentName, R: Wait>(
+    rt: &R,
+    alloc: Global,
+    passes: Vec<Pass<'_, A>>,
+    form: Form,
+    spents: Vec<Spent<A>>,
+) -> Left<A, Shown> {
+    let Some(pass) = last_pass(passes) else {
+        return Left::nothing(spents);
+    };
+    let mut pass = pass;
+    let shown = Shown::Form(call_all(rt, alloc, &mut pass, form));
+    Left::with(spents, pass.finish(), shown)
 }
 
 /// What the caller has after each call of a form, to an agent that knows nobody else. There is none if no agent was
@@ -113,10 +106,13 @@ fn played<R>(rt: &R, alloc: Global, form: Form) -> Vec<After>
 where
     R: Threads + Wait + rt::Clock + Sync,
 {
-    let mut case = Case::new(1, form);
+    let mut case = Case::new(1, Play::Form(form));
     case.limit = LIMIT;
     match told(rt, alloc, case) {
-        Ok(outcome) => outcome.seen.unwrap_or(Vec::new(alloc)),
+        Ok(outcome) => match outcome.seen {
+            Some(Shown::Form(afters)) => afters,
+            _ => Vec::new(alloc),
+        },
         Err(_) => Vec::new(alloc),
     }
 }

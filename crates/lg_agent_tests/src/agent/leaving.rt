@@ -1,11 +1,12 @@
 //! What passes leave: how many calls each made, how many of its positions it cut off, and those that are left.
 use super::calls::Happens::{Datagram, Health};
 use super::calls::{Call, Heard};
-use super::steps::{Row, Steps};
+use super::steps::Row;
 use super::wanted::Want::{Healthy, Number, Refused};
+use crate::playing::{Play, Shown, told};
 use lg_agent::{AgentName, Refusal, Spent};
 use lg_packet::Fault;
-use lg_playing::{Case, told};
+use lg_playing::Case;
 use lg_testing::letter;
 use std::alloc::Global;
 use std::sync::Wait;
@@ -63,9 +64,9 @@ fn played<R>(rt: &R, alloc: Global, rows: &[Row]) -> Option<[LeftBy; 2]>
 where
     R: Threads + Wait + std::rt::Clock + Sync,
 {
-    let outcome = told(rt, alloc, Case::new(2, Steps(rows))).ok()?;
-    match outcome.seen {
-        Some(played) if played.wrong.is_none() => Some(played.left),
+    let outcome = told(rt, alloc, Case::new(2, Play::Steps(rows))).ok()?;
+    match &outcome.seen {
+        Some(Shown::Steps(played)) if played.wrong.is_none() => Some(played.left),
         _ => None,
     }
 }

@@ -2,10 +2,11 @@
 //! events of the history, and has to give the history's replies. It has heard the entries that were cut off; if there
 //! are none, it is a fresh one.
 use super::calls::{Call, Happens, Heard, is_known, make_call_into, number};
+use crate::playing::{Play, Shown, told};
 use left_right::Absorb;
 use lg_agent::{AgentName, Pass, Refusal, Spent};
 use lg_detector::{Event, Reply};
-use lg_playing::{Case, Ending, Left, Play, told};
+use lg_playing::{Case, Ending, Left};
 use lg_view::{Published, Update};
 use std::alloc::Global;
 use std::rt;
@@ -236,37 +237,14 @@ fn hand_in<A: AgentName, R: Wait>(rt: &R, done: &Mutex<Done<A>>, spent: Spent<A>
     }
 }
 
-/// Each pass has a task, in a thread of its own.
-#[derive(Clone, Copy)]
-struct Tasks<'a>(&'a [Task]);
-
-impl<'t> Play for Tasks<'t> {
-    /// What the calls of the threads came to.
-    type Seen = Tally;
-
-    fn play<A, R>(
-        self,
-        rt: &R,
-        alloc: Global,
-        passes: Vec<Pass<'_, A>>,
-        spents: Vec<Spent<A>>,
-    ) -> Left<A, Tally>
-    where
-        A: AgentName + Send + Sync,
-        R: Threads + Wait + rt::Clock + Sync,
-    {
-        work_all(rt, alloc, passes, self.0, spents)
-    }
-}
-
 /// A thread for each pass, each with its task.
-fn work_all<A: AgentName + Send + Sync, R: Threads + Wait + Sync>(
+pub fn work_all<A: AgentName + Send + Sync, R: Threads + Wait + Sync>(
     rt: &R,
     alloc: Global,
     passes: Vec<Pass<'_, A>>,
     tasks: &[Task],
     spents: Vec<Spent<A>>,
-) -> Left<A, Tally> {
+) -> Left<A, Shown> {
     let done = Mutex::new(Done {
         spents,
         tally: Tally::default(),
@@ -287,7 +265,7 @@ fn work_all<A: AgentName + Send + Sync, R: Threads + Wait + Sync>(
         }
     });
     let Done { spents, tally } = done.into_inner();
-    let seen = Some(tally);
+    let seen = Some(Shown::Threads(tally));
     Left { spents, seen }
 }
 
@@ -296,10 +274,13 @@ fn played<R>(rt: &R, alloc: Global, limit: u64, tasks: &[Task]) -> Option<(Tally
 where
     R: Threads + Wait + rt::Clock + Sync,
 {
-    let mut case = Case::new(tasks.len(), Tasks(tasks));
+    let mut case = Case::new(tasks.len(), Play::Threads(tasks));
     case.limit = limit;
     let outcome = told(rt, alloc, case).ok()?;
-    Some((outcome.seen?, outcome.ending))
+    match outcome.seen {
+        Some(Shown::Threads(tally)) => Some((tally, outcome.ending)),
+        _ => None,
+    }
 }
 
 /// How many calls each thread makes, what it does when the history is full, how many entries there are in the end,

@@ -1,12 +1,12 @@
 //! Memory that is refused once: what fails because of it has changed nothing, and goes well the next time.
 use super::rotating::FILLS_IT;
 use super::rows::{case, play_each_call, seen_in};
-use super::steps::Played;
-use lg_playing::{Outcome, told_at_last};
+use crate::playing::{Shown, told_at_last};
+use lg_playing::Outcome;
 
 /// Whether each step gave what it should, no pass was given out later, and the agent was closed with this many
 /// entries, of which `base` were cut off.
-fn is_whole(outcome: &Outcome<Played>, entries: u64, base: u64) -> bool {
+fn is_whole(outcome: &Outcome<Shown>, entries: u64, base: u64) -> bool {
     match seen_in(outcome) {
         Some((None, 0, ending)) => {
             ending.fault.is_none() && ending.entries == Some(entries) && ending.base == Some(base)

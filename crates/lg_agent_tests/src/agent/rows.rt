@@ -1,11 +1,12 @@
 //! Agents of one place and of two. Each case is a list of calls and looks, with what each gives.
 use super::calls::Happens::{Ask, Datagram, Health, Pull, Tick};
 use super::calls::{Call, Heard};
-use super::steps::{Played, Row, Steps};
+use super::steps::Row;
 use super::wanted::Want::{Alive, Healthy, KnowsC, Number, Refused, Round, Sent};
+use crate::playing::{Play, Shown, told, told_at_last};
 use lg_agent::{CloseFault, Refusal};
 use lg_packet::Fault;
-use lg_playing::{Case, Ending, Outcome, told, told_at_last};
+use lg_playing::{Case, Ending, Outcome};
 use std::alloc::Global;
 use std::rt;
 use std::sync::Wait;
@@ -16,21 +17,23 @@ use std::thread::Threads;
 pub type SeenIn = (Option<usize>, usize, Ending);
 
 /// What was seen in a case of steps.
-pub fn seen_in(outcome: &Outcome<Played>) -> Option<SeenIn> {
-    let played = outcome.seen?;
-    Some((played.wrong, outcome.later, outcome.ending))
+pub fn seen_in(outcome: &Outcome<Shown>) -> Option<SeenIn> {
+    match &outcome.seen {
+        Some(Shown::Steps(played)) => Some((played.wrong, outcome.later, outcome.ending)),
+        _ => None,
+    }
 }
 
 /// A case with this many places, whose agent knows this many others and has this limit on its history.
-pub fn case<'a>(places: usize, others: u8, limit: u64, rows: &'a [Row]) -> Case<Steps<'a>> {
-    let mut case = Case::new(places, Steps(rows));
+pub fn case<'a>(places: usize, others: u8, limit: u64, rows: &'a [Row]) -> Case<Play<'a>> {
+    let mut case = Case::new(places, Play::Steps(rows));
     case.others = others;
     case.limit = limit;
     case
 }
 
 /// What is seen in a case.
-pub fn play<R>(rt: &R, alloc: Global, case: Case<Steps<'_>>) -> Option<SeenIn>
+pub fn play<R>(rt: &R, alloc: Global, case: Case<Play<'_>>) -> Option<SeenIn>
 where
     R: Threads + Wait + rt::Clock + Sync,
 {
@@ -54,11 +57,11 @@ const EACH_CALL: &[Row] = &[
 ];
 
 /// Plays each call of the only pass. If memory for the opening was refused, it is tried once more.
-pub fn play_each_call<R>(rt: &R, alloc: Global) -> Result<Outcome<Played>, Refusal>
+pub fn play_each_call<R>(rt: &R, alloc: Global) -> Result<Outcome<Shown>, Refusal>
 where
     R: Threads + Wait + rt::Clock + Sync,
 {
-    told_at_last(rt, alloc, Case::new(1, Steps(EACH_CALL)))
+    told_at_last(rt, alloc, Case::new(1, Play::Steps(EACH_CALL)))
 }
 
 /// The history has at most two entries.

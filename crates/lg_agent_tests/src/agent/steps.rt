@@ -2,10 +2,10 @@
 use super::calls::{Call, Seen, step};
 use super::leaving::{LeftBy, left_by};
 use super::wanted::Want;
+use crate::playing::Shown;
 use lg_agent::{AgentName, Pass, Refusal, Spent};
-use lg_playing::{Left, Play};
+use lg_playing::Left;
 use std::alloc::Global;
-use std::rt;
 use std::sync::Wait;
 use std::thread::{Threads, join};
 
@@ -109,36 +109,25 @@ fn hand_in<A: AgentName>(spent: Spent<A>, spents: &mut Vec<Spent<A>>) -> LeftBy 
     left
 }
 
-/// The steps of an agent of two places or of one. The passes are finished after them, the last one first, and each
-/// has to have its seat.
-#[derive(Clone, Copy)]
-pub struct Steps<'a>(pub &'a [Row]);
-
-impl<'a> Play for Steps<'a> {
-    type Seen = Played;
-
-    fn play<A, R>(
-        self,
-        rt: &R,
-        alloc: Global,
-        passes: Vec<Pass<'_, A>>,
-        spents: Vec<Spent<A>>,
-    ) -> Left<A, Played>
-    where
-        A: AgentName + Send + Sync,
-        R: Threads + Wait + rt::Clock + Sync,
-    {
-        let Some((first, second)) = first_and_second(passes) else {
-            return Left::nothing(spents);
-        };
-        let (mut first, mut second, mut spents) = (first, second, spents);
-        let wrong = first_wrong(rt, alloc, &mut first, &mut second, self.0);
-        let two = match second {
-            Some(pass) => hand_in(pass.finish(), &mut spents),
-            None => LeftBy::nothing(2),
-        };
-        let one = hand_in(first.finish(), &mut spents);
-        let seen = Some(Played::of(wrong, self.0.len(), [one, two]));
-        Left { spents, seen }
-    }
+/// Plays the rows with an agent of two places or of one, and finishes the passes, the last one first. Each pass has
+/// to have its seat.
+pub fn steps<A: AgentName + Send + Sync, R: Threads + Wait + Sync>(
+    rt: &R,
+    alloc: Global,
+    passes: Vec<Pass<'_, A>>,
+    rows: &[Row],
+    spents: Vec<Spent<A>>,
+) -> Left<A, Shown> {
+    let Some((first, second)) = first_and_second(passes) else {
+        return Left::nothing(spents);
+    };
+    let (mut first, mut second, mut spents) = (first, second, spents);
+    let wrong = first_wrong(rt, alloc, &mut first, &mut second, rows);
+    let two = match second {
+        Some(pass) => hand_in(pass.finish(), &mut spents),
+        None => LeftBy::nothing(2),
+    };
+    let one = hand_in(first.finish(), &mut spents);
+    let seen = Some(Shown::Steps(Played::of(wrong, rows.len(), [one, two])));
+    Left { spents, seen }
 }

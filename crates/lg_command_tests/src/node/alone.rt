@@ -2,17 +2,16 @@
 use super::clocks::{MemoryClock, Pauses};
 use super::links::{Call, MemoryLink, QUIET, Script};
 use super::loops::{receive, tick};
+use super::playing::{Play, Shown};
 use arrayvec::ArrayVec;
 use lg_agent::{AgentName, Pass, Spent};
 use lg_node::{End, Ended, Why};
-use lg_playing::{Case, Left, Outcome, Play, last_pass};
+use lg_playing::{Case, Left, Outcome, last_pass};
 use lg_testing::at;
 use std::alloc::Global;
-use std::rt;
 use std::sync::Wait;
 use std::sync::atomic::AtomicBool;
 use std::sync::atomic::Ordering::SeqCst;
-use std::thread::Threads;
 
 /// How many turns a loop may make.
 pub(super) const BOUND: u64 = 100;
@@ -60,8 +59,8 @@ impl Run {
     }
 
     /// An agent of one place with this run.
-    pub(super) fn case(self) -> Case<Run> {
-        Case::new(1, self)
+    pub(super) fn case(self) -> Case<Play> {
+        Case::new(1, Play::Loop(self))
     }
 }
 
@@ -125,27 +124,19 @@ fn run_pass<A: AgentName, R: Wait>(
     (seen, spent)
 }
 
-/// The last pass runs one loop of a node.
-impl Play for Run {
-    type Seen = LoopSeen;
-
-    fn play<A, R>(
-        self,
-        rt: &R,
-        alloc: Global,
-        passes: Vec<Pass<'_, A>>,
-        spents: Vec<Spent<A>>,
-    ) -> Left<A, LoopSeen>
-    where
-        A: AgentName + Send + Sync,
-        R: Threads + Wait + rt::Clock + Sync,
-    {
-        let Some(pass) = last_pass(passes) else {
-            return Left::nothing(spents);
-        };
-        let (seen, spent) = run_pass(rt, alloc, pass, self);
-        Left::with(spents, spent, seen)
-    }
+/// Runs the loop with the last pass.
+pub fn run_alone<A: AgentName, R: Wait>(
+    rt: &R,
+    alloc: Global,
+    passes: Vec<Pass<'_, A>>,
+    run: Run,
+    spents: Vec<Spent<A>>,
+) -> Left<A, Shown> {
+    let Some(pass) = last_pass(passes) else {
+        return Left::nothing(spents);
+    };
+    let (seen, spent) = run_pass(rt, alloc, pass, run);
+    Left::with(spents, spent, Shown::Loop(seen))
 }
 
 /// What the calls of a link should be.
@@ -201,7 +192,7 @@ impl<'a> Want<'a> {
     }
 
     /// Whether an outcome is what it should be. Whatever the end, the others are told to stop.
-    pub(super) fn is(&self, outcome: &Outcome<LoopSeen>) -> bool {
+    pub(super) fn is(&self, outcome: &Outcome<Shown>) -> bool {
         let end = End {
             why: self.why,
             dropped: self.dropped,
@@ -209,7 +200,7 @@ impl<'a> Want<'a> {
             turns: self.turns,
         };
         match &outcome.seen {
-            Some(seen) => {
+            Some(Shown::Loop(seen)) => {
                 seen.end == end
                     && seen.received == self.received
                     && seen.failures == self.failures
@@ -221,7 +212,7 @@ impl<'a> Want<'a> {
                     && outcome.ending.base == Some(self.base)
                     && outcome.ending.replayed == Some(self.entries)
             }
-            None => false,
+            _ => false,
         }
     }
 }

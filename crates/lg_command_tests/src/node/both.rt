@@ -6,10 +6,11 @@ ghost use Rattle.std.specs.Prelude.{◌≡◌, ◌+◌, MatchBool};
 use super::clocks::FixedDice;
 use super::links::{PING_7, put};
 use super::loops::{WAIT_MS, ticks_until};
+use super::playing::{Play, Shown, told};
 use lg_agent::{AgentName, Pass, Spent};
 use lg_clock::Clock;
 use lg_node::{End, Ended, Link, LinkFault, MAX_DATAGRAM, Shared, Side, Why, run_loops};
-use lg_playing::{Case, Ending, Left, Outcome, Play, both_passes, told};
+use lg_playing::{Case, Ending, Left, Outcome, both_passes};
 use lg_rules::Addr;
 use lg_testing::{at, local};
 use lg_timing::{MAX_MOMENT, Moment};
@@ -236,45 +237,38 @@ where
     (seen, (received.spent, ticked.spent))
 }
 
-/// Two passes run both loops of a node.
-#[derive(Clone, Copy)]
-pub struct Both {
-    /// Whether the first receiving fails.
+/// Runs both loops with the last two passes.
+pub fn run_both<A, R>(
+    rt: &R,
+    alloc: Global,
+    passes: Vec<Pass<'_, A>>,
     fails: bool,
-}
-
-impl Play for Both {
-    type Seen = BothSeen;
-
-    fn play<A, R>(
-        self,
-        rt: &R,
-        alloc: Global,
-        passes: Vec<Pass<'_, A>>,
-        spents: Vec<Spent<A>>,
-    ) -> Left<A, BothSeen>
-    where
-        A: AgentName + Send + Sync,
-        R: Threads + Wait + rt::Clock + Sync,
-    {
-        let Some((first, second)) = both_passes(passes) else {
-            return Left::nothing(spents);
-        };
-        let (seen, both) = run_passes(rt, alloc, first, second, self.fails);
-        Left::with_both(spents, both, seen)
-    }
+    spents: Vec<Spent<A>>,
+) -> Left<A, Shown>
+where
+    A: AgentName + Send + Sync,
+    R: Threads + Wait + rt::Clock + Sync,
+{
+    let Some((first, second)) = both_passes(passes) else {
+        return Left::nothing(spents);
+    };
+    let (seen, both) = run_passes(rt, alloc, first, second, fails);
+    Left::with_both(spents, both, Shown::Both(seen))
 }
 
 /// An agent that knows c, and runs both loops. The first receiving may fail.
-pub fn both_loops(fails: bool) -> Case<Both> {
-    let mut case = Case::new(2, Both { fails });
+pub fn both_loops(fails: bool) -> Case<Play> {
+    let mut case = Case::new(2, Play::Both { fails });
     case.others = 1;
     case
 }
 
 /// What both loops tell, and how their agent ended.
-pub fn seen_in(outcome: &Outcome<BothSeen>) -> Option<(BothSeen, Ending)> {
-    Some((outcome.seen?, outcome.ending))
+pub fn seen_in(outcome: &Outcome<Shown>) -> Option<(BothSeen, Ending)> {
+    match &outcome.seen {
+        Some(Shown::Both(seen)) => Some((*seen, outcome.ending)),
+        _ => None,
+    }
 }
 
 /// The Ping of the ticking loop is handed over while the other loop receives. The receiving loop answers a Ping, and

@@ -2,8 +2,8 @@
 use super::alone::{BOUND, Calls, Run, Want};
 use super::clocks::Pauses;
 use super::links::{Call, Coming, QUIET, Script, Spelled};
+use super::playing::told;
 use lg_node::Why;
-use lg_playing::told;
 
 /// A turn waits 20 ms for a datagram.
 const RECEIVE: Call = Call::Receive { limit_ms: 20 };

@@ -1,11 +1,12 @@
 //! Memory that is refused once. A loop whose call meets that ends with it, and nothing is lost. If memory for a
 //! thread is refused, no loop makes a turn.
-use super::alone::{LoopSeen, Run};
+use super::alone::Run;
 use super::both::{BothSeen, both_loops, seen_in};
 use super::links::{Call, Coming, Script};
+use super::playing::{Shown, told_at_last};
 use lg_agent::Refusal;
 use lg_node::{End, Why};
-use lg_playing::{Ending, Outcome, told_at_last};
+use lg_playing::{Ending, Outcome};
 
 /// How many packets were handed over.
 fn handed(calls: &[Call]) -> usize {
@@ -51,8 +52,8 @@ impl Turns {
 
 /// Whether the loop ended after these turns, at the call that met the refusal if one did. Each answered call, and no
 /// other, is in the pass's list and in the history, and handed its packets over.
-fn is_whole(outcome: &Outcome<LoopSeen>, want: Turns) -> bool {
-    let Some(seen) = &outcome.seen else {
+fn is_whole(outcome: &Outcome<Shown>, want: Turns) -> bool {
+    let Some(Shown::Loop(seen)) = &outcome.seen else {
         return false;
     };
     let refused = Why::Refused(Refusal::NoMemory);

@@ -3,10 +3,11 @@
 use super::clocks::MemoryClock;
 use super::links::put;
 use super::loops::{receive, tick};
+use super::playing::{Play, Shown, told};
 use lg_agent::{AgentName, Pass, Spent};
 use lg_clock::Clock;
 use lg_node::{End, Ended, Link, LinkFault, MAX_DATAGRAM, Why};
-use lg_playing::{Case, Ending, Left, Play, both_passes, ping_of, told};
+use lg_playing::{Case, Ending, Left, both_passes, ping_of};
 use lg_rules::Addr;
 use lg_testing::local;
 use std::alloc::Global;
@@ -109,7 +110,7 @@ impl<'a> Link for StreamLink<'a> {
 
 /// What the two loops did.
 #[derive(Clone, Copy, Debug, PartialEq, Eq)]
-struct StreamSeen {
+pub struct StreamSeen {
     receiving: End,
     ticking: End,
     /// What each handed over, and how many calls of each were answered.
@@ -165,30 +166,18 @@ fn run_passes<A: AgentName, R: Wait>(
     (seen, (one, two))
 }
 
-/// The receiving loop runs until all datagrams have come, and then the ticking one.
-#[derive(Clone, Copy)]
-struct Stream;
-
-impl Play for Stream {
-    type Seen = StreamSeen;
-
-    fn play<A, R>(
-        self,
-        rt: &R,
-        alloc: Global,
-        passes: Vec<Pass<'_, A>>,
-        spents: Vec<Spent<A>>,
-    ) -> Left<A, StreamSeen>
-    where
-        A: AgentName + Send + Sync,
-        R: Threads + Wait + rt::Clock + Sync,
-    {
-        let Some((first, second)) = both_passes(passes) else {
-            return Left::nothing(spents);
-        };
-        let (seen, both) = run_passes(rt, alloc, first, second);
-        Left::with_both(spents, both, seen)
-    }
+/// Runs the receiving loop until all datagrams have come, and then the ticking one.
+pub fn run_stream<A: AgentName, R: Wait>(
+    rt: &R,
+    alloc: Global,
+    passes: Vec<Pass<'_, A>>,
+    spents: Vec<Spent<A>>,
+) -> Left<A, Shown> {
+    let Some((first, second)) = both_passes(passes) else {
+        return Left::nothing(spents);
+    };
+    let (seen, both) = run_passes(rt, alloc, first, second);
+    Left::with_both(spents, both, Shown::Stream(seen))
 }
 
 /// What a node with this limit on its history did, and how its agent ended.
@@ -196,10 +185,13 @@ fn played<R>(rt: &R, alloc: Global, limit: u64) -> Option<(StreamSeen, Ending)>
 where
     R: Threads + Wait + rt::Clock + Sync,
 {
-    let mut case = Case::new(2, Stream);
+    let mut case = Case::new(2, Play::Stream);
     case.limit = limit;
     let outcome = told(rt, alloc, case).ok()?;
-    Some((outcome.seen?, outcome.ending))
+    match outcome.seen {
+        Some(Shown::Stream(seen)) => Some((seen, outcome.ending)),
+        _ => None,
+    }
 }
 
 /// Whether the receiving loop heard each datagram and answered it with an Ack, the ticking loop ended in time, and at

@@ -2,8 +2,9 @@
 use super::alone::{BOUND, Calls, Run, Want};
 use super::clocks::Pauses;
 use super::links::{Call, Spelled};
+use super::playing::{Play, told};
 use lg_node::Why;
-use lg_playing::{Case, told};
+use lg_playing::Case;
 
 /// The first Ping of b, for c.
 const PING_OF_C: Call = Call::Send {
@@ -65,7 +66,7 @@ fn refused<'a>(want: Want<'a>, calls: &'a [Call]) -> Want<'a> {
 }
 
 /// A loop that knows this many others. Its link fails at the call `fails_at`, counted from 1, or at none if that is 0.
-fn knows(until: u64, others: u8, fails_at: u64) -> Case<Run> {
+fn knows(until: u64, others: u8, fails_at: u64) -> Case<Play> {
     let mut run = Run::ticking(until);
     run.script.fails_at = fails_at;
     let mut case = run.case();
@@ -74,7 +75,7 @@ fn knows(until: u64, others: u8, fails_at: u64) -> Case<Run> {
 }
 
 /// A loop that knows c at port 0, to which its link can't send.
-fn knows_at_port_0(until: u64) -> Case<Run> {
+fn knows_at_port_0(until: u64) -> Case<Play> {
     let mut run = Run::ticking(until);
     run.script.refuses = Some(0);
     let mut case = run.case();
@@ -84,7 +85,7 @@ fn knows_at_port_0(until: u64) -> Case<Run> {
 }
 
 /// A loop that knows c. It begins at a moment, after a call at 5000.
-fn goes_back(now: u64) -> Case<Run> {
+fn goes_back(now: u64) -> Case<Play> {
     let mut run = Run::ticking(5501);
     run.called_at = Some(5000);
     run.now = now;
@@ -94,7 +95,7 @@ fn goes_back(now: u64) -> Case<Run> {
 }
 
 /// A loop whose history has room for the opening and one tick. At the second tick it is rotated.
-fn short() -> Case<Run> {
+fn short() -> Case<Play> {
     let mut case = Run::ticking(1010).case();
     case.limit = 2;
     case

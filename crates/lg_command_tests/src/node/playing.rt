@@ -1,0 +1,116 @@
+//! What loops of a node the passes of an agent run, and what is seen of them.
+ghost use Rattle.std.specs.Prelude.{◌≡◌, ◌<◌, ◌≤◌};
+
+use super::alone::{LoopSeen, Run, run_alone};
+use super::both::{BothSeen, run_both};
+use super::rotating::{StreamSeen, run_stream};
+use lg_agent::{Agent, AgentName, Refusal, Spent};
+use lg_playing::{Case, Left, Outcome, room};
+use lg_view::UnnamedBook;
+use std::alloc::Global;
+use std::marker::Brand;
+use std::rt;
+use std::sync::Wait;
+use std::thread::Threads;
+
+/// What is done with the passes of an agent.
+#[derive(Clone, Copy)]
+pub enum Play {
+    /// The last pass runs one loop of a node.
+    Loop(Run),
+    /// Two passes run both loops of a node. The first receiving may fail.
+    Both { fails: bool },
+    /// One loop of a node after the other: many datagrams, and then many ticks.
+    Stream,
+}
+
+/// What was seen while an agent was open.
+#[derive(Drop)]
+pub enum Shown {
+    Loop(LoopSeen),
+    Both(BothSeen),
+    Stream(StreamSeen),
+}
+
+/// Plays all passes of an agent, unless memory for them is refused.
+fn run<A, R>(
+    rt: &R,
+    alloc: Global,
+    agent: &mut Agent<A>,
+    spents: Vec<Spent<A>>,
+    play: Play,
+) -> Left<A, Shown>
+where
+    A: AgentName + Send + Sync,
+    R: Threads + Wait + rt::Clock + Sync,
+{
+    let Ok(passes) = agent.passes(alloc) else {
+        return Left::nothing(spents);
+    };
+    match play {
+        Play::Loop(run) => run_alone(rt, alloc, passes, run, spents),
+        Play::Both { fails } => run_both(rt, alloc, passes, fails, spents),
+        Play::Stream => run_stream(rt, alloc, passes, spents),
+    }
+}
+
+/// Plays all passes of an agent. If memory for them is refused, it is tried once more.
+fn run_at_last<A, R>(
+    rt: &R,
+    alloc: Global,
+    agent: &mut Agent<A>,
+    spents: Vec<Spent<A>>,
+    play: Play,
+) -> Left<A, Shown>
+where
+    A: AgentName + Send + Sync,
+    R: Threads + Wait + rt::Clock + Sync,
+{
+    let Left { spents, seen } = run(rt, alloc, agent, spents, play);
+    match seen {
+        None => run(rt, alloc, agent, spents, play),
+        seen => Left { spents, seen },
+    }
+}
+
+/// Opens an agent, plays it, and closes it.
+fn play_case<A, R>(
+    rt: &R,
+    alloc: Global,
+    book: UnnamedBook,
+    places: usize,
+    case: Case<Play>,
+) -> Result<Outcome<Shown>, Refusal>
+where
+    A: AgentName + Send + Sync,
+    R: Threads + Wait + rt::Clock + Sync,
+    requires book { book.seen.book ≡ A.book }
+    requires places { (places ≡ A.places) × (0 < places) × (places ≤ 32) }
+{
+    let mut agent = case.open::<A, R>(rt, alloc, book, places)?;
+    let left = run_at_last(rt, alloc, &mut agent, room(alloc, places), case.play);
+    Ok(case.close(rt, alloc, agent, left))
+}
+
+/// What a case tells. The error is that the opening was refused. A number of places that no agent has gives `NoPlace`.
+pub fn told<R>(rt: &R, alloc: Global, case: Case<Play>) -> Result<Outcome<Shown>, Refusal>
+where
+    R: Threads + Wait + rt::Clock + Sync,
+{
+    let places = case.places;
+    if places == 0 || places > 32 {
+        return Err(Refusal::NoPlace);
+    }
+    play_case::<Brand, R>(rt, alloc, UnnamedBook::new(), places, case)
+}
+
+/// What a case tells. If memory for the opening was refused, it is tried once more.
+pub fn told_at_last<R>(rt: &R, alloc: Global, case: Case<Play>) -> Result<Outcome<Shown>, Refusal>
+where
+    R: Threads + Wait + rt::Clock + Sync,
+{
+    match told(rt, alloc, case) {
+        Err(Refusal::NoMemory) => told(rt, alloc, case),
+        other => other,
+    }
+}
