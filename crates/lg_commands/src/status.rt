@@ -5,8 +5,9 @@
 ghost use Rattle.std.specs.Prelude.{◌≡◌, ◌≢◌, ◌⊎◌, Err, IfOk, true};
 ghost use Rattle.std.specs.Result.{is_err};
 ghost use Rattle.lg_rules.specs.Meaning.Name.{name_of_text};
-ghost use Rattle.lg_text.specs.Meaning.Running.{ReadsWhole};
+ghost use Rattle.lg_text.specs.Meaning.Running.{AppendsFront, ReadsWhole};
 ghost use Rattle.lg_commands.specs.Meaning.Choosing.{order_text};
+ghost use Rattle.lg_commands.specs.Meaning.Faults.{bad_list_text};
 ghost use Rattle.lg_commands.specs.Meaning.Running.{FailsBy, RunsAnswer, RunsOrder, RunsSim, RunsTimeouts};
 ghost use Rattle.lg_commands.specs.Meaning.Timeouts.{are_good};
 
@@ -45,6 +46,8 @@ pub fn answer_named<R: Read, W: Write, F: Write>(
     ensures bad_name { is_err (name_of_text name.now) ≡ true → result ≡ BAD_INPUT }
     ensures unread { is_err (name_of_text name.now) ≡ true → reader.new ≡ reader.old }
     ensures unnamed { is_err (name_of_text name.now) ≡ true → writer.new ≡ writer.old }
+    ensures told { is_err (name_of_text name.now) ≡ true
+        → AppendsFront (F.contents faults.old) (F.contents faults.new) (bad_list_text BadList.Names) }
     ensures failed { result ≡ FAILED
         → FailsBy (F.contents faults.old) (F.contents faults.new) writer.old writer.new }
     ensures read { result ≡ FAILED
