@@ -4,7 +4,7 @@
 //! Tested in: `cases/limits.case`, `lg_command_tests/src/readers.rt`, `lg_command_tests/src/writers.rt`.
 ghost use Rattle.std.specs.Prelude.{◌≡◌, ◌≢◌, ◌⊎◌, true, Err, IfErr, IsOkAnd, OnOk};
 ghost use Rattle.std.specs.Io.KnownBytes.{Appends};
-ghost use Rattle.lg_text.specs.Meaning.Running.{RunsWhole};
+ghost use Rattle.lg_text.specs.Meaning.Running.{AppendsFront, RunsWhole};
 ghost use Rattle.lg_commands.specs.Meaning.Answering.{answer_end, answer_text};
 ghost use Rattle.lg_commands.specs.Meaning.Choosing.{order_text};
 ghost use Rattle.lg_commands.specs.Meaning.Running.{IsFaultOf};
@@ -54,7 +54,7 @@ pub fn answer_run<R: Read, W: Write>(
 ///
 /// The lines are `min MS`, `max MS`, and `C MS` for each number C of confirmations from 0 to as many as count, in
 /// milliseconds. The whole text is made before its first byte is written, so with [`RunFault::Memory`] nothing is
-/// written. Time and memory are bounded: the text has at most 8 lines.
+/// written. With [`RunFault::Write`] a beginning of the text is written: none of it, a part or all. Time and memory are bounded: the text has at most 8 lines.
 pub fn timeouts_run<W: Write>(
     alloc: Global,
     writer: &mut W,
@@ -64,6 +64,8 @@ pub fn timeouts_run<W: Write>(
     ensures text { OnOk result (Appends (W.contents writer.old) (W.contents writer.new) (timeouts_text numbers.now)) }
     ensures refused { IfErr result (λ fault. (fault ≡ RunFault.Memory) ⊎ (fault ≡ RunFault.Write)) }
     ensures unwritten { IfErr result (λ fault. fault ≢ RunFault.Write → writer.new ≡ writer.old) }
+    ensures partly { IfErr result (λ fault. fault ≡ RunFault.Write
+        → AppendsFront (W.contents writer.old) (W.contents writer.new) (timeouts_text numbers.now)) }
 {
     let text = timeouts(alloc, numbers)?;
     write_whole(writer, text.as_bytes())
@@ -77,8 +79,8 @@ pub fn timeouts_run<W: Write>(
 /// [`OrderFault::Bad`]. The names are judged first, and judging them allocates no memory.
 ///
 /// The whole text is made before its first byte is written. If a list is bad, or with [`RunFault::Memory`], nothing
-/// is written. [`RunFault::Write`] comes only if both lists are good, and doesn't say how much was written. For each
-/// number of names, time and memory are in proportion to the words.
+/// is written. [`RunFault::Write`] comes only if both lists are good. A beginning of the text is then written: none of
+/// it, a part or all. For each number of names, time and memory are in proportion to the words.
 pub fn order_run<W: Write>(
     alloc: Global,
     writer: &mut W,
@@ -91,6 +93,9 @@ pub fn order_run<W: Write>(
     ensures names { order_text names.now words.now ≡ Err BadList.Names
         → result ≡ Err (OrderFault.Bad BadList.Names) }
     ensures unwritten { IfErr result (λ fault. fault ≢ OrderFault.Run RunFault.Write → writer.new ≡ writer.old) }
+    ensures partly { IfErr result (λ fault. fault ≡ OrderFault.Run RunFault.Write
+        → IsOkAnd (order_text names.now words.now)
+        (λ text. AppendsFront (W.contents writer.old) (W.contents writer.new) text)) }
 {
     let text = order(alloc, names, words)?;
     write_whole(writer, &text)?;
