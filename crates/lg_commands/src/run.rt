@@ -54,7 +54,8 @@ pub fn answer_run<R: Read, W: Write>(
 ///
 /// The lines are `min MS`, `max MS`, and `C MS` for each number C of confirmations from 0 to as many as count, in
 /// milliseconds. The whole text is made before its first byte is written, so with [`RunFault::Memory`] nothing is
-/// written. With [`RunFault::Write`] a beginning of the text is written: none of it, a part or all. Time and memory are bounded: the text has at most 8 lines.
+/// written. With [`RunFault::Write`] a beginning of the text is written: none of it, a part or all. Time and memory are
+/// bounded: the text has at most 8 lines.
 pub fn timeouts_run<W: Write>(
     alloc: Global,
     writer: &mut W,
