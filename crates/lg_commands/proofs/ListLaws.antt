@@ -3,10 +3,10 @@ use Rattle.std.proofs.Common.{◌≡◌, ℕ, ◌≤◌, ◌<◌, Bool, true, fa
 use Rattle.std.specs.Borrow.{Bor}
 use Rattle.std.specs.List.{list_all}
 use Rattle.std.specs.Bool.{then_some}
-use Rattle.std.specs.Option.{ok_or, option_map}
+use Rattle.std.specs.Option.{is_some, ok_or, option_map}
 use Rattle.std.specs.Result.{result_ok, IsErrAnd}
 use Rattle.std.specs.Str.Parse.{digits_value}
-use Rattle.std.proofs.lemmas.Bool.{and_left, and_right, cond-true, le-leb, lt-leb}
+use Rattle.std.proofs.lemmas.Bool.{and_left, and_right, le-leb, lt-leb}
 use Rattle.std.proofs.lemmas.Bool.Decides.{nat_tests}
 use Rattle.std.proofs.lemmas.List.{length-map, map-id}
 use Rattle.std.proofs.lemmas.List.Folds.{list_all_at}
@@ -14,8 +14,9 @@ use Rattle.lg_rules.specs.Meaning.Name.{bad_byte, is_name, is_name_byte, name_of
 use Rattle.lg_rules.proofs.NameLemmas.{is_named}
 use Rattle.lg_rules.proofs.Tests.{both}
 use Rattle.lg_probe.specs.Meaning.Order.{picks}
+use Rattle.lg_script.specs.Meaning.Values.{random_word_of}
 use Rattle.lg_commands.specs.Meaning.Choosing.{are_different, are_names, choices_of, comma_parts, is_word, name_lines}
-use Rattle.lg_commands.specs.Meaning.Choosing.{names_in, order_text, word_of, words_of_text}
+use Rattle.lg_commands.specs.Meaning.Choosing.{names_in, order_text, words_of_text}
 use Rattle.lg_commands.specs.declared.order.BadList.{BadList}
 use Rattle.lg_commands.specs.declared.order.BadList.TheVariants.{Names, Words}
 
@@ -94,24 +95,17 @@ all_names names v text parts different has ends few is =
 
 -- ---- the words of a text
 
-not_word : (part : List ℕ) → word_of part ≡ None → is_word part ≡ false
-not_word part none = go (is_word part) refl
-  where
-    go : (b : Bool) → is_word part ≡ b → is_word part ≡ false
-    go true it = let no : Some (digits_value 10 part) ≡ None = sym (cond-true (is_word part) (Some (digits_value 10 part)) None it) ∙ none in absurd cc
-    go false it = it
-
 pub no_words : (text items : List ℕ) → eqb (length text) 0 ≡ true → items ≡ [] → Some items ≡ words_of_text text
 unfolding words_of_text
 no_words text items empty none = rw (empty, none) refl
 
 -- a part is no word
-pub bad_word : (text part : List ℕ) (k : ℕ) (d : List ℕ) → eqb (length text) 0 ≡ false → k < length (comma_parts text) → part ≡ get_or (comma_parts text) k d → word_of part ≡ None
+pub bad_word : (text part : List ℕ) (k : ℕ) (d : List ℕ) → eqb (length text) 0 ≡ false → k < length (comma_parts text) → part ≡ get_or (comma_parts text) k d → random_word_of part ≡ None
     → None ≡ words_of_text text
 unfolding words_of_text
 bad_word text part k d some within is none =
     let parts = comma_parts text in
-    let bad : is_word (get_or parts k d) ≡ false = ap is_word (sym is) ∙ not_word part none in
+    let bad : is_word (get_or parts k d) ≡ false = ap is_word (sym is) ∙ ap is_some none in
     rw (some, list_all_at is_word parts k d within bad) refl
 
 -- each part is a word

@@ -3,7 +3,6 @@ pub mod Answering
 pub mod Choosing
 pub mod Examples
 pub mod Faults
-pub mod Ranges
 pub mod Running
 pub mod Spelled
 pub mod Timeouts

@@ -6,14 +6,15 @@ ghost use Rattle.std.specs.Prelude.{◌≡◌, ◌≢◌, Ok, Err, IfErr, IfOk};
 ghost use Rattle.std.specs.Option.{option_map};
 ghost use Rattle.lg_rules.specs.Meaning.Rows.{name_cmp, is_among};
 ghost use Rattle.lg_commands.specs.Meaning.Choosing.{are_different, name_lines, names_in};
-ghost use Rattle.lg_commands.specs.Meaning.Choosing.{order_text, word_of, words_of_text};
+ghost use Rattle.lg_commands.specs.Meaning.Choosing.{order_text, words_of_text};
 ghost use Rattle.lg_commands.specs.Meaning.Faults.{bad_list_text};
 ghost use Rattle.lg_commands.specs.Meaning.Running.{IsFaultOf};
 
 use arrayvec::ArrayVec;
 use lg_probe::choose_all;
 use lg_rules::{MAX_OTHERS, Name};
-use lg_text::{RunFault, number_in};
+use lg_script::random_word_in;
+use lg_text::RunFault;
 use std::alloc::{AllocError, Global};
 use thiserror::Error;
 
@@ -114,14 +115,6 @@ fn names_in(text: &str) -> Option<ArrayVec<Name, MAX_OTHERS>>
     are_different(names.as_slice()).then_some(names)
 }
 
-/// The word that a text spells: 1 to 16 decimal digits, a number of at most 4,294,967,295.
-fn word_of(text: &str) -> Option<u32>
-    ensures { result ≡ word_of text.now }
-{
-    let number = number_in(text.as_bytes())?;
-    u32::try_from(number).ok()
-}
-
 /// The words between the commas of a text, if each part is a word. An empty text has none.
 fn words_in(alloc: Global, text: &str) -> Result<Option<Vec<u32>>, AllocError>
     ensures { IfOk result (λ words. option_map (λ v. v.items) words ≡ words_of_text text.now) }
@@ -131,7 +124,7 @@ fn words_in(alloc: Global, text: &str) -> Result<Option<Vec<u32>>, AllocError>
         return Ok(Some(words));
     }
     for part in text.split(',') {
-        match word_of(part) {
+        match random_word_in(part.as_bytes()) {
             Some(word) => words.push(word)?,
             None => return Ok(None),
         }

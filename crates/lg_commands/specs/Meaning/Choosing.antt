@@ -3,14 +3,14 @@ use Rattle.std.specs.Prelude.{ℕ, ◌==◌, Bool, true, ◌&&◌, not, nat_le}
 use Rattle.std.specs.Prelude.{List, [], ◌∷◌, ◌++◌, length, map}
 use Rattle.std.specs.Prelude.{Option, Some, None, Result, Ok, Err, if◌then◌else◌}
 use Rattle.std.specs.List.{flat_map, list_all, slice_split}
+use Rattle.std.specs.Option.{is_some}
 use Rattle.std.specs.Str.Parse.{digits_value}
 use Rattle.lg_rules.specs.Meaning.Bounds.{most_others}
 use Rattle.lg_rules.specs.Meaning.Name.{is_name}
 use Rattle.lg_rules.specs.Meaning.Rows.{name_cmp, is_among}
 use Rattle.lg_probe.specs.Meaning.Order.{picks}
 use Rattle.lg_text.specs.Meaning.Lines.{newline}
-use Rattle.lg_text.specs.Meaning.Numbers.{is_number}
-use Rattle.lg_commands.specs.Meaning.Ranges.{greatest_word}
+use Rattle.lg_script.specs.Meaning.Values.{random_word_of}
 use Rattle.lg_commands.specs.declared.order.BadList.{BadList}
 use Rattle.lg_commands.specs.declared.order.BadList.TheVariants.{Names, Words}
 
@@ -31,17 +31,13 @@ are_names parts = nat_le (length parts) most_others && (list_all is_name parts &
 unfoldable pub names_in : List ℕ → Option (List (List ℕ))
 names_in text = if are_names (comma_parts text) then Some (comma_parts text) else None
 
--- whether this is a word: 1 to 16 decimal digits, a number of at most 4,294,967,295
+-- whether this is a word, as a script has them: 1 to 16 decimal digits, a number of at most 4,294,967,295
 abbrev pub is_word : List ℕ → Bool
-is_word part = is_number part && nat_le (digits_value 10 part) greatest_word
+is_word part = is_some (random_word_of part)
 
 -- the parts of a text that lists words; an empty text has none
 abbrev pub word_parts : List ℕ → List (List ℕ)
 word_parts text = if length text == 0 then [] else comma_parts text
-
--- the number of a text, if it is a word
-abbrev pub word_of : List ℕ → Option ℕ
-word_of part = if is_word part then Some (digits_value 10 part) else None
 
 -- the words that a text lists, or None if they are bad
 unfoldable pub words_of_text : List ℕ → Option (List ℕ)

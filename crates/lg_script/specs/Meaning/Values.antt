@@ -17,6 +17,7 @@ use Rattle.lg_script.specs.Meaning.Bounds.{greatest_moment, random_words, greate
 abbrev pub moment_of : List ℕ → Option ℕ
 moment_of word = number_within 0 greatest_moment word
 
+-- a random word: 1 to 16 decimal digits, a number of at most 4,294,967,295
 abbrev pub random_word_of : List ℕ → Option ℕ
 random_word_of word = number_within 0 greatest_random_word word
 
