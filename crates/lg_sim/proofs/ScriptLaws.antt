@@ -67,8 +67,8 @@ few_said (Err fault) before = omega arith
 
 -- ---- a run over lines
 
--- How far a run has come: the cluster is after the commands of the lines so far, and the text and the end of the script
--- are those so far and those of the lines that are left.
+-- How far a run has come. The cluster is after the commands of the lines so far. The text so far, with that of the
+-- lines that are left, is the text of the script, and the end of these lines is the script's.
 pub record HasRun (cluster : Cluster) (input rest text : List ℕ) (number : ℕ) : Type 0 where
   pub before : List Command
   pub after : IsClusterAfter cluster before
