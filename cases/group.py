@@ -11,11 +11,11 @@ class Group:
 
     `own` has the port of each name, and `outer` the one at which the others know it. `keys` are lines of the
     configuration of each, and `options` words of its command line. `outputs` has the open file to which each writes;
-    the input of each stays open then.
+    the input of each stays open then. `variables` has what is added to the environment of a name.
     """
 
-    def __init__(self, program, own, outer, keys, options=(), outputs=None):
-        self.program, self.own, self.keys = program, own, keys
+    def __init__(self, program, own, outer, keys, options=(), outputs=None, variables=None):
+        self.program, self.own, self.keys, self.variables = program, own, keys, variables or {}
         self.options = ["--for-ms", str(LIFE_MS), *options]
         self.outputs = outputs or {}
         self.seeds = [(name, outer[name]) for name in list(own)[:SEEDS]]
@@ -27,7 +27,7 @@ class Group:
         seeds = [seed for seed in self.seeds if seed[0] != name]
         how = {"output": self.outputs[name]} if self.outputs else {}
         return Node(self.program, file_of(name, self.own[name], seeds, keys), *self.options,
-                    has_input=bool(self.outputs), **how)
+                    has_input=bool(self.outputs), variables=self.variables.get(name), **how)
 
     def wait_for_all(self):
         """Waits until each node answers a stranger."""
@@ -57,7 +57,7 @@ class Group:
             node.kill()
 
 
-def own_group(program, names, keys, options=(), outputs=None):
+def own_group(program, names, keys, options=(), outputs=None, variables=None):
     """A group without a network between its nodes."""
     ports = dict(zip(names, free_ports(len(names))))
-    return Group(program, ports, ports, keys, options, outputs)
+    return Group(program, ports, ports, keys, options, outputs, variables)

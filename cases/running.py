@@ -4,6 +4,7 @@ All sockets are UDP ports of 127.0.0.1.
 """
 
 import ctypes
+import os
 import pathlib
 import random
 import signal
@@ -88,17 +89,18 @@ class Node:
     """A node of a configuration that runs, with these options of the command line.
 
     Its input is empty unless it is to stay open until `end` or `close_input`. What it writes goes to a pipe, or to a
-    file that is open.
+    file that is open. `variables` are added to those of its environment.
     """
 
-    def __init__(self, program, text, *options, has_input=False, output=subprocess.PIPE):
+    def __init__(self, program, text, *options, has_input=False, output=subprocess.PIPE, variables=None):
         with tempfile.NamedTemporaryFile("w", prefix="lg-node-", suffix=".toml", delete=False) as file:
             file.write(text)
         self.path = pathlib.Path(file.name)
         self.ended = None
         self.process = subprocess.Popen(
             [program, "node", "--config", file.name, *options], stdout=output, stderr=subprocess.PIPE,
-            stdin=subprocess.PIPE if has_input else subprocess.DEVNULL, text=True, preexec_fn=end_with_parent)
+            stdin=subprocess.PIPE if has_input else subprocess.DEVNULL, text=True, preexec_fn=end_with_parent,
+            env={**os.environ, **(variables or {})})
 
     def is_running(self):
         return self.process.poll() is None
