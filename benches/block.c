@@ -1,6 +1,6 @@
-/* Is loaded before a program (LD_PRELOAD), and holds up what it sends, as a full network card or a slow disk below it
-   would: as long as the file exists that BLOCK_WHILE names, no datagram goes out for BLOCK_MS milliseconds, then each
-   does for FREE_MS, and so on. All programs so loaded are held up at the same times. */
+/* Is loaded before a program (LD_PRELOAD), and holds up what it sends: as long as the file exists that BLOCK_WHILE
+   names, no datagram goes out for BLOCK_MS milliseconds, then each does for FREE_MS, and so on. All programs so loaded
+   are held up at the same times. */
 #include <stdlib.h>
 #include <sys/socket.h>
 #include <sys/syscall.h>
