@@ -5,3 +5,4 @@ pub mod Turns
 pub mod Pulling
 pub mod Nodes
 pub mod Examples
+pub mod PullingExamples

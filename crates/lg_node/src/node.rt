@@ -16,10 +16,12 @@ use lg_rules::Record;
 use lg_timing::{Config, Moment};
 use lg_view::UnnamedBook;
 use std::alloc::Global;
+use std::io::{ErrorKind, Write};
 use std::marker::Brand;
 use std::net::Net;
 use std::rt;
 use std::sync::Wait;
+use std::sync::atomic::AtomicBool;
 use std::thread::Threads;
 use thiserror::Error;
 
@@ -31,6 +33,9 @@ pub struct Settings {
     /// How long it is from one Pull for a member that random words choose to the next, in milliseconds. With 0 there is
     /// none.
     pub pull_ms: u64,
+    /// By how much the clock of the node passes a loop's last turn at most, in milliseconds, and by at least 25. With 0 it
+    /// is the machine's clock.
+    pub stall_ms: u64,
 }
 
 /// How a node ended whose loops had begun.
@@ -45,14 +50,16 @@ pub struct NodeEnd {
     pub members: Result<Vec<Record>, Refusal>,
     /// The history, from the last rotation on if there was one, or why the agent wasn't closed.
     pub closed: Result<Closed, CloseFault>,
+    /// How many milliseconds the clock of the node has left out, since one of the loops began no turn.
+    pub stood_still: u64,
 }
 
 /// Why a node ended before its loops.
 #[derive(Clone, Copy, Debug, PartialEq, Eq, Error)]
 pub enum NodeFault {
-    /// The socket couldn't be bound to the configured address.
+    /// The socket couldn't be bound to the configured address. This is the kind of the error.
     #[error("the socket can't be bound to the configured address")]
-    Socket,
+    Socket(ErrorKind),
     /// The machine's clock couldn't be read.
     #[error("the machine's clock can't be read")]
     Clock,
@@ -61,35 +68,56 @@ pub enum NodeFault {
     Refused(Refusal),
 }
 
-/// Runs a node over UDP until a moment, in milliseconds from its start, or until one of its loops ends before that.
+/// Runs a node over UDP until a moment, in milliseconds from its start, until somebody sets the stop flag, or until one
+/// of its loops ends before that.
 ///
 /// It binds a socket to the configured address, opens an agent with three passes, and asks each seed for its table,
-/// in order. Then it runs [`run_loops`](crate::run_loops) with the machine's clock, the words of
-/// [`PcgDice`](crate::PcgDice) for the number `dice`, and at most [`MAX_TURNS`] turns a loop. At the end the members
-/// are read, and the agent is closed. A node that hears of no member goes on alone.
+/// in order. Then it runs [`run_loops`](crate::run_loops) with the steady clock
+/// ([`SteadyClock`](lg_clock::SteadyClock)), the words of [`PcgDice`](crate::PcgDice), and loops that are endless. So
+/// the ticking loop asks the seeds until a Page is heard, and again while it is alone. It asks a member every `pull_ms`.
+/// At the end the members are read, and the agent is closed. A node that hears of no member goes on alone.
+///
+/// With a writer (`follow`) the pass that has asked the seeds watches beside the loops ([`lg_watch::watch`]), in a thread
+/// of its own. A writer that fails ends the watcher alone.
+///
+/// A turn of a loop waits a tenth of the configuration's `timeout_ms` at most, but at least 5 and at most 50
+/// milliseconds, and at most half of what the clock passes a loop's last turn by.
 ///
 /// A full history ends nothing, whether a seed is asked or a loop runs: it is rotated, and the node goes on with a
 /// summary in place of its entries. So it never has more than the configuration's `history_limit`. What ends a loop
-/// is described at [`receive_loop`](crate::receive_loop) and [`tick_loop`](crate::tick_loop).
+/// is described at [`receive_loop`](crate::receive_loop) and [`tick_loop`](crate::tick_loop). A loop that ends sets the
+/// stop flag.
 ///
 /// The configuration has to be checked. The error says why there were no loops: [`NodeFault::Socket`],
 /// [`NodeFault::Clock`], or [`NodeFault::Refused`] if memory was refused or there was no reader for a pass.
-pub fn run_node<R>(
+pub fn run_node<R, W>(
     rt: &R,
     alloc: Global,
     config: &Config,
-    dice: u64,
+    settings: &Settings,
     until: Moment,
+    stop: &AtomicBool,
+    follow: Option<W>,
 ) -> Result<NodeEnd, NodeFault>
 where
     R: Wait + Threads + Net + rt::Clock + Sync,
+    W: Write + Send + Drop,
     requires { IsChecked config.now }
     // Of a link over UDP contracts see only the failures.
     ensures ran { IfOk result (λ e. (hears : LinkValue) × (hears' : LinkValue) × (sends : LinkValue)
         × (sends' : LinkValue)
-        × IsRun DrawsEight (seeded dice) false MAX_TURNS config.now 0 until hears hears' sends sends' e) }
+        × IsRun DrawsEight (seeded settings.now.dice) false MAX_TURNS config.now settings.now.pull_ms until
+        hears hears' sends sends' e) }
     ensures refused { IfErr result IsEarly }
 {
-    let settings = Settings { dice, pull_ms: 0 };
-    open_and_serve::<Brand, R>(rt, alloc, UnnamedBook::new(), config, &settings, until)
+    open_and_serve::<Brand, R, W>(
+        rt,
+        alloc,
+        UnnamedBook::new(),
+        config,
+        settings,
+        until,
+        stop,
+        follow,
+    )
 }

@@ -1,7 +1,7 @@
 //! The start of a node, from its socket to its loops, and its end.
 //!
 //! [`open_and_serve`] binds the socket, reads the clock, opens the agent and closes it. Between these [`serve`] hands
-//! out the passes, asks the seeds, runs both loops and reads the members.
+//! out the passes, asks the seeds, runs both loops, watches beside them, and reads the members.
 //!
 //! Defined in: `specs/Meaning/Nodes.antt`, `specs/Meaning/Turns.antt`, `specs/Meaning/Words.antt`.
 //! Tested in: `lg_command_tests/src/node/asking.rt`, `cases/nodes`.
@@ -16,6 +16,7 @@ ghost use Rattle.lg_agent.specs.declared.refusal.Refusal.TheVariants.{NoMemory, 
 ghost use Rattle.lg_agent.specs.Meaning.Values.{PassValue};
 ghost use Rattle.lg_agent.specs.Meaning.Calls.{IsLook, IsRefusal};
 ghost use Rattle.lg_agent.specs.Meaning.Closing.{IsClosed, IsRefusedClosing};
+ghost use Rattle.lg_watch.specs.Meaning.Sights.{OnlyLooked};
 ghost use Rattle.lg_node.specs.Meaning.Nodes.{HasServed, IsRun, IsEarly, fresh_own};
 ghost use Rattle.lg_node.specs.Meaning.Turns.{LinkValue};
 ghost use Rattle.lg_node.specs.Meaning.Words.{seeded, DrawsEight};
@@ -23,38 +24,46 @@ ghost use Rattle.lg_node.specs.Meaning.Words.{seeded, DrawsEight};
 use crate::asking::ask_each;
 use crate::dice::PcgDice;
 use crate::ending::End;
+use crate::following::run_followed;
 use crate::node::{NodeEnd, NodeFault, Settings};
 use crate::plan::Plan;
-use crate::running::run_loops;
 use crate::shared::{MAX_TURNS, Shared, Side};
 use crate::udp::UdpLink;
 use lg_agent::{Agent, AgentName, Pass, Refusal, Spent, Unclosed};
-use lg_clock::{Clock, MachineClock};
+use lg_clock::{Clock, SteadyClock};
 use lg_rules::Record;
 use lg_timing::{Config, Moment};
 use lg_view::UnnamedBook;
 use std::alloc::Global;
+use std::io::Write;
 use std::net::{Ipv4Addr, Net, UdpSocket};
 use std::rt;
 use std::sync::Wait;
 use std::sync::atomic::AtomicBool;
 use std::thread::Threads;
 
-/// How many passes a node has: one for the receiving loop, one for the ticking loop, and one that asks the seeds.
+/// The least step of a clock that isn't the machine's, in milliseconds.
+const MIN_STEP_MS: u64 = 25;
+
+/// How many passes a node has: one for the receiving loop, one for the ticking loop, and one that asks the seeds and then
+/// watches.
 const PLACES: usize = 3;
 
 /// Opens a node at its configured address, serves until one of its loops ends, and closes it.
-pub(crate) fn open_and_serve<A, R>(
+pub(crate) fn open_and_serve<A, R, W>(
     rt: &R,
     alloc: Global,
     book: UnnamedBook,
     config: &Config,
     settings: &Settings,
     until: Moment,
+    stop: &AtomicBool,
+    follow: Option<W>,
 ) -> Result<NodeEnd, NodeFault>
 where
     A: AgentName + Send + Sync,
     R: Wait + Threads + Net + rt::Clock + Sync,
+    W: Write + Send + Drop,
     requires book { book.seen.book ≡ A.book }
     requires places { A.places ≡ PLACES }
     requires config { IsChecked config.now }
@@ -65,10 +74,12 @@ where
     ensures refused { IfErr result IsEarly }
 {
     let address = (Ipv4Addr::from_octets(config.addr.octets), config.addr.port);
-    let Ok(socket) = UdpSocket::bind(rt, address) else {
-        return Err(NodeFault::Socket);
+    let socket = match UdpSocket::bind(rt, address) {
+        Ok(socket) => socket,
+        Err(fault) => return Err(NodeFault::Socket(fault.kind())),
     };
-    let Ok(clock) = MachineClock::new(rt) else {
+    let step = step_of(settings);
+    let Ok(clock) = SteadyClock::new(rt, step) else {
         return Err(NodeFault::Clock);
     };
     let Ok(room) = Vec::with_capacity(alloc, PLACES) else {
@@ -78,20 +89,21 @@ where
         Ok(agent) => agent,
         Err(refusal) => return Err(NodeFault::Refused(refusal)),
     };
-    let stop = AtomicBool::new(false);
     let page_heard = AtomicBool::new(false);
     let shared = Shared {
         rt,
         alloc,
         clock: &clock,
-        stop: &stop,
+        stop,
         page_heard: &page_heard,
         bound: MAX_TURNS,
         endless: true,
-        wait_ms: wait_of(config),
+        wait_ms: wait_of(config, step),
     };
-    match serve(&shared, &mut agent, &socket, config, settings, until) {
-        Ok(left) => Ok(close(rt, agent, left, room)),
+    match serve(
+        &shared, &mut agent, &socket, config, settings, until, follow,
+    ) {
+        Ok(left) => Ok(close(rt, agent, left, clock.stood_still(), room)),
         Err(refusal) => {
             agent.abandon(rt);
             Err(NodeFault::Refused(refusal))
@@ -99,10 +111,23 @@ where
     }
 }
 
+/// By how much the clock of a node passes a loop's last turn at most, in milliseconds: by the `stall_ms` of its settings,
+/// but at least by 25. With a `stall_ms` of 0 it is the machine's clock, and this is 0.
+fn step_of(settings: &Settings) -> u64 {
+    match settings.stall_ms {
+        0 => 0,
+        stall_ms => stall_ms.max(MIN_STEP_MS),
+    }
+}
+
 /// How long a turn of a node waits at most, in milliseconds: a tenth of the configuration's `timeout_ms`, but at least 5
-/// and at most 50.
-fn wait_of(config: &Config) -> u64 {
-    (config.timeout_ms / 10).clamp(5, 50)
+/// and at most 50, and at most half the step of its clock, if there is one.
+fn wait_of(config: &Config, step: u64) -> u64 {
+    let wait = (config.timeout_ms / 10).clamp(5, 50);
+    match step {
+        0 => wait,
+        _ => wait.min(step / 2),
+    }
 }
 
 /// What the passes of a node leave, its ends, and the members.
@@ -118,29 +143,32 @@ struct Left<A: AgentName> {
 
 /// Hands out the passes of a fresh agent, asks the seeds, runs both loops over the socket until one of them ends, and
 /// reads the members.
-fn serve<A, R, C>(
+fn serve<A, R, C, W>(
     shared: &Shared<'_, R, C>,
     agent: &mut Agent<A>,
     socket: &UdpSocket,
     config: &Config,
     settings: &Settings,
     until: Moment,
+    follow: Option<W>,
 ) -> Result<Left<A>, Refusal>
 where
     A: AgentName + Send + Sync,
     R: Wait + Threads + Sync,
     C: Clock + Sync,
+    W: Write + Send + Drop,
     requires places { length agent.old.told ≡ PLACES }
     requires bound { (shared.now.bound ≤ MAX_TURNS) × (shared.now.endless ≡ true) }
     ensures left { (start : ℕ) → agent.old.name ≡ config.now.name
         → All (λ seen. seen ≡ Open start config.now ∷ []) agent.old.told
         → IfOk result (λ l. (hears : LinkValue) × (hears' : LinkValue) × (sends : LinkValue) × (sends' : LinkValue)
-        × (asker : PassValue)
+        × (asker : PassValue) × (watcher : PassValue)
         × HasServed DrawsEight (seeded settings.now.dice) false shared.now.bound config.now settings.now.pull_ms until
         start hears hears' sends sends'
         l.received l.ticked l.receiver l.ticker asker
-        × MatchResult l.members (λ records. (records.items ≡ view_after l.reader.seen) × IsLook asker l.reader)
-        (λ r. ((r ≡ NoView) ⊎ (r ≡ NoMemory)) × (l.reader ≡ asker))) }
+        × OnlyLooked asker watcher
+        × MatchResult l.members (λ records. (records.items ≡ view_after l.reader.seen) × IsLook watcher l.reader)
+        (λ r. ((r ≡ NoView) ⊎ (r ≡ NoMemory)) × (l.reader ≡ watcher))) }
     ensures refused { IfErr result (λ e. (p : PassValue) × IsRefusal p.seen e) }
 {
     let Some(passes) = passes_of(shared.alloc, agent) else {
@@ -165,17 +193,24 @@ where
     };
     let dice = PcgDice::new(settings.dice);
     let plan = Plan::new(config, settings.pull_ms, until);
-    let (received, ticked) = run_loops(shared, receiver, ticker, dice, &plan);
-    let mut ticked = ticked;
+    let (watcher, (received, ticked)) = run_followed(
+        shared,
+        receiver,
+        ticker,
+        dice,
+        &plan,
+        (asker, follow),
+    );
+    let (mut ticked, mut watcher) = (ticked, watcher);
     ticked.end.unsent = ticked.end.unsent.saturating_add(unsent);
-    let members = asker.members(shared.alloc);
+    let members = watcher.members(shared.alloc);
     Ok(Left {
         received: received.end,
         ticked: ticked.end,
         members,
         receiver: received.spent,
         ticker: ticked.spent,
-        reader: asker.finish(),
+        reader: watcher.finish(),
     })
 }
 
@@ -184,7 +219,7 @@ where
 struct Passes<'a, A: AgentName> {
     receiver: Pass<'a, A>,
     ticker: Pass<'a, A>,
-    /// It asks the seeds, and reads the members.
+    /// It asks the seeds, watches, and reads the members.
     asker: Pass<'a, A>,
 }
 
@@ -218,6 +253,7 @@ fn close<A: AgentName, R: Wait>(
     rt: &R,
     agent: Agent<A>,
     left: Left<A>,
+    stood_still: u64,
     room: Vec<Spent<A>>,
 ) -> NodeEnd
     requires { (room.items ≡ []) × (PLACES ≤ vec_capacity room) }
@@ -257,5 +293,6 @@ fn close<A: AgentName, R: Wait>(
         ticked,
         members,
         closed,
+        stood_still,
     }
 }

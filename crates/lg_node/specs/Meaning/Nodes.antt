@@ -11,6 +11,7 @@ use Rattle.lg_agent.specs.declared.refusal.Refusal.TheVariants.{BadPacket, NoMem
 use Rattle.lg_agent.specs.Meaning.Values.{PassValue}
 use Rattle.lg_agent.specs.Meaning.Calls.{IsLook}
 use Rattle.lg_agent.specs.Meaning.Closing.{IsClosed, IsRefusedClosing}
+use Rattle.lg_watch.specs.Meaning.Sights.{OnlyLooked}
 use Rattle.lg_node.specs.declared.ending.End.{End}
 use Rattle.lg_node.specs.declared.ending.Why.TheVariants.{Stopped}
 use Rattle.lg_node.specs.declared.node.NodeEnd.{NodeEnd}
@@ -51,13 +52,13 @@ pub record HasServed
   pub received_so : Lasted receives tells bound true hears hears' (fresh_own config start 1) receiver received
       ⊎ (HadNoThread receives tells bound true hears hears' (fresh_own config start 1) receiver received
       × (record ticked { unsent = later } ≡ unstarted))
-  pub ticked_so : Ticking throws dice (plan_of config pull_ms until) tells bound true between sends' (fresh_own config start 2) ticker
-      (record ticked { unsent = later })
+  pub ticked_so : Ticking throws dice (plan_of config pull_ms until) tells bound true between sends'
+      (fresh_own config start 2) ticker (record ticked { unsent = later })
   pub counted : later + unsent < 2 ^ 64 → ticked.unsent ≡ later + unsent
 
--- A node ran. It opened an agent with three places, asked its seeds and ran its loops. Then the pass that had asked
--- the seeds read the members, and the agent was closed with what the three passes left. Reading or closing may have
--- been refused.
+-- A node ran. It opened an agent with three places, asked its seeds and ran its loops. The pass that had asked the seeds
+-- made looks beside the loops, if it watched. Then it read the members, and the agent was closed with what the three
+-- passes left. Reading or closing may have been refused.
 pub record IsRun
     {D : Type 0} (throws : D → List ℕ → D → Type 0) (dice : D) (tells : Bool) (bound : ℕ) (config : Config)
     (pull_ms until : ℕ) (hears hears' sends sends' : LinkValue) (e : NodeEnd) : Type 0 where
@@ -65,11 +66,13 @@ pub record IsRun
   pub receiver : PassValue
   pub ticker : PassValue
   pub asker : PassValue
+  pub watcher : PassValue
   pub reader : PassValue
   pub served : HasServed throws dice tells bound config pull_ms until start hears hears' sends sends' e.received e.ticked
       receiver ticker asker
-  pub members : MatchResult e.members (λ records. (records.items ≡ view_after reader.seen) × IsLook asker reader)
-      (λ r. ((r ≡ NoView) ⊎ (r ≡ NoMemory)) × (reader ≡ asker))
+  pub watched : OnlyLooked asker watcher
+  pub members : MatchResult e.members (λ records. (records.items ≡ view_after reader.seen) × IsLook watcher reader)
+      (λ r. ((r ≡ NoView) ⊎ (r ≡ NoMemory)) × (reader ≡ watcher))
   pub closed : MatchResult e.closed (λ c. IsClosed 3 c (receiver ∷ ticker ∷ reader ∷ []))
       (λ f. IsRefusedClosing 3 (receiver ∷ ticker ∷ reader ∷ []) f)
 

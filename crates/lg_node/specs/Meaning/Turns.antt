@@ -171,8 +171,8 @@ abbrev pub MadeNoCall : PassValue → PassValue → Type 0
 MadeNoCall p q = (q ≡ p) ⊎ IsRotatedPass p q
 
 -- What a turn does with the pass. If a datagram is a packet, it is heard. If the next deadline has come, there is a
--- tick, and only otherwise the loop looks at the members or asks one of them. Each packet of the reply was sent or not. A call counts once, even if it was refused because the history was
--- full and was made again after a rotation.
+-- tick, and only otherwise the loop looks at the members or asks one of them. Each packet of the reply was sent or not.
+-- A call counts once, even if it was refused because the history was full and was made again after a rotation.
 abbrev pub IsTurn : PassValue → Turn → PassValue → Type 0
 IsTurn p Quiet q = q ≡ p
 IsTurn p Broken q = q ≡ p

@@ -13,9 +13,11 @@ returns-in-Ok-serve-clause-ran g c =
         receiver = c.in-Ok-serve.left.receiver;
         ticker = c.in-Ok-serve.left.ticker;
         asker = l.4;
+        watcher = l.5;
         reader = c.in-Ok-serve.left.reader;
-        served = rw (c.close.ensures.received, c.close.ensures.ticked) l.5;
-        members = rw c.close.ensures.members l.6;
+        served = rw (c.close.ensures.received, c.close.ensures.ticked) l.6;
+        watched = l.7;
+        members = rw c.close.ensures.members l.8;
         closed = rw (← c.requires.places) c.close.ensures.closed;
       },
     )

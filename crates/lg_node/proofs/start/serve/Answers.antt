@@ -10,18 +10,20 @@ returns-clause-left g c = λ start name told.
     let ready = c.in-Some.ensures _ start name told in
     let seeds : c.deref.result.now ≡ c.args.config.now.seeds.items = cc in (
       line [] c.new-hears.result.failures,
-      line [] c.run_loops-received.result.0.link.failures,
+      line [] c.run_followed-watcher.result.1.0.link.failures,
       line [] c.new-sends.result.failures,
-      line [] c.run_loops-received.result.1.link.failures,
+      line [] c.run_followed-watcher.result.1.1.link.failures,
       c.ask_each.new.pass,
+      c.run_followed-watcher.result.0,
       record {
         between = line [] c.ask_each.new.link.failures;
         unsent = c.in_ok-unsent.unsent;
-        later = c.run_loops-received.result.1.end.unsent;
+        later = c.run_followed-watcher.result.1.1.end.unsent;
         asked = rw (ready.2, seeds) at c.in_ok-unsent.ensures.asked;
-        received_so = rw (ready.0, c.requires.bound.1) at c.run_loops-received.ensures.received;
-        ticked_so = rw (ready.1, c.new-dice.ensures, c.new-plan.ensures, c.requires.bound.1) at c.run_loops-received.ensures.ticked;
+        received_so = rw (ready.0, c.requires.bound.1) at c.run_followed-watcher.ensures.received;
+        ticked_so = rw (ready.1, c.new-dice.ensures, c.new-plan.ensures, c.requires.bound.1) at c.run_followed-watcher.ensures.ticked;
         counted = λ low. omega (arith, low);
       },
+      c.run_followed-watcher.ensures.looked,
       rw c.finish.ensures c.members-members.ensures,
     )
