@@ -18,7 +18,8 @@ use crate::command::{Asked, MAX_RUN_MS, read_words};
 use clap::Error;
 use clap::error::ErrorKind;
 use lg_commands::{FAILED, USAGE, answer_named, order_lists, simulate, timeouts_of};
-use lg_launch::run_file;
+use lg_launch::{Wishes, run_file};
+use std::sync::atomic::AtomicBool;
 use lg_text::{RunFault, report};
 use lg_timing::Moment;
 use std::alloc::Global;
@@ -58,7 +59,7 @@ where
     M: Wait + Threads + Net + rt::Clock + Files + Sync,
     S: AsStr,
     R: Read,
-    W: Write,
+    W: Write + Send,
     F: Write,
     // A command line that is taken runs its command. Any other is refused or asks for help.
     ensures { RunsLine
@@ -84,7 +85,7 @@ fn run_asked<M, R, W, F>(
 where
     M: Wait + Threads + Net + rt::Clock + Files + Sync,
     R: Read,
-    W: Write,
+    W: Write + Send,
     F: Write,
     requires good { IfTimeouts (request_of request) (λ numbers. are_good numbers ≡ true) }
     requires ending { IfNode (request_of request) (λ _ for_ms. (1 ≤ for_ms) × (for_ms ≤ MAX_RUN_MS)) }
@@ -100,7 +101,9 @@ where
         Asked::Timeouts { numbers } => timeouts_of(alloc, &numbers, writer, faults),
         Asked::Node { file, for_ms } => {
             let until = Moment::new(for_ms).unwrap();
-            run_file(rt, alloc, file, until, writer, faults)
+            let wishes = Wishes { file, until: Some(until), follow: false };
+            let stop = AtomicBool::new(false);
+            run_file(rt, alloc, &wishes, &stop, writer, faults)
         }
     }
 }

@@ -1,6 +1,6 @@
 //! What configuration files mean, value by value. The cases of the program show which files are faulty, and how.
 use lg_config::{
-    DEFAULT_ADDRESS, DEFAULT_DICE, DEFAULT_PORT, FileFault, MAX_FILE, NodeConfig, ReadFault,
+    DEFAULT_ADDRESS, DEFAULT_DICE, DEFAULT_PORT, FileFault, MAX_FILE, NodeConfig, ReadFault, reason,
 };
 use lg_testing::name;
 use std::alloc::Global;
@@ -151,5 +151,28 @@ fn refused_memory(rt: HostRuntime) {
             found = NodeConfig::read(rt.alloc(), bytes).err();
         }
         assert_eq!(rt; found, Some(ReadFault::File(fault)));
+    }
+}
+
+/// A file that is no TOML is told with the line of its first fault, and what is wrong there. No contract says which.
+#[test]
+fn reasons(rt: HostRuntime) {
+    let rows = [
+        ("name = \"b", "line 1 is no TOML: invalid string\n"),
+        (
+            "name = \"b\"\nname = \"c\"\n",
+            "line 2 is no TOML: duplicate key\n",
+        ),
+        (
+            "name = \"b\"\n\n# c\nport = 9223372036854775808",
+            "line 4 is no TOML: number out of range\n",
+        ),
+        ("name = \"b\"", "the file is TOML\n"),
+    ];
+    for row in rows {
+        let (text, wanted) = row;
+        let line = reason(rt.alloc(), text.as_bytes(), FileFault::Syntax);
+        let is_wanted = line.as_ref().is_ok_and(|line| line.as_str() == wanted);
+        assert!(rt; is_wanted, "{row:?}");
     }
 }

@@ -11,6 +11,7 @@ use lg_timing::ConfigFault;
 use lg_view::{MembersFault, NoView, PairFault};
 use std::alloc::Global;
 use std::error::Error;
+use std::io::ErrorKind;
 
 const NAMES: &[(NameFault, &str)] = &[
     (NameFault::Empty, "a name is empty; it has 1 to 32 bytes"),
@@ -202,7 +203,7 @@ const ENDS: &[(Why, &str)] = &[
 
 const NODES: &[(NodeFault, &str)] = &[
     (
-        NodeFault::Socket,
+        NodeFault::Socket(ErrorKind::AddrInUse),
         "the socket can't be bound to the configured address",
     ),
     (NodeFault::Clock, "the machine's clock can't be read"),

@@ -1,4 +1,8 @@
 -- What is right: whoever wants to believe the contracts reads these.
+pub mod Checking
 pub mod Examples
-pub mod Telling
+pub mod Reporting
 pub mod Running
+pub mod Telling
+pub mod Wishes
+pub mod Words

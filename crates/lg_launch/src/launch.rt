@@ -3,28 +3,36 @@
 //!
 //! Defined in: `specs/Meaning/Running.antt`, `specs/Meaning/Telling.antt`, `lg_text/specs/Meaning/Running.antt`.
 //! Tested in: `cases/node.case`, `lg_command_tests/src/launch/ends.rt`.
-ghost use Rattle.std.specs.Prelude.{◌≡◌, ◌⊎◌, IfErr};
-ghost use Rattle.lg_text.specs.Meaning.Running.{AppendsFront};
+ghost use Rattle.std.specs.Prelude.{◌≡◌, false, MatchResult, OnErr, OnOk, string_bytes};
+ghost use Rattle.std.specs.Option.{option_map};
 ghost use Rattle.lg_timing.specs.Meaning.Config.{IsChecked};
-ghost use Rattle.lg_launch.specs.Meaning.Telling.{line_of, status_told};
-ghost use Rattle.lg_launch.specs.Meaning.Running.{table_at_end, Writes, RunsNode, RunsBytes, RunsFile};
+ghost use Rattle.lg_launch.specs.Meaning.Running.{table_wished, Announces, HasRun, IsSecond, RunsBytes};
+ghost use Rattle.lg_launch.specs.Meaning.Running.{RunsFile, RunsNode, RunsOrRefused, Writes};
+ghost use Rattle.lg_launch.specs.Meaning.Wishes.{end_wished};
+ghost use Rattle.lg_node.specs.Meaning.Nodes.{IsEarly};
+ghost use Rattle.lg_launch.specs.Meaning.Words.{start_line};
 
+use crate::file::file_bytes;
+use crate::reporting::{tell, tell_both, tell_fault};
 use crate::telling::table_of;
 use crate::told::Told;
-use lg_config::{MAX_FILE, NodeConfig, ReadFault};
-use lg_node::{NodeEnd, NodeFault, run_node};
+use crate::wishes::{Wishes, end_wished, is_announced};
+use crate::words::{link_reason, start_line};
+use lg_config::{NodeConfig, ReadFault};
+use lg_node::{NodeEnd, NodeFault, Settings, run_node};
 use lg_report::put_table;
+use lg_rules::{Addr, Record};
 use lg_text::{RunFault, report, write_whole};
-use lg_timing::Moment;
-use std::alloc::Global;
-use std::io::{ErrorKind, Read, Write};
+use std::alloc::{AllocError, Global};
+use std::io::Write;
 use std::net::Net;
+use std::rt;
 use std::rt::Files;
 use std::sync::Wait;
+use std::sync::atomic::AtomicBool;
 use std::thread::Threads;
-use std::{fs, io, rt};
 
-/// Runs the node of a configuration file, as [`run_bytes`] does from its bytes.
+/// Runs the node of the configuration file that the wishes name, as [`run_bytes`] does from its bytes.
 ///
 /// At most 65,537 bytes of the file are read. A file that can't be read is told by [`Told::Read`]. Memory that is
 /// refused for its bytes is told by [`Told::Memory`]. In both cases nothing is written. No contract can say what a
@@ -32,123 +40,199 @@ use std::{fs, io, rt};
 pub fn run_file<R, W, F>(
     rt: &R,
     alloc: Global,
-    path: &str,
-    until: Moment,
+    wishes: &Wishes<'_>,
+    stop: &AtomicBool,
     writer: &mut W,
     faults: &mut F,
 ) -> u8
 where
     R: Wait + Threads + Net + rt::Clock + Files + Sync,
-    W: Write,
+    W: Write + Send,
     F: Write,
     ensures { RunsFile writer.old writer.new (W.contents writer.old) (W.contents writer.new)
-        (F.contents faults.old) (F.contents faults.new) until result }
+        (F.contents faults.old) (F.contents faults.new) wishes.now.file.now wishes.now.until wishes.now.follow
+        result }
 {
-    match file_bytes(rt, alloc, path) {
-        Ok(bytes) => run_bytes(rt, alloc, &bytes, until, writer, faults),
+    match file_bytes(rt, alloc, wishes.file) {
+        Ok(bytes) => run_bytes(rt, alloc, &bytes, wishes, stop, writer, faults),
         Err(fault) => tell(Told::from(fault), faults),
     }
 }
 
-/// The bytes of a file, at most one more than a configuration may have. The fault is that the file can't be read, or
-/// that memory was refused.
-fn file_bytes<R: Files>(rt: &R, alloc: Global, path: &str) -> Result<Vec<u8>, RunFault>
-    ensures { IfErr result (λ fault. (fault ≡ RunFault.Memory) ⊎ (fault ≡ RunFault.Read)) }
-{
-    let mut bytes = Vec::new(alloc);
-    match put_file(rt, path, &mut bytes) {
-        Ok(()) => Ok(bytes),
-        Err(error) if error.kind() == ErrorKind::OutOfMemory => Err(RunFault::Memory),
-        Err(_) => Err(RunFault::Read),
-    }
-}
-
-/// Appends the bytes of a file to others: all of them, or one more than a configuration may have.
-fn put_file<R: Files>(rt: &R, path: &str, bytes: &mut Vec<u8>) -> io::Result<()> {
-    let limit = MAX_FILE as u64 + 1;
-    fs::open(rt, path)?.take(limit).read_to_end(bytes)?;
-    Ok(())
-}
-
 /// Runs the node that the bytes of a configuration file mean, as [`run_config`] does.
 ///
-/// Bytes that mean no configuration are told by [`Told::Config`], as [`NodeConfig::read`] answers. Memory that is
-/// refused for them is told by [`Told::Memory`]. In both cases nothing is written.
+/// Bytes that mean no configuration are told by [`Told::Config`], as [`NodeConfig::read`] answers, and a second line
+/// says in words what is wrong with them. Memory that is refused for them is told by [`Told::Memory`]. In both cases
+/// nothing is written.
 pub fn run_bytes<R, W, F>(
     rt: &R,
     alloc: Global,
     bytes: &[u8],
-    until: Moment,
+    wishes: &Wishes<'_>,
+    stop: &AtomicBool,
     writer: &mut W,
     faults: &mut F,
 ) -> u8
 where
     R: Wait + Threads + Net + rt::Clock + Sync,
-    W: Write,
+    W: Write + Send,
     F: Write,
     ensures { RunsBytes writer.old writer.new (W.contents writer.old) (W.contents writer.new)
-        (F.contents faults.old) (F.contents faults.new) bytes.now until result }
+        (F.contents faults.old) (F.contents faults.new) bytes.now wishes.now.file.now wishes.now.until
+        wishes.now.follow result }
 {
     match NodeConfig::read(alloc, bytes) {
-        Ok(node) => run_config(rt, alloc, &node, until, writer, faults),
+        Ok(node) => run_config(rt, alloc, &node, wishes, stop, writer, faults),
         Err(ReadFault::NoMemory) => tell(Told::Memory, faults),
-        Err(ReadFault::File(fault)) => tell(Told::Config(fault), faults),
+        Err(ReadFault::File(fault)) => tell_fault(alloc, bytes, fault, faults),
     }
 }
 
-/// Runs the node of a configuration until a moment, in milliseconds from its start. Writes the members that it knows
+/// Runs the node of a configuration until its end is wished, or the stop flag is set. Writes the members that it knows
 /// to `writer`, and gives the exit status. A status other than 0 has a line on `faults`.
+///
+/// A node that follows, or that no time ends, is announced by a line on `faults` before it starts: who runs where,
+/// with which file, in which version it writes its packets, and how many seeds it has. Memory that is refused for this
+/// line is told by [`Told::Memory`], and nothing is run.
 ///
 /// The node is run by [`run_node`](lg_node::run_node), and [`Told::of`] says what is told of it. If both loops
 /// stopped or the node was ousted, the members are written as [`put_table`](lg_report::put_table) does, a line each.
-/// In all other cases nothing is written. A line that `faults` doesn't take is dropped. The configuration has to be
-/// checked. Apart from what the node allocates, memory is allocated only for the text.
+/// In all other cases nothing is written. A socket that can't be bound has a second line, which says to which address
+/// and why. A line that `faults` doesn't take is dropped. The configuration has to be checked. Apart from what the
+/// node allocates, memory is allocated only for these texts.
 ///
 /// What is said of bytes holds for writers that tell their bytes, as those over memory do.
 pub fn run_config<R, W, F>(
     rt: &R,
     alloc: Global,
     node: &NodeConfig,
-    until: Moment,
+    wishes: &Wishes<'_>,
+    stop: &AtomicBool,
     writer: &mut W,
     faults: &mut F,
 ) -> u8
 where
     R: Wait + Threads + Net + rt::Clock + Sync,
-    W: Write,
+    W: Write + Send,
+    F: Write,
+    requires { IsChecked node.now.config }
+    ensures { RunsOrRefused writer.old writer.new (W.contents writer.old) (W.contents writer.new)
+        (F.contents faults.old) (F.contents faults.new) wishes.now.file.now node.now wishes.now.until
+        wishes.now.follow result }
+{
+    match announce(alloc, wishes, node, faults) {
+        Ok(()) => run_announced(rt, alloc, node, wishes, stop, writer, faults),
+        Err(AllocError) => tell(Told::Memory, faults),
+    }
+}
+
+/// Announces a node, if it is to be announced. If memory for the line is refused, nothing is reported.
+fn announce<F: Write>(
+    alloc: Global,
+    wishes: &Wishes<'_>,
+    node: &NodeConfig,
+    faults: &mut F,
+) -> Result<(), AllocError>
+    ensures said { OnOk result (Announces wishes.now.until wishes.now.follow (F.contents faults.old)
+        (F.contents faults.new) (start_line wishes.now.file.now node.now)) }
+    ensures refused { OnErr result (faults.new ≡ faults.old) }
+{
+    if is_announced(wishes) {
+        let line = start_line(alloc, wishes.file, node)?;
+        report(faults, line.as_str());
+    }
+    Ok(())
+}
+
+/// Runs a node that was announced, if it was to be, as [`run_config`] does.
+fn run_announced<R, W, F>(
+    rt: &R,
+    alloc: Global,
+    node: &NodeConfig,
+    wishes: &Wishes<'_>,
+    stop: &AtomicBool,
+    writer: &mut W,
+    faults: &mut F,
+) -> u8
+where
+    R: Wait + Threads + Net + rt::Clock + Sync,
+    W: Write + Send,
     F: Write,
     requires { IsChecked node.now.config }
     ensures { RunsNode writer.old writer.new (W.contents writer.old) (W.contents writer.new)
-        (F.contents faults.old) (F.contents faults.new) node.now until result }
+        (F.contents faults.old) (F.contents faults.new) node.now wishes.now.until wishes.now.follow result }
 {
-    let ran = run_node(rt, alloc, &node.config, node.dice, until);
-    let written = write_table(alloc, &ran, writer);
-    tell(Told::of(&ran, written), faults)
+    let ran = run(rt, alloc, node, wishes, stop, writer);
+    let written = write_table(alloc, &ran, wishes.follow, writer);
+    let second = second_line(alloc, node.config.addr, &ran);
+    tell_both(Told::of(&ran, written), second.as_str(), faults)
 }
 
-/// Writes the table of a node that was run, if one is to be written. The whole text is made before its first byte is
-/// written.
+/// Runs the node of a configuration. The writer is handed to it only if it follows, and else stays as it is.
+fn run<R, W>(
+    rt: &R,
+    alloc: Global,
+    node: &NodeConfig,
+    wishes: &Wishes<'_>,
+    stop: &AtomicBool,
+    writer: &mut W,
+) -> Result<NodeEnd, NodeFault>
+where
+    R: Wait + Threads + Net + rt::Clock + Sync,
+    W: Write + Send,
+    requires { IsChecked node.now.config }
+    ensures ran { MatchResult result (HasRun node.now (end_wished wishes.now.until)) IsEarly }
+    ensures unwritten { wishes.now.follow ≡ false → writer.new ≡ writer.old }
+{
+    let settings = Settings {
+        dice: node.dice,
+        pull_ms: node.pull_ms,
+        stall_ms: node.stall_ms,
+    };
+    let until = end_wished(wishes.until);
+    if wishes.follow {
+        return run_node(rt, alloc, &node.config, &settings, until, stop, Some(writer));
+    }
+    let nobody: Option<&mut W> = None;
+    run_node(rt, alloc, &node.config, &settings, until, stop, nobody)
+}
+
+/// The second line of what is told of a node that was run. It is empty if there is none, or if memory for it was
+/// refused.
+fn second_line(alloc: Global, addr: Addr, ran: &Result<NodeEnd, NodeFault>) -> String
+    ensures { IsSecond addr ran.now (string_bytes result) }
+{
+    match ran {
+        Err(NodeFault::Socket(kind)) => match link_reason(alloc, addr, *kind) {
+            Ok(line) => line,
+            Err(_) => String::new(alloc),
+        },
+        _ => String::new(alloc),
+    }
+}
+
+/// The records of the table that is to be written, if one is to be. A node that followed has told its members.
+fn table_wished(ran: &Result<NodeEnd, NodeFault>, follow: bool) -> Option<&[Record]>
+    ensures { option_map (λ records. records.now) result ≡ table_wished follow ran.now }
+{
+    if follow { None } else { table_of(ran) }
+}
+
+/// Writes the table of a node that was run, if one is to be written: if the node didn't follow, and came to an end that
+/// has a table. The whole text is made before its first byte is written.
 fn write_table<W: Write>(
     alloc: Global,
     ran: &Result<NodeEnd, NodeFault>,
+    follow: bool,
     writer: &mut W,
 ) -> Result<(), RunFault>
     ensures { Writes writer.old writer.new (W.contents writer.old) (W.contents writer.new)
-        (table_at_end ran.now) result }
+        (table_wished follow ran.now) result }
 {
-    let Some(records) = table_of(ran) else {
+    let Some(records) = table_wished(ran, follow) else {
         return Ok(());
     };
     let mut text = Vec::new(alloc);
     put_table(records, &mut text)?;
     write_whole(writer, &text)
-}
-
-/// Reports what is told, and gives its status.
-fn tell<F: Write>(told: Told, faults: &mut F) -> u8
-    ensures line { AppendsFront (F.contents faults.old) (F.contents faults.new) (line_of told) }
-    ensures status { result ≡ status_told told }
-{
-    report(faults, told.line().as_str());
-    told.status()
 }

@@ -1,13 +1,21 @@
-//! Runs the node of a configuration file, writes its members, and tells how it ended.
+//! Runs the node of a configuration file, writes its members, and tells how it ended; or checks the file alone.
 //!
 //! [`run_file`] does all of it. [`run_bytes`] begins with the bytes of the file, and [`run_config`] with the
-//! configuration that they mean. Contracts of other crates cite `RunsFile`, `RunsBytes` and `RunsNode`
-//! (`specs/Meaning/Running.antt`), `status_of` and `line_of` (`Telling.antt`).
+//! configuration that they mean. [`check_file`] and [`check_bytes`] run nothing. Contracts of other crates cite
+//! `RunsFile`, `RunsBytes` and `RunsNode` (`specs/Meaning/Running.antt`), `ChecksFile` (`Checking.antt`), `status_told`
+//! and `line_of` (`Telling.antt`).
 #![tactic(auto)]
 
+mod checking;
+mod file;
 mod launch;
+mod reporting;
 mod telling;
 mod told;
+mod wishes;
+mod words;
 
+pub use checking::{check_bytes, check_file};
 pub use launch::{run_bytes, run_config, run_file};
 pub use told::{MAX_LINE, Told};
+pub use wishes::Wishes;

@@ -44,7 +44,7 @@ impl Told {
     {
         match ran {
             Ok(end) => node_told(end, written),
-            Err(NodeFault::Socket) => Told::Link,
+            Err(NodeFault::Socket(_)) => Told::Link,
             Err(NodeFault::Clock) => Told::Refused,
             Err(NodeFault::Refused(refusal)) => Told::from(*refusal),
         }

@@ -1,12 +1,13 @@
 //! Runs of nodes and of files, over writers that fail and while memory is refused.
 use crate::streams::Room;
-use lg_launch::{run_bytes, run_file};
+use lg_launch::{Wishes, run_bytes, run_file};
 use lg_testing::at;
 use std::alloc::Global;
 use std::net::Net;
 use std::rt;
 use std::rt::Files;
 use std::sync::Wait;
+use std::sync::atomic::AtomicBool;
 use std::thread::Threads;
 
 /// What is run for a millisecond.
@@ -45,15 +46,33 @@ impl Outcome {
     }
 }
 
+/// A run of a millisecond that tells its members at its end.
+fn wishes_of(source: Source) -> Wishes<'static> {
+    let file = match source {
+        Bytes(_) => "b.toml",
+        Path(path) => path,
+    };
+    Wishes {
+        file,
+        until: Some(at(1)),
+        follow: false,
+    }
+}
+
 /// Runs the node of a source over an output whose call with this number fails.
 fn run<R>(rt: &R, alloc: Global, source: Source, fails_at: usize) -> Outcome
 where
     R: Wait + Threads + Net + rt::Clock + Files + Sync,
 {
     let (mut writer, mut faults) = (Room::failing(fails_at), Room::failing(0));
+    let (wishes, stop) = (wishes_of(source), AtomicBool::new(false));
+    let (writer_of, faults_of) = (&mut writer, &mut faults);
     let status = match source {
-        Bytes(text) => run_bytes(rt, alloc, text.as_bytes(), at(1), &mut writer, &mut faults),
-        Path(path) => run_file(rt, alloc, path, at(1), &mut writer, &mut faults),
+        Bytes(text) => {
+            let bytes = text.as_bytes();
+            run_bytes(rt, alloc, bytes, &wishes, &stop, writer_of, faults_of)
+        }
+        Path(_) => run_file(rt, alloc, &wishes, &stop, writer_of, faults_of),
     };
     Outcome {
         status,
@@ -72,7 +91,7 @@ where
 {
     let mut outcome = run(rt, alloc, source, fails_at);
     for _ in 0..TRIES {
-        if !outcome.is(5, "", "lg: link\n") {
+        if outcome.status != 5 {
             return outcome;
         }
         outcome = run(rt, alloc, source, fails_at);
@@ -117,8 +136,20 @@ const ROWS: [Row; 11] = [
     (Path("b\0.toml"), 0, 1, "", "lg: read\n"),
     (Path(""), 0, 1, "", "lg: read\n"),
     (Path("/"), 0, 1, "", "lg: read\n"),
-    (Path("/dev/null"), 0, 3, "", "lg: config 13\n"),
-    (Path("/dev/zero"), 0, 3, "", "lg: config 12\n"),
+    (
+        Path("/dev/null"),
+        0,
+        3,
+        "",
+        "lg: config 13\nthe key name is missing\n",
+    ),
+    (
+        Path("/dev/zero"),
+        0,
+        3,
+        "",
+        "lg: config 12\nthe file has more than 65536 bytes\n",
+    ),
 ];
 
 /// Each run ends as it should. If memory is refused, nothing but that is told, and the next run goes well.

@@ -1,9 +1,10 @@
 //! What is told of a node's end, and what is told first.
 ghost use Rattle.lg_timing.specs.Meaning.Config.{IsChecked};
 
+use crate::streams::Room;
 use lg_agent::{CloseFault, Refusal};
 use lg_launch::Told;
-use lg_node::{NodeEnd, NodeFault, Why, run_node};
+use lg_node::{NodeEnd, NodeFault, Settings, Why, run_node};
 use lg_rules::{Addr, Name};
 use lg_testing::at;
 use lg_text::RunFault;
@@ -12,6 +13,7 @@ use std::alloc::Global;
 use std::net::Net;
 use std::rt;
 use std::sync::Wait;
+use std::sync::atomic::AtomicBool;
 use std::thread::Threads;
 
 const FULL: Why = Why::Refused(Refusal::HistoryFull(2));
@@ -172,17 +174,32 @@ fn first_untold(alloc: Global, ran: &mut Result<NodeEnd, NodeFault>, rows: &[Row
 /// How often a run is tried while it fails.
 const TRIES: usize = 1000;
 
+/// A run of a node that ends at once and tells nothing.
+fn run_at_once<R>(rt: &R, alloc: Global) -> Result<NodeEnd, NodeFault>
+where
+    R: Wait + Threads + Net + rt::Clock + Sync,
+{
+    let settings = Settings {
+        dice: 1,
+        pull_ms: 0,
+        stall_ms: 0,
+    };
+    let stop = AtomicBool::new(false);
+    let follow: Option<&mut Room> = None;
+    run_node(rt, alloc, &config(17110), &settings, at(0), &stop, follow)
+}
+
 /// A node that ran. A run fails if memory is refused, and while another program has the port for a moment.
 fn ran<R>(rt: &R, alloc: Global) -> Result<NodeEnd, NodeFault>
 where
     R: Wait + Threads + Net + rt::Clock + Sync,
 {
-    let mut ran = run_node(rt, alloc, &config(17110), 1, at(0));
+    let mut ran = run_at_once(rt, alloc);
     for _ in 0..TRIES {
         if ran.is_ok() {
             return ran;
         }
-        ran = run_node(rt, alloc, &config(17110), 1, at(0));
+        ran = run_at_once(rt, alloc);
     }
     ran
 }

@@ -6,6 +6,7 @@ use lg_node::NodeFault;
 use lg_packet::Fault;
 use lg_text::RunFault;
 use lg_timing::ConfigFault;
+use std::io::ErrorKind;
 
 /// What is told, or what it is told of: a refusal, a fault of a run, or a fault of a node without loops.
 #[derive(Clone, Copy, Debug)]
@@ -55,7 +56,11 @@ const ENDS: [(Of, u8, &str); 24] = [
     (Of::Run(RunFault::Memory), 1, "lg: memory\n"),
     (Of::Run(RunFault::Read), 1, "lg: read\n"),
     (Of::Run(RunFault::Write), 1, "lg: write\n"),
-    (Of::Node(NodeFault::Socket), 5, "lg: link\n"),
+    (
+        Of::Node(NodeFault::Socket(ErrorKind::AddrInUse)),
+        5,
+        "lg: link\n",
+    ),
     (Of::Node(NodeFault::Clock), 1, "lg: refused\n"),
     (
         Of::Node(NodeFault::Refused(Refusal::NoMemory)),

@@ -1,7 +1,8 @@
 //! A node over UDP asks its seeds before its loops run. The ticking loop ends at once.
+use crate::streams::Room;
 use lg_agent::{CloseFault, Closed};
 use lg_detector::Event;
-use lg_node::{End, Why, run_node};
+use lg_node::{End, Settings, Why, run_node};
 use lg_rules::Addr;
 use lg_testing::{at, letter, local};
 use lg_timing::{Config, Seed};
@@ -10,6 +11,7 @@ use std::io;
 use std::net::{Ipv4Addr, Net, UdpSocket};
 use std::rt::Clock;
 use std::sync::Wait;
+use std::sync::atomic::AtomicBool;
 use std::test::Fail;
 use std::thread::Threads;
 use std::time::Duration;
@@ -79,7 +81,14 @@ where
 {
     let config = config(first, second);
     config.check().ok()?;
-    let ran = run_node(rt, alloc, &config, 1, at(0)).ok()?;
+    let settings = Settings {
+        dice: 1,
+        pull_ms: 0,
+        stall_ms: 0,
+    };
+    let stop = AtomicBool::new(false);
+    let nobody: Option<&mut Room> = None;
+    let ran = run_node(rt, alloc, &config, &settings, at(0), &stop, nobody).ok()?;
     Some((ran.ticked, asked(&ran.closed)))
 }
 

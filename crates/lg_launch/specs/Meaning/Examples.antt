@@ -2,6 +2,7 @@
 use Rattle.std.specs.Prelude.{◌≡◌, ℕ, List, [], Bool, true, false, Some, None, Result, Ok, Err, Vec, codes, refl}
 use Rattle.std.specs.Fmt.{digits}
 use Rattle.std.specs.declared.alloc.Global.{Global}
+use Rattle.std.specs.declared.io.ErrorKind.{ErrorKind}
 use Rattle.lg_rules.specs.declared.claim.Claim.{Claim}
 use Rattle.lg_text.specs.declared.fault.RunFault.{RunFault}
 use Rattle.lg_text.specs.declared.fault.RunFault.TheVariants as fault
@@ -138,8 +139,9 @@ link_alone :
 link_alone e members closed written = refl
 
 -- ends before the loops
-no_socket : (written : Result (Unit {0}) RunFault) → run_told (Err node.Socket) written ≡ told.Link
-no_socket written = refl
+no_socket :
+    (kind : ErrorKind) (written : Result (Unit {0}) RunFault) → run_told (Err (node.Socket kind)) written ≡ told.Link
+no_socket kind written = refl
 
 no_clock : (written : Result (Unit {0}) RunFault) → run_told (Err node.Clock) written ≡ told.Refused
 no_clock written = refl

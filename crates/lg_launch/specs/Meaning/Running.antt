@@ -1,13 +1,12 @@
--- How the node of a configuration is run: what is told of its end, and what is written.
-use Rattle.std.specs.Prelude.{◌≡◌, ⊤, ◌⊎◌, ℕ, false, List, if◌then◌else◌}
+-- How the node of a configuration is run: what is announced, what is written, and what is told of its end.
+use Rattle.std.specs.Prelude.{◌≡◌, ◌⊎◌, ℕ, Bool, true, false, List, [], if◌then◌else◌}
 use Rattle.std.specs.Prelude.{Option, Some, None, Result, Ok, Err, MatchResult}
 use Rattle.std.specs.Option.{option_map}
 use Rattle.std.specs.Result.{result_ok}
-use Rattle.std.specs.Io.KnownBytes.{Appends}
+use Rattle.lg_rules.specs.declared.addr.Addr.{Addr}
 use Rattle.lg_rules.specs.declared.claim.Claim.{Claim}
 use Rattle.lg_text.specs.Meaning.Running.{AppendsFront}
 use Rattle.lg_text.specs.declared.fault.RunFault.{RunFault}
-use Rattle.lg_text.specs.declared.fault.RunFault.TheVariants as fault
 use Rattle.lg_report.specs.Meaning.Records.{table_text}
 use Rattle.lg_config.specs.declared.fault.ReadFault.{ReadFault}
 use Rattle.lg_config.specs.declared.fault.ReadFault.TheVariants.{NoMemory, File}
@@ -15,12 +14,16 @@ use Rattle.lg_config.specs.declared.node.NodeConfig.{NodeConfig}
 use Rattle.lg_config.specs.Meaning.Answer.{IsAnswer}
 use Rattle.lg_node.specs.declared.node.NodeEnd.{NodeEnd}
 use Rattle.lg_node.specs.declared.node.NodeFault.{NodeFault}
+use Rattle.lg_node.specs.declared.node.NodeFault.TheVariants as node
 use Rattle.lg_node.specs.Meaning.Nodes.{IsRun, IsEarly}
 use Rattle.lg_node.specs.Meaning.Turns.{LinkValue}
 use Rattle.lg_node.specs.Meaning.Words.{seeded, DrawsEight}
-use Rattle.lg_launch.specs.declared.told.Told.{Told}
-use Rattle.lg_launch.specs.declared.told.Told.TheVariants.{Config, Memory, Read}
+use Rattle.lg_launch.specs.declared.told.Told.TheVariants.{Memory, Read}
+use Rattle.lg_launch.specs.Meaning.Checking.{WritesText}
+use Rattle.lg_launch.specs.Meaning.Reporting.{ReportsBoth, TellsAlone, TellsFault}
 use Rattle.lg_launch.specs.Meaning.Telling.{ending, line_of, run_told, status_told}
+use Rattle.lg_launch.specs.Meaning.Wishes.{end_wished, is_announced}
+use Rattle.lg_launch.specs.Meaning.Words.{link_reason, start_line}
 
 -- the records of the table that is to be written, if one is to be
 abbrev pub table_at_end : Result NodeEnd NodeFault → Option (List Claim)
@@ -28,67 +31,105 @@ table_at_end (Err fault) = None
 table_at_end (Ok e) =
     if (ending e.received.why e.ticked.why).writes then option_map (λ v. v.items) (result_ok e.members) else None
 
--- A table is written whole, if there is one. If the writing failed, nothing says how much was written. If memory for
--- the text was refused, nothing was written.
+-- the table that is to be written, by whether the node followed: then its watcher has told its members
+abbrev pub table_wished : Bool → Result NodeEnd NodeFault → Option (List Claim)
+table_wished true ran = None
+table_wished false ran = table_at_end ran
+
+-- A table is written, if there is one.
 abbrev pub Writes :
     {W : Type 0} → (before after : W) (held holds : Option (List ℕ)) → Option (List Claim)
     → Result (Unit {0}) RunFault → Type 0
 Writes before after held holds None written = (after ≡ before) × (written ≡ Ok tt)
-Writes before after held holds (Some records) (Ok done) = Appends held holds (table_text records)
-Writes before after held holds (Some records) (Err fault.Memory) = after ≡ before
-Writes before after held holds (Some records) (Err fault.Read) = ⊥
-Writes before after held holds (Some records) (Err fault.Write) = ⊤
+Writes before after held holds (Some records) written =
+    WritesText before after held holds (table_text records) written
 
--- The node of a configuration ran until a moment. Its links tell nothing but their failures. Each loop makes at most
--- 1,000,000,000 turns.
+-- The table is written at the end of a node that didn't follow. A node that followed has no table, and nothing is said
+-- of what its watcher wrote.
+abbrev pub WritesEnd :
+    Bool → {W : Type 0} → (before after : W) (held holds : Option (List ℕ)) → Option (List Claim)
+    → Result (Unit {0}) RunFault → Type 0
+WritesEnd true before after held holds table written = written ≡ Ok tt
+WritesEnd false before after held holds table written = Writes before after held holds table written
+
+-- A node is announced by this line, if it is to be, by the moment that was wished and whether it follows.
+abbrev pub AnnouncesIf : Bool → (reported reports : Option (List ℕ)) (line : List ℕ) → Type 0
+AnnouncesIf true reported reports line = AppendsFront reported reports line
+AnnouncesIf false reported reports line = reports ≡ reported
+
+abbrev pub Announces : Option ℕ → Bool → (reported reports : Option (List ℕ)) (line : List ℕ) → Type 0
+Announces until follow reported reports line = AnnouncesIf (is_announced until follow) reported reports line
+
+-- The second line of what is told of a node that was run: why its socket can't be bound. If memory for it is refused,
+-- there is none.
+abbrev pub IsSecond : Addr → Result NodeEnd NodeFault → List ℕ → Type 0
+IsSecond addr (Err (node.Socket kind)) second = (second ≡ []) ⊎ (second ≡ link_reason addr kind)
+IsSecond addr (Err node.Clock) second = second ≡ []
+IsSecond addr (Err (node.Refused refusal)) second = second ≡ []
+IsSecond addr (Ok e) second = second ≡ []
+
+-- The node of a configuration ran until a moment. Its links tell nothing but their failures. Each loop counts its turns
+-- anew after 1,000,000,000.
 abbrev pub HasRun : NodeConfig → ℕ → NodeEnd → Type 0
 HasRun n until e = (hears : LinkValue) × (hears' : LinkValue) × (sends : LinkValue) × (sends' : LinkValue)
-    × IsRun DrawsEight (seeded n.dice) false 1000000000 n.config until hears hears' sends sends' e
+    × IsRun DrawsEight (seeded n.dice) false 1000000000 n.config n.pull_ms until hears hears' sends sends' e
 
 -- The node of a configuration ran, or ended before its loops. Its table was written, if it was to be. What is told of
--- it was reported, as far as the report was taken.
+-- it was reported, and a second line if there is one.
 pub record RunsNode
     {W : Type 0} (before after : W) (held holds reported reports : Option (List ℕ)) (n : NodeConfig)
-    (until status : ℕ)
+    (until : Option ℕ) (follow : Bool) (status : ℕ)
     : Type 0 where
   pub ran : Result NodeEnd NodeFault
   pub written : Result (Unit {0}) RunFault
-  pub run : MatchResult ran (HasRun n until) IsEarly
-  pub table : Writes before after held holds (table_at_end ran) written
-  pub line : AppendsFront reported reports (line_of (run_told ran written))
+  pub second : List ℕ
+  pub run : MatchResult ran (HasRun n (end_wished until)) IsEarly
+  pub table : WritesEnd follow before after held holds (table_at_end ran) written
+  pub reason : IsSecond n.config.addr ran second
+  pub lines : ReportsBoth reported reports (line_of (run_told ran written)) second
   pub is : status ≡ status_told (run_told ran written)
 
--- Nothing is written, and this is told, as far as the report is taken.
-pub record TellsAlone
-    {W : Type 0} (before after : W) (reported reports : Option (List ℕ)) (told : Told) (status : ℕ) : Type 0 where
-  pub unwritten : after ≡ before
-  pub line : AppendsFront reported reports (line_of told)
-  pub is : status ≡ status_told told
+-- The node of a configuration is announced, if it is to be, and run.
+pub record RunsAnnounced
+    {W : Type 0} (before after : W) (held holds reported reports : Option (List ℕ)) (file : List ℕ) (n : NodeConfig)
+    (until : Option ℕ) (follow : Bool) (status : ℕ)
+    : Type 0 where
+  pub announced : Option (List ℕ)
+  pub start : Announces until follow reported announced (start_line file n)
+  pub runs : RunsNode before after held holds announced reports n until follow status
+
+-- That is done, or memory for the announcement is refused, and that is told.
+abbrev pub RunsOrRefused :
+    {W : Type 0} → (before after : W) (held holds reported reports : Option (List ℕ)) (file : List ℕ) (n : NodeConfig)
+    (until : Option ℕ) (follow : Bool) (status : ℕ) → Type 0
+RunsOrRefused before after held holds reported reports file n until follow status =
+    RunsAnnounced before after held holds reported reports file n until follow status
+    ⊎ TellsAlone before after reported reports Memory status
 
 -- A configuration that was read is run. If none was read, the reason is told.
 abbrev pub RunsConfig :
-    {W : Type 0} → (before after : W) (held holds reported reports : Option (List ℕ))
-    → Result NodeConfig ReadFault → (until status : ℕ) → Type 0
-RunsConfig before after held holds reported reports (Ok n) until status =
-    RunsNode before after held holds reported reports n until status
-RunsConfig before after held holds reported reports (Err NoMemory) until status =
+    {W : Type 0} → (before after : W) (held holds reported reports : Option (List ℕ)) (bytes file : List ℕ)
+    → Result NodeConfig ReadFault → (until : Option ℕ) (follow : Bool) (status : ℕ) → Type 0
+RunsConfig before after held holds reported reports bytes file (Ok n) until follow status =
+    RunsOrRefused before after held holds reported reports file n until follow status
+RunsConfig before after held holds reported reports bytes file (Err NoMemory) until follow status =
     TellsAlone before after reported reports Memory status
-RunsConfig before after held holds reported reports (Err (File fault)) until status =
-    TellsAlone before after reported reports (Config fault) status
+RunsConfig before after held holds reported reports bytes file (Err (File fault)) until follow status =
+    (after ≡ before) × TellsFault reported reports bytes fault status
 
 -- The bytes of a file are read as a configuration, and the configuration is run.
 pub record RunsBytes
-    {W : Type 0} (before after : W) (held holds reported reports : Option (List ℕ)) (bytes : List ℕ)
-    (until status : ℕ)
+    {W : Type 0} (before after : W) (held holds reported reports : Option (List ℕ)) (bytes file : List ℕ)
+    (until : Option ℕ) (follow : Bool) (status : ℕ)
     : Type 0 where
   pub answer : Result NodeConfig ReadFault
   pub read : IsAnswer bytes answer
-  pub runs : RunsConfig before after held holds reported reports answer until status
+  pub runs : RunsConfig before after held holds reported reports bytes file answer until follow status
 
 -- A file gives some bytes, and these are run. Or it can't be read, or memory is refused for it, and that is told.
 abbrev pub RunsFile :
-    {W : Type 0} → (before after : W) (held holds reported reports : Option (List ℕ)) (until status : ℕ)
-    → Type 0
-RunsFile before after held holds reported reports until status =
+    {W : Type 0} → (before after : W) (held holds reported reports : Option (List ℕ)) (file : List ℕ)
+    (until : Option ℕ) (follow : Bool) (status : ℕ) → Type 0
+RunsFile before after held holds reported reports file until follow status =
     TellsAlone before after reported reports Read status ⊎ TellsAlone before after reported reports Memory status
-    ⊎ ((bytes : List ℕ) × RunsBytes before after held holds reported reports bytes until status)
+    ⊎ ((bytes : List ℕ) × RunsBytes before after held holds reported reports bytes file until follow status)

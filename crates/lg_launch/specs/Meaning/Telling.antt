@@ -109,7 +109,7 @@ finished (Ok members) (Ok done) (Ok whole) told = told
 -- what is told of a node that was run, given how its table was written
 abbrev pub run_told : Result NodeEnd NodeFault → Result (Unit {0}) RunFault → Told
 -- its socket couldn't be bound: status 5, `lg: link`
-run_told (Err node.Socket) written = Link
+run_told (Err (node.Socket kind)) written = Link
 -- the machine's clock couldn't be read: status 1, `lg: refused`
 run_told (Err node.Clock) written = Refused
 -- it was refused before its loops: status 1, `lg: memory`, `lg: history` or `lg: refused`

@@ -1,0 +1,62 @@
+//! The lines in words: who starts, and why a socket can't be bound.
+//!
+//! Defined in: `specs/Meaning/Words.antt`.
+//! Tested in: `lg_command_tests/src/launch/words.rt`, `cases/node.case`.
+ghost use Rattle.std.specs.Prelude.{◌≡◌, IfOk, string_bytes};
+ghost use Rattle.lg_launch.specs.Meaning.Words.{bind_words, link_reason, seed_count, start_line};
+
+use lg_check::{addr_text, text_of_name};
+use lg_config::NodeConfig;
+use lg_rules::Addr;
+use std::alloc::{AllocError, Global};
+use std::io::ErrorKind;
+
+/// How many seeds there are, in words.
+fn seed_count(alloc: Global, count: usize) -> Result<String, AllocError>
+    ensures { IfOk result (λ text. string_bytes text ≡ seed_count count) }
+{
+    if count == 1 {
+        String::from_str(alloc, "1 seed")
+    } else {
+        format!(in alloc; "{count} seeds")
+    }
+}
+
+/// The line of a node that starts: who runs where, with which file, in which version it writes its packets, and how
+/// many seeds it has. Allocates the line; the only error is that memory was refused.
+pub(crate) fn start_line(
+    alloc: Global,
+    file: &str,
+    node: &NodeConfig,
+) -> Result<String, AllocError>
+    ensures { IfOk result (λ text. string_bytes text ≡ start_line file.now node.now) }
+{
+    let addr = addr_text(alloc, node.config.addr)?;
+    let seeds = seed_count(alloc, node.config.seeds.len())?;
+    let name = text_of_name(&node.config.name);
+    let wire = node.config.wire;
+    format!(in alloc; "lg: {name} at {addr}, file {file}, wire {wire}, {seeds}\n")
+}
+
+/// Why an address can't be bound.
+fn bind_words(kind: ErrorKind) -> &'static str
+    ensures { result.now ≡ bind_words kind }
+{
+    match kind {
+        ErrorKind::AddrInUse => "the address is in use",
+        ErrorKind::AddrNotAvailable => "the address isn't one of this machine's",
+        ErrorKind::PermissionDenied => "permission is denied",
+        ErrorKind::OutOfMemory => "memory is refused",
+        _ => "the machine refuses it",
+    }
+}
+
+/// The reason of a socket that can't be bound to an address, as a line. Allocates the line; the only error is that
+/// memory was refused.
+pub(crate) fn link_reason(alloc: Global, addr: Addr, kind: ErrorKind) -> Result<String, AllocError>
+    ensures { IfOk result (λ text. string_bytes text ≡ link_reason addr kind) }
+{
+    let addr = addr_text(alloc, addr)?;
+    let words = bind_words(kind);
+    format!(in alloc; "{addr} can't be bound: {words}\n")
+}
