@@ -1,3 +1,1 @@
-pub mod CommandLaws
-pub mod LineLaws
 pub mod Promises

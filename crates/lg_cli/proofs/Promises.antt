@@ -1,44 +1,54 @@
 -- What `RunsLine` says of each command by itself, at a command line that is taken.
-use Rattle.std.proofs.Common.{◌≡◌, ◌≢◌, ℕ, ◌⊎◌, true, IfOk, List, [], ◌∷◌, inl, inr, refl, subst}
+use Rattle.std.proofs.Common.{◌≡◌, ◌≢◌, ℕ, Bool, ◌⊎◌, true, IfOk, List, [], ◌∷◌, Option, inl, inr, refl, subst}
 use Rattle.std.specs.Result.{is_err}
-use Rattle.clap.specs.Kinds.{Kinds}
-use Rattle.clap.specs.Walk.{Text}
 use Rattle.lg_rules.specs.Meaning.Name.{name_of_text}
 use Rattle.lg_text.specs.Meaning.Running.{ReadsWhole}
 use Rattle.lg_text.specs.declared.fault.RunFault.TheVariants.{Memory, Write}
+use Rattle.lg_launch.specs.Meaning.Checking.{ChecksFile}
 use Rattle.lg_launch.specs.Meaning.Running.{RunsFile}
 use Rattle.lg_commands.specs.Meaning.Choosing.{order_text}
 use Rattle.lg_commands.specs.Meaning.Running.{FailsBy, RunsAnswer, RunsOrder, RunsSim, RunsTimeouts}
 use Rattle.lg_commands.specs.declared.timeouts.Numbers.{Numbers}
-use Rattle.lg_cli.specs.Meaning.Commands.{Request, answer, order, timeouts, sim, node, asked, line_faults}
-use Rattle.lg_cli.specs.Meaning.Commands.{IfAnswer, IfNode, IfOrder, IfSim, IfTimeouts, RefusesLine}
-use Rattle.lg_cli.specs.Meaning.Running.{Streams, RunsNamed, RunsLists, RunsNumbers, RunsScript, RunsForTime, RunsRequest}
-use Rattle.lg_cli.specs.Meaning.Running.{LacksMemory, LeavesLine, RunsLine}
+use Rattle.lg_command_line.specs.Meaning.Commands.{Request, answer, check, node, order, sim, timeouts, asked, line_faults}
+use Rattle.lg_command_line.specs.Meaning.Commands.{IfAnswer, IfCheck, IfNode, IfOrder, IfSim, IfTimeouts, RefusesLine}
+use Rattle.lg_cli.specs.Meaning.Running.{Streams, RunsNamed, RunsLists, RunsNumbers, RunsScript, RunsNodeFile, RunsCheck}
+use Rattle.lg_cli.specs.Meaning.Running.{RunsRequest, LacksUnread, LeavesUnread, RunsLine}
 
-abbrev IsCons : Kinds → Type 0
+abbrev IsCons : {X : Type 0} → List X → Type 0
 IsCons [] = ⊥
 IsCons (k ∷ ks) = Unit {0}
 
-nil_or : (faults : Kinds) → (faults ≡ []) ⊎ (faults ≢ [])
+nil_or : {X : Type 0} (faults : List X) → (faults ≡ []) ⊎ (faults ≢ [])
 nil_or [] = inl refl
 nil_or (k ∷ ks) = inr (λ e. subst IsCons e tt)
 
+-- the command that is asked for takes neither a file nor a socket
+abbrev NeedsNoMachine : Request → Type 0
+NeedsNoMachine (answer text) = Unit {0}
+NeedsNoMachine (order names words) = Unit {0}
+NeedsNoMachine (timeouts numbers) = Unit {0}
+NeedsNoMachine sim = Unit {0}
+NeedsNoMachine (node file for_ms follow until_input_ends) = ⊥
+NeedsNoMachine (check file) = ⊥
+
 module _ (R W : Type 0) (before after : Streams R W) (status : ℕ) where
-  of_answer : (P : Text → Type 0) (r : Request) → RunsRequest before after r status
-      → ((text : Text) → RunsNamed before after text status → P text) → IfAnswer r P
+  of_answer : (P : List ℕ → Type 0) (r : Request) → RunsRequest before after r status
+      → ((text : List ℕ) → RunsNamed before after text status → P text) → IfAnswer r P
   of_answer P (answer text) run give = give text run
   of_answer P (order names words) run give = tt
   of_answer P (timeouts numbers) run give = tt
   of_answer P sim run give = tt
-  of_answer P (node file for_ms) run give = tt
+  of_answer P (node file for_ms follow until_input_ends) run give = tt
+  of_answer P (check file) run give = tt
 
-  of_order : (P : Text → Text → Type 0) (r : Request) → RunsRequest before after r status
-      → ((names words : Text) → RunsLists before after names words status → P names words) → IfOrder r P
+  of_order : (P : List ℕ → List ℕ → Type 0) (r : Request) → RunsRequest before after r status
+      → ((names words : List ℕ) → RunsLists before after names words status → P names words) → IfOrder r P
   of_order P (answer text) run give = tt
   of_order P (order names words) run give = give names words run
   of_order P (timeouts numbers) run give = tt
   of_order P sim run give = tt
-  of_order P (node file for_ms) run give = tt
+  of_order P (node file for_ms follow until_input_ends) run give = tt
+  of_order P (check file) run give = tt
 
   of_timeouts : (P : Numbers → Type 0) (r : Request) → RunsRequest before after r status
       → ((numbers : Numbers) → RunsNumbers before after numbers status → P numbers) → IfTimeouts r P
@@ -46,7 +56,8 @@ module _ (R W : Type 0) (before after : Streams R W) (status : ℕ) where
   of_timeouts P (order names words) run give = tt
   of_timeouts P (timeouts numbers) run give = give numbers run
   of_timeouts P sim run give = tt
-  of_timeouts P (node file for_ms) run give = tt
+  of_timeouts P (node file for_ms follow until_input_ends) run give = tt
+  of_timeouts P (check file) run give = tt
 
   of_sim : (P : Type 0) (r : Request) → RunsRequest before after r status
       → (RunsScript before after status → P) → IfSim r P
@@ -54,81 +65,109 @@ module _ (R W : Type 0) (before after : Streams R W) (status : ℕ) where
   of_sim P (order names words) run give = tt
   of_sim P (timeouts numbers) run give = tt
   of_sim P sim run give = give run
-  of_sim P (node file for_ms) run give = tt
+  of_sim P (node file for_ms follow until_input_ends) run give = tt
+  of_sim P (check file) run give = tt
 
-  of_node : (P : ℕ → Type 0) (r : Request) → RunsRequest before after r status
-      → ((for_ms : ℕ) → RunsForTime before after for_ms status → P for_ms) → IfNode r (λ file for_ms. P for_ms)
+  of_node : (P : List ℕ → Option ℕ → Bool → Type 0) (r : Request) → RunsRequest before after r status
+      → ((file : List ℕ) (for_ms : Option ℕ) (follow : Bool) → RunsNodeFile before after file for_ms follow status → P file for_ms follow)
+      → IfNode r (λ file for_ms follow until_input_ends. P file for_ms follow)
   of_node P (answer text) run give = tt
   of_node P (order names words) run give = tt
   of_node P (timeouts numbers) run give = tt
   of_node P sim run give = tt
-  of_node P (node file for_ms) run give = give for_ms run
+  of_node P (node file for_ms follow until_input_ends) run give = give file for_ms follow run
+  of_node P (check file) run give = tt
 
-  -- a run that failed, of a command other than `node`
-  run_fails : (r : Request) → IfNode r (λ file for_ms. ⊥) → RunsRequest before after r status → status ≡ 1
+  of_check : (P : Type 0) (r : Request) → RunsRequest before after r status
+      → (RunsCheck before after status → P) → IfCheck r (λ file. P)
+  of_check P (answer text) run give = tt
+  of_check P (order names words) run give = tt
+  of_check P (timeouts numbers) run give = tt
+  of_check P sim run give = tt
+  of_check P (node file for_ms follow until_input_ends) run give = tt
+  of_check P (check file) run give = give run
+
+  -- a run that failed, of a command other than `node` and `check`
+  run_fails : (r : Request) → NeedsNoMachine r → RunsRequest before after r status → status ≡ 1
       → FailsBy before.reported after.reported before.writer after.writer
   run_fails (answer text) other run one = run.failed one
   run_fails (order names words) other run one = run.failed one
   run_fails (timeouts numbers) other run one = run.failed one
   run_fails sim other run one = run.failed one
-  run_fails (node file for_ms) other run one = absurd other
+  run_fails (node file for_ms follow until_input_ends) other run one = absurd other
+  run_fails (check file) other run one = absurd other
 
   -- such a run doesn't have the status of a refusal
-  run_isnt_refused : (r : Request) → IfNode r (λ file for_ms. ⊥) → RunsRequest before after r status → status ≢ 2
+  run_isnt_refused : (r : Request) → NeedsNoMachine r → RunsRequest before after r status → status ≢ 2
   run_isnt_refused (answer text) other run = run.run
   run_isnt_refused (order names words) other run = run.run
   run_isnt_refused (timeouts numbers) other run = run.run
   run_isnt_refused sim other run = run.run
-  run_isnt_refused (node file for_ms) other run = absurd other
+  run_isnt_refused (node file for_ms follow until_input_ends) other run = absurd other
+  run_isnt_refused (check file) other run = absurd other
 
-  lacks_fails : LacksMemory before after status → FailsBy before.reported after.reported before.writer after.writer
-  lacks_fails lacks = record { fault = Memory; line = lacks.told; unwritten = λ _. lacks.unwritten }
+  lacks_fails : LacksUnread before after status → FailsBy before.reported after.reported before.writer after.writer
+  lacks_fails lacks = record { fault = Memory; line = lacks.1.told; unwritten = λ _. lacks.1.unwritten }
 
-  leaves_fails : (faults : Kinds) → LeavesLine before after faults status → status ≡ 1
+  leaves_fails : (line : List (List ℕ)) → LeavesUnread before after line status → status ≡ 1
       → FailsBy before.reported after.reported before.writer after.writer
-  leaves_fails faults leaves one = record { fault = Write; line = leaves.told one; unwritten = λ other. absurd (other refl) }
+  leaves_fails line leaves one = record { fault = Write; line = leaves.1.told one; unwritten = λ other. absurd (other refl) }
 
-all_answer : (P : Text → Type 0) (r : Request) → ((text : Text) → P text) → IfAnswer r P
+all_answer : (P : List ℕ → Type 0) (r : Request) → ((text : List ℕ) → P text) → IfAnswer r P
 all_answer P (answer text) give = give text
 all_answer P (order names words) give = tt
 all_answer P (timeouts numbers) give = tt
 all_answer P sim give = tt
-all_answer P (node file for_ms) give = tt
+all_answer P (node file for_ms follow until_input_ends) give = tt
+all_answer P (check file) give = tt
 
-all_order : (P : Text → Text → Type 0) (r : Request) → ((names words : Text) → P names words) → IfOrder r P
+all_order : (P : List ℕ → List ℕ → Type 0) (r : Request) → ((names words : List ℕ) → P names words) → IfOrder r P
 all_order P (answer text) give = tt
 all_order P (order names words) give = give names words
 all_order P (timeouts numbers) give = tt
 all_order P sim give = tt
-all_order P (node file for_ms) give = tt
+all_order P (node file for_ms follow until_input_ends) give = tt
+all_order P (check file) give = tt
 
 all_timeouts : (P : Numbers → Type 0) (r : Request) → ((numbers : Numbers) → P numbers) → IfTimeouts r P
 all_timeouts P (answer text) give = tt
 all_timeouts P (order names words) give = tt
 all_timeouts P (timeouts numbers) give = give numbers
 all_timeouts P sim give = tt
-all_timeouts P (node file for_ms) give = tt
+all_timeouts P (node file for_ms follow until_input_ends) give = tt
+all_timeouts P (check file) give = tt
 
 all_sim : (P : Type 0) (r : Request) → P → IfSim r P
 all_sim P (answer text) give = tt
 all_sim P (order names words) give = tt
 all_sim P (timeouts numbers) give = tt
 all_sim P sim give = give
-all_sim P (node file for_ms) give = tt
+all_sim P (node file for_ms follow until_input_ends) give = tt
+all_sim P (check file) give = tt
 
-all_node : (P : ℕ → Type 0) (r : Request) → ((for_ms : ℕ) → P for_ms) → IfNode r (λ file for_ms. P for_ms)
+all_node : (P : List ℕ → Option ℕ → Bool → Type 0) (r : Request) → ((file : List ℕ) (for_ms : Option ℕ) (follow : Bool) → P file for_ms follow)
+    → IfNode r (λ file for_ms follow until_input_ends. P file for_ms follow)
 all_node P (answer text) give = tt
 all_node P (order names words) give = tt
 all_node P (timeouts numbers) give = tt
 all_node P sim give = tt
-all_node P (node file for_ms) give = give for_ms
+all_node P (node file for_ms follow until_input_ends) give = give file for_ms follow
+all_node P (check file) give = tt
 
-module _ (R W : Type 0) (before after : Streams R W) (line : List Text) (status : ℕ) (runs : RunsLine before after line status) where
+all_check : (P : Type 0) (r : Request) → P → IfCheck r (λ file. P)
+all_check P (answer text) give = tt
+all_check P (order names words) give = tt
+all_check P (timeouts numbers) give = tt
+all_check P sim give = tt
+all_check P (node file for_ms follow until_input_ends) give = tt
+all_check P (check file) give = give
+
+module _ (R W : Type 0) (before after : Streams R W) (line : List (List ℕ)) (status : ℕ) (runs : RunsLine before after line status) where
   -- the command's run, where memory wasn't refused for reading the line
   run_of : line_faults line ≡ [] → status ≢ 1 → RunsRequest before after (asked line) status
   run_of none other = elim (runs.taken none) [
     | inl run ↦ run
-    | inr lacks ↦ absurd (other lacks.is)
+    | inr lacks ↦ absurd (other lacks.1.is)
   ]
 
   pub answered : line_faults line ≡ [] → status ≢ 1 → IfAnswer (asked line) (λ text. IfOk (name_of_text text)
@@ -143,11 +182,11 @@ module _ (R W : Type 0) (before after : Streams R W) (line : List Text) (status 
   unread = elim (nil_or (line_faults line)) [
     | inl none ↦ elim (runs.taken none) [
       | inl run ↦ of_answer R W before after status (λ text. is_err (name_of_text text) ≡ true → after.reader ≡ before.reader) (asked line) run (λ text r. r.unread)
-      | inr lacks ↦ all_answer (λ text. is_err (name_of_text text) ≡ true → after.reader ≡ before.reader) (asked line) (λ text bad. lacks.unread)
+      | inr lacks ↦ all_answer (λ text. is_err (name_of_text text) ≡ true → after.reader ≡ before.reader) (asked line) (λ text bad. lacks.0)
     ]
     | inr some ↦ elim (runs.left some) [
-      | inl leaves ↦ all_answer (λ text. is_err (name_of_text text) ≡ true → after.reader ≡ before.reader) (asked line) (λ text bad. leaves.unread)
-      | inr lacks ↦ all_answer (λ text. is_err (name_of_text text) ≡ true → after.reader ≡ before.reader) (asked line) (λ text bad. lacks.unread)
+      | inl leaves ↦ all_answer (λ text. is_err (name_of_text text) ≡ true → after.reader ≡ before.reader) (asked line) (λ text bad. leaves.0)
+      | inr lacks ↦ all_answer (λ text. is_err (name_of_text text) ≡ true → after.reader ≡ before.reader) (asked line) (λ text bad. lacks.0)
     ]
   ]
 
@@ -155,7 +194,7 @@ module _ (R W : Type 0) (before after : Streams R W) (line : List Text) (status 
       → IfAnswer (asked line) (λ text. is_err (name_of_text text) ≡ true → after.writer ≡ before.writer)
   unnamed none = elim (runs.taken none) [
     | inl run ↦ of_answer R W before after status (λ text. is_err (name_of_text text) ≡ true → after.writer ≡ before.writer) (asked line) run (λ text r. r.unnamed)
-    | inr lacks ↦ all_answer (λ text. is_err (name_of_text text) ≡ true → after.writer ≡ before.writer) (asked line) (λ text bad. lacks.unwritten)
+    | inr lacks ↦ all_answer (λ text. is_err (name_of_text text) ≡ true → after.writer ≡ before.writer) (asked line) (λ text bad. lacks.1.unwritten)
   ]
 
   pub ordered : line_faults line ≡ [] → status ≢ 1 → IfOrder (asked line) (λ names listed. RunsOrder before.held after.held
@@ -166,18 +205,18 @@ module _ (R W : Type 0) (before after : Streams R W) (line : List Text) (status 
       → IfOrder (asked line) (λ names listed. is_err (order_text names listed) ≡ true → after.writer ≡ before.writer)
   unlisted none = elim (runs.taken none) [
     | inl run ↦ of_order R W before after status (λ names listed. is_err (order_text names listed) ≡ true → after.writer ≡ before.writer) (asked line) run (λ names words r. r.unlisted)
-    | inr lacks ↦ all_order (λ names listed. is_err (order_text names listed) ≡ true → after.writer ≡ before.writer) (asked line) (λ names words bad. lacks.unwritten)
+    | inr lacks ↦ all_order (λ names listed. is_err (order_text names listed) ≡ true → after.writer ≡ before.writer) (asked line) (λ names words bad. lacks.1.unwritten)
   ]
 
   pub ordered_unread : IfOrder (asked line) (λ names listed. after.reader ≡ before.reader)
   ordered_unread = elim (nil_or (line_faults line)) [
     | inl none ↦ elim (runs.taken none) [
       | inl run ↦ of_order R W before after status (λ names listed. after.reader ≡ before.reader) (asked line) run (λ names words r. r.unread)
-      | inr lacks ↦ all_order (λ names listed. after.reader ≡ before.reader) (asked line) (λ names words. lacks.unread)
+      | inr lacks ↦ all_order (λ names listed. after.reader ≡ before.reader) (asked line) (λ names words. lacks.0)
     ]
     | inr some ↦ elim (runs.left some) [
-      | inl leaves ↦ all_order (λ names listed. after.reader ≡ before.reader) (asked line) (λ names words. leaves.unread)
-      | inr lacks ↦ all_order (λ names listed. after.reader ≡ before.reader) (asked line) (λ names words. lacks.unread)
+      | inl leaves ↦ all_order (λ names listed. after.reader ≡ before.reader) (asked line) (λ names words. leaves.0)
+      | inr lacks ↦ all_order (λ names listed. after.reader ≡ before.reader) (asked line) (λ names words. lacks.0)
     ]
   ]
 
@@ -193,79 +232,102 @@ module _ (R W : Type 0) (before after : Streams R W) (line : List Text) (status 
   timed_unread = elim (nil_or (line_faults line)) [
     | inl none ↦ elim (runs.taken none) [
       | inl run ↦ of_timeouts R W before after status (λ numbers. after.reader ≡ before.reader) (asked line) run (λ numbers r. r.unread)
-      | inr lacks ↦ all_timeouts (λ numbers. after.reader ≡ before.reader) (asked line) (λ numbers. lacks.unread)
+      | inr lacks ↦ all_timeouts (λ numbers. after.reader ≡ before.reader) (asked line) (λ numbers. lacks.0)
     ]
     | inr some ↦ elim (runs.left some) [
-      | inl leaves ↦ all_timeouts (λ numbers. after.reader ≡ before.reader) (asked line) (λ numbers. leaves.unread)
-      | inr lacks ↦ all_timeouts (λ numbers. after.reader ≡ before.reader) (asked line) (λ numbers. lacks.unread)
+      | inl leaves ↦ all_timeouts (λ numbers. after.reader ≡ before.reader) (asked line) (λ numbers. leaves.0)
+      | inr lacks ↦ all_timeouts (λ numbers. after.reader ≡ before.reader) (asked line) (λ numbers. lacks.0)
     ]
   ]
 
   pub refused : line_faults line ≢ [] → status ≢ 1 → RefusesLine (line_faults line) status
   refused some other = elim (runs.left some) [
-    | inl leaves ↦ leaves.refused other
-    | inr lacks ↦ absurd (other lacks.is)
+    | inl leaves ↦ leaves.1.refused other
+    | inr lacks ↦ absurd (other lacks.1.is)
   ]
 
   pub unrun : line_faults line ≢ [] → after.reader ≡ before.reader
   unrun some = elim (runs.left some) [
-    | inl leaves ↦ leaves.unread
-    | inr lacks ↦ lacks.unread
+    | inl leaves ↦ leaves.0
+    | inr lacks ↦ lacks.0
   ]
 
   pub read : line_faults line ≡ [] → status ≡ 1
       → IfAnswer (asked line) (λ text. (after.writer ≡ before.writer) ⊎ ReadsWhole before.left after.left)
   read none one = elim (runs.taken none) [
     | inl run ↦ of_answer R W before after status (λ text. (after.writer ≡ before.writer) ⊎ ReadsWhole before.left after.left) (asked line) run (λ text r. r.read one)
-    | inr lacks ↦ all_answer (λ text. (after.writer ≡ before.writer) ⊎ ReadsWhole before.left after.left) (asked line) (λ text. inl lacks.unwritten)
+    | inr lacks ↦ all_answer (λ text. (after.writer ≡ before.writer) ⊎ ReadsWhole before.left after.left) (asked line) (λ text. inl lacks.1.unwritten)
   ]
 
   pub read_script : line_faults line ≡ [] → status ≡ 1
       → IfSim (asked line) ((after.writer ≡ before.writer) ⊎ ReadsWhole before.left after.left)
   read_script none one = elim (runs.taken none) [
     | inl run ↦ of_sim R W before after status ((after.writer ≡ before.writer) ⊎ ReadsWhole before.left after.left) (asked line) run (λ r. r.read one)
-    | inr lacks ↦ all_sim ((after.writer ≡ before.writer) ⊎ ReadsWhole before.left after.left) (asked line) (inl lacks.unwritten)
+    | inr lacks ↦ all_sim ((after.writer ≡ before.writer) ⊎ ReadsWhole before.left after.left) (asked line) (inl lacks.1.unwritten)
   ]
 
   -- `node` is run, unless memory was refused for reading the line
-  pub launched : line_faults line ≡ [] → IfNode (asked line) (λ file for_ms.
-      RunsFile before.writer after.writer before.held after.held before.reported after.reported for_ms status
+  pub launched : line_faults line ≡ [] → IfNode (asked line) (λ file for_ms follow until_input_ends.
+      RunsFile before.writer after.writer before.held after.held before.reported after.reported file for_ms follow status
       ⊎ ((status ≡ 1) × FailsBy before.reported after.reported before.writer after.writer))
   launched none = elim (runs.taken none) [
-    | inl run ↦ of_node R W before after status (λ for_ms. RunsFile before.writer after.writer before.held after.held before.reported after.reported for_ms status
-        ⊎ ((status ≡ 1) × FailsBy before.reported after.reported before.writer after.writer)) (asked line) run (λ for_ms r. inl r.launched)
-    | inr lacks ↦ all_node (λ for_ms. RunsFile before.writer after.writer before.held after.held before.reported after.reported for_ms status
-        ⊎ ((status ≡ 1) × FailsBy before.reported after.reported before.writer after.writer)) (asked line) (λ for_ms. inr (lacks.is, lacks_fails R W before after status lacks))
+    | inl run ↦ of_node R W before after status (λ file for_ms follow. RunsFile before.writer after.writer before.held after.held before.reported after.reported file for_ms follow status
+        ⊎ ((status ≡ 1) × FailsBy before.reported after.reported before.writer after.writer)) (asked line) run (λ file for_ms follow r. inl r.launched)
+    | inr lacks ↦ all_node (λ file for_ms follow. RunsFile before.writer after.writer before.held after.held before.reported after.reported file for_ms follow status
+        ⊎ ((status ≡ 1) × FailsBy before.reported after.reported before.writer after.writer)) (asked line) (λ file for_ms follow. inr (lacks.1.is, lacks_fails R W before after status lacks))
   ]
 
-  pub launched_unread : IfNode (asked line) (λ file for_ms. after.reader ≡ before.reader)
+  pub launched_unread : IfNode (asked line) (λ file for_ms follow until_input_ends. after.reader ≡ before.reader)
   launched_unread = elim (nil_or (line_faults line)) [
     | inl none ↦ elim (runs.taken none) [
-      | inl run ↦ of_node R W before after status (λ for_ms. after.reader ≡ before.reader) (asked line) run (λ for_ms r. r.unread)
-      | inr lacks ↦ all_node (λ for_ms. after.reader ≡ before.reader) (asked line) (λ for_ms. lacks.unread)
+      | inl run ↦ of_node R W before after status (λ file for_ms follow. after.reader ≡ before.reader) (asked line) run (λ file for_ms follow r. r.unread)
+      | inr lacks ↦ all_node (λ file for_ms follow. after.reader ≡ before.reader) (asked line) (λ file for_ms follow. lacks.0)
     ]
     | inr some ↦ elim (runs.left some) [
-      | inl leaves ↦ all_node (λ for_ms. after.reader ≡ before.reader) (asked line) (λ for_ms. leaves.unread)
-      | inr lacks ↦ all_node (λ for_ms. after.reader ≡ before.reader) (asked line) (λ for_ms. lacks.unread)
+      | inl leaves ↦ all_node (λ file for_ms follow. after.reader ≡ before.reader) (asked line) (λ file for_ms follow. leaves.0)
+      | inr lacks ↦ all_node (λ file for_ms follow. after.reader ≡ before.reader) (asked line) (λ file for_ms follow. lacks.0)
     ]
   ]
 
-  -- unless `node` is run, a refusal writes nothing
-  pub unwritten : (line_faults line ≡ [] → IfNode (asked line) (λ file for_ms. ⊥)) → status ≡ 2
+  -- `check` is run, unless memory was refused for reading the line
+  pub checked : line_faults line ≡ [] → IfCheck (asked line) (λ file.
+      ChecksFile before.writer after.writer before.held after.held before.reported after.reported status
+      ⊎ ((status ≡ 1) × FailsBy before.reported after.reported before.writer after.writer))
+  checked none = elim (runs.taken none) [
+    | inl run ↦ of_check R W before after status (ChecksFile before.writer after.writer before.held after.held before.reported after.reported status
+        ⊎ ((status ≡ 1) × FailsBy before.reported after.reported before.writer after.writer)) (asked line) run (λ r. inl r.checked)
+    | inr lacks ↦ all_check (ChecksFile before.writer after.writer before.held after.held before.reported after.reported status
+        ⊎ ((status ≡ 1) × FailsBy before.reported after.reported before.writer after.writer)) (asked line) (inr (lacks.1.is, lacks_fails R W before after status lacks))
+  ]
+
+  pub checked_unread : IfCheck (asked line) (λ file. after.reader ≡ before.reader)
+  checked_unread = elim (nil_or (line_faults line)) [
+    | inl none ↦ elim (runs.taken none) [
+      | inl run ↦ of_check R W before after status (after.reader ≡ before.reader) (asked line) run (λ r. r.unread)
+      | inr lacks ↦ all_check (after.reader ≡ before.reader) (asked line) lacks.0
+    ]
+    | inr some ↦ elim (runs.left some) [
+      | inl leaves ↦ all_check (after.reader ≡ before.reader) (asked line) leaves.0
+      | inr lacks ↦ all_check (after.reader ≡ before.reader) (asked line) lacks.0
+    ]
+  ]
+
+  -- unless `node` or `check` is run, a refusal writes nothing
+  pub unwritten : (line_faults line ≡ [] → NeedsNoMachine (asked line)) → status ≡ 2
       → after.writer ≡ before.writer
   unwritten other two = elim (nil_or (line_faults line)) [
     | inl none ↦ elim (runs.taken none) [
       | inl run ↦ absurd (run_isnt_refused R W before after status (asked line) (other none) run two)
-      | inr lacks ↦ lacks.unwritten
+      | inr lacks ↦ lacks.1.unwritten
     ]
     | inr some ↦ elim (runs.left some) [
-      | inl leaves ↦ leaves.unwritten two
-      | inr lacks ↦ lacks.unwritten
+      | inl leaves ↦ leaves.1.unwritten two
+      | inr lacks ↦ lacks.1.unwritten
     ]
   ]
 
   -- and a run that fails reports why, and writes nothing unless it is the writing that fails
-  pub failed : (line_faults line ≡ [] → IfNode (asked line) (λ file for_ms. ⊥)) → status ≡ 1
+  pub failed : (line_faults line ≡ [] → NeedsNoMachine (asked line)) → status ≡ 1
       → FailsBy before.reported after.reported before.writer after.writer
   failed other one = elim (nil_or (line_faults line)) [
     | inl none ↦ elim (runs.taken none) [
@@ -273,7 +335,7 @@ module _ (R W : Type 0) (before after : Streams R W) (line : List Text) (status 
       | inr lacks ↦ lacks_fails R W before after status lacks
     ]
     | inr some ↦ elim (runs.left some) [
-      | inl leaves ↦ leaves_fails R W before after status (line_faults line) leaves one
+      | inl leaves ↦ leaves_fails R W before after status line leaves one
       | inr lacks ↦ lacks_fails R W before after status lacks
     ]
   ]

@@ -1,7 +1,7 @@
 //! The program `lg`: a SWIM failure detector with Lifeguard's extensions, on a command line.
 #![tactic(auto)]
 
-mod command;
+mod node;
 mod program;
 
 use std::env::Env;
@@ -14,6 +14,7 @@ fn main(rt: HostRuntime) -> ExitCode {
             &rt,
             rt.alloc(),
             words.as_slice(),
+            rt.stdin(),
             &mut rt.stdin(),
             &mut rt.stdout(),
             &mut rt.stderr(),

@@ -1,18 +1,16 @@
 -- How a command line is run, and what becomes of one that isn't.
-use Rattle.std.specs.Prelude.{◌≡◌, ◌≢◌, ◌⊎◌, IfOk, ℕ, true, List, [], Option}
+use Rattle.std.specs.Prelude.{◌≡◌, ◌≢◌, ◌⊎◌, Bool, IfOk, ℕ, true, List, [], Option}
 use Rattle.std.specs.Result.{is_err}
-use Rattle.clap.specs.Kinds.{Kinds}
-use Rattle.clap.specs.Walk.{Text}
 use Rattle.lg_rules.specs.Meaning.Name.{name_of_text}
-use Rattle.lg_text.specs.Meaning.Faults.{run_fault_text}
-use Rattle.lg_text.specs.Meaning.Running.{AppendsFront, ReadsWhole}
-use Rattle.lg_text.specs.declared.fault.RunFault.TheVariants.{Memory, Write}
+use Rattle.lg_text.specs.Meaning.Running.{ReadsWhole}
 use Rattle.lg_commands.specs.Meaning.Choosing.{order_text}
 use Rattle.lg_commands.specs.Meaning.Running.{FailsBy, RunsAnswer, RunsOrder, RunsSim, RunsTimeouts}
 use Rattle.lg_commands.specs.declared.timeouts.Numbers.{Numbers}
+use Rattle.lg_launch.specs.Meaning.Checking.{ChecksFile}
 use Rattle.lg_launch.specs.Meaning.Running.{RunsFile}
-use Rattle.lg_cli.specs.Meaning.Commands.{Request, answer, order, timeouts, sim, node}
-use Rattle.lg_cli.specs.Meaning.Commands.{asked, line_faults, RefusesLine}
+use Rattle.lg_command_line.specs.Meaning.Commands.{Request, answer, check, node, order, sim, timeouts}
+use Rattle.lg_command_line.specs.Meaning.Commands.{asked, line_faults}
+use Rattle.lg_command_line.specs.Meaning.Leaving.{LacksMemory, LeavesLine}
 
 -- A reader and the bytes that it has left, a writer and the bytes that it has taken, and the bytes that were
 -- reported. If a stream doesn't tell its bytes, none are known.
@@ -30,7 +28,7 @@ streams reader left writer held reported =
 
 -- `answer` is run for a text that should be a name. If it is no name, the status is 3, and nothing is read or
 -- written. If the run fails, the whole input was read before anything was written.
-pub record RunsNamed {R W : Type 0} (before after : Streams R W) (text : Text) (status : ℕ) : Type 0 where
+pub record RunsNamed {R W : Type 0} (before after : Streams R W) (text : List ℕ) (status : ℕ) : Type 0 where
   pub answered : status ≢ 1 → IfOk (name_of_text text)
       (λ name. RunsAnswer before.left after.left before.held after.held before.reported after.reported name status)
   pub bad_name : is_err (name_of_text text) ≡ true → status ≡ 3
@@ -41,7 +39,7 @@ pub record RunsNamed {R W : Type 0} (before after : Streams R W) (text : Text) (
   pub run : status ≢ 2
 
 -- `order` is run for two texts, its names and its words. Nothing is read. If a list is bad, nothing is written.
-pub record RunsLists {R W : Type 0} (before after : Streams R W) (names words : Text) (status : ℕ) : Type 0 where
+pub record RunsLists {R W : Type 0} (before after : Streams R W) (names words : List ℕ) (status : ℕ) : Type 0 where
   pub ordered : status ≢ 1
       → RunsOrder before.held after.held before.reported after.reported (order_text names words) status
   pub unlisted : is_err (order_text names words) ≡ true → after.writer ≡ before.writer
@@ -65,10 +63,29 @@ pub record RunsScript {R W : Type 0} (before after : Streams R W) (status : ℕ)
   pub read : status ≡ 1 → (after.writer ≡ before.writer) ⊎ ReadsWhole before.left after.left
   pub run : status ≢ 2
 
--- `node` is run for some milliseconds, from its file. Nothing is read from the reader.
-pub record RunsForTime {R W : Type 0} (before after : Streams R W) (for_ms status : ℕ) : Type 0 where
-  pub launched : RunsFile before.writer after.writer before.held after.held before.reported after.reported for_ms status
+-- `node` is run from its file: for some milliseconds, if it was said for how many, and following what changes, if that
+-- was said. Nothing is read from the reader. No contract sees the input whose end may end the node.
+pub record RunsNodeFile
+    {R W : Type 0} (before after : Streams R W) (file : List ℕ) (for_ms : Option ℕ) (follow : Bool) (status : ℕ)
+    : Type 0 where
+  pub launched : RunsFile before.writer after.writer before.held after.held before.reported after.reported
+      file for_ms follow status
   pub unread : after.reader ≡ before.reader
+
+-- `check` is run for its file. Nothing is read from the reader.
+pub record RunsCheck {R W : Type 0} (before after : Streams R W) (status : ℕ) : Type 0 where
+  pub checked :
+      ChecksFile before.writer after.writer before.held after.held before.reported after.reported status
+  pub unread : after.reader ≡ before.reader
+
+-- The command line isn't run, and nothing is read.
+abbrev pub LacksUnread : {R W : Type 0} → (before after : Streams R W) → ℕ → Type 0
+LacksUnread before after status = (after.reader ≡ before.reader)
+    × LacksMemory before.writer after.writer before.reported after.reported status
+
+abbrev pub LeavesUnread : {R W : Type 0} → (before after : Streams R W) → List (List ℕ) → ℕ → Type 0
+LeavesUnread before after line status = (after.reader ≡ before.reader)
+    × LeavesLine before.writer after.writer before.reported after.reported (line_faults line) status
 
 -- The command that is asked for is run.
 abbrev pub RunsRequest : {R W : Type 0} → (before after : Streams R W) → Request → ℕ → Type 0
@@ -76,29 +93,13 @@ RunsRequest before after (answer text) status = RunsNamed before after text stat
 RunsRequest before after (order names words) status = RunsLists before after names words status
 RunsRequest before after (timeouts numbers) status = RunsNumbers before after numbers status
 RunsRequest before after sim status = RunsScript before after status
-RunsRequest before after (node file for_ms) status = RunsForTime before after for_ms status
+RunsRequest before after (node file for_ms follow until_input_ends) status =
+    RunsNodeFile before after file for_ms follow status
+RunsRequest before after (check file) status = RunsCheck before after status
 
--- Memory was refused for reading the command line. That is reported, as far as the report is taken. Nothing is read
--- or written, and the status is 1.
-pub record LacksMemory {R W : Type 0} (before after : Streams R W) (status : ℕ) : Type 0 where
-  pub is : status ≡ 1
-  pub told : AppendsFront before.reported after.reported (run_fault_text Memory)
-  pub unread : after.reader ≡ before.reader
-  pub unwritten : after.writer ≡ before.writer
-
--- A command line that isn't taken is refused by one of its faults, or asks for help. Nothing is read. A refusal
--- writes nothing, and help reports nothing. Only help can fail, if it isn't taken whole; that is reported, as far as
--- the report is taken.
-pub record LeavesLine {R W : Type 0} (before after : Streams R W) (faults : Kinds) (status : ℕ) : Type 0 where
-  pub refused : status ≢ 1 → RefusesLine faults status
-  pub unread : after.reader ≡ before.reader
-  pub unwritten : status ≡ 2 → after.writer ≡ before.writer
-  pub unreported : status ≡ 0 → after.reported ≡ before.reported
-  pub helped : status ≡ 1 → RefusesLine faults 0
-  pub told : status ≡ 1 → AppendsFront before.reported after.reported (run_fault_text Write)
-
--- A command line that is taken runs its command, and any other is left; or memory was refused for reading it.
-pub record RunsLine {R W : Type 0} (before after : Streams R W) (line : List Text) (status : ℕ) : Type 0 where
-  pub taken : line_faults line ≡ [] → RunsRequest before after (asked line) status ⊎ LacksMemory before after status
+-- A command line that is taken runs its command, and any other is left; or memory was refused for reading it. Nothing
+-- is read for a line that isn't run.
+pub record RunsLine {R W : Type 0} (before after : Streams R W) (line : List (List ℕ)) (status : ℕ) : Type 0 where
+  pub taken : line_faults line ≡ [] → RunsRequest before after (asked line) status ⊎ LacksUnread before after status
   pub left : line_faults line ≢ []
-      → LeavesLine before after (line_faults line) status ⊎ LacksMemory before after status
+      → LeavesUnread before after line status ⊎ LacksUnread before after status

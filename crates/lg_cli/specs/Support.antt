@@ -1,3 +1,0 @@
--- What only carries the proofs.
-pub mod Bounds
-pub mod Requests
