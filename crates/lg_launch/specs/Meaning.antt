@@ -5,4 +5,5 @@ pub mod Reporting
 pub mod Running
 pub mod Telling
 pub mod Wishes
+pub mod WordExamples
 pub mod Words

@@ -23,13 +23,7 @@ use std::rt::Files;
 /// At most 65,537 bytes of the file are read. A file that can't be read is told by [`Told::Read`]. Memory that is
 /// refused for its bytes is told by [`Told::Memory`]. In both cases nothing is written. No contract can say what a
 /// file holds.
-pub fn check_file<R, W, F>(
-    rt: &R,
-    alloc: Global,
-    path: &str,
-    writer: &mut W,
-    faults: &mut F,
-) -> u8
+pub fn check_file<R, W, F>(rt: &R, alloc: Global, path: &str, writer: &mut W, faults: &mut F) -> u8
 where
     R: Files,
     W: Write,
@@ -77,11 +71,7 @@ where
 }
 
 /// Writes what a configuration means. The whole text is made before its first byte is written.
-fn write_check<W: Write>(
-    alloc: Global,
-    node: &NodeConfig,
-    writer: &mut W,
-) -> Result<(), RunFault>
+fn write_check<W: Write>(alloc: Global, node: &NodeConfig, writer: &mut W) -> Result<(), RunFault>
     requires { IsChecked node.now.config }
     ensures { WritesText writer.old writer.new (W.contents writer.old) (W.contents writer.new)
         (check_text node.now) result }

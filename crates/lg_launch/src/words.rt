@@ -24,11 +24,7 @@ fn seed_count(alloc: Global, count: usize) -> Result<String, AllocError>
 
 /// The line of a node that starts: who runs where, with which file, in which version it writes its packets, and how
 /// many seeds it has. Allocates the line; the only error is that memory was refused.
-pub(crate) fn start_line(
-    alloc: Global,
-    file: &str,
-    node: &NodeConfig,
-) -> Result<String, AllocError>
+pub(crate) fn start_line(alloc: Global, file: &str, node: &NodeConfig) -> Result<String, AllocError>
     ensures { IfOk result (λ text. string_bytes text ≡ start_line file.now node.now) }
 {
     let addr = addr_text(alloc, node.config.addr)?;
