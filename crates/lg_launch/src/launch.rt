@@ -191,7 +191,15 @@ where
     };
     let until = end_wished(wishes.until);
     if wishes.follow {
-        return run_node(rt, alloc, &node.config, &settings, until, stop, Some(writer));
+        return run_node(
+            rt,
+            alloc,
+            &node.config,
+            &settings,
+            until,
+            stop,
+            Some(writer),
+        );
     }
     let nobody: Option<&mut W> = None;
     run_node(rt, alloc, &node.config, &settings, until, stop, nobody)
