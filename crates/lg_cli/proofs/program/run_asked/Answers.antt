@@ -1,4 +1,5 @@
-use Rattle.std.proofs.Common.{refl}
+use Rattle.std.proofs.Common.{ℕ, Option, refl, subst}
+use Rattle.lg_launch.specs.Meaning.Running.{RunsFile}
 use Rattle.lg_cli.proofs.program.run_asked.Goals as goal
 
 pub returns-in-Answer : goal.returns-in-Answer
@@ -43,3 +44,13 @@ returns-in-Sim g c =
 pub returns-in-Check : goal.returns-in-Check
 returns-in-Check g c =
     rw (c.in-Check.is) (record { checked = c.check_file.ensures; unread = refl {a = c.args.reader.now} })
+
+pub returns-in-Node : goal.returns-in-Node
+returns-in-Node g c =
+    rw (c.in-Node.is) (record {
+      launched = subst (λ (until : Option ℕ). RunsFile c.args.writer.now c.run_node.new.writer
+        (g.W.Write.contents c.args.writer.now) (g.W.Write.contents c.run_node.new.writer)
+        (g.F.Write.contents c.args.faults.now) (g.F.Write.contents c.run_node.new.faults)
+        c.in-Node.file.now until c.in-Node.follow c.run_node.result) c.end_after-until.ensures c.run_node.ensures;
+      unread = refl {a = c.args.reader.now};
+    })
