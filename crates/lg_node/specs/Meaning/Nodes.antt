@@ -56,9 +56,9 @@ pub record HasServed
       (fresh_own config start 2) ticker (record ticked { unsent = later })
   pub counted : later + unsent < 2 ^ 64 → ticked.unsent ≡ later + unsent
 
--- A node ran. It opened an agent with three places, asked its seeds and ran its loops. The pass that had asked the seeds
--- made looks beside the loops, if it watched. Then it read the members, and the agent was closed with what the three
--- passes left. Reading or closing may have been refused.
+-- A node ran. It opened an agent with three places, asked its seeds and ran its loops. The pass that had asked the
+-- seeds made looks beside the loops, if it watched. Then it read the members, and the agent was closed with what the
+-- three passes left. Reading or closing may have been refused.
 pub record IsRun
     {D : Type 0} (throws : D → List ℕ → D → Type 0) (dice : D) (tells : Bool) (bound : ℕ) (config : Config)
     (pull_ms until : ℕ) (hears hears' sends sends' : LinkValue) (e : NodeEnd) : Type 0 where
@@ -68,8 +68,8 @@ pub record IsRun
   pub asker : PassValue
   pub watcher : PassValue
   pub reader : PassValue
-  pub served : HasServed throws dice tells bound config pull_ms until start hears hears' sends sends' e.received e.ticked
-      receiver ticker asker
+  pub served : HasServed throws dice tells bound config pull_ms until start hears hears' sends sends' e.received
+      e.ticked receiver ticker asker
   pub watched : OnlyLooked asker watcher
   pub members : MatchResult e.members (λ records. (records.items ≡ view_after reader.seen) × IsLook watcher reader)
       (λ r. ((r ≡ NoView) ⊎ (r ≡ NoMemory)) × (reader ≡ watcher))
