@@ -1,7 +1,7 @@
 //! The lines in words: who starts, and why a socket can't be bound.
 //!
 //! Defined in: `specs/Meaning/Words.antt`.
-//! Tested in: `lg_command_tests/src/launch/words.rt`, `cases/node.case`.
+//! Tested in: `lg_command_tests/src/launch/starts.rt`, `cases/node.case`.
 ghost use Rattle.std.specs.Prelude.{◌≡◌, IfOk, string_bytes};
 ghost use Rattle.lg_launch.specs.Meaning.Words.{bind_words, link_reason, seed_count, start_line};
 
