@@ -4,7 +4,7 @@
 //! - what `answer`, `order` and `timeouts` write: `specs/Meaning/Answering.antt`, `Choosing.antt` and `Timeouts.antt`;
 //!   what `sim` writes: `lg_sim`;
 //! - how a run ends, and its status: `specs/Meaning/Running.antt`;
-//! - which command a command line asks for: `lg_cli`.
+//! - which command a command line asks for: `lg_command_line`.
 #![tactic(auto)]
 
 mod answer;
