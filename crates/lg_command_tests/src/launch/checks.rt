@@ -85,7 +85,9 @@ fn refused_memory(rt: HostRuntime) {
     for row in ROWS {
         let (text, fails_at, status, written, told) = row;
         let mut outcome = check(rt.alloc(), text, fails_at);
-        if outcome.is(1, "", "lg: memory\n") || outcome.is(status, "", first_line(told)) {
+        let is_refused = outcome.is(1, "", "lg: memory\n")
+            || outcome.is(status, "", first_line(told));
+        if is_refused && !outcome.is(status, written, told) {
             outcome = check(rt.alloc(), text, fails_at);
         }
         assert!(rt;
