@@ -25,7 +25,7 @@ def simulated(program, lines):
 
 
 def unless(met, fault):
-    """No fault where something is met."""
+    """No fault if something is met."""
     return [] if met else [fault]
 
 
@@ -79,7 +79,7 @@ def lost_packets(program):
 
 
 def only_the_dead_member_fails(program):
-    """Where every third packet is lost, the dead member is taken as failed by all others, and a live one by none."""
+    """If every third packet is lost, the dead member is taken as failed by all others, and a live one by none."""
     script = lost_packets(program)
     before = simulated(program, script)
     lines = simulated(program, script + [f"table {member}" for member, _ in MEMBERS[:7]])
