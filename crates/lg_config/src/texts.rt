@@ -1,12 +1,12 @@
 //! Reads the texts of a file: names, addresses, ports and seeds.
 //!
-//! Defined in: `specs/Meaning/Texts.antt`, `lg_text/specs/Meaning/Cutting.antt`, `Numbers.antt`.
+//! Defined in: `specs/Meaning/Texts.antt`, `lg_text/specs/Meaning/Cutting.antt`, `Names.antt`, `Numbers.antt`.
 //! Tested in: `cases/config_forms.case`, `cases/config_seeds.case`.
 ghost use Rattle.std.specs.Prelude.{◌≡◌};
-ghost use Rattle.lg_config.specs.Meaning.Texts.{address_of, name_of_setting, octet_of, octets_of, seed_of_text};
+ghost use Rattle.lg_config.specs.Meaning.Texts.{address_of, octet_of, octets_of, seed_of_text};
 
-use lg_rules::{Addr, Name};
-pub(crate) use lg_text::port_among;
+use lg_rules::Addr;
+pub(crate) use lg_text::{name_in, port_among};
 use lg_text::{cut_at, number_in, port_in};
 use lg_timing::Seed;
 
@@ -41,13 +41,6 @@ fn address_in(text: &[u8]) -> Option<Addr>
     let octets = octets_in(octets)?;
     let port = port_in(port?)?;
     Some(Addr { octets, port })
-}
-
-/// The name that a text spells.
-pub(crate) fn name_in(text: &[u8]) -> Option<Name>
-    ensures { result ≡ name_of_setting text.now }
-{
-    Name::new(text).ok()
 }
 
 /// The seed that a text spells: NAME@A.B.C.D:PORT.

@@ -1,3 +1,2 @@
 pub mod CuttingLaws
 pub mod ReadingLaws
-pub mod ValueLaws

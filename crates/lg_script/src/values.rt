@@ -1,12 +1,12 @@
 //! Reads single words.
 //!
-//! Defined in: `specs/Meaning/Values.antt`, `lg_text/specs/Meaning/Numbers.antt`, `Cutting.antt`.
+//! Defined in: `specs/Meaning/Values.antt`, `lg_text/specs/Meaning/Numbers.antt`, `Names.antt`, `Cutting.antt`.
 //! Tested in: `cases/sim_commands.case`, `cases/sim_lines.case`.
 ghost use Rattle.std.specs.Prelude.{◌≡◌};
-ghost use Rattle.lg_script.specs.Meaning.Values.{local, moment_of, member_name_of, random_word_of, seed_of};
+ghost use Rattle.lg_script.specs.Meaning.Values.{local, moment_of, random_word_of, seed_of};
 
-use lg_rules::{Addr, Name};
-pub(crate) use lg_text::port_in;
+use lg_rules::Addr;
+pub(crate) use lg_text::{name_in, port_in};
 use lg_text::{cut_at, number_within};
 use lg_timing::{MAX_MOMENT, Moment, Seed};
 
@@ -27,20 +27,13 @@ pub(crate) fn moment_in(word: &[u8]) -> Option<Moment>
     Moment::new(number_within(word, 0, MAX_MOMENT)?)
 }
 
-/// The random word of a tick that some bytes spell: 1 to 16 decimal digits, a number of at most 4,294,967,295. Any other
-/// bytes give `None`. No memory is allocated.
+/// The random word of a tick that some bytes spell: 1 to 16 decimal digits, a number of at most 4,294,967,295. Any
+/// other bytes give `None`. No memory is allocated.
 pub fn random_word_in(word: &[u8]) -> Option<u32>
     ensures { result ≡ random_word_of word.now }
 {
     let number = number_within(word, 0, u64::from(u32::MAX))?;
     Some(number as u32)
-}
-
-/// The name that a word spells.
-pub(crate) fn name_in(word: &[u8]) -> Option<Name>
-    ensures { result ≡ member_name_of word.now }
-{
-    Name::new(word).ok()
 }
 
 /// The seed that a word spells: a name, a colon and a port.

@@ -3,6 +3,7 @@ pub mod Cutting
 pub mod Examples
 pub mod Faults
 pub mod Lines
+pub mod Names
 pub mod Numbers
 pub mod Ranges
 pub mod Running

@@ -1,5 +1,5 @@
-//! Reads an input whole, up to a limit, and finds its lines. Cuts a text at a byte, and reads numbers and ports. Writes
-//! a text whole, or a line as far as the writer takes it.
+//! Reads an input whole, up to a limit, and finds its lines. Cuts a text at a byte, and reads names, numbers and ports.
+//! Writes a text whole, or a line as far as the writer takes it.
 #![tactic(auto)]
 
 mod cutting;
@@ -7,6 +7,7 @@ mod end;
 mod fault;
 mod input;
 mod lines;
+mod name;
 mod number;
 mod output;
 
@@ -15,5 +16,6 @@ pub use end::End;
 pub use fault::RunFault;
 pub use input::{MAX_INPUT, read_input};
 pub use lines::cut_line;
+pub use name::name_in;
 pub use number::{MAX_DIGITS, number_in, number_within, port_among, port_in};
 pub use output::{report, write_whole};

@@ -15,7 +15,7 @@ use Rattle.lg_config.specs.declared.node_keys.NodeKey.TheVariants.{PullMs, Stall
 use Rattle.lg_config.specs.Meaning.Bounds.{out_of_range, default_address, default_port, default_dice}
 use Rattle.lg_config.specs.Meaning.Keys.{texts_key}
 use Rattle.lg_config.specs.Meaning.NodeKeys.{node_key_name, node_row_of}
-use Rattle.lg_config.specs.Meaning.Texts.{◌>>=◌, port_among, octets_of, name_of_setting, seed_of_text}
+use Rattle.lg_config.specs.Meaning.Texts.{◌>>=◌, port_among, octets_of, member_name_of, seed_of_text}
 
 -- the text at a key, and the whole number at a key, if there is one
 abbrev pub text_at : List ℕ → Members → Option (List ℕ)
@@ -58,7 +58,7 @@ address_text members = unwrap_or (text_at (codes "address") members) default_add
 
 -- this member's name
 unfoldable pub name_in : Members → Option (List ℕ)
-name_in members = name_of_setting (name_text members)
+name_in members = member_name_of (name_text members)
 
 -- the four numbers of this member's address, and its port
 abbrev pub octets_of_member : Members → Option (List ℕ)

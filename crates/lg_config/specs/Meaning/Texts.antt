@@ -1,12 +1,12 @@
--- What a text of a configuration file says: a name, an address, a port, a seed. None if it is out of its form.
+-- What a text of a configuration file says: an address, or a seed. It is None if the text is out of its form. What name
+-- and what port a text spells is said by `member_name_of` and `port_of` of `lg_text`.
 use Rattle.std.specs.Prelude.{ℕ, List, [], ◌∷◌, Option, Some}
-use Rattle.std.specs.Result.{result_ok}
-use Rattle.lg_rules.specs.Meaning.Name.{name_of_text}
 use Rattle.lg_rules.specs.declared.addr.Addr.{Addr}
 use Rattle.lg_timing.specs.declared.config.Seed.{Seed}
 use Rattle.lg_text.specs.Meaning.Cutting.{colon}
 use Rattle.lg_text.specs.Meaning.Numbers.{number_within, port_of}
 use Rattle.lg_config.specs.Meaning.Bounds.{most_octet}
+pub use Rattle.lg_text.specs.Meaning.Names.{member_name_of}
 pub use Rattle.lg_text.specs.Meaning.Numbers.{port_among}
 pub use Rattle.lg_text.specs.Meaning.Steps.{◌>>=◌}
 unfoldable pub use Rattle.lg_text.specs.Meaning.Cutting.{before, behind}
@@ -42,13 +42,10 @@ address_of text = do
   port ← port_of rest
   Some record { octets = octets; port = port }
 
-abbrev pub name_of_setting : List ℕ → Option (List ℕ)
-name_of_setting text = result_ok (name_of_text text)
-
 -- a seed, cut at its first `@`: a name stands before it, and an address with its port after it
 unfoldable pub seed_of_text : List ℕ → Option Seed
 seed_of_text text = do
-  name ← name_of_setting (before at_sign text)
+  name ← member_name_of (before at_sign text)
   rest ← behind at_sign text
   addr ← address_of rest
   Some record { name = name; addr = addr }

@@ -1,10 +1,10 @@
 -- What the words after the name of a command say. It is None if one of them is out of its form or range.
 use Rattle.std.specs.Prelude.{ℕ, List, [], Option, Some, slice_index_or, drop}
 use Rattle.lg_timing.specs.Meaning.Keys.{key_named}
+use Rattle.lg_text.specs.Meaning.Names.{member_name_of}
 use Rattle.lg_text.specs.Meaning.Numbers.{number_of, port_of}
 use Rattle.lg_text.specs.Meaning.Steps.{◌>>=◌}
-use Rattle.lg_script.specs.Meaning.Values.{moment_of, member_name_of}
-use Rattle.lg_script.specs.Meaning.Values.{random_words_of, seeds_of}
+use Rattle.lg_script.specs.Meaning.Values.{moment_of, random_words_of, seeds_of}
 use Rattle.lg_script.specs.declared.command.Command.{Command}
 use Rattle.lg_script.specs.declared.command.Command.TheVariants.{Set, Open, Tick, Deliver, Ask, Health, Pull, Table}
 use Rattle.lg_script.specs.declared.verb.Verb.{Verb}

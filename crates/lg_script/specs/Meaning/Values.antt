@@ -1,14 +1,14 @@
--- What one word of a line says: a moment, a random word, a name, a seed. What number and what port it spells is said
--- by `number_of` and `port_of` of `lg_text`, and what key it names by `key_named` of `lg_timing`.
+-- What one word of a line says: a moment, a random word, a seed. What number, what port and what name it spells is said
+-- by `number_of`, `port_of` and `member_name_of` of `lg_text`, and what key it names by `key_named` of `lg_timing`.
 use Rattle.std.specs.Prelude.{ℕ, ◌-◌, nat_le, List, []}
 use Rattle.std.specs.Prelude.{◌∷◌, ◌++◌, length, replicate}
 use Rattle.std.specs.Prelude.{Option, Some, None, if◌then◌else◌}
 use Rattle.std.specs.Option.{option_map}
-use Rattle.lg_rules.specs.Meaning.Name.{is_name}
 use Rattle.lg_rules.specs.declared.addr.Addr.{Addr}
 use Rattle.lg_timing.specs.Meaning.Bounds.{most_seeds}
 use Rattle.lg_timing.specs.declared.config.Seed.{Seed}
 use Rattle.lg_text.specs.Meaning.Cutting.{before, behind, colon}
+use Rattle.lg_text.specs.Meaning.Names.{member_name_of}
 use Rattle.lg_text.specs.Meaning.Numbers.{number_within, port_of}
 use Rattle.lg_text.specs.Meaning.Steps.{◌>>=◌}
 use Rattle.lg_script.specs.Meaning.Bounds.{greatest_moment, random_words, greatest_random_word}
@@ -20,9 +20,6 @@ moment_of word = number_within 0 greatest_moment word
 -- a random word: 1 to 16 decimal digits, a number of at most 4,294,967,295
 abbrev pub random_word_of : List ℕ → Option ℕ
 random_word_of word = number_within 0 greatest_random_word word
-
-abbrev pub member_name_of : List ℕ → Option (List ℕ)
-member_name_of word = if is_name word then Some word else None
 
 -- the address of the member with a port: all members are at 127.0.0.1
 abbrev pub local : ℕ → Addr

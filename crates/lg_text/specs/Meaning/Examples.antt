@@ -3,6 +3,7 @@ use Rattle.std.specs.Prelude.{◌≡◌, [], ◌∷◌, ◌++◌, Some, None, co
 use Rattle.lg_text.specs.Meaning.Cutting.{before, behind, colon}
 use Rattle.lg_text.specs.Meaning.Faults.{run_fault_text}
 use Rattle.lg_text.specs.Meaning.Lines.{lines_of}
+use Rattle.lg_text.specs.Meaning.Names.{member_name_of}
 use Rattle.lg_text.specs.Meaning.Numbers.{number_of, number_within, port_of}
 use Rattle.lg_text.specs.declared.fault.RunFault.TheVariants.{Read}
 
@@ -65,6 +66,15 @@ no-port = refl
 
 past-ports : port_of (codes "65536") ≡ None
 past-ports = refl
+
+a-name : member_name_of (codes "b-2") ≡ Some (codes "b-2")
+a-name = refl
+
+no-name : member_name_of [] ≡ None
+no-name = refl
+
+blank-in-name : member_name_of (codes "b 2") ≡ None
+blank-in-name = refl
 
 read-fault : run_fault_text Read ≡ codes "lg: read" ++ 10 ∷ []
 read-fault = refl
