@@ -1,4 +1,4 @@
-//! Two threads share an agent: one hands it a datagram and a tick, the other looks who is alive.
+//! Two threads share an agent: one hands it a datagram and a tick, the other looks until it knows a member.
 #![tactic(auto)]
 
 ghost use Rattle.std.specs.Prelude.{◌≡◌};
@@ -19,7 +19,7 @@ const PING: [u8; 26] = [
     0, 0,
 ];
 
-/// The thread that has the socket and the clock.
+/// The thread that makes the calls. In a service it has the socket and the clock.
 fn serve<A: AgentName, R: Wait>(rt: &R, alloc: Global, pass: Pass<'_, A>) -> Spent<A> {
     let mut pass = pass;
     let source = Addr::new([127, 0, 0, 1], 9000);
@@ -30,7 +30,7 @@ fn serve<A: AgentName, R: Wait>(rt: &R, alloc: Global, pass: Pass<'_, A>) -> Spe
     pass.finish()
 }
 
-/// A thread of the service. It takes no lock.
+/// The thread that looks until c is known. It takes no lock. A service looks when it needs to know, and not in a loop.
 fn watch<A: AgentName>(pass: Pass<'_, A>) -> (Spent<A>, bool) {
     let mut pass = pass;
     let name = Name::new(b"c").unwrap_or_default();
@@ -44,7 +44,8 @@ fn watch<A: AgentName>(pass: Pass<'_, A>) -> (Spent<A>, bool) {
     (pass.finish(), known)
 }
 
-/// Opens an agent for two threads, and closes it. Returns whether c became known, and how many entries there are.
+/// Opens an agent for two threads, and closes it. Returns whether c became known, and how many entries there are. If c
+/// didn't become known, or memory is refused, closing is refused, and it returns none.
 fn share<A: AgentName + Send + Sync, R: Threads + Wait + Sync>(
     rt: &R,
     alloc: Global,
