@@ -15,6 +15,7 @@ mod probing;
 mod rejoining;
 mod relaying;
 mod resuming;
+mod round_ends;
 mod tables;
 mod tick;
 mod versions;

@@ -1,10 +1,10 @@
-//! Rounds of probing. b is opened at 0.
-use super::happening::Happens::{Ack, First, From, Health, Opens, Ping, TickBy};
+//! Whom rounds probe, through whom, and with which packets. b is opened at 0.
+use super::happening::Happens::{Ack, First, Health, Opens, Ping, TickBy};
 use super::happening::Says::{self, Request};
 use super::happening::Setting::Indirect;
 use super::playing::Due::{Direct, RoundEnd, RoundStart, Suspicion};
 use super::playing::Step::{
-    self, AnswersHealth, Changed, Chose, Fired, Known, Next, Pings, Sends, Sent, Takes, Ticks,
+    self, AnswersHealth, Chose, Fired, Next, Pings, Sends, Sent, Takes, Ticks,
 };
 use super::playing::{Case, play, play_blank};
 use crate::says::Said::{self, Alive, AliveAt, Failed, FailedAt, Suspect, SuspectAt};
@@ -61,27 +61,6 @@ const A_SUSPECT: &[Case] = &[
         ],
     ),
 ];
-
-/// b suspects a member that doesn't ack. Its next Ping to that member takes this record with it.
-const NO_ACK: Case = (
-    "c",
-    &[
-        Takes(Ping(0, 1, "z", &[Alive("c", 0)])),
-        Takes(First(0)),
-        Next(500),
-        Ticks(500, Direct(500), &[], 1000),
-        Ticks(1000, RoundEnd(1000), &[Suspect("c", 0, "b")], 1000),
-        Takes(First(1000)),
-        Fired(RoundStart(1000)),
-        Sent(0, 7000, Says::Ping(2, "c"), &[Suspect("c", 0, "b")]),
-        Next(2000),
-        Takes(From(1020, "c", 7000, Says::Ack(2), &[Alive("c", 1)])),
-        Changed(&[Alive("c", 1)]),
-        Next(3000),
-        Takes(Health(1020)),
-        AnswersHealth(0, 0, 2),
-    ],
-);
 
 /// Each word picks one of the helpers that are left, in the order of names: f, d and then e. Of two others, the
 /// suspected d helps, and the failed e doesn't.
@@ -210,118 +189,8 @@ const FILLED: &[Case] = &[
     ),
 ];
 
-/// The timers of a round stay as they were set at its start, whatever becomes of the score meanwhile. The two
-/// refutations and the probe that failed make it 3. The greatest score stays what it is if a probe fails and a helper
-/// sends no Nack.
-const SCORES: &[Case] = &[
-    (
-        "two refutations",
-        &[
-            Takes(Ping(0, 1, "z", &[Alive("c", 0)])),
-            Takes(First(0)),
-            Takes(Ping(100, 2, "z", &[Suspect("b", 0, "a")])),
-            Next(500),
-            Takes(First(500)),
-            Fired(Direct(500)),
-            Next(1000),
-            Takes(Ping(600, 3, "z", &[Suspect("b", 1, "a")])),
-            Next(1000),
-            Takes(First(1000)),
-            Fired(RoundEnd(1000)),
-            Takes(First(1000)),
-            Fired(RoundStart(1000)),
-            Next(3000),
-        ],
-    ),
-    (
-        "eight refutations",
-        &[
-            Takes(Ping(0, 1, "z", &[Alive("c", 0), Alive("d", 0)])),
-            Takes(Ping(
-                0,
-                2,
-                "z",
-                &[
-                    Suspect("b", 0, "a"),
-                    Suspect("b", 1, "a"),
-                    Suspect("b", 2, "a"),
-                    Suspect("b", 3, "a"),
-                    Suspect("b", 4, "a"),
-                    Suspect("b", 5, "a"),
-                ],
-            )),
-            Takes(Ping(0, 3, "z", &[Suspect("b", 6, "a"), Suspect("b", 7, "a")])),
-            Takes(First(0)),
-            Next(4500),
-            Takes(First(4500)),
-            Sends(1),
-            Next(9000),
-            Takes(First(9000)),
-            Fired(RoundEnd(9000)),
-            Changed(&[Suspect("c", 0, "b")]),
-            Takes(Health(9000)),
-            AnswersHealth(8, 8, 3),
-            Takes(First(9000)),
-            Next(13_500),
-        ],
-    ),
-];
-
-/// A target that has failed meanwhile: its Ack counts. If no Ack comes, the round marks the score and nobody is
-/// suspected. A helper that has failed meanwhile: its Ack counts.
-const TARGET_FAILED: &[Case] = &[
-    (
-        "an Ack",
-        &[
-            Takes(Ping(0, 1, "z", &[Alive("c", 0)])),
-            Takes(First(0)),
-            Takes(Ping(100, 2, "z", &[Failed("c", 0)])),
-            Takes(Ack(200, "c", 1)),
-            Next(1000),
-            Takes(First(1000)),
-            Fired(RoundEnd(1000)),
-            Takes(Health(1000)),
-            AnswersHealth(0, 0, 1),
-        ],
-    ),
-    (
-        "no Ack",
-        &[
-            Takes(Ping(0, 1, "z", &[Alive("c", 0)])),
-            Takes(First(0)),
-            Takes(Ping(100, 2, "z", &[Failed("c", 0)])),
-            Takes(First(500)),
-            Fired(Direct(500)),
-            Ticks(1000, RoundEnd(1000), &[], 1000),
-            Known("c", Some(Failed("c", 0))),
-            Takes(Health(1000)),
-            AnswersHealth(1, 0, 1),
-        ],
-    ),
-    (
-        "an Ack of a helper",
-        &[
-            Takes(Ping(0, 1, "z", FOUR)),
-            Takes(First(0)),
-            Takes(Ping(100, 2, "z", &[Failed("c", 0)])),
-            Takes(First(500)),
-            Fired(Direct(500)),
-            Sends(3),
-            Chose(None),
-            Takes(Ping(550, 3, "z", &[Failed("e", 0)])),
-            Takes(From(600, "e", 7005, Says::Ack(1), &[])),
-            Takes(First(1000)),
-            Fired(RoundEnd(1000)),
-            Takes(Health(1000)),
-            AnswersHealth(0, 0, 3),
-            Takes(First(1000)),
-            Pings(2, "d"),
-        ],
-    ),
-];
-
-/// A member that joins in the middle of a round is a candidate at once, and one that failed is none. Then nobody is
-/// left, so the next round begins.
+/// A member that joins in the middle of a cycle is a candidate at once, and one that failed is none. Then nobody is
+/// left, so the next cycle begins.
 const IN_TURN: Case = (
     "c, e and then d",
     &[
@@ -341,8 +210,8 @@ const IN_TURN: Case = (
     ],
 );
 
-/// A member that was chosen, failed and came back stays chosen in its round. A target that failed and came back
-/// during its probe, and sends no Ack, is suspected at its new incarnation.
+/// A member that was chosen, failed and came back stays chosen in its cycle. One that comes back when nobody was left
+/// is chosen.
 const COMES_BACK: &[Case] = &[
     (
         "c, d, and then c",
@@ -363,17 +232,6 @@ const COMES_BACK: &[Case] = &[
         ],
     ),
     (
-        "a target that sends no Ack",
-        &[
-            Takes(Ping(0, 1, "z", &[Alive("c", 0)])),
-            Takes(First(0)),
-            Takes(Ping(100, 2, "z", &[Failed("c", 0)])),
-            Takes(Ping(200, 3, "z", &[Alive("c", 1)])),
-            Ticks(500, Direct(500), &[], 1000),
-            Ticks(1000, RoundEnd(1000), &[Suspect("c", 1, "b")], 1000),
-        ],
-    ),
-    (
         "nobody, and then c",
         &[
             Takes(Ping(0, 1, "z", &[Failed("c", 0)])),
@@ -388,17 +246,8 @@ const COMES_BACK: &[Case] = &[
     ),
 ];
 
-/// Each case of rounds on a b that is open.
-const PLAYED: &[&[Case]] = &[
-    A_SUSPECT,
-    &[NO_ACK],
-    HELPERS,
-    FILLED,
-    SCORES,
-    TARGET_FAILED,
-    &[IN_TURN],
-    COMES_BACK,
-];
+/// Each case of probing by a b that is open.
+const PLAYED: &[&[Case]] = &[A_SUSPECT, HELPERS, FILLED, &[IN_TURN], COMES_BACK];
 
 #[test]
 fn probes(rt: HostRuntime) {
