@@ -1,4 +1,5 @@
-//! A node over UDP asks its seeds before its loops run. The ticking loop ends at once.
+//! A node over UDP asks its seeds before its loops run. The ticking loop ends at once. The ports are free ones that the
+//! system gives, so two runs on one machine don't meet.
 use crate::streams::Room;
 use lg_agent::{CloseFault, Closed};
 use lg_detector::Event;
@@ -16,21 +17,21 @@ use std::test::Fail;
 use std::thread::Threads;
 use std::time::Duration;
 
-/// The Pull of b at 127.0.0.1:17130 for the first records.
-const PULL_OF_B: &[u8; 21] =
-    b"SL\x01\x05\x01b\x00\x01\x01\x01b\x7f\x00\x00\x01\x42\xea\x00\x00\x00\x00";
+/// The port to which nothing can be sent. If a socket is bound to it, the system gives a free one.
+const NO_PORT: u16 = 0;
 
-/// A port to which nothing can be sent.
-const NOWHERE: u16 = 0;
+/// The Pull of b at 127.0.0.1 for the first records, up to b's port. The port follows, and then the incarnation 0.
+const PULL_OF_B: &[u8; 15] = b"SL\x01\x05\x01b\x00\x01\x01\x01b\x7f\x00\x00\x01";
 
-/// The ports at which the seeds listen.
-const FIRST: u16 = 17131;
+/// Whether these bytes are the Pull of b at this port.
+fn is_pull_of_b(bytes: &[u8], port: u16) -> bool {
+    let [high, low] = port.to_be_bytes();
+    bytes.strip_prefix(&PULL_OF_B[..]) == Some(&[high, low, 0, 0, 0, 0][..])
+}
 
-const SECOND: u16 = 17132;
-
-/// The configuration of b, which knows c and d at these ports.
-fn config(first: u16, second: u16) -> Config {
-    let mut config = Config::new(letter(b'b'), local(17130));
+/// The configuration of b at a port, which knows c and d at these ports.
+fn config(own: u16, first: u16, second: u16) -> Config {
+    let mut config = Config::new(letter(b'b'), local(own));
     for (name, port) in [(b'c', first), (b'd', second)] {
         if !config.seeds.is_full() {
             config.seeds.push(Seed {
@@ -42,20 +43,54 @@ fn config(first: u16, second: u16) -> Config {
     config
 }
 
-/// A socket of a seed, which waits a second for a datagram.
-fn listening<R: Net>(rt: &R, port: u16) -> io::Result<UdpSocket> {
-    let socket = UdpSocket::bind(rt, (Ipv4Addr::from_octets([127, 0, 0, 1]), port))?;
+/// A socket at a free port, which waits a second for a datagram.
+fn bound<R: Net>(rt: &R) -> io::Result<UdpSocket> {
+    let socket = UdpSocket::bind(rt, (Ipv4Addr::from_octets([127, 0, 0, 1]), NO_PORT))?;
     socket.set_read_timeout(Some(Duration::from_millis(1000)))?;
     Ok(socket)
 }
 
-/// Whether the Pull has come.
-fn has_come(socket: &UdpSocket) -> bool {
-    let mut buffer = [0; 64];
-    match socket.recv_from(&mut buffer) {
-        Ok((length, _)) => buffer.get(..length) == Some(PULL_OF_B.as_slice()),
-        Err(_) => false,
+/// A socket of a seed.
+#[derive(Drop)]
+struct Listener {
+    socket: UdpSocket,
+    port: u16,
+}
+
+impl Listener {
+    /// One at a free port.
+    fn new<R: Net>(rt: &R) -> io::Result<Listener> {
+        let socket = bound(rt)?;
+        match socket.local_addr() {
+            Ok(addr) => Ok(Listener {
+                socket,
+                port: addr.port(),
+            }),
+            Err(fault) => Err(fault),
+        }
     }
+
+    /// Its port, or one to which nothing can be sent.
+    fn port_if(&self, is_asked: bool) -> u16 {
+        if is_asked { self.port } else { NO_PORT }
+    }
+
+    /// Whether the Pull of b at this port has come.
+    fn has_heard(&self, port: u16) -> bool {
+        let mut buffer = [0; 64];
+        match self.socket.recv_from(&mut buffer) {
+            Ok((length, _)) => buffer
+                .get(..length)
+                .is_some_and(|bytes| is_pull_of_b(bytes, port)),
+            Err(_) => false,
+        }
+    }
+}
+
+/// A port that is free: that of a socket which is closed again.
+fn free_port<R: Net>(rt: &R) -> io::Result<u16> {
+    let Listener { socket: _, port } = Listener::new(rt)?;
+    Ok(port)
 }
 
 /// Whom the entries after the opening asked, in order, if there are two.
@@ -74,12 +109,11 @@ fn asked(closed: &Result<Closed, CloseFault>) -> Option<(Addr, Addr)> {
     }
 }
 
-/// How the ticking loop of a node ended, and whom the node asked, in order. The node knows seeds at these ports.
-fn ran<R>(rt: &R, alloc: Global, first: u16, second: u16) -> Option<(End, Option<(Addr, Addr)>)>
+/// How the ticking loop of a node ended, and whom the node asked, in order.
+fn ran<R>(rt: &R, alloc: Global, config: &Config) -> Option<(End, Option<(Addr, Addr)>)>
 where
     R: Threads + Wait + Net + Clock + Sync,
 {
-    let config = config(first, second);
     config.check().ok()?;
     let settings = Settings {
         dice: 1,
@@ -88,7 +122,7 @@ where
     };
     let stop = AtomicBool::new(false);
     let nobody: Option<&mut Room> = None;
-    let ran = run_node(rt, alloc, &config, &settings, at(0), &stop, nobody).ok()?;
+    let ran = run_node(rt, alloc, config, &settings, at(0), &stop, nobody).ok()?;
     Some((ran.ticked, asked(&ran.closed)))
 }
 
@@ -102,22 +136,50 @@ fn ended(unsent: u64) -> End {
     }
 }
 
-/// The ports of the seeds, and how many packets aren't sent.
-const ROWS: &[(u16, u16, u64)] = &[
-    (FIRST, SECOND, 0),
-    (NOWHERE, SECOND, 1),
-    (FIRST, NOWHERE, 1),
-];
+/// The sockets of both seeds, and the port of b.
+#[derive(Drop)]
+struct Group {
+    one: Listener,
+    two: Listener,
+    own: u16,
+}
+
+impl Group {
+    /// A group at free ports.
+    fn new<R: Net>(rt: &R) -> io::Result<Group> {
+        let one = Listener::new(rt)?;
+        let two = Listener::new(rt)?;
+        let own = free_port(rt)?;
+        Ok(Group { one, two, own })
+    }
+
+    /// Whether the Pull of b has come to each seed to which it can be sent.
+    fn has_heard(&self, first: bool, second: bool) -> bool {
+        (!first || self.one.has_heard(self.own)) && (!second || self.two.has_heard(self.own))
+    }
+
+    /// Whether b asks both seeds in order, if something can be sent to the first and to the second or not.
+    fn is_asked<R>(&self, rt: &R, alloc: Global, first: bool, second: bool, unsent: u64) -> bool
+    where
+        R: Threads + Wait + Net + Clock + Sync,
+    {
+        let (one, two) = (self.one.port_if(first), self.two.port_if(second));
+        let seen = ran(rt, alloc, &config(self.own, one, two));
+        let want = Some((ended(unsent), Some((local(one), local(two)))));
+        seen == want && self.has_heard(first, second)
+    }
+}
+
+/// To which seeds something can be sent, and how many packets aren't sent.
+const ROWS: &[(bool, bool, u64)] = &[(true, true, 0), (false, true, 1), (true, false, 1)];
 
 /// Both seeds are asked, in order, even if a packet isn't sent. The ticking loop counts that packet.
 #[test]
 fn each_seed_is_asked(rt: HostRuntime) -> Result<(), Fail> {
-    let (one, two) = (listening(&rt, FIRST)?, listening(&rt, SECOND)?);
+    let group = Group::new(&rt)?;
     for &(first, second, unsent) in ROWS {
-        let seen = ran(&rt, rt.alloc(), first, second);
-        let want = Some((ended(unsent), Some((local(first), local(second)))));
-        let came = (first == NOWHERE || has_come(&one)) && (second == NOWHERE || has_come(&two));
-        assert!(rt; seen == want && came, "{first}, {second}");
+        let met = group.is_asked(&rt, rt.alloc(), first, second, unsent);
+        assert!(rt; met, "{first}, {second}");
     }
     Ok(())
 }
