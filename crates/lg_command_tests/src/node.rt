@@ -4,6 +4,7 @@ mod asking;
 mod both;
 mod clocks;
 mod dice;
+mod finding;
 mod links;
 mod loops;
 mod machine;

@@ -34,6 +34,11 @@ impl MemoryClock {
         }
     }
 
+    /// Its moment in milliseconds.
+    pub(super) fn milliseconds(&self) -> u64 {
+        self.now.load(SeqCst)
+    }
+
     /// Its pauses until now.
     pub(super) fn pauses(&self) -> Pauses {
         Pauses {
@@ -46,7 +51,7 @@ impl MemoryClock {
 
 impl Clock for MemoryClock {
     fn now(&self) -> Moment {
-        at(self.now.load(SeqCst))
+        at(self.milliseconds())
     }
 
     fn pause(&self, ms: u64) {
@@ -69,5 +74,24 @@ impl Dice for FixedDice {
 
     fn words(&mut self) -> [u32; 8] {
         [self.word; 8]
+    }
+}
+
+/// Dice whose first word grows by `step` from throw to throw. The other words are one greater than the first.
+#[derive(Clone, Copy)]
+pub struct SteppingDice {
+    pub(super) word: u32,
+    pub(super) step: u32,
+}
+
+impl Dice for SteppingDice {
+    ghost throws = { λ _ _ _. Unit {0} };
+
+    fn words(&mut self) -> [u32; 8] {
+        let first = self.word;
+        self.word = first.wrapping_add(self.step);
+        let mut words = [first.wrapping_add(1); 8];
+        words[0] = first;
+        words
     }
 }

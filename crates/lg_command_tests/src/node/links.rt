@@ -95,7 +95,7 @@ pub enum Call {
 }
 
 /// The port of an address at 127.0.0.1, and 0 for another address.
-fn port_of(to: Addr) -> u16 {
+pub(super) fn port_of(to: Addr) -> u16 {
     if to.octets == [127, 0, 0, 1] {
         to.port
     } else {

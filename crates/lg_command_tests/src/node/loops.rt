@@ -16,7 +16,7 @@ use std::sync::atomic::AtomicBool;
 pub(super) const WAIT_MS: u64 = 20;
 
 /// What a loop of at most `bound` turns shares with nobody.
-fn shared<'a, R>(
+pub(super) fn shared<'a, R>(
     rt: &'a R,
     alloc: Global,
     clock: &'a MemoryClock,

@@ -3,6 +3,7 @@ ghost use Rattle.std.specs.Prelude.{◌≡◌, ◌<◌, ◌≤◌};
 
 use super::alone::{LoopSeen, Run, run_alone};
 use super::both::{BothSeen, run_both};
+use super::finding::{Found, Search, run_search};
 use super::rotating::{StreamSeen, run_stream};
 use lg_agent::{Agent, AgentName, Refusal, Spent};
 use lg_playing::{Case, Left, Outcome, room};
@@ -22,6 +23,8 @@ pub enum Play {
     Both { fails: bool },
     /// One loop of a node after the other: many datagrams, and then many ticks.
     Stream,
+    /// The last pass runs a ticking loop that finds its group.
+    Find(Search),
 }
 
 /// What was seen while an agent was open.
@@ -30,6 +33,7 @@ pub enum Shown {
     Loop(LoopSeen),
     Both(BothSeen),
     Stream(StreamSeen),
+    Found(Found),
 }
 
 /// Plays all passes of an agent, unless memory for them is refused.
@@ -51,6 +55,7 @@ where
         Play::Loop(run) => run_alone(rt, alloc, passes, run, spents),
         Play::Both { fails } => run_both(rt, alloc, passes, fails, spents),
         Play::Stream => run_stream(rt, alloc, passes, spents),
+        Play::Find(search) => run_search(rt, alloc, passes, search, spents),
     }
 }
 
