@@ -1,6 +1,6 @@
 //! What a node wants of a clock.
 //!
-//! Tested in: `lg_command_tests/src/node`.
+//! Tested in: `lg_command_tests/src/node/clocks.rt`, `lg_command_tests/src/clock.rt`.
 
 use lg_timing::Moment;
 

@@ -129,6 +129,8 @@ const FILES: &[(FileFault, &str)] = &[
         FileFault::Value,
         "a name, an address, a port or a seed is out of its form, or the dice are negative",
     ),
+    (FileFault::Pull, "pull_ms has to be 0 to 3600000"),
+    (FileFault::Stall, "stall_ms has to be 0 to 60000"),
 ];
 
 const READS: &[(ReadFault, &str)] = &[

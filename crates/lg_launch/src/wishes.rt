@@ -1,7 +1,7 @@
 //! What a node is asked for besides its configuration.
 //!
 //! Defined in: `specs/Meaning/Wishes.antt`.
-//! Tested in: `cases/node.case`, `lg_command_tests/src/launch/ends.rt`.
+//! Tested in: `cases/node.case`, `lg_command_tests/src/launch/ends.rt`, `starts.rt`.
 ghost use Rattle.std.specs.Prelude.{◌≡◌};
 ghost use Rattle.lg_launch.specs.Meaning.Wishes.{end_wished, is_announced};
 
