@@ -95,11 +95,12 @@ where
 /// with which file, in which version it writes its packets, and how many seeds it has. Memory that is refused for this
 /// line is told by [`Told::Memory`], and nothing is run.
 ///
-/// The node is run by [`run_node`](lg_node::run_node), and [`Told::of`] says what is told of it. If both loops
-/// stopped or the node was ousted, the members are written as [`put_table`](lg_report::put_table) does, a line each.
-/// In all other cases nothing is written. A socket that can't be bound has a second line, which says to which address
-/// and why. A line that `faults` doesn't take is dropped. The configuration has to be checked. Apart from what the
-/// node allocates, memory is allocated only for these texts.
+/// The node is run by [`run_node`](lg_node::run_node), and [`Told::of`] says what is told of it. If it follows, its
+/// watcher writes what it sees, and nothing else is written. Otherwise, if both loops stopped or the node was ousted, the
+/// members are written as [`put_table`](lg_report::put_table) does, a line each. In all other cases nothing is written. A
+/// socket that can't be bound has a second line, which says to which address and why. A line that `faults` doesn't take
+/// is dropped. The configuration has to be checked. Apart from what the node allocates, memory is allocated only for
+/// these texts.
 ///
 /// What is said of bytes holds for writers that tell their bytes, as those over memory do.
 pub fn run_config<R, W, F>(
@@ -168,7 +169,7 @@ where
     tell_both(Told::of(&ran, written), second.as_str(), faults)
 }
 
-/// Runs the node of a configuration. The writer is handed to it only if it follows, and else stays as it is.
+/// Runs the node of a configuration. The writer is written to only if it follows, and else stays as it is.
 fn run<R, W>(
     rt: &R,
     alloc: Global,
@@ -181,28 +182,19 @@ where
     R: Wait + Threads + Net + rt::Clock + Sync,
     W: Write + Send,
     requires { IsChecked node.now.config }
-    ensures ran { MatchResult result (HasRun node.now (end_wished wishes.now.until)) IsEarly }
-    ensures unwritten { wishes.now.follow ≡ false → writer.new ≡ writer.old }
+    ensures ran { MatchResult result (HasRun node.now (end_wished wishes.now.until) wishes.now.follow
+        (W.contents writer.old) (W.contents writer.new)) (IsEarly node.now.config) }
+    ensures alone { wishes.now.follow ≡ false → writer.new ≡ writer.old }
+    ensures unwritten { OnErr result (writer.new ≡ writer.old) }
 {
     let settings = Settings {
         dice: node.dice,
         pull_ms: node.pull_ms,
         stall_ms: node.stall_ms,
+        follow: wishes.follow,
     };
     let until = end_wished(wishes.until);
-    if wishes.follow {
-        return run_node(
-            rt,
-            alloc,
-            &node.config,
-            &settings,
-            until,
-            stop,
-            Some(writer),
-        );
-    }
-    let nobody: Option<&mut W> = None;
-    run_node(rt, alloc, &node.config, &settings, until, stop, nobody)
+    run_node(rt, alloc, &node.config, &settings, until, stop, writer)
 }
 
 /// The second line of what is told of a node that was run. It is empty if there is none, or if memory for it was

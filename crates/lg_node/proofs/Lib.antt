@@ -1,4 +1,6 @@
 pub mod AskingLaws
+pub mod EarlyLaws
+pub mod FollowingLaws
 pub mod LastingLaws
 pub mod PassesLaws
 pub mod PullingLaws

@@ -3,6 +3,7 @@
 //! Defined in: `specs/Meaning/Nodes.antt`, `specs/Meaning/Turns.antt`.
 //! Tested in: `lg_command_tests/src/node/asking.rt`.
 ghost use Rattle.std.specs.Prelude.{◌≤◌, ◌*◌, length, IfOk, IfErr};
+ghost use mathlib.Core.List.{IsPrefix};
 ghost use Rattle.lg_agent.specs.Meaning.Values.{PassValue};
 ghost use Rattle.lg_agent.specs.Meaning.Calls.{IsRefusal};
 ghost use Rattle.lg_node.specs.Meaning.Turns.{line};
@@ -19,7 +20,7 @@ use lg_timing::{MAX_SEEDS, Seed};
 use std::sync::Wait;
 
 /// Asks each seed for its table, in order, and goes on if a packet isn't sent. Returns how many packets weren't sent.
-/// The error is the refusal of the first call that is refused.
+/// The error is the refusal of the first call that is refused, by what the pass had seen by then.
 pub(crate) fn ask_each<A: AgentName, R: Wait, L: Link, C: Clock>(
     shared: &Shared<'_, R, C>,
     pass: &mut Pass<'_, A>,
@@ -30,7 +31,7 @@ pub(crate) fn ask_each<A: AgentName, R: Wait, L: Link, C: Clock>(
     ensures asked { IfOk result (Asked L.tells seeds.now (line (L.log link.old) (L.failed link.old))
         (line (L.log link.new) (L.failed link.new)) pass.old pass.new) }
     ensures few { IfOk result (λ unsent. unsent ≤ 8 * MAX_SEEDS) }
-    ensures refused { IfErr result (λ e. (p : PassValue) × IsRefusal p.seen e) }
+    ensures refused { IfErr result (λ e. (p : PassValue) × IsPrefix pass.old.seen p.seen × IsRefusal p.seen e) }
 {
     let mut unsent = 0;
     let mut reply = Reply::default();

@@ -24,6 +24,7 @@ pub use agenda::LOOK_MS;
 pub use dice::{Dice, PcgDice};
 pub use ending::{End, Ended, Why};
 pub use lg_clock::{Clock, Loop, MachineClock, SteadyClock};
+pub use lg_watch::Watched;
 pub use link::{Link, LinkFault, MAX_DATAGRAM};
 pub use node::{NodeEnd, NodeFault, Settings, run_node};
 pub use plan::Plan;

@@ -2,7 +2,7 @@
 //!
 //! Defined in: `specs/Meaning/Nodes.antt`, `specs/Meaning/Turns.antt`, `specs/Meaning/Words.antt`.
 //! Tested in: `lg_command_tests/src/node/asking.rt`, `cases/nodes`.
-ghost use Rattle.std.specs.Prelude.{false, IfOk, IfErr};
+ghost use Rattle.std.specs.Prelude.{◌≡◌, false, IfOk, IfErr, OnErr};
 ghost use Rattle.lg_timing.specs.Meaning.Config.{IsChecked};
 ghost use Rattle.lg_node.specs.Meaning.Nodes.{IsRun, IsEarly};
 ghost use Rattle.lg_node.specs.Meaning.Turns.{LinkValue};
@@ -10,11 +10,12 @@ ghost use Rattle.lg_node.specs.Meaning.Words.{seeded, DrawsEight};
 
 use crate::ending::End;
 use crate::shared::MAX_TURNS;
-use crate::start::open_and_serve;
+use crate::start::{Setup, open_and_serve};
 use lg_agent::{CloseFault, Closed, Refusal};
 use lg_rules::Record;
 use lg_timing::{Config, Moment};
 use lg_view::UnnamedBook;
+use lg_watch::Watched;
 use std::alloc::Global;
 use std::io::{ErrorKind, Write};
 use std::marker::Brand;
@@ -33,9 +34,11 @@ pub struct Settings {
     /// How long it is from one Pull for a member that random words choose to the next, in milliseconds. With 0 there is
     /// none.
     pub pull_ms: u64,
-    /// By how much the clock of the node passes a loop's last turn at most, in milliseconds, and by at least 25. With 0 it
-    /// is the machine's clock.
+    /// The stall of the node's clock, in milliseconds: the most by which it passes the older of the loops' last turns. A
+    /// stall below 25 is taken as 25. With 0 the clock is the machine's.
     pub stall_ms: u64,
+    /// Whether the node is followed: a watcher tells on a writer what it learns.
+    pub follow: bool,
 }
 
 /// How a node ended whose loops had begun.
@@ -48,6 +51,8 @@ pub struct NodeEnd {
     /// The records of the members, this one's included, in the order of their names, as both loops left them. Refused
     /// as [`Pass::members`](lg_agent::Pass::members) is.
     pub members: Result<Vec<Record>, Refusal>,
+    /// How the watcher ended, if the node was followed.
+    pub watched: Option<Watched>,
     /// The history, from the last rotation on if there was one, or why the agent wasn't closed.
     pub closed: Result<Closed, CloseFault>,
     /// How many milliseconds the clock of the node has left out, since one of the loops began no turn.
@@ -77,11 +82,12 @@ pub enum NodeFault {
 /// the ticking loop asks the seeds until a Page is heard, and again while it is alone. It asks a member every `pull_ms`.
 /// At the end the members are read, and the agent is closed. A node that hears of no member goes on alone.
 ///
-/// With a writer (`follow`) the pass that has asked the seeds watches beside the loops ([`lg_watch::watch`]), in a thread
-/// of its own. A writer that fails ends the watcher alone.
+/// If the node is followed, the pass that has asked the seeds watches beside the loops ([`lg_watch::watch`]), in a thread
+/// of its own, and [`NodeEnd::watched`] says how that ended. A writer that fails ends the watcher alone. If the node isn't
+/// followed, or there are no loops, the writer stays as it is.
 ///
 /// A turn of a loop waits a tenth of the configuration's `timeout_ms` at most, but at least 5 and at most 50
-/// milliseconds, and at most half of what the clock passes a loop's last turn by.
+/// milliseconds, and at most half of the clock's stall.
 ///
 /// A full history ends nothing, whether a seed is asked or a loop runs: it is rotated, and the node goes on with a
 /// summary in place of its entries. So it never has more than the configuration's `history_limit`. What ends a loop
@@ -89,7 +95,8 @@ pub enum NodeFault {
 /// stop flag.
 ///
 /// The configuration has to be checked. The error says why there were no loops: [`NodeFault::Socket`],
-/// [`NodeFault::Clock`], or [`NodeFault::Refused`] if memory was refused or there was no reader for a pass.
+/// [`NodeFault::Clock`], or [`NodeFault::Refused`] if memory was refused or there was no reader for a pass. If a seed's
+/// call was refused, it may also be [`Refusal::HistoryFull`] or [`Refusal::Behind`], but neither should ever happen.
 pub fn run_node<R, W>(
     rt: &R,
     alloc: Global,
@@ -97,27 +104,26 @@ pub fn run_node<R, W>(
     settings: &Settings,
     until: Moment,
     stop: &AtomicBool,
-    follow: Option<W>,
+    writer: &mut W,
 ) -> Result<NodeEnd, NodeFault>
 where
     R: Wait + Threads + Net + rt::Clock + Sync,
-    W: Write + Send + Drop,
+    W: Write + Send,
     requires { IsChecked config.now }
     // Of a link over UDP contracts see only the failures.
     ensures ran { IfOk result (λ e. (hears : LinkValue) × (hears' : LinkValue) × (sends : LinkValue)
         × (sends' : LinkValue)
         × IsRun DrawsEight (seeded settings.now.dice) false MAX_TURNS config.now settings.now.pull_ms until
-        hears hears' sends sends' e) }
-    ensures refused { IfErr result IsEarly }
+        hears hears' sends sends'
+        settings.now.follow (W.contents writer.old) (W.contents writer.new) e) }
+    ensures refused { IfErr result (IsEarly config.now) }
+    ensures alone { settings.now.follow ≡ false → writer.new ≡ writer.old }
+    ensures unwritten { OnErr result (writer.new ≡ writer.old) }
 {
-    open_and_serve::<Brand, R, W>(
-        rt,
-        alloc,
-        UnnamedBook::new(),
+    let setup = Setup {
         config,
         settings,
         until,
-        stop,
-        follow,
-    )
+    };
+    open_and_serve::<Brand, R, W>(rt, alloc, UnnamedBook::new(), &setup, stop, writer)
 }

@@ -6,7 +6,7 @@
 //! Defined in: `specs/Meaning/Nodes.antt`, `specs/Meaning/Turns.antt`, `specs/Meaning/Words.antt`.
 //! Tested in: `lg_command_tests/src/node/asking.rt`, `cases/nodes`.
 ghost use Rattle.std.specs.Prelude.{◌≡◌, ◌≤◌, ◌⊎◌, ◌∷◌, [], ℕ, false, true};
-ghost use Rattle.std.specs.Prelude.{All, IfOk, IfErr, IfSome, MatchResult, length};
+ghost use Rattle.std.specs.Prelude.{All, IfOk, IfErr, IfSome, MatchResult, OnErr, length};
 ghost use Rattle.std.specs.Vec.{vec_capacity};
 ghost use Rattle.lg_timing.specs.Meaning.Config.{IsChecked};
 ghost use Rattle.lg_timing.specs.declared.config.Config.{Config as Opened};
@@ -14,15 +14,13 @@ ghost use Rattle.lg_detector.specs.declared.event.Event.TheVariants.{Open};
 ghost use Rattle.lg_detector.specs.Meaning.Step.{view_after};
 ghost use Rattle.lg_agent.specs.declared.refusal.Refusal.TheVariants.{NoMemory, NoView};
 ghost use Rattle.lg_agent.specs.Meaning.Values.{PassValue};
-ghost use Rattle.lg_agent.specs.Meaning.Calls.{IsLook, IsRefusal};
+ghost use Rattle.lg_agent.specs.Meaning.Calls.{IsLook};
 ghost use Rattle.lg_agent.specs.Meaning.Closing.{IsClosed, IsRefusedClosing};
-ghost use Rattle.lg_watch.specs.Meaning.Sights.{OnlyLooked};
-ghost use Rattle.lg_node.specs.Meaning.Nodes.{HasServed, IsRun, IsEarly, fresh_own};
+ghost use Rattle.lg_node.specs.Meaning.Nodes.{HasServed, WatchesIf, IsRun, IsRefusedEarly, IsEarly, fresh_own};
 ghost use Rattle.lg_node.specs.Meaning.Turns.{LinkValue};
 ghost use Rattle.lg_node.specs.Meaning.Words.{seeded, DrawsEight};
 
 use crate::asking::ask_each;
-use crate::dice::PcgDice;
 use crate::ending::End;
 use crate::following::run_followed;
 use crate::node::{NodeEnd, NodeFault, Settings};
@@ -34,6 +32,7 @@ use lg_clock::{Clock, SteadyClock};
 use lg_rules::Record;
 use lg_timing::{Config, Moment};
 use lg_view::UnnamedBook;
+use lg_watch::Watched;
 use std::alloc::Global;
 use std::io::Write;
 use std::net::{Ipv4Addr, Net, UdpSocket};
@@ -42,44 +41,54 @@ use std::sync::Wait;
 use std::sync::atomic::AtomicBool;
 use std::thread::Threads;
 
-/// The least step of a clock that isn't the machine's, in milliseconds.
-const MIN_STEP_MS: u64 = 25;
+/// The least stall of a clock that isn't the machine's, in milliseconds.
+const MIN_STALL_MS: u64 = 25;
 
 /// How many passes a node has: one for the receiving loop, one for the ticking loop, and one that asks the seeds and then
 /// watches.
 const PLACES: usize = 3;
+
+/// What a node is set up with, and when its ticking loop ends.
+#[derive(Drop)]
+pub(crate) struct Setup<'a> {
+    pub(crate) config: &'a Config,
+    pub(crate) settings: &'a Settings,
+    pub(crate) until: Moment,
+}
 
 /// Opens a node at its configured address, serves until one of its loops ends, and closes it.
 pub(crate) fn open_and_serve<A, R, W>(
     rt: &R,
     alloc: Global,
     book: UnnamedBook,
-    config: &Config,
-    settings: &Settings,
-    until: Moment,
+    setup: &Setup<'_>,
     stop: &AtomicBool,
-    follow: Option<W>,
+    writer: &mut W,
 ) -> Result<NodeEnd, NodeFault>
 where
     A: AgentName + Send + Sync,
     R: Wait + Threads + Net + rt::Clock + Sync,
-    W: Write + Send + Drop,
+    W: Write + Send,
     requires book { book.seen.book ≡ A.book }
     requires places { A.places ≡ PLACES }
-    requires config { IsChecked config.now }
+    requires config { IsChecked setup.now.config.now }
     ensures ran { IfOk result (λ e. (hears : LinkValue) × (hears' : LinkValue) × (sends : LinkValue)
         × (sends' : LinkValue)
-        × IsRun DrawsEight (seeded settings.now.dice) false MAX_TURNS config.now settings.now.pull_ms until
-        hears hears' sends sends' e) }
-    ensures refused { IfErr result IsEarly }
+        × IsRun DrawsEight (seeded setup.now.settings.now.dice) false MAX_TURNS setup.now.config.now
+        setup.now.settings.now.pull_ms setup.now.until hears hears' sends sends'
+        setup.now.settings.now.follow (W.contents writer.old) (W.contents writer.new) e) }
+    ensures refused { IfErr result (IsEarly setup.now.config.now) }
+    ensures alone { setup.now.settings.now.follow ≡ false → writer.new ≡ writer.old }
+    ensures unwritten { OnErr result (writer.new ≡ writer.old) }
 {
+    let config = setup.config;
     let address = (Ipv4Addr::from_octets(config.addr.octets), config.addr.port);
     let socket = match UdpSocket::bind(rt, address) {
         Ok(socket) => socket,
         Err(fault) => return Err(NodeFault::Socket(fault.kind())),
     };
-    let step = step_of(settings);
-    let Ok(clock) = SteadyClock::new(rt, step) else {
+    let stall = stall_of(setup.settings);
+    let Ok(clock) = SteadyClock::new(rt, stall) else {
         return Err(NodeFault::Clock);
     };
     let Ok(room) = Vec::with_capacity(alloc, PLACES) else {
@@ -98,11 +107,9 @@ where
         page_heard: &page_heard,
         bound: MAX_TURNS,
         endless: true,
-        wait_ms: wait_of(config, step),
+        wait_ms: wait_of(config, stall),
     };
-    match serve(
-        &shared, &mut agent, &socket, config, settings, until, follow,
-    ) {
+    match serve(&shared, &mut agent, &socket, setup, writer) {
         Ok(left) => Ok(close(rt, agent, left, clock.stood_still(), room)),
         Err(refusal) => {
             agent.abandon(rt);
@@ -111,22 +118,22 @@ where
     }
 }
 
-/// By how much the clock of a node passes a loop's last turn at most, in milliseconds: by the `stall_ms` of its settings,
-/// but at least by 25. With a `stall_ms` of 0 it is the machine's clock, and this is 0.
-fn step_of(settings: &Settings) -> u64 {
+/// The stall of a node's clock, in milliseconds: the `stall_ms` of its settings, but at least 25. With a `stall_ms` of
+/// 0 the clock is the machine's, and this is 0.
+fn stall_of(settings: &Settings) -> u64 {
     match settings.stall_ms {
         0 => 0,
-        stall_ms => stall_ms.max(MIN_STEP_MS),
+        stall_ms => stall_ms.max(MIN_STALL_MS),
     }
 }
 
 /// How long a turn of a node waits at most, in milliseconds: a tenth of the configuration's `timeout_ms`, but at least 5
-/// and at most 50, and at most half the step of its clock, if there is one.
-fn wait_of(config: &Config, step: u64) -> u64 {
+/// and at most 50, and at most half the stall of its clock, if there is one.
+fn wait_of(config: &Config, stall: u64) -> u64 {
     let wait = (config.timeout_ms / 10).clamp(5, 50);
-    match step {
+    match stall {
         0 => wait,
-        _ => wait.min(step / 2),
+        _ => wait.min(stall / 2),
     }
 }
 
@@ -136,6 +143,7 @@ struct Left<A: AgentName> {
     received: End,
     ticked: End,
     members: Result<Vec<Record>, Refusal>,
+    watched: Option<Watched>,
     receiver: Spent<A>,
     ticker: Spent<A>,
     reader: Spent<A>,
@@ -147,29 +155,32 @@ fn serve<A, R, C, W>(
     shared: &Shared<'_, R, C>,
     agent: &mut Agent<A>,
     socket: &UdpSocket,
-    config: &Config,
-    settings: &Settings,
-    until: Moment,
-    follow: Option<W>,
+    setup: &Setup<'_>,
+    writer: &mut W,
 ) -> Result<Left<A>, Refusal>
 where
     A: AgentName + Send + Sync,
     R: Wait + Threads + Sync,
     C: Clock + Sync,
-    W: Write + Send + Drop,
+    W: Write + Send,
     requires places { length agent.old.told ≡ PLACES }
     requires bound { (shared.now.bound ≤ MAX_TURNS) × (shared.now.endless ≡ true) }
-    ensures left { (start : ℕ) → agent.old.name ≡ config.now.name
-        → All (λ seen. seen ≡ Open start config.now ∷ []) agent.old.told
+    ensures left { (start : ℕ) → agent.old.name ≡ setup.now.config.now.name
+        → All (λ seen. seen ≡ Open start setup.now.config.now ∷ []) agent.old.told
         → IfOk result (λ l. (hears : LinkValue) × (hears' : LinkValue) × (sends : LinkValue) × (sends' : LinkValue)
         × (asker : PassValue) × (watcher : PassValue)
-        × HasServed DrawsEight (seeded settings.now.dice) false shared.now.bound config.now settings.now.pull_ms until
-        start hears hears' sends sends'
+        × HasServed DrawsEight (seeded setup.now.settings.now.dice) false shared.now.bound setup.now.config.now
+        setup.now.settings.now.pull_ms setup.now.until start hears hears' sends sends'
         l.received l.ticked l.receiver l.ticker asker
-        × OnlyLooked asker watcher
+        × WatchesIf setup.now.settings.now.follow asker watcher (W.contents writer.old) (W.contents writer.new)
+        l.watched
         × MatchResult l.members (λ records. (records.items ≡ view_after l.reader.seen) × IsLook watcher l.reader)
         (λ r. ((r ≡ NoView) ⊎ (r ≡ NoMemory)) × (l.reader ≡ watcher))) }
-    ensures refused { IfErr result (λ e. (p : PassValue) × IsRefusal p.seen e) }
+    ensures refused { (start : ℕ) → agent.old.name ≡ setup.now.config.now.name
+        → All (λ seen. seen ≡ Open start setup.now.config.now ∷ []) agent.old.told
+        → IfErr result (IsRefusedEarly setup.now.config.now) }
+    ensures alone { setup.now.settings.now.follow ≡ false → writer.new ≡ writer.old }
+    ensures unwritten { OnErr result (writer.new ≡ writer.old) }
 {
     let Some(passes) = passes_of(shared.alloc, agent) else {
         return Err(Refusal::NoMemory);
@@ -181,7 +192,7 @@ where
     } = passes;
     let mut asker = asker;
     let mut sends = UdpLink::new(socket);
-    let unsent = ask_each(shared, &mut asker, &mut sends, &config.seeds)?;
+    let unsent = ask_each(shared, &mut asker, &mut sends, &setup.config.seeds)?;
     let hears = UdpLink::new(socket);
     let receiver = Side {
         pass: receiver,
@@ -191,15 +202,15 @@ where
         pass: ticker,
         link: sends,
     };
-    let dice = PcgDice::new(settings.dice);
-    let plan = Plan::new(config, settings.pull_ms, until);
-    let (watcher, (received, ticked)) = run_followed(
+    let plan = Plan::new(setup.config, setup.settings.pull_ms, setup.until);
+    let ((watcher, watched), (received, ticked)) = run_followed(
         shared,
         receiver,
         ticker,
-        dice,
+        setup.settings,
         &plan,
-        (asker, follow),
+        asker,
+        writer,
     );
     let (mut ticked, mut watcher) = (ticked, watcher);
     ticked.end.unsent = ticked.end.unsent.saturating_add(unsent);
@@ -208,6 +219,7 @@ where
         received: received.end,
         ticked: ticked.end,
         members,
+        watched,
         receiver: received.spent,
         ticker: ticked.spent,
         reader: watcher.finish(),
@@ -260,6 +272,7 @@ fn close<A: AgentName, R: Wait>(
     ensures received { result.received ≡ left.received }
     ensures ticked { result.ticked ≡ left.ticked }
     ensures members { result.members ≡ left.members }
+    ensures watched { result.watched ≡ left.watched }
     ensures closed { MatchResult result.closed
         (λ c. IsClosed A.places c (left.receiver ∷ left.ticker ∷ left.reader ∷ []))
         (λ f. IsRefusedClosing A.places (left.receiver ∷ left.ticker ∷ left.reader ∷ []) f) }
@@ -268,6 +281,7 @@ fn close<A: AgentName, R: Wait>(
         received,
         ticked,
         members,
+        watched,
         receiver,
         ticker,
         reader,
@@ -292,6 +306,7 @@ fn close<A: AgentName, R: Wait>(
         received,
         ticked,
         members,
+        watched,
         closed,
         stood_still,
     }

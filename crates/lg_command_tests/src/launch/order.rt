@@ -183,10 +183,11 @@ where
         dice: 1,
         pull_ms: 0,
         stall_ms: 0,
+        follow: false,
     };
     let stop = AtomicBool::new(false);
-    let follow: Option<&mut Room> = None;
-    run_node(rt, alloc, &config(17110), &settings, at(0), &stop, follow)
+    let mut unread = Room::failing(0);
+    run_node(rt, alloc, &config(17110), &settings, at(0), &stop, &mut unread)
 }
 
 /// A node that ran. A run fails if memory is refused, and while another program has the port for a moment.

@@ -119,10 +119,11 @@ where
         dice: 1,
         pull_ms: 0,
         stall_ms: 0,
+        follow: false,
     };
     let stop = AtomicBool::new(false);
-    let nobody: Option<&mut Room> = None;
-    let ran = run_node(rt, alloc, config, &settings, at(0), &stop, nobody).ok()?;
+    let mut unread = Room::failing(0);
+    let ran = run_node(rt, alloc, config, &settings, at(0), &stop, &mut unread).ok()?;
     Some((ran.ticked, asked(&ran.closed)))
 }
 

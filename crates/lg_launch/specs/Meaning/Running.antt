@@ -1,6 +1,6 @@
 -- How the node of a configuration is run: what is announced, what is written, and what is told of its end.
 use Rattle.std.specs.Prelude.{◌≡◌, ◌⊎◌, ℕ, Bool, true, false, List, [], if◌then◌else◌}
-use Rattle.std.specs.Prelude.{Option, Some, None, Result, Ok, Err, MatchResult}
+use Rattle.std.specs.Prelude.{Option, Some, None, Result, Ok, Err, MatchResult, OnErr}
 use Rattle.std.specs.Option.{option_map}
 use Rattle.std.specs.Result.{result_ok}
 use Rattle.lg_rules.specs.declared.addr.Addr.{Addr}
@@ -44,8 +44,8 @@ Writes before after held holds None written = (after ≡ before) × (written ≡
 Writes before after held holds (Some records) written =
     WritesText before after held holds (table_text records) written
 
--- The table is written at the end of a node that didn't follow. A node that followed has no table, and nothing is said
--- of what its watcher wrote.
+-- The table is written at the end of a node that didn't follow. A node that followed has no table: what it wrote, its
+-- watcher wrote.
 abbrev pub WritesEnd :
     Bool → {W : Type 0} → (before after : W) (held holds : Option (List ℕ)) → Option (List Claim)
     → Result (Unit {0}) RunFault → Type 0
@@ -68,14 +68,17 @@ IsSecond addr (Err node.Clock) second = second ≡ []
 IsSecond addr (Err (node.Refused refusal)) second = second ≡ []
 IsSecond addr (Ok e) second = second ≡ []
 
--- The node of a configuration ran until a moment. Its links tell nothing but their failures. Each loop counts its turns
--- anew after 1,000,000,000.
-abbrev pub HasRun : NodeConfig → ℕ → NodeEnd → Type 0
-HasRun n until e = (hears : LinkValue) × (hears' : LinkValue) × (sends : LinkValue) × (sends' : LinkValue)
-    × IsRun DrawsEight (seeded n.dice) false 1000000000 n.config n.pull_ms until hears hears' sends sends' e
+-- The node of a configuration ran until a moment. If it followed, its watcher wrote all that the writer gained. Its
+-- links tell nothing but their failures. Each loop counts its turns anew after 1,000,000,000.
+abbrev pub HasRun : NodeConfig → ℕ → Bool → (held holds : Option (List ℕ)) → NodeEnd → Type 0
+HasRun n until follow held holds e =
+    (hears : LinkValue) × (hears' : LinkValue) × (sends : LinkValue) × (sends' : LinkValue)
+    × IsRun DrawsEight (seeded n.dice) false 1000000000 n.config n.pull_ms until hears hears' sends sends' follow held
+    holds e
 
--- The node of a configuration ran, or ended before its loops. Its table was written, if it was to be. What is told of
--- it was reported, and a second line if there is one.
+-- The node of a configuration ran, or it ended before its loops, and then nothing was written. If it followed, its
+-- watcher wrote what it saw. Otherwise its table was written, if it was to be. What is told of it was reported, and a
+-- second line if there is one.
 pub record RunsNode
     {W : Type 0} (before after : W) (held holds reported reports : Option (List ℕ)) (n : NodeConfig)
     (until : Option ℕ) (follow : Bool) (status : ℕ)
@@ -83,7 +86,8 @@ pub record RunsNode
   pub ran : Result NodeEnd NodeFault
   pub written : Result (Unit {0}) RunFault
   pub second : List ℕ
-  pub run : MatchResult ran (HasRun n (end_wished until)) IsEarly
+  pub run : MatchResult ran (HasRun n (end_wished until) follow held holds) (IsEarly n.config)
+  pub unwritten : OnErr ran (after ≡ before)
   pub table : WritesEnd follow before after held holds (table_at_end ran) written
   pub reason : IsSecond n.config.addr ran second
   pub lines : ReportsBoth reported reports (line_of (run_told ran written)) second

@@ -1,22 +1,25 @@
 -- What a node does from its opening to its end.
-use Rattle.std.specs.Prelude.{◌≡◌, ◌<◌, ◌⊎◌, ℕ, ◌+◌, ◌^◌, Bool, true, List, [], ◌∷◌}
-use Rattle.std.specs.Prelude.{MatchResult}
+use Rattle.std.specs.Prelude.{◌≡◌, ◌<◌, ◌⊎◌, ℕ, ◌+◌, ◌^◌, Bool, true, false, List, [], ◌∷◌}
+use Rattle.std.specs.Prelude.{Option, Some, None, MatchResult}
 use Rattle.std.specs.List.{flat_map, sum_by}
 use Rattle.lg_rules.specs.declared.addr.Addr.{Addr}
 use Rattle.lg_timing.specs.declared.config.Config.{Config}
 use Rattle.lg_timing.specs.declared.config.Seed.{Seed}
 use Rattle.lg_detector.specs.declared.event.Event.TheVariants.{Open}
-use Rattle.lg_detector.specs.Meaning.Step.{view_after}
-use Rattle.lg_agent.specs.declared.refusal.Refusal.TheVariants.{BadPacket, NoMemory, NoView}
+use Rattle.lg_detector.specs.Meaning.Step.{view_after, most_events}
+use Rattle.lg_agent.specs.declared.refusal.Refusal.{Refusal}
+use Rattle.lg_agent.specs.declared.refusal.Refusal.TheVariants.{BadPacket, NoMemory, HistoryFull}
+use Rattle.lg_agent.specs.declared.refusal.Refusal.TheVariants.{Behind, NoPlace, NoView}
 use Rattle.lg_agent.specs.Meaning.Values.{PassValue}
 use Rattle.lg_agent.specs.Meaning.Calls.{IsLook}
 use Rattle.lg_agent.specs.Meaning.Closing.{IsClosed, IsRefusedClosing}
-use Rattle.lg_watch.specs.Meaning.Sights.{OnlyLooked}
+use Rattle.lg_watch.specs.declared.watched.Watched.{Watched}
+use Rattle.lg_watch.specs.Meaning.Sights.{HasWatched}
 use Rattle.lg_node.specs.declared.ending.End.{End}
 use Rattle.lg_node.specs.declared.ending.Why.TheVariants.{Stopped}
 use Rattle.lg_node.specs.declared.node.NodeEnd.{NodeEnd}
 use Rattle.lg_node.specs.declared.node.NodeFault.{NodeFault}
-use Rattle.lg_node.specs.declared.node.NodeFault.TheVariants.{Refused}
+use Rattle.lg_node.specs.declared.node.NodeFault.TheVariants.{Socket, Clock, Refused}
 use Rattle.lg_node.specs.Meaning.Turns.{Turn, LinkValue, Made, Lasted, HadNoThread}
 use Rattle.lg_node.specs.Meaning.Turns.{is_pull, receives, losses, peers_in}
 use Rattle.lg_node.specs.Meaning.Pulling.{addrs, plan_of, Ticking}
@@ -56,12 +59,22 @@ pub record HasServed
       (fresh_own config start 2) ticker (record ticked { unsent = later })
   pub counted : later + unsent < 2 ^ 64 → ticked.unsent ≡ later + unsent
 
+-- What the pass that had asked the seeds did beside the loops. If the node was followed, it watched, and `held` and
+-- `holds` are the bytes that the writer had taken before and after. Otherwise it did nothing.
+abbrev pub WatchesIf :
+    Bool → (before after : PassValue) (held holds : Option (List ℕ)) → Option Watched → Type 0
+WatchesIf true before after held holds (Some end) = HasWatched before after held holds end
+WatchesIf true before after held holds None = ⊥
+WatchesIf false before after held holds (Some end) = ⊥
+WatchesIf false before after held holds None = after ≡ before
+
 -- A node ran. It opened an agent with three places, asked its seeds and ran its loops. The pass that had asked the
--- seeds made looks beside the loops, if it watched. Then it read the members, and the agent was closed with what the
--- three passes left. Reading or closing may have been refused.
+-- seeds watched beside the loops, if the node was followed. Then it read the members, and the agent was closed with
+-- what the three passes left. Reading or closing may have been refused.
 pub record IsRun
     {D : Type 0} (throws : D → List ℕ → D → Type 0) (dice : D) (tells : Bool) (bound : ℕ) (config : Config)
-    (pull_ms until : ℕ) (hears hears' sends sends' : LinkValue) (e : NodeEnd) : Type 0 where
+    (pull_ms until : ℕ) (hears hears' sends sends' : LinkValue) (followed : Bool) (held holds : Option (List ℕ))
+    (e : NodeEnd) : Type 0 where
   pub start : ℕ
   pub receiver : PassValue
   pub ticker : PassValue
@@ -70,15 +83,25 @@ pub record IsRun
   pub reader : PassValue
   pub served : HasServed throws dice tells bound config pull_ms until start hears hears' sends sends' e.received
       e.ticked receiver ticker asker
-  pub watched : OnlyLooked asker watcher
+  pub watched : WatchesIf followed asker watcher held holds e.watched
   pub members : MatchResult e.members (λ records. (records.items ≡ view_after reader.seen) × IsLook watcher reader)
       (λ r. ((r ≡ NoView) ⊎ (r ≡ NoMemory)) × (reader ≡ watcher))
   pub closed : MatchResult e.closed (λ c. IsClosed 3 c (receiver ∷ ticker ∷ reader ∷ []))
       (λ f. IsRefusedClosing 3 (receiver ∷ ticker ∷ reader ∷ []) f)
 
--- what a node can be refused for before its loops: neither for bytes that are no packet, nor for what looks are
--- refused for
-abbrev pub IsEarly : NodeFault → Type 0
-IsEarly (Refused (BadPacket fault)) = ⊥
-IsEarly (Refused NoView) = ⊥
-IsEarly _ = Unit {0}
+-- What a node can be refused for before its loops. Memory can be refused throughout, and a reader for a pass at the
+-- opening. The call that asks a seed can be refused for a full history, which has the configuration's limit or the most
+-- events that a detector accepts. Its pass can have seen more events than there are.
+abbrev pub IsRefusedEarly : Config → Refusal → Type 0
+IsRefusedEarly config (BadPacket fault) = ⊥
+IsRefusedEarly config NoMemory = Unit {0}
+IsRefusedEarly config (HistoryFull limit) = (limit ≡ config.history_limit) ⊎ (limit ≡ most_events)
+IsRefusedEarly config (Behind seen here) = here < seen
+IsRefusedEarly config NoPlace = Unit {0}
+IsRefusedEarly config NoView = ⊥
+
+-- why a node can end before its loops
+abbrev pub IsEarly : Config → NodeFault → Type 0
+IsEarly config (Socket kind) = Unit {0}
+IsEarly config Clock = Unit {0}
+IsEarly config (Refused refusal) = IsRefusedEarly config refusal

@@ -1,6 +1,7 @@
 use Rattle.std.proofs.Common.{ap, string_bytes, ◌∙◌}
+use Rattle.lg_launch.specs.Meaning.Wishes.{end_wished}
 use Rattle.lg_launch.specs.Meaning.Telling.{line_of, status_told}
-use Rattle.lg_launch.proofs.EndLaws.{both-as, end-written}
+use Rattle.lg_launch.proofs.EndLaws.{both-as, end-written, run-written, unwritten-early}
 use Rattle.lg_launch.proofs.launch.run_announced.Goals as goal
 
 pub returns : goal.returns
@@ -9,10 +10,16 @@ returns g c =
       ran = c.run-ran.result;
       written = c.write_table-written.result;
       second = string_bytes c.second_line-second.result;
-      run = c.run-ran.ensures.ran;
+      run =
+          run-written g.W.Write.contents c.args.node.now (end_wished c.args.wishes.now.until) c.args.wishes.now.follow
+          (g.W.Write.contents c.args.writer.now) c.run-ran.new.writer c.write_table-written.new.writer c.run-ran.result
+          c.write_table-written.result c.run-ran.ensures.ran c.write_table-written.ensures;
+      unwritten =
+          unwritten-early g.W.Write.contents c.args.wishes.now.follow c.args.writer.now c.run-ran.new.writer c.write_table-written.new.writer
+          c.run-ran.result c.write_table-written.result c.run-ran.ensures.unwritten c.write_table-written.ensures;
       table =
           end-written g.W.Write.contents c.args.wishes.now.follow c.args.writer.now c.run-ran.new.writer c.write_table-written.new.writer
-          c.run-ran.result c.write_table-written.result c.run-ran.ensures.unwritten c.write_table-written.ensures;
+          c.run-ran.result c.write_table-written.result c.run-ran.ensures.alone c.write_table-written.ensures;
       reason = c.second_line-second.ensures;
       lines = both-as _ _ _ _ _ _ c.tell_both.ensures.lines (ap line_of c.of.ensures) c.as_str.ensures.value;
       is = c.tell_both.ensures.status ∙ ap status_told c.of.ensures;

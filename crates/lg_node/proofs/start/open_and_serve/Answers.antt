@@ -16,8 +16,13 @@ returns-in-Ok-serve-clause-ran g c =
         watcher = l.5;
         reader = c.in-Ok-serve.left.reader;
         served = rw (c.close.ensures.received, c.close.ensures.ticked) l.6;
-        watched = l.7;
+        watched = rw c.close.ensures.watched l.7;
         members = rw c.close.ensures.members l.8;
         closed = rw (← c.requires.places) c.close.ensures.closed;
       },
     )
+
+pub returns-clause-refused : goal.returns-clause-refused
+returns-clause-refused g c =
+    let config = c.copy.ensures in
+    c.in-Err-serve.ensures.refused c.now.result (rw config at c.in-Ok-open.ensures.name) (rw config at c.in-Ok-open.ensures.told.1)

@@ -1,29 +1,36 @@
 use Rattle.std.proofs.Common.{◌≡◌, [], arith}
 use Rattle.lg_node.specs.Meaning.Turns.{line}
+use Rattle.lg_node.proofs.EarlyLaws.{passed_early}
 use Rattle.lg_node.proofs.start.serve.Goals as goal
 
 pub returns-in_default-clause-refused : goal.returns-in_default-clause-refused
-returns-in_default-clause-refused g c = (record { name = []; seat = 0; seen = []; gone = 0; mine = [] }, tt)
+returns-in_default-clause-refused g c = λ start name told. tt
+
+pub returns-in_err-unsent-clause-refused : goal.returns-in_err-unsent-clause-refused
+returns-in_err-unsent-clause-refused g c = λ start name told.
+    let ready = c.in-Some.ensures _ start name told in
+    let refused = c.in_err-unsent.ensures.refused in
+    passed_early c.args.setup.now.config.now start refused.0.seen _ c.from_residual.result c.from_residual.ensures.1 (rw ready.2 at refused.1) refused.2
 
 pub returns-clause-left : goal.returns-clause-left
 returns-clause-left g c = λ start name told.
     let ready = c.in-Some.ensures _ start name told in
-    let seeds : c.deref.result.now ≡ c.args.config.now.seeds.items = cc in (
+    let seeds : c.deref.result.now ≡ c.args.setup.now.config.now.seeds.items = cc in (
       line [] c.new-hears.result.failures,
       line [] c.run_followed-watcher.result.1.0.link.failures,
       line [] c.new-sends.result.failures,
       line [] c.run_followed-watcher.result.1.1.link.failures,
       c.ask_each.new.pass,
-      c.run_followed-watcher.result.0,
+      c.run_followed-watcher.result.0.0,
       record {
         between = line [] c.ask_each.new.link.failures;
         unsent = c.in_ok-unsent.unsent;
         later = c.run_followed-watcher.result.1.1.end.unsent;
         asked = rw (ready.2, seeds) at c.in_ok-unsent.ensures.asked;
         received_so = rw (ready.0, c.requires.bound.1) at c.run_followed-watcher.ensures.received;
-        ticked_so = rw (ready.1, c.new-dice.ensures, c.new-plan.ensures, c.requires.bound.1) at c.run_followed-watcher.ensures.ticked;
+        ticked_so = rw (ready.1, c.new-plan.ensures, c.requires.bound.1) at c.run_followed-watcher.ensures.ticked;
         counted = λ low. omega (arith, low);
       },
-      c.run_followed-watcher.ensures.looked,
+      c.run_followed-watcher.ensures.watched,
       rw c.finish.ensures c.members-members.ensures,
     )

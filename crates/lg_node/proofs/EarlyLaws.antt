@@ -1,0 +1,34 @@
+-- What a node is refused for before its loops.
+use Rattle.std.proofs.Common.{◌≡◌, ℕ, List, [], ◌∷◌, Result, Ok, Err, IfErr, IsErrAnd, refl, sym, ◌∙◌, subst, inl, inr}
+use mathlib.Core.List.{IsPrefix}
+use Rattle.lg_timing.specs.declared.config.Config.{Config}
+use Rattle.lg_detector.specs.declared.event.Event.{Event}
+use Rattle.lg_detector.specs.declared.event.Event.TheVariants.{Open}
+use Rattle.lg_agent.specs.declared.receipt.Receipt.{Receipt}
+use Rattle.lg_agent.specs.declared.refusal.Refusal.{Refusal}
+use Rattle.lg_agent.specs.declared.refusal.Refusal.TheVariants.{BadPacket, NoMemory, HistoryFull, Behind, NoPlace, NoView}
+use Rattle.lg_agent.specs.Meaning.Values.{PassValue}
+use Rattle.lg_agent.specs.Meaning.Calls.{IsCall, IsRefusal}
+use Rattle.lg_agent.proofs.LedgerLaws.{limit-front}
+use Rattle.lg_watch.proofs.SightLaws.{prefix_through}
+use Rattle.lg_node.specs.Meaning.Nodes.{IsRefusedEarly}
+
+-- what a pass sees after a call begins with what it had seen before
+pub call_begins : (from : List Event) (p q : PassValue) (e : Event) (r : Receipt) → IsPrefix from p.seen → IsCall p e r q → IsPrefix from q.seen
+call_begins from p q e r begins call =
+    let a = call.answered in prefix_through from p.seen q.seen begins (prefix_through p.seen a.before q.seen a.begins (e ∷ [], sym a.ends))
+
+-- a call of a pass that has seen the opening is refused by the limit of its configuration
+pub refused_early : (config : Config) (start : ℕ) (seen : List Event) (e : Refusal) → IsPrefix (Open start config ∷ []) seen → IsRefusal seen e → IsRefusedEarly config e
+refused_early config start seen (BadPacket fault) begins is = is
+refused_early config start seen NoMemory begins is = tt
+refused_early config start seen (HistoryFull limit) begins (inl is) = inl (is ∙ limit-front (Open start config ∷ []) seen refl begins)
+refused_early config start seen (HistoryFull limit) begins (inr is) = inr is
+refused_early config start seen (Behind before here) begins is = is.1
+refused_early config start seen NoPlace begins is = tt
+refused_early config start seen NoView begins is = is
+
+-- the same of a refusal that is passed on
+pub passed_early : {T : Type 0} (config : Config) (start : ℕ) (seen : List Event) (e : Refusal) (r : Result T Refusal) → IsErrAnd r (λ d. d ≡ e) → IsPrefix (Open start config ∷ []) seen → IsRefusal seen e → IfErr r (IsRefusedEarly config)
+passed_early config start seen e (Ok x) same begins is = tt
+passed_early config start seen e (Err d) same begins is = subst (IsRefusedEarly config) (sym same) (refused_early config start seen e begins is)
