@@ -187,7 +187,15 @@ where
     };
     let stop = AtomicBool::new(false);
     let mut unread = Room::failing(0);
-    run_node(rt, alloc, &config(17110), &settings, at(0), &stop, &mut unread)
+    run_node(
+        rt,
+        alloc,
+        &config(17110),
+        &settings,
+        at(0),
+        &stop,
+        &mut unread,
+    )
 }
 
 /// A node that ran. A run fails if memory is refused, and while another program has the port for a moment.
