@@ -97,7 +97,8 @@ where
     W: Write + Send,
     G: FnOnce() -> B,
     requires { G.pre work }
-    ensures watched { WatchesIf follow pass.entry result.0.0 (W.contents writer.old) (W.contents writer.new) result.0.1 }
+    ensures watched { WatchesIf follow pass.entry result.0.0 (W.contents writer.old) (W.contents writer.new)
+        result.0.1 }
     ensures alone { follow ≡ false → writer.new ≡ writer.old }
     ensures gave { G.post work result.1 }
 {

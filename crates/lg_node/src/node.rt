@@ -34,8 +34,8 @@ pub struct Settings {
     /// How long it is from one Pull for a member that random words choose to the next, in milliseconds. With 0 there is
     /// none.
     pub pull_ms: u64,
-    /// The stall of the node's clock, in milliseconds: the most by which it passes the older of the loops' last turns. A
-    /// stall below 25 is taken as 25. With 0 the clock is the machine's.
+    /// The stall of the node's clock, in milliseconds: the most by which it passes the older of the loops' last turns.
+    /// A stall below 25 is taken as 25. With 0 the clock is the machine's.
     pub stall_ms: u64,
     /// Whether the node is followed: a watcher tells on a writer what it learns.
     pub follow: bool,
@@ -82,9 +82,9 @@ pub enum NodeFault {
 /// the ticking loop asks the seeds until a Page is heard, and again while it is alone. It asks a member every `pull_ms`.
 /// At the end the members are read, and the agent is closed. A node that hears of no member goes on alone.
 ///
-/// If the node is followed, the pass that has asked the seeds watches beside the loops ([`lg_watch::watch`]), in a thread
-/// of its own, and [`NodeEnd::watched`] says how that ended. A writer that fails ends the watcher alone. If the node isn't
-/// followed, or there are no loops, the writer stays as it is.
+/// If the node is followed, the pass that has asked the seeds watches beside the loops ([`lg_watch::watch`]), in a
+/// thread of its own, and [`NodeEnd::watched`] says how that ended. A writer that fails ends the watcher alone. If the
+/// node isn't followed, or there are no loops, the writer stays as it is.
 ///
 /// A turn of a loop waits a tenth of the configuration's `timeout_ms` at most, but at least 5 and at most 50
 /// milliseconds, and at most half of the clock's stall.
