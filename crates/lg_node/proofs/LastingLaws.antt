@@ -9,7 +9,7 @@ use Rattle.lg_node.specs.Meaning.Links.{LinkEvent}
 use Rattle.lg_node.specs.declared.ending.End.{End}
 use Rattle.lg_node.specs.declared.ending.Why.{Why}
 use Rattle.lg_node.specs.declared.ending.Why.TheVariants.{ReadBound}
-use Rattle.lg_node.specs.Meaning.Turns.{Turn, deeds, breaks, goes_on, IsTurn, Follows, LinkValue, Made, Ends, Ran, Lasted}
+use Rattle.lg_node.specs.Meaning.Turns.{Turn, deeds, breaks, goes_on, Follows, LinkValue, Made, Ends, Ran, Lasted}
 
 pub follows_join : (p m q : PassValue) (ts us : List Turn) → Follows p ts m → Follows m us q → Follows p (ts ++ us) q
 follows_join p m q [] us before after = subst (λ (o : PassValue). Follows o us q) before after

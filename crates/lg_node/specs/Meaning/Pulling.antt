@@ -10,7 +10,6 @@ use Rattle.lg_rules.specs.Meaning.Claim.{name_of}
 use Rattle.lg_rules.specs.Meaning.Rows.{name_cmp, without_row}
 use Rattle.lg_timing.specs.declared.config.Config.{Config}
 use Rattle.lg_timing.specs.declared.config.Seed.{Seed}
-use Rattle.lg_detector.specs.declared.event.Event.{Event}
 use Rattle.lg_detector.specs.Meaning.Step.{view_after}
 use Rattle.lg_agent.specs.Meaning.Values.{PassValue}
 use Rattle.lg_node.specs.declared.ending.End.{End}

@@ -1,13 +1,10 @@
 -- Worked turns of b, which has the seed c, asks a member every 300 ms, and begins at 0.
-use Rattle.std.specs.Prelude.{◌≡◌, ◌⊎◌, ℕ, ◌<◌, List, [], ◌∷◌, true, false, refl}
-use Rattle.std.proofs.Common.{lit≤, lit<, inl, inr}
+use Rattle.std.specs.Prelude.{◌≡◌, List, [], ◌∷◌, true, false, refl}
+use Rattle.std.proofs.Common.{lit≤, lit<, inr}
 use Rattle.lg_rules.specs.declared.claim.Claim.{Claim}
-use Rattle.lg_detector.specs.declared.event.Event.{Event}
-use Rattle.lg_detector.specs.Meaning.Step.{view_after}
-use Rattle.lg_detector.specs.Meaning.Examples.{by_computing, a, b, c, d, at, alive, failed, suspect, nothing, seeded}
+use Rattle.lg_detector.specs.Meaning.Examples.{a, b, c, d, at, alive, failed, suspect, nothing, seeded}
 use Rattle.lg_agent.specs.declared.receipt.Receipt.{Receipt}
 use Rattle.lg_node.specs.declared.plan.Plan.{Plan}
-use Rattle.lg_node.specs.Meaning.Turns.{Turn}
 use Rattle.lg_node.specs.Meaning.Turns.Turn.{Paused, Looked, Unlooked, AskedSeed, FoundNobody, Unfound}
 use Rattle.lg_node.specs.Meaning.Pulling.{others_of, is_alone, next_look, next_choice, waiting_after, IsChosen, AreTimely}
 

@@ -1,4 +1,4 @@
-use Rattle.std.proofs.Common.{◌∙◌, ap, sym, refl, arith, append-nil, subst, List, ◌≡◌, []}
+use Rattle.std.proofs.Common.{◌∙◌, sym, refl, arith, append-nil, subst, List, ◌≡◌, []}
 use Rattle.std.proofs.lemmas.List.{nil_from_length}
 use Rattle.lg_rules.specs.declared.claim.Claim.{Claim}
 use Rattle.lg_agent.specs.Meaning.Calls.{receipt_of}

@@ -1,11 +1,7 @@
-use Rattle.std.proofs.Common.{◌≡◌, [], ◌∷◌, List, drop, ap, sym, refl, arith, append-nil}
-use Rattle.lg_rules.specs.declared.addr.Addr.{Addr}
+use Rattle.std.proofs.Common.{sym, refl, arith, append-nil}
 use Rattle.lg_agent.specs.Meaning.Calls.{receipt_of}
-use Rattle.lg_node.specs.declared.agenda.Agenda.{Agenda}
-use Rattle.lg_node.specs.declared.plan.Plan.{Plan}
 use Rattle.lg_node.specs.Meaning.Turns.{Turn}
 use Rattle.lg_node.specs.Meaning.Turns.Turn.{AskedSeed, UnaskedSeed}
-use Rattle.lg_node.specs.Support.Acted.{waiting_by}
 use Rattle.lg_node.proofs.TurnLaws.{before_until}
 use Rattle.lg_node.proofs.PullingLaws.{agenda_more, seed_first, seed_gone}
 use Rattle.lg_node.proofs.finding.ask_seed.Goals as goal
