@@ -1,0 +1,7 @@
+-- The bounds of the code are those of the definitions.
+use Rattle.std.specs.Prelude.{◌≡◌, refl}
+use Rattle.lg_status.specs.declared.query.TheConstants.{MAX_WAIT_MS}
+use Rattle.lg_status.specs.Meaning.Queries.{most_wait_ms}
+
+most_wait_ms-is : MAX_WAIT_MS ≡ most_wait_ms
+most_wait_ms-is = refl
