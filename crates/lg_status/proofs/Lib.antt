@@ -1,0 +1,5 @@
+pub mod AddressLaws
+pub mod KeptLaws
+pub mod RingLaws
+pub mod SameRecords
+pub mod Writing

@@ -1,5 +1,14 @@
 -- What is right: whoever wants to believe the contracts reads these.
+pub mod Answers
+pub mod Bodies
+pub mod BodyExamples
+pub mod ChangeExamples
+pub mod Changes
 pub mod Examples
+pub mod Members
+pub mod MetricTable
+pub mod Metrics
+pub mod Page
 pub mod Places
 pub mod Queries
 pub mod Reasons

@@ -1,11 +1,11 @@
 -- Worked routes.
-use Rattle.std.specs.Prelude.{⊤, ◌≡◌, ℕ, [], ◌∷◌, Option, Some, None, Result, Ok, Err, List, codes, refl}
+use Rattle.std.specs.Prelude.{⊤, ◌≡◌, ℕ, List, [], Some, None, Ok, Err, codes, refl}
 use Rattle.lg_text.specs.Meaning.Cutting.{before, behind}
 use Rattle.lg_status.specs.declared.reason.RouteFault.{RouteFault}
 use Rattle.lg_status.specs.declared.reason.RouteFault.TheVariants.{UnknownPath, NoName, NoQuery, BadStatus, BadChanges}
 use Rattle.lg_status.specs.declared.route.Route.{Route}
 use Rattle.lg_status.specs.declared.route.Route.TheVariants.{Page, Members, Member, Health, Changes, Config, Metrics}
-use Rattle.lg_status.specs.declared.route.StatusKind.TheVariants.{Alive, Suspect}
+use Rattle.lg_status.specs.declared.route.StatusKind.TheVariants.{Suspect}
 use Rattle.lg_status.specs.Meaning.Queries.{changes_asked, pair_said, two_pairs_said, value_said}
 use Rattle.lg_status.specs.Meaning.Routes.{route_of}
 

@@ -1,5 +1,5 @@
 -- What a query asks for (this project's choice).
-use Rattle.std.specs.Prelude.{ℕ, ◌==◌, Bool, List, length, codes, unwrap_or}
+use Rattle.std.specs.Prelude.{ℕ, ◌==◌, List, length, codes, unwrap_or}
 use Rattle.std.specs.Prelude.{Option, Some, None, if◌then◌else◌}
 use Rattle.std.specs.Str.{bytes_eq}
 use Rattle.lg_text.specs.Meaning.Numbers.{number_of, number_within}

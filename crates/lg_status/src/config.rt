@@ -1,0 +1,110 @@
+//! Writes the configuration as JSON.
+//!
+//! Defined in: `specs/Meaning/Bodies.antt`, `lg_timing/specs/Meaning/Keys.antt`.
+ghost use Rattle.std.specs.Prelude.{◌≡◌, ◌++◌, IfOk, OnOk, codes, string_bytes};
+ghost use Rattle.std.specs.List.{flat_map};
+ghost use Rattle.lg_timing.specs.Meaning.Keys.{keys};
+ghost use Rattle.lg_status.specs.Meaning.Bodies.{config_body, config_front, key_field, number_field, own_field};
+ghost use Rattle.lg_status.specs.Meaning.Bodies.{seed_json};
+ghost use Rattle.lg_status.specs.Meaning.Members.{behind_comma, comma_separated};
+
+use crate::members::put_address;
+use crate::snapshot::{NodeNumber, Setup};
+use lg_check::text_of_name;
+use lg_rules::Name;
+use lg_timing::{Config, KEYS, Key, Seed};
+use std::alloc::{AllocError, Global};
+
+/// Appends the brace of an object and the name.
+fn put_name(name: &Name, text: &mut String) -> Result<(), AllocError>
+    ensures { OnOk result (string_bytes text.new
+        ≡ string_bytes text.old ++ (codes "{\"name\":\"" ++ (name.now ++ codes "\","))) }
+{
+    let name = text_of_name(name);
+    write!(text, "{{\"name\":\"{name}\",")
+}
+
+/// Appends the name and the address.
+fn put_front(config: &Config, text: &mut String) -> Result<(), AllocError>
+    ensures { OnOk result (string_bytes text.new ≡ string_bytes text.old ++ config_front config.now) }
+{
+    put_name(&config.name, text)?;
+    put_address(&config.addr, text)
+}
+
+/// Appends a number with its key.
+fn put_number(key: &str, value: u64, text: &mut String) -> Result<(), AllocError>
+    ensures { OnOk result (string_bytes text.new ≡ string_bytes text.old ++ number_field key.now value) }
+{
+    write!(text, ",\"{key}\":{value}")
+}
+
+/// Appends some of the member's numbers.
+fn put_keys(config: &Config, keys: &[Key], text: &mut String) -> Result<(), AllocError>
+    ensures { OnOk result (string_bytes text.new ≡ string_bytes text.old ++ flat_map (key_field config.now) keys.now) }
+{
+    for key in keys {
+        put_number(key.name(), config.number(*key), text)?;
+    }
+    Ok(())
+}
+
+/// Appends the numbers of the node's own.
+fn put_owns(numbers: &[NodeNumber], text: &mut String) -> Result<(), AllocError>
+    ensures { OnOk result (string_bytes text.new ≡ string_bytes text.old ++ flat_map own_field numbers.now) }
+{
+    for own in numbers {
+        put_number(own.key, own.value, text)?;
+    }
+    Ok(())
+}
+
+/// Appends a seed.
+#[tactic(auto, unfolding(crate::specs::Meaning::Bodies::seed_json))]
+fn put_seed(seed: &Seed, text: &mut String) -> Result<(), AllocError>
+    ensures { OnOk result (string_bytes text.new ≡ string_bytes text.old ++ seed_json seed.now) }
+{
+    put_name(&seed.name, text)?;
+    put_address(&seed.addr, text)?;
+    text.push_str("}")
+}
+
+/// Appends seeds, each behind a comma.
+fn put_other_seeds(seeds: &[Seed], text: &mut String) -> Result<(), AllocError>
+    ensures { OnOk result
+        (string_bytes text.new ≡ string_bytes text.old ++ flat_map (behind_comma seed_json) seeds.now) }
+{
+    for seed in seeds {
+        text.push_str(",")?;
+        put_seed(seed, text)?;
+    }
+    Ok(())
+}
+
+/// Appends seeds with commas between them.
+fn put_seeds(seeds: &[Seed], text: &mut String) -> Result<(), AllocError>
+    ensures { OnOk result (string_bytes text.new ≡ string_bytes text.old ++ comma_separated seed_json seeds.now) }
+{
+    match seeds {
+        [] => Ok(()),
+        [seed, others @ ..] => {
+            put_seed(seed, text)?;
+            put_other_seeds(others, text)
+        }
+    }
+}
+
+/// The body of the configuration.
+#[tactic(auto, unfolding(crate::specs::Meaning::Bodies::config_body))]
+pub(crate) fn config_body(alloc: Global, setup: &Setup) -> Result<String, AllocError>
+    ensures { IfOk result (λ body. string_bytes body ≡ config_body setup.now) }
+{
+    let mut text = String::new(alloc);
+    put_front(&setup.config, &mut text)?;
+    put_keys(&setup.config, &KEYS, &mut text)?;
+    put_owns(&setup.numbers, &mut text)?;
+    text.push_str(",\"seeds\":[")?;
+    put_seeds(&setup.config.seeds, &mut text)?;
+    text.push_str("]}")?;
+    Ok(text)
+}

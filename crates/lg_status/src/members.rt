@@ -1,0 +1,193 @@
+//! Writes members as JSON.
+//!
+//! Each function here that is named `put_` appends to a text. If memory is refused, that is its only error, and the
+//! text may have grown by a part of what was to be appended.
+//!
+//! Defined in: `specs/Meaning/Members.antt`.
+ghost use Rattle.std.specs.Prelude.{◌≡◌, ◌++◌, IfOk, OnOk, string_bytes};
+ghost use Rattle.std.specs.List.{flat_map};
+ghost use Rattle.lg_report.specs.Meaning.Records.{status_text};
+ghost use Rattle.lg_status.specs.Meaning.Members.{accuser_value, address_fields, behind_address, behind_comma};
+ghost use Rattle.lg_status.specs.Meaning.Members.{comma_separated, member_body, member_fields, member_json};
+ghost use Rattle.lg_status.specs.Meaning.Members.{members_asked, members_body, members_front_of, moment_front};
+ghost use Rattle.lg_status.specs.Meaning.Members.{standing_fields};
+
+use crate::route::StatusKind;
+use crate::snapshot::Snapshot;
+use lg_check::text_of_name;
+use lg_rules::{Addr, Record, Status};
+use std::alloc::{AllocError, Global};
+
+/// The word for a status.
+pub(crate) fn status_word(status: &Status) -> &'static str
+    ensures { result.now ≡ status_text status.now }
+{
+    match status {
+        Status::Alive => "alive",
+        Status::Suspect(_) => "suspect",
+        Status::Failed => "failed",
+    }
+}
+
+/// Appends the name, the status and the incarnation of a member.
+fn put_standing(member: &Record, text: &mut String) -> Result<(), AllocError>
+    ensures { OnOk result (string_bytes text.new ≡ string_bytes text.old ++ standing_fields member.now) }
+{
+    let name = text_of_name(&member.name);
+    let status = status_word(&member.status);
+    let incarnation = member.incarnation.number();
+    write!(
+        text,
+        "\"name\":\"{name}\",\"status\":\"{status}\",\"incarnation\":{incarnation}"
+    )
+}
+
+/// Appends an address and a port, behind the first key.
+fn put_behind_address(addr: &Addr, text: &mut String) -> Result<(), AllocError>
+    ensures { OnOk result (string_bytes text.new ≡ string_bytes text.old ++ behind_address addr.now) }
+{
+    let [a, b, c, d] = addr.octets;
+    let port = addr.port;
+    write!(text, "{a}.{b}.{c}.{d}\",\"port\":{port}")
+}
+
+/// Appends an address and a port.
+#[tactic(auto, unfolding(crate::specs::Meaning::Members::address_fields))]
+pub(crate) fn put_address(addr: &Addr, text: &mut String) -> Result<(), AllocError>
+    ensures { OnOk result (string_bytes text.new ≡ string_bytes text.old ++ address_fields addr.now) }
+{
+    text.push_str("\"address\":\"")?;
+    put_behind_address(addr, text)
+}
+
+/// Appends the accuser of a member that is suspected, or `null`.
+fn put_accuser(status: &Status, text: &mut String) -> Result<(), AllocError>
+    ensures { OnOk result (string_bytes text.new ≡ string_bytes text.old ++ accuser_value status.now) }
+{
+    match status {
+        Status::Suspect(accuser) => {
+            let accuser = text_of_name(accuser);
+            write!(text, "\"{accuser}\"")
+        }
+        Status::Alive | Status::Failed => text.push_str("null"),
+    }
+}
+
+/// Appends the fields of a member.
+#[tactic(auto, unfolding(crate::specs::Meaning::Members::member_fields))]
+pub(crate) fn put_fields(member: &Record, text: &mut String) -> Result<(), AllocError>
+    ensures { OnOk result (string_bytes text.new ≡ string_bytes text.old ++ member_fields member.now) }
+{
+    put_standing(member, text)?;
+    text.push_str(",")?;
+    put_address(&member.addr, text)?;
+    text.push_str(",\"accuser\":")?;
+    put_accuser(&member.status, text)
+}
+
+/// Appends a member.
+#[tactic(auto, unfolding(crate::specs::Meaning::Members::member_json))]
+fn put_member(member: &Record, text: &mut String) -> Result<(), AllocError>
+    ensures { OnOk result (string_bytes text.new ≡ string_bytes text.old ++ member_json member.now) }
+{
+    text.push_str("{")?;
+    put_fields(member, text)?;
+    text.push_str("}")
+}
+
+/// Appends members, each behind a comma.
+fn put_others(members: &[Record], text: &mut String) -> Result<(), AllocError>
+    ensures { OnOk result
+        (string_bytes text.new ≡ string_bytes text.old ++ flat_map (behind_comma member_json) members.now) }
+{
+    for member in members {
+        text.push_str(",")?;
+        put_member(member, text)?;
+    }
+    Ok(())
+}
+
+/// Appends members with commas between them.
+fn put_members(members: &[Record], text: &mut String) -> Result<(), AllocError>
+    ensures { OnOk result
+        (string_bytes text.new ≡ string_bytes text.old ++ comma_separated member_json members.now) }
+{
+    match members {
+        [] => Ok(()),
+        [member, others @ ..] => {
+            put_member(member, text)?;
+            put_others(others, text)
+        }
+    }
+}
+
+/// Appends the members of one status, with commas between them.
+fn put_members_of(
+    alloc: Global,
+    kind: StatusKind,
+    members: &[Record],
+    text: &mut String,
+) -> Result<(), AllocError>
+    ensures { OnOk result (string_bytes text.new ≡ string_bytes text.old
+        ++ comma_separated member_json (members_asked (Some kind) members.now)) }
+{
+    let found: Vec<Record> = members
+        .iter()
+        .copied()
+        .filter(|member| kind.is_of(&member.status))
+        .collect(alloc)?;
+    put_members(&found, text)
+}
+
+/// Appends a version and a moment.
+#[tactic(auto, unfolding(crate::specs::Meaning::Members::moment_front))]
+pub(crate) fn put_moment(version: u64, moment: u64, text: &mut String) -> Result<(), AllocError>
+    ensures { OnOk result (string_bytes text.new ≡ string_bytes text.old ++ moment_front version moment) }
+{
+    write!(text, "{{\"version\":{version},\"moment_ms\":{moment},")
+}
+
+/// Appends what stands between the moment and the members.
+#[tactic(auto, unfolding(crate::specs::Meaning::Members::members_front_of))]
+fn put_members_front(name: &str, text: &mut String) -> Result<(), AllocError>
+    ensures { OnOk result (string_bytes text.new ≡ string_bytes text.old ++ members_front_of name.now) }
+{
+    write!(text, "\"name\":\"{name}\",\"members\":[")
+}
+
+/// The body of the members of a look: all, or those of one status, in the order of names. Memory is allocated for the
+/// text, of 174 bytes at most for each member, and for a copy of the records if a status is asked for.
+#[tactic(auto, unfolding(crate::specs::Meaning::Members::members_body))]
+pub(crate) fn members_body(
+    alloc: Global,
+    snapshot: &Snapshot,
+    kind: Option<StatusKind>,
+) -> Result<String, AllocError>
+    ensures { IfOk result (λ body. string_bytes body ≡ members_body snapshot.now kind) }
+{
+    let mut text = String::new(alloc);
+    put_moment(snapshot.version, snapshot.moment.milliseconds(), &mut text)?;
+    put_members_front(text_of_name(&snapshot.name), &mut text)?;
+    match kind {
+        Some(kind) => put_members_of(alloc, kind, &snapshot.records, &mut text)?,
+        None => put_members(&snapshot.records, &mut text)?,
+    }
+    text.push_str("]}")?;
+    Ok(text)
+}
+
+/// The body of one member.
+#[tactic(auto, unfolding(crate::specs::Meaning::Members::member_body))]
+pub(crate) fn member_body(
+    alloc: Global,
+    version: u64,
+    member: &Record,
+) -> Result<String, AllocError>
+    ensures { IfOk result (λ body. string_bytes body ≡ member_body version member.now) }
+{
+    let mut text = String::new(alloc);
+    write!(text, "{{\"version\":{version},")?;
+    put_fields(member, &mut text)?;
+    text.push_str("}")?;
+    Ok(text)
+}

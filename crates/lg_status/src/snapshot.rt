@@ -1,0 +1,87 @@
+//! What the answers are made of: plain values of one look at a node.
+
+use lg_rules::{Incarnation, Name, Record};
+use lg_timing::{Config, Moment};
+
+/// How many datagrams a node dropped for one fault of their bytes.
+#[derive(Clone, Copy, Debug, PartialEq, Eq)]
+pub struct Drops {
+    /// The fault's name, such as `Magic`. It has letters only, so that no byte needs an escape.
+    pub fault: &'static str,
+    /// How many datagrams had it.
+    pub count: u64,
+}
+
+/// What a node counts from its start on.
+#[derive(Clone, Copy, Debug, Default, PartialEq, Eq)]
+pub struct Counts {
+    /// Datagrams that were received, those with a fault too.
+    pub received: u64,
+    /// Datagrams that were sent.
+    pub sent: u64,
+    /// Datagrams that couldn't be sent.
+    pub unsent: u64,
+    /// Probes that were begun, one a round.
+    pub probes_begun: u64,
+    /// Probes that no Ack ended in time.
+    pub probes_failed: u64,
+    /// Probes of other members that this member made as a helper.
+    pub probes_helped: u64,
+    /// Suspicions that were raised, of any member.
+    pub suspicions_raised: u64,
+    /// Suspicions of this member that it refuted.
+    pub suspicions_refuted: u64,
+    /// Entries that the history took, with those that rotations cut off.
+    pub history_entries: u64,
+    /// Rotations of the history.
+    pub history_rotations: u64,
+    /// Calls that were refused.
+    pub calls_refused: u64,
+}
+
+/// What one look at a node found.
+#[derive(Debug, Drop)]
+pub struct Snapshot {
+    /// How many events the records are after.
+    pub version: u64,
+    /// The moment of the look.
+    pub moment: Moment,
+    /// This member's name.
+    pub name: Name,
+    /// The records of all members that are known, this member's too, in the order of names.
+    pub records: Vec<Record>,
+    /// The health score of this member.
+    pub score: u64,
+    /// The incarnation of this member.
+    pub incarnation: Incarnation,
+    /// Whether this member is ousted.
+    pub ousted: bool,
+    /// How long the node has run, in milliseconds.
+    pub uptime_ms: u64,
+    /// How long the node stood still, in milliseconds.
+    pub stood_still_ms: u64,
+    /// The moment of the last event, in milliseconds.
+    pub last_event_ms: u64,
+    /// What the node counted.
+    pub counts: Counts,
+    /// How many datagrams it dropped for each fault.
+    pub dropped: Vec<Drops>,
+}
+
+/// A number of the configuration file that only the node uses.
+#[derive(Clone, Copy, Debug, PartialEq, Eq)]
+pub struct NodeNumber {
+    /// Its key, such as `pull_ms`. It has letters and `_` only, so that no byte needs an escape.
+    pub key: &'static str,
+    /// Its value.
+    pub value: u64,
+}
+
+/// The configuration that a node runs with, defaults filled in.
+#[derive(Debug, Drop)]
+pub struct Setup {
+    /// The configuration of its member.
+    pub config: Config,
+    /// The numbers of the node's own, in the order in which they are shown.
+    pub numbers: Vec<NodeNumber>,
+}
