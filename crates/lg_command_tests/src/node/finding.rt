@@ -156,7 +156,28 @@ pub struct Found {
     pulls: ArrayVec<Pulled, 16>,
 }
 
-/// Runs the loop with a pass.
+/// Runs the loop with a pass over a link that shares this clock and this flag.
+fn run_loop<'a, A: AgentName, R: Wait>(
+    rt: &R,
+    alloc: Global,
+    pass: Pass<'_, A>,
+    search: Search,
+    clock: &'a MemoryClock,
+    page_heard: &'a AtomicBool,
+) -> Ended<PullLink<'a>, A> {
+    let stop = AtomicBool::new(false);
+    let bound = search.bound.min(MAX_TURNS);
+    let shared = shared(rt, alloc, clock, &stop, page_heard, bound, search.endless);
+    let link = PullLink {
+        clock,
+        page_heard,
+        page_after: search.page_after,
+        pulls: ArrayVec::new(),
+    };
+    tick_loop(&shared, Side { pass, link }, search.dice, &search.plan())
+}
+
+/// Lets the pass hear who has failed, and runs the loop with it.
 fn run_pass<A: AgentName, R: Wait>(
     rt: &R,
     alloc: Global,
@@ -166,19 +187,8 @@ fn run_pass<A: AgentName, R: Wait>(
     let mut pass = pass;
     search.tell_failed(rt, alloc, &mut pass);
     let clock = MemoryClock::new(0);
-    let stop = AtomicBool::new(false);
     let page_heard = AtomicBool::new(search.page_after == 0);
-    let bound = search.bound.min(MAX_TURNS);
-    let mut shared = shared(rt, alloc, &clock, &stop, &page_heard, bound);
-    shared.endless = search.endless;
-    let link = PullLink {
-        clock: &clock,
-        page_heard: &page_heard,
-        page_after: search.page_after,
-        pulls: ArrayVec::new(),
-    };
-    let ended = tick_loop(&shared, Side { pass, link }, search.dice, &search.plan());
-    let Ended { link, spent, end } = ended;
+    let Ended { link, spent, end } = run_loop(rt, alloc, pass, search, &clock, &page_heard);
     let found = Found {
         end,
         over: clock.milliseconds(),

@@ -15,7 +15,7 @@ use std::sync::atomic::AtomicBool;
 /// How long a turn waits at most, in milliseconds.
 pub(super) const WAIT_MS: u64 = 20;
 
-/// What a loop of at most `bound` turns shares with nobody.
+/// What a loop of at most `bound` turns shares with nobody. If it is endless, it counts them anew and goes on.
 pub(super) fn shared<'a, R>(
     rt: &'a R,
     alloc: Global,
@@ -23,6 +23,7 @@ pub(super) fn shared<'a, R>(
     stop: &'a AtomicBool,
     page_heard: &'a AtomicBool,
     bound: u64,
+    endless: bool,
 ) -> Shared<'a, R, MemoryClock>
     ensures { result.bound ≡ bound }
 {
@@ -33,7 +34,7 @@ pub(super) fn shared<'a, R>(
         stop,
         page_heard,
         bound,
-        endless: false,
+        endless,
         wait_ms: WAIT_MS,
     }
 }
@@ -51,7 +52,7 @@ pub(super) fn receive<A: AgentName, R: Wait, L: Link>(
     requires { bound ≤ MAX_TURNS }
 {
     let page_heard = AtomicBool::new(false);
-    let shared = shared(rt, alloc, clock, stop, &page_heard, bound);
+    let shared = shared(rt, alloc, clock, stop, &page_heard, bound, false);
     receive_loop(&shared, Side { pass, link })
 }
 
@@ -79,7 +80,7 @@ pub(super) fn tick<A: AgentName, R: Wait, L: Link>(
     requires { bound ≤ MAX_TURNS }
 {
     let page_heard = AtomicBool::new(false);
-    let shared = shared(rt, alloc, clock, stop, &page_heard, bound);
+    let shared = shared(rt, alloc, clock, stop, &page_heard, bound, false);
     let dice = FixedDice { word: 0 };
     tick_loop(&shared, Side { pass, link }, dice, &ticks_until(at(until)))
 }
