@@ -1,0 +1,5 @@
+pub mod ChainLaws
+pub mod FeedLaws
+pub mod FramingLaws
+pub mod ReplyLaws
+pub mod SlotLaws

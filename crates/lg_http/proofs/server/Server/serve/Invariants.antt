@@ -1,0 +1,6 @@
+use Rattle.lg_http.specs.Meaning.Slots.{AreSlots, slots_of}
+use Rattle.lg_http.proofs.server.Server.serve.Given as goal
+
+abbrev pub invariant-loop : goal.invariant-loop
+invariant-loop g l =
+    AreSlots g.S.Site.answers (slots_of l.initial.self) → AreSlots g.S.Site.answers (slots_of l.self)

@@ -1,0 +1,2 @@
+-- What only carries proofs.
+pub mod Only

@@ -1,0 +1,194 @@
+//! The site as a service of `http_server`.
+//!
+//! Defined in: `specs/Meaning/Answers.antt`.
+ghost use Rattle.std.specs.Prelude.{◌≡◌, ◌++◌, [], ◌∷◌, ◌↔◌, OnOk, IfOk, IsTrue, codes, option_map, option_copied};
+ghost use Rattle.http_uri.specs.Uri.{uri_path, uri_query};
+ghost use Rattle.http_server.specs.Response.{IsBlank, IsResponse, fields_of};
+ghost use Rattle.lg_http.specs.declared.site.Kind.TheVariants.{Json};
+ghost use Rattle.lg_http.specs.Meaning.Answers.{IsReply, IsServedMethod, closing, content_type, kind_words, status_number, method_body, crowded_body, allowed, retry};
+
+use crate::site::{Answer, Kind, Site, Status};
+use bytes::{BufMut, Bytes};
+use http::{HeaderValue, Request, StatusCode, Uri, header};
+use http_server::{Response, Service};
+use std::alloc::{AllocError, Global};
+
+/// Answers the requests of all connections from one site: GET and HEAD as the site says, and another method with 405
+/// and `allow`. A long poll too many gets 503 and `retry-after`. Each error has a JSON body.
+#[derive(Drop)]
+pub struct Desk<S> {
+    alloc: Global,
+    pub(crate) site: S,
+    /// The connection is closed behind the next answer.
+    pub(crate) is_last: bool,
+    /// The next request is a long poll, and too many wait.
+    pub(crate) is_full: bool,
+}
+
+impl<S: Site> Desk<S> {
+    /// A desk over a site.
+    pub fn new(alloc: Global, site: S) -> Desk<S>
+        ensures { result.site ≡ site }
+    {
+        Desk {
+            alloc,
+            site,
+            is_last: false,
+            is_full: false,
+        }
+    }
+}
+
+/// The code as `http` has it.
+fn status_code(status: Status) -> StatusCode
+    ensures { result ≡ status_number status }
+{
+    match status {
+        Status::Fine => StatusCode::OK,
+        Status::BadRequest => StatusCode::BAD_REQUEST,
+        Status::NotFound => StatusCode::NOT_FOUND,
+        Status::Unavailable => StatusCode::SERVICE_UNAVAILABLE,
+    }
+}
+
+/// The value of `content-type` as `http` has it.
+fn kind_value(kind: Kind) -> HeaderValue
+    ensures { result.bytes ≡ kind_words kind }
+{
+    match kind {
+        Kind::Json => HeaderValue::from_static("application/json"),
+        Kind::Html => HeaderValue::from_static("text/html; charset=utf-8"),
+        Kind::Metrics => HeaderValue::from_static("text/plain; version=0.0.4; charset=utf-8"),
+    }
+}
+
+/// Says which media type the body has.
+fn put_kind(kind: Kind, response: &mut Response) -> Result<(), AllocError>
+    ensures headers { OnOk result (fields_of response.new ≡ fields_of response.old ++ content_type kind ∷ []) }
+    ensures status { response.new.status ≡ response.old.status }
+    ensures body { response.new.body ≡ response.old.body }
+{
+    response.add_header(header::CONTENT_TYPE, kind_value(kind))
+}
+
+/// Says that the connection is closed behind this answer, if it is.
+fn put_close(is_last: bool, response: &mut Response) -> Result<(), AllocError>
+    ensures headers { OnOk result (fields_of response.new ≡ fields_of response.old ++ closing is_last) }
+    ensures status { response.new.status ≡ response.old.status }
+    ensures body { response.new.body ≡ response.old.body }
+{
+    if is_last {
+        response.add_header(header::CONNECTION, HeaderValue::from_static("close"))
+    } else {
+        Ok(())
+    }
+}
+
+/// Fills in what the site answers.
+fn put_answer(answer: Answer, response: &mut Response) -> Result<(), AllocError>
+    requires { response.old.body.items ≡ [] }
+    ensures status { response.new.status ≡ status_number answer.status }
+    ensures headers { OnOk result
+        (fields_of response.new ≡ fields_of response.old ++ content_type answer.kind ∷ []) }
+    ensures body { OnOk result (response.new.body.items ≡ answer.body.items) }
+{
+    let Answer { status, kind, body } = answer;
+    response.status = status_code(status);
+    put_kind(kind, response)?;
+    response.body.push(Bytes::from_vec(body)?)
+}
+
+/// The methods that are served.
+fn allow_value() -> HeaderValue
+    ensures { result.bytes ≡ codes "GET, HEAD" }
+{
+    HeaderValue::from_static("GET, HEAD")
+}
+
+/// Says which methods are served.
+fn put_allow(response: &mut Response) -> Result<(), AllocError>
+    ensures headers { OnOk result (fields_of response.new ≡ fields_of response.old ++ allowed ∷ []) }
+    ensures status { response.new.status ≡ response.old.status }
+    ensures body { response.new.body ≡ response.old.body }
+{
+    response.add_header(header::ALLOW, allow_value())
+}
+
+/// Turns a method away that isn't served.
+fn put_other(response: &mut Response) -> Result<(), AllocError>
+    requires { response.old.body.items ≡ [] }
+    ensures status { response.new.status ≡ 405 }
+    ensures headers { OnOk result
+        (fields_of response.new ≡ fields_of response.old ++ allowed ∷ content_type Json ∷ []) }
+    ensures body { OnOk result (response.new.body.items ≡ method_body) }
+{
+    response.status = StatusCode::METHOD_NOT_ALLOWED;
+    put_allow(response)?;
+    put_kind(Kind::Json, response)?;
+    response
+        .body
+        .put_slice(b"{\"error\":\"method not allowed\"}")
+}
+
+/// Turns a long poll away, since too many wait.
+fn put_crowded(response: &mut Response) -> Result<(), AllocError>
+    requires { response.old.body.items ≡ [] }
+    ensures status { response.new.status ≡ 503 }
+    ensures headers { OnOk result
+        (fields_of response.new ≡ fields_of response.old ++ retry ∷ content_type Json ∷ []) }
+    ensures body { OnOk result (response.new.body.items ≡ crowded_body) }
+{
+    response.status = StatusCode::SERVICE_UNAVAILABLE;
+    response.add_header(header::RETRY_AFTER, HeaderValue::from_static("1"))?;
+    put_kind(Kind::Json, response)?;
+    response
+        .body
+        .put_slice(b"{\"error\":\"too many requests wait\"}")
+}
+
+/// The bytes of a text, if there is one.
+fn bytes_of(text: Option<&str>) -> Option<&[u8]>
+    ensures { option_map (λ b. b.now) result ≡ option_copied text.entry }
+{
+    match text {
+        Some(text) => Some(text.as_bytes()),
+        None => None,
+    }
+}
+
+/// Whether a method is served.
+fn is_served(method: &str) -> bool
+    ensures { IsTrue result ↔ IsServedMethod method.now }
+{
+    method == "GET" || method == "HEAD"
+}
+
+/// What a site answers to a target.
+fn site_answer<S: Site>(site: &S, alloc: Global, uri: &Uri) -> Result<Answer, AllocError>
+    ensures { IfOk result (λ a. S.answers site.now (uri_path uri.now) (uri_query uri.now) a) }
+{
+    let path = uri.path().as_bytes();
+    let query = bytes_of(uri.query());
+    site.answer(alloc, path, query)
+}
+
+impl<S: Site> Service for Desk<S> {
+    ghost answers = { λ old request response new.
+        (new ≡ old) × IsReply S.answers old.is_last old.is_full old.site request response };
+
+    fn call(
+        &mut self,
+        request: &Request<Bytes>,
+        response: &mut Response,
+    ) -> Result<(), AllocError> {
+        put_close(self.is_last, response)?;
+        if !is_served(request.method().as_str()) {
+            return put_other(response);
+        }
+        if self.is_full {
+            return put_crowded(response);
+        }
+        let answer = site_answer(&self.site, self.alloc, request.uri())?;
+        put_answer(answer, response)
+    }
+}

@@ -1,0 +1,19 @@
+//! One thread that serves HTTP/1.1 to up to 256 clients, whose long polls wait for a change.
+#![tactic(auto)]
+
+mod desk;
+mod gate;
+mod listener;
+mod own;
+mod peer;
+mod server;
+mod signal;
+mod site;
+mod slots;
+
+pub use desk::Desk;
+pub use listener::Listener;
+pub use server::{Counts, End, Server};
+pub use signal::Signal;
+pub use site::{Answer, Kind, Site, Status, Wait};
+pub use slots::{MAX_PARKED, MAX_PEERS};

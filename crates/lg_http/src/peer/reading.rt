@@ -1,0 +1,163 @@
+//! Reading from a client, and what is done with a request.
+//!
+//! Defined in: `specs/Meaning/Phases.antt`, `specs/Meaning/Peers.antt`.
+ghost use Rattle.std.specs.Prelude.{◌≡◌, ◌≢◌, ◌≤◌, ◌<◌, ◌+◌, length, IsFalse};
+ghost use Rattle.lg_http.specs.declared.peer.Phase.TheVariants.{Parked};
+ghost use Rattle.lg_http.specs.Meaning.Phases.{MayBecome, IsAwake};
+ghost use Rattle.lg_http.specs.Meaning.Peers.{GoesOn, Answers, IsCurrent, IsBounded, calls_of, stream_of};
+
+use super::{MAX_WAIT_MS, Peer, Phase, ROOM, Step, Turn};
+use crate::desk::Desk;
+use crate::gate::{Front, MAX_HEAD, look_at};
+use crate::site::{Site, Wait};
+use std::io::{ErrorKind, Read};
+
+impl Peer {
+    /// Reads once from the socket, if there is room.
+    fn receive(&mut self) -> Step
+        ensures phase { self.new.phase ≡ self.old.phase }
+        ensures until { self.new.until ≡ self.old.until }
+        ensures calls { calls_of self.new ≡ calls_of self.old }
+        ensures stream { GoesOn self.old self.new }
+        ensures bounded { IsBounded self.old → IsBounded self.new }
+    {
+        if !self.can_read || self.held.len() >= MAX_HEAD {
+            return Step::Wait;
+        }
+        let mut room = [0; ROOM];
+        match self.stream.read(&mut room) {
+            Ok(count) => {
+                self.ended = count == 0;
+                self.is_fresh = true;
+                match self.held.extend_from_slice(&room[..count]) {
+                    Ok(()) => Step::On,
+                    Err(_) => Step::Gone,
+                }
+            }
+            Err(e) => self.missed(e.kind()),
+        }
+    }
+
+    /// What a read that failed leaves to do.
+    fn missed(&mut self, kind: ErrorKind) -> Step
+        ensures phase { self.new.phase ≡ self.old.phase }
+        ensures until { self.new.until ≡ self.old.until }
+        ensures http { self.new.http ≡ self.old.http }
+        ensures held { self.new.held ≡ self.old.held }
+    {
+        match kind {
+            ErrorKind::WouldBlock => {
+                self.can_read = false;
+                Step::Wait
+            }
+            ErrorKind::Interrupted => Step::On,
+            _ => Step::Gone,
+        }
+    }
+
+    /// Reads what nobody wants any more.
+    pub(super) fn drain(&mut self) -> Step
+        ensures phase { self.new.phase ≡ self.old.phase }
+        ensures until { self.new.until ≡ self.old.until }
+        ensures calls { calls_of self.new ≡ calls_of self.old }
+        ensures bounded { IsBounded self.new }
+    {
+        self.held.clear();
+        if self.ended {
+            return Step::Gone;
+        }
+        self.receive()
+    }
+
+    /// A step of a long poll. One whose client has sent all that it will is closed: the client may be gone.
+    #[tactic(auto, using(crate::proofs::ChainLaws::adds_nothing))]
+    pub(super) fn wait<S: Site>(&mut self, desk: &mut Desk<S>, turn: &Turn, after: u64) -> Step
+        requires { self.old.phase ≡ Parked after }
+        ensures moves { result ≢ Step.Gone → MayBecome self.old.phase self.new.phase }
+        ensures current { result ≢ Step.Gone → IsCurrent turn.now.at turn.now.version self.new }
+        ensures came { after < turn.now.version → result ≢ Step.Gone → IsAwake self.new.phase }
+        ensures over { self.old.until ≤ turn.now.at → result ≢ Step.Gone → IsAwake self.new.phase }
+        ensures stream { GoesOn self.old self.new }
+        ensures answers { Answers S.answers desk.old.site self.old self.new }
+        ensures site { desk.new.site ≡ desk.old.site }
+        ensures bounded { IsBounded self.old → IsBounded self.new }
+    {
+        if after < turn.version || turn.at.milliseconds() >= self.until {
+            return match look_at(&desk.site, self.held.as_slice()) {
+                Front::Request(len, _) => self.give(desk, turn, len, false),
+                Front::Partial | Front::Other => Step::Gone,
+            };
+        }
+        if self.ended {
+            return Step::Gone;
+        }
+        self.receive()
+    }
+
+    /// A step of reading a request.
+    #[tactic(auto, using(crate::proofs::ChainLaws::adds_nothing))]
+    pub(super) fn read<S: Site>(&mut self, desk: &mut Desk<S>, turn: &Turn) -> Step
+        requires phase { self.old.phase ≡ Phase.Reading }
+        requires timely { turn.now.at < self.old.until }
+        ensures moves { result ≢ Step.Gone → MayBecome self.old.phase self.new.phase }
+        ensures current { result ≢ Step.Gone → IsCurrent turn.now.at turn.now.version self.new }
+        ensures parks { IsFalse turn.now.may_park → result ≢ Step.Gone → IsAwake self.new.phase }
+        ensures stream { GoesOn self.old self.new }
+        ensures answers { Answers S.answers desk.old.site self.old self.new }
+        ensures site { desk.new.site ≡ desk.old.site }
+        ensures bounded { IsBounded self.old → IsBounded self.new }
+    {
+        if !self.is_fresh {
+            return self.receive();
+        }
+        self.is_fresh = false;
+        let len = self.held.len();
+        if self.is_last {
+            return self.give(desk, turn, len, false);
+        }
+        match look_at(&desk.site, self.held.as_slice()) {
+            Front::Request(front, wait) => self.begin(desk, turn, front, wait),
+            Front::Partial if !self.ended => Step::On,
+            Front::Partial if len == 0 => Step::Gone,
+            Front::Partial | Front::Other => {
+                self.is_last = true;
+                self.give(desk, turn, len, false)
+            }
+        }
+    }
+
+    /// Answers the request at the front, or parks it.
+    #[tactic(auto, using(crate::proofs::ChainLaws::adds_nothing))]
+    fn begin<S: Site>(
+        &mut self,
+        desk: &mut Desk<S>,
+        turn: &Turn,
+        front: usize,
+        wait: Option<Wait>,
+    ) -> Step
+        requires phase { self.old.phase ≡ Phase.Reading }
+        requires front { front ≤ length self.old.held.items }
+        ensures moves { result ≢ Step.Gone → MayBecome self.old.phase self.new.phase }
+        ensures current { result ≢ Step.Gone → IsCurrent turn.now.at turn.now.version self.new }
+        ensures parks { IsFalse turn.now.may_park → result ≢ Step.Gone → IsAwake self.new.phase }
+        ensures stream { stream_of self.new ≡ stream_of self.old }
+        ensures answers { Answers S.answers desk.old.site self.old self.new }
+        ensures site { desk.new.site ≡ desk.old.site }
+        ensures bounded { IsBounded self.old → IsBounded self.new }
+    {
+        match wait {
+            Some(Wait { after, wait_ms }) if wait_ms > 0 && turn.version <= after => {
+                if !turn.may_park {
+                    return self.give(desk, turn, front, true);
+                }
+                self.phase = Phase::Parked(after);
+                self.until = turn
+                    .at
+                    .milliseconds()
+                    .saturating_add(wait_ms.min(MAX_WAIT_MS));
+                Step::On
+            }
+            _ => self.give(desk, turn, front, false),
+        }
+    }
+}

@@ -1,0 +1,240 @@
+//! The loop over all sockets.
+//!
+//! Defined in: `specs/Meaning/Slots.antt`.
+ghost use Rattle.std.specs.Prelude.{◌≡◌, IfOk, OnOk, All};
+ghost use Rattle.lg_http.specs.Meaning.Peers.{IsCurrent};
+ghost use Rattle.lg_http.specs.Meaning.Slots.{AreFree, AreSlots, InSlot, slots_of};
+
+use crate::desk::Desk;
+use crate::listener::Listener;
+use crate::peer::Peer;
+use crate::signal::Signal;
+use crate::site::Site;
+use crate::slots::{MAX_PEERS, Slots};
+use lg_clock::Clock;
+use lg_timing::Moment;
+use mio::net::TcpStream;
+use mio::{Events, Poll, Token};
+use std::alloc::Global;
+use std::hash::RandomState;
+use std::io;
+use std::io::ErrorKind;
+use std::net::Net;
+use std::random::RandomSource;
+use std::time::Duration;
+
+const LISTENER: Token = Token(MAX_PEERS);
+
+const SIGNAL: Token = Token(MAX_PEERS + 1);
+
+/// How many connections are taken before the others have their turn.
+const ACCEPTS: u32 = 32;
+
+/// The longest that a turn waits, in milliseconds.
+const LONGEST_MS: u64 = 10_000;
+
+/// How long no connection is taken once that has failed, in milliseconds: if there are too many descriptors, it would
+/// fail at once again.
+const PAUSE_MS: u64 = 100;
+
+/// Why a server has ended.
+#[derive(Clone, Copy, Debug, PartialEq, Eq)]
+pub enum End {
+    /// It was told to stop, or it has made 2^64 - 1 turns.
+    Stopped,
+    /// The system's wait failed.
+    WaitFailed(ErrorKind),
+}
+
+/// What a server did.
+#[derive(Clone, Copy, Debug, Default, PartialEq, Eq)]
+pub struct Counts {
+    /// How often it went over its connections.
+    pub turns: u64,
+    /// Connections that got a slot.
+    pub accepted: u64,
+    /// Connections that were closed at once, since no slot was free and none yielded.
+    pub turned_away: u64,
+    /// Connections that failed to be taken or watched, for a reason of the system's.
+    pub failed: u64,
+}
+
+/// A server of at most [`MAX_PEERS`] connections. Its slots and events are allocated when it is made. Later each
+/// connection allocates what it holds back, a request and an answer.
+#[derive(Drop)]
+pub struct Server {
+    alloc: Global,
+    keys: RandomState,
+    poll: Poll,
+    events: Events,
+    listener: Listener,
+    slots: Slots,
+    /// A client may be waiting.
+    can_accept: bool,
+    /// No connection is taken before this moment, in milliseconds.
+    accept_from: u64,
+    counts: Counts,
+}
+
+/// Notes which sockets are ready. Gives whether a client may be waiting.
+fn note_events<S: Site>(events: &Events, slots: &mut Slots) -> bool
+    ensures { AreSlots S.answers slots.old.slots.items → AreSlots S.answers slots.new.slots.items }
+{
+    let mut can_accept = false;
+    for event in events.iter() {
+        let token = event.token();
+        if token == LISTENER {
+            can_accept = true;
+        } else {
+            slots.note::<S>(token.0, event);
+        }
+    }
+    can_accept
+}
+
+// Some functions have the type parameter of a site for their contracts alone.
+impl Server {
+    /// A server on a listener, and the signal by which other threads reach it. The error is the system's, or refused
+    /// memory.
+    pub fn new(
+        rt: &(impl Net + RandomSource),
+        alloc: Global,
+        mut listener: Listener,
+    ) -> io::Result<(Server, Signal)>
+        ensures { IfOk result (λ made. AreFree (slots_of made.0)) }
+    {
+        let poll = Poll::new(rt)?;
+        let signal = Signal::new(poll.registry(), SIGNAL)?;
+        listener.register(poll.registry(), LISTENER)?;
+        let server = Server {
+            alloc,
+            keys: RandomState::new(rt)?,
+            poll,
+            events: Events::with_capacity(alloc, MAX_PEERS)?,
+            listener,
+            slots: Slots::new(alloc)?,
+            can_accept: true,
+            accept_from: 0,
+            counts: Counts::default(),
+        };
+        Ok((server, signal))
+    }
+
+    /// Serves until it is told to stop. The clock's moments have to go on as real time does.
+    pub fn serve<S: Site, C: Clock>(
+        &mut self,
+        desk: &mut Desk<S>,
+        clock: &C,
+        signal: &Signal,
+    ) -> (End, Counts)
+        ensures free { AreFree (slots_of self.old) → AreSlots S.answers (slots_of self.new) }
+        ensures served { AreSlots S.answers (slots_of self.old) → AreSlots S.answers (slots_of self.new) }
+    {
+        for _ in 0..u64::MAX {
+            if signal.is_stopped() {
+                break;
+            }
+            if let Err(kind) = self.turn(desk, clock, signal) {
+                return (End::WaitFailed(kind), self.counts);
+            }
+        }
+        (End::Stopped, self.counts)
+    }
+
+    /// Lets each connection do what it can, waits for the sockets, and takes new connections. The error is that the
+    /// system's wait failed.
+    fn turn<S: Site, C: Clock>(
+        &mut self,
+        desk: &mut Desk<S>,
+        clock: &C,
+        signal: &Signal,
+    ) -> Result<(), ErrorKind>
+        ensures { AreSlots S.answers (slots_of self.old) → AreSlots S.answers (slots_of self.new) }
+    {
+        self.counts.turns = self.counts.turns.wrapping_add(1);
+        let wait_ms = self.run_clients(desk, clock.now(), signal);
+        let timeout = Duration::from_millis(wait_ms);
+        if let Err(e) = self.poll.poll(&mut self.events, Some(timeout)) {
+            return Err(e.kind());
+        }
+        if note_events::<S>(&self.events, &mut self.slots) {
+            self.can_accept = true;
+        }
+        self.accept_some::<S>(clock.now());
+        Ok(())
+    }
+
+    /// Lets each connection do what it can. Gives how long the next wait may be, in milliseconds.
+    fn run_clients<S: Site>(&mut self, desk: &mut Desk<S>, at: Moment, signal: &Signal) -> u64
+        ensures { AreSlots S.answers (slots_of self.old) → AreSlots S.answers (slots_of self.new) }
+    {
+        let version = desk.site.refresh();
+        let rest = self.slots.run(desk, at, version);
+        let wait_ms = rest.wait_ms.min(self.accept_wait(at)).min(LONGEST_MS);
+        if rest.parked == 0 {
+            return wait_ms;
+        }
+        // A change that came before the signal was set isn't missed.
+        signal.await_change();
+        if desk.site.refresh() == version {
+            wait_ms
+        } else {
+            0
+        }
+    }
+
+    /// How long it is until a connection is taken, in milliseconds.
+    fn accept_wait(&self, at: Moment) -> u64 {
+        if self.can_accept {
+            self.accept_from.saturating_sub(at.milliseconds())
+        } else {
+            LONGEST_MS
+        }
+    }
+
+    /// Takes some of the connections that wait.
+    fn accept_some<S: Site>(&mut self, at: Moment)
+        ensures { AreSlots S.answers (slots_of self.old) → AreSlots S.answers (slots_of self.new) }
+    {
+        for _ in 0..ACCEPTS {
+            if !self.can_accept || at.milliseconds() < self.accept_from {
+                break;
+            }
+            match self.listener.accept() {
+                Ok(stream) => self.admit::<S>(stream, at),
+                Err(kind) => self.not_accepted(kind, at),
+            }
+        }
+    }
+
+    /// Notes that no connection was taken, and why.
+    fn not_accepted(&mut self, kind: ErrorKind, at: Moment)
+        ensures { slots_of self.new ≡ slots_of self.old }
+    {
+        match kind {
+            ErrorKind::WouldBlock => self.can_accept = false,
+            ErrorKind::Interrupted => {}
+            _ => {
+                self.counts.failed = self.counts.failed.wrapping_add(1);
+                self.accept_from = at.milliseconds().saturating_add(PAUSE_MS);
+            }
+        }
+    }
+
+    /// Gives a connection a slot, or closes it if there is none.
+    fn admit<S: Site>(&mut self, stream: TcpStream, at: Moment)
+        ensures { AreSlots S.answers (slots_of self.old) → AreSlots S.answers (slots_of self.new) }
+    {
+        let Some(number) = self.slots.place_for(at) else {
+            self.counts.turned_away = self.counts.turned_away.wrapping_add(1);
+            return;
+        };
+        let mut peer = Peer::new(self.alloc, self.keys, stream, at);
+        if peer.register(self.poll.registry(), Token(number)) {
+            self.slots.put::<S>(number, peer);
+            self.counts.accepted = self.counts.accepted.wrapping_add(1);
+        } else {
+            self.counts.failed = self.counts.failed.wrapping_add(1);
+        }
+    }
+}

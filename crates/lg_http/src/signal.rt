@@ -1,0 +1,53 @@
+//! How other threads reach the server.
+
+use mio::{Registry, Token, Waker};
+use std::io;
+use std::sync::atomic::AtomicBool;
+use std::sync::atomic::Ordering::SeqCst;
+
+/// Tells the server of a change, and to stop. Threads share it by reference. No call waits, and none allocates.
+#[derive(Drop)]
+pub struct Signal {
+    waker: Waker,
+    /// A long poll waits for a change.
+    is_awaited: AtomicBool,
+    is_stopped: AtomicBool,
+}
+
+impl Signal {
+    pub(crate) fn new(registry: &Registry, token: Token) -> io::Result<Signal> {
+        Ok(Signal {
+            waker: Waker::new(registry, token)?,
+            is_awaited: AtomicBool::new(false),
+            is_stopped: AtomicBool::new(false),
+        })
+    }
+
+    /// Call this after each change was published. If no long poll waits, it costs one exchange of a flag.
+    pub fn published(&self) {
+        if self.is_awaited.swap(false, SeqCst) {
+            self.wake();
+        }
+    }
+
+    /// Tells the server to stop. Its `serve` returns after the turn that it makes now.
+    pub fn stop(&self) {
+        self.is_stopped.store(true, SeqCst);
+        self.wake();
+    }
+
+    /// It fails only if the server was woken so often that its count is full, and then it is awake.
+    fn wake(&self) {
+        let _is_woken = self.waker.wake().is_ok();
+    }
+
+    pub(crate) fn is_stopped(&self) -> bool {
+        self.is_stopped.load(SeqCst)
+    }
+
+    /// From now on a change wakes the server. Look at the version again after this: a change just before may have gone
+    /// by.
+    pub(crate) fn await_change(&self) {
+        self.is_awaited.store(true, SeqCst);
+    }
+}

@@ -1,0 +1,102 @@
+//! What is shown to the clients, as a trait that the program above implements.
+//!
+//! Defined in: `specs/Meaning/Answers.antt`.
+ghost use Rattle.std.specs.Prelude.{◌≡◌, ℕ, List, Option, IfOk, option_map};
+ghost use Rattle.lg_http.specs.declared.site.Answer.{Answer};
+ghost use Rattle.lg_http.specs.declared.site.Wait.{Wait};
+ghost use Rattle.lg_http.specs.Meaning.Answers.{status_number, kind_words};
+
+use std::alloc::{AllocError, Global};
+
+/// The status of an answer (RFC 9110, section 15).
+#[derive(Clone, Copy, Debug, PartialEq, Eq)]
+pub enum Status {
+    /// 200.
+    Fine,
+    /// 400: the path or the query isn't of the form that the resource takes.
+    BadRequest,
+    /// 404: there is no such resource.
+    NotFound,
+    /// 503: the resource is there, and isn't well now.
+    Unavailable,
+}
+
+impl Status {
+    /// The code, 200 to 503.
+    pub fn number(self) -> u16
+        ensures { result ≡ status_number self }
+    {
+        match self {
+            Status::Fine => 200,
+            Status::BadRequest => 400,
+            Status::NotFound => 404,
+            Status::Unavailable => 503,
+        }
+    }
+}
+
+/// The media type of an answer's body.
+#[derive(Clone, Copy, Debug, PartialEq, Eq)]
+pub enum Kind {
+    /// JSON (RFC 8259).
+    Json,
+    /// A page.
+    Html,
+    /// The text format of Prometheus, version 0.0.4.
+    Metrics,
+}
+
+impl Kind {
+    /// The value of `content-type`.
+    pub fn words(self) -> &'static str
+        ensures { result.now ≡ kind_words self }
+    {
+        match self {
+            Kind::Json => "application/json",
+            Kind::Html => "text/html; charset=utf-8",
+            Kind::Metrics => "text/plain; version=0.0.4; charset=utf-8",
+        }
+    }
+}
+
+/// What a client gets. To HEAD its body isn't sent.
+#[derive(Debug, Drop)]
+pub struct Answer {
+    pub status: Status,
+    pub kind: Kind,
+    pub body: Vec<u8>,
+}
+
+/// What a long poll waits for: a version after `after`, for `wait_ms` milliseconds at the most. More than 30,000 ms
+/// count as 30,000 ms.
+#[derive(Clone, Copy, Debug, PartialEq, Eq)]
+pub struct Wait {
+    pub after: u64,
+    pub wait_ms: u64,
+}
+
+/// What a server shows. One thread asks it, and no call may wait for anybody.
+pub trait Site {
+    // What a state answers to a path and a query.
+    ghost answers: { Self → List ℕ → Option (List ℕ) → Answer → Type 0 };
+
+    // The version of what a state shows.
+    ghost version: { Self → ℕ };
+
+    // A request for a path and a query waits for this, or for nothing.
+    ghost waits: { List ℕ → Option (List ℕ) → Option Wait → Type 0 };
+
+    /// Takes in what there is to show now. Returns its version, a number that grows with each change.
+    fn refresh(&mut self) -> u64
+        ensures { result ≡ version self.new };
+
+    /// What a GET of this path and query waits for, if it waits. It is answered at once if `wait_ms` is 0, or if the
+    /// version is after `after`. The bytes are as the client sent them: percent-encoding isn't undone.
+    fn wait_of(&self, path: &[u8], query: Option<&[u8]>) -> Option<Wait>
+        ensures { waits path.now (option_map (λ q. q.now) query.entry) result };
+
+    /// The answer to a GET or HEAD of this path and query, from what was taken in last. The error is refused memory
+    /// alone, and closes the client's connection. The bytes are as the client sent them.
+    fn answer(&self, alloc: Global, path: &[u8], query: Option<&[u8]>) -> Result<Answer, AllocError>
+        ensures { IfOk result (λ a. answers self.now path.now (option_map (λ q. q.now) query.entry) a) };
+}

@@ -1,0 +1,198 @@
+//! The slots of a server, each of which has a client's connection or is free.
+//!
+//! Defined in: `specs/Meaning/Slots.antt`.
+ghost use Rattle.std.specs.Prelude.{◌≡◌, ◌≤◌, ◌<◌, ◌+◌, length, All, IfOk, IfSome, IsSome, IsFalse};
+ghost use Rattle.lg_http.specs.Meaning.Peers.{Answers, IsCurrent, IsBounded, IsNewPeer};
+ghost use Rattle.lg_http.specs.Meaning.Phases.{IsAwake};
+ghost use Rattle.lg_http.specs.Meaning.Slots.{InSlot, IsAnsweredSlot, AreFree, AreSlots, parked_count, parked_in};
+
+use crate::desk::Desk;
+use crate::peer::{Left, Peer, Turn};
+use crate::site::Site;
+use lg_timing::Moment;
+use mio::event::Event;
+use std::alloc::{AllocError, Global};
+
+/// The most connections at once.
+pub const MAX_PEERS: usize = 256;
+
+/// The most long polls that wait at once.
+pub const MAX_PARKED: usize = 192;
+
+/// The connections of a server.
+#[derive(Drop)]
+pub(crate) struct Slots {
+    slots: Vec<Option<Peer>>,
+}
+
+/// What the connections leave in a turn.
+#[derive(Clone, Copy, Debug)]
+pub(crate) struct Rest {
+    /// How many long polls wait.
+    pub(crate) parked: usize,
+    /// How long the server may wait, in milliseconds.
+    pub(crate) wait_ms: u64,
+}
+
+/// How many long polls a slot has that wait: one or none.
+fn parked_of(slot: &Option<Peer>) -> usize
+    ensures { result ≡ parked_in slot.now }
+{
+    match slot {
+        Some(peer) if peer.is_parked() => 1,
+        _ => 0,
+    }
+}
+
+/// Lets a connection do what it can. Gives how long it may wait then, in milliseconds, or nothing if it is over.
+fn run_peer<S: Site>(peer: &mut Peer, desk: &mut Desk<S>, turn: &Turn) -> Option<u64>
+    ensures current { IsSome result → IsCurrent turn.now.at turn.now.version peer.new }
+    ensures parks { IsAwake peer.old.phase → IsFalse turn.now.may_park → IsSome result → IsAwake peer.new.phase }
+    ensures answers { Answers S.answers desk.old.site peer.old peer.new }
+    ensures bounded { IsBounded peer.old → IsBounded peer.new }
+{
+    if !peer.is_due(turn) {
+        return Some(peer.left_ms(turn.at));
+    }
+    match peer.run(desk, turn) {
+        Left::Waiting => Some(peer.left_ms(turn.at)),
+        Left::Busy => Some(0),
+        Left::Gone => None,
+    }
+}
+
+/// Lets the connection of a slot do what it can. Gives how long it may wait then, in milliseconds.
+#[tactic(auto, using(crate::proofs::ChainLaws::adds_answered))]
+fn run_slot<S: Site>(slot: &mut Option<Peer>, desk: &mut Desk<S>, turn: &Turn) -> u64
+    ensures current { InSlot (IsCurrent turn.now.at turn.now.version) slot.new }
+    ensures parks { IsFalse turn.now.may_park → parked_in slot.new ≤ parked_in slot.old }
+    ensures bounded { InSlot IsBounded slot.old → InSlot IsBounded slot.new }
+    ensures answered { IsAnsweredSlot S.answers slot.old → IsAnsweredSlot S.answers slot.new }
+{
+    let Some(peer) = slot else {
+        return u64::MAX;
+    };
+    if let Some(wait_ms) = run_peer(peer, desk, turn) {
+        return wait_ms;
+    }
+    *slot = None;
+    u64::MAX
+}
+
+/// Lets the connection of the next slot do what it can.
+fn run_next<S: Site>(
+    slot: &mut Option<Peer>,
+    desk: &mut Desk<S>,
+    at: Moment,
+    version: u64,
+    rest: Rest,
+) -> Rest
+    requires { parked_in slot.old ≤ rest.parked }
+    ensures current { InSlot (IsCurrent at version) slot.new }
+    ensures count { result.parked + parked_in slot.old ≡ rest.parked + parked_in slot.new }
+    ensures few { rest.parked ≤ MAX_PARKED → result.parked ≤ MAX_PARKED }
+    ensures bounded { InSlot IsBounded slot.old → InSlot IsBounded slot.new }
+    ensures answered { IsAnsweredSlot S.answers slot.old → IsAnsweredSlot S.answers slot.new }
+{
+    let turn = Turn {
+        at,
+        version,
+        may_park: rest.parked < MAX_PARKED,
+    };
+    let others = rest.parked - parked_of(slot);
+    let wait_ms = run_slot(slot, desk, &turn);
+    Rest {
+        parked: others.saturating_add(parked_of(slot)),
+        wait_ms: rest.wait_ms.min(wait_ms),
+    }
+}
+
+/// Notes what the system tells of a slot's socket.
+fn note_slot<S: Site>(slot: &mut Option<Peer>, event: &Event)
+    ensures parked { parked_in slot.new ≡ parked_in slot.old }
+    ensures bounded { InSlot IsBounded slot.old → InSlot IsBounded slot.new }
+    ensures answered { IsAnsweredSlot S.answers slot.old → IsAnsweredSlot S.answers slot.new }
+{
+    if let Some(peer) = slot {
+        peer.note(event);
+    }
+}
+
+/// Whether the connection of a slot may yield it.
+fn may_yield(slot: &Option<Peer>, at: Moment) -> bool {
+    match slot {
+        Some(peer) => peer.may_yield(at),
+        None => true,
+    }
+}
+
+// Some methods have the type parameter of a site for their contracts alone.
+impl Slots {
+    /// Free slots. The error is refused memory.
+    pub(crate) fn new(alloc: Global) -> Result<Slots, AllocError>
+        ensures { IfOk result (λ s. AreFree s.slots.items) }
+    {
+        let mut slots = Vec::with_capacity(alloc, MAX_PEERS)?;
+        for number in 0..MAX_PEERS {
+            // The counter is named, so that the invariant can tell how many slots there are.
+            let _number = number;
+            slots.push(None)?;
+        }
+        Ok(Slots { slots })
+    }
+
+    /// How many long polls wait.
+    fn parked(&self) -> usize
+        ensures { result ≡ parked_count self.now.slots.items }
+    {
+        let mut count = 0;
+        for slot in &self.slots {
+            count += parked_of(slot);
+        }
+        count
+    }
+
+    /// Lets each connection do what it can at this moment, when the site shows this version.
+    pub(crate) fn run<S: Site>(&mut self, desk: &mut Desk<S>, at: Moment, version: u64) -> Rest
+        ensures current { All (InSlot (IsCurrent at version)) self.new.slots.items }
+        ensures parked { result.parked ≡ parked_count self.new.slots.items }
+        ensures served { AreSlots S.answers self.old.slots.items → AreSlots S.answers self.new.slots.items }
+    {
+        let mut rest = Rest {
+            parked: self.parked(),
+            wait_ms: u64::MAX,
+        };
+        for slot in self.slots.iter_mut() {
+            rest = run_next(slot, desk, at, version, rest);
+        }
+        rest
+    }
+
+    /// Notes what the system tells of a slot's socket. Other numbers than those of slots are passed over.
+    pub(crate) fn note<S: Site>(&mut self, number: usize, event: &Event)
+        ensures { AreSlots S.answers self.old.slots.items → AreSlots S.answers self.new.slots.items }
+    {
+        if number < self.slots.len() {
+            note_slot::<S>(&mut self.slots[number], event);
+        }
+    }
+
+    /// The slot for a new connection, if there is one: a free one, or else one whose connection may yield it.
+    pub(crate) fn place_for(&self, at: Moment) -> Option<usize>
+        ensures { IfSome result (λ number. number < length self.now.slots.items) }
+    {
+        match self.slots.iter().position(|slot| slot.is_none()) {
+            Some(number) => Some(number),
+            None => self.slots.iter().position(|slot| may_yield(slot, at)),
+        }
+    }
+
+    /// Puts a new connection into a slot. The one that had it is closed.
+    pub(crate) fn put<S: Site>(&mut self, number: usize, peer: Peer)
+        requires room { number < length self.old.slots.items }
+        requires fresh { IsNewPeer peer }
+        ensures { AreSlots S.answers self.old.slots.items → AreSlots S.answers self.new.slots.items }
+    {
+        self.slots[number] = Some(peer);
+    }
+}
