@@ -8,7 +8,7 @@ ghost use Rattle.std.specs.Prelude.{◌≡◌, ◌≤◌, ◌↔◌, length, map
 ghost use Rattle.httparse.specs.Spans.{IsHeaderWithin, IsRequestWithin, IsRequestOf, header_bytes};
 ghost use Rattle.lg_text.specs.Meaning.Cutting.{before, behind};
 ghost use Rattle.lg_http.specs.Support.Only.{IsOnlyRequest};
-ghost use Rattle.lg_http.specs.Meaning.Fronts.{IsFraming, AreBodiless, IsFront, question_mark};
+ghost use Rattle.lg_http.specs.Meaning.Fronts.{IsFraming, AreBodiless, IsFront, query_mark};
 
 use crate::site::{Site, Wait};
 use http_server::MAX_HEADERS;
@@ -55,7 +55,7 @@ fn announce_body(held: &[u8], spans: &[HeaderSpan]) -> bool
 
 /// What a GET of this target waits for.
 fn wait_of<S: Site>(site: &S, target: &[u8]) -> Option<Wait>
-    ensures { S.waits (before question_mark target.now) (behind question_mark target.now) result }
+    ensures { S.waits (before query_mark target.now) (behind query_mark target.now) result }
 {
     let (path, query) = cut_at(target, b'?');
     site.wait_of(path, query)

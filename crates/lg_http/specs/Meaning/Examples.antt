@@ -9,19 +9,19 @@ use Rattle.lg_http.specs.declared.own.OwnRefusal.TheVariants as Own
 use Rattle.lg_http.specs.declared.peer.Phase.TheVariants.{Reading, Parked, Answering, Draining}
 use Rattle.lg_http.specs.declared.site.Kind.TheVariants.{Json}
 use Rattle.lg_http.specs.Meaning.Answers.{closing, content_type}
-use Rattle.lg_http.specs.Meaning.Fronts.{question_mark}
+use Rattle.lg_http.specs.Meaning.Fronts.{query_mark}
 use Rattle.lg_http.specs.Meaning.Own.{own_text, own_body, own_in}
 use Rattle.lg_http.specs.Meaning.Phases.{MayBecome}
 
-path-of-target : before question_mark (codes "/v1/changes?after=1?2") ≡ codes "/v1/changes"
+path-of-target : before query_mark (codes "/v1/changes?after=1?2") ≡ codes "/v1/changes"
 unfolding before
 path-of-target = refl
 
-query-of-target : behind question_mark (codes "/v1/changes?after=1?2") ≡ Some (codes "after=1?2")
+query-of-target : behind query_mark (codes "/v1/changes?after=1?2") ≡ Some (codes "after=1?2")
 unfolding behind
 query-of-target = refl
 
-no-query : behind question_mark (codes "/") ≡ None
+no-query : behind query_mark (codes "/") ≡ None
 unfolding behind
 no-query = refl
 

@@ -25,14 +25,14 @@ abbrev pub WaitRule : Type 1
 WaitRule = List ℕ → Option (List ℕ) → Option Wait → Type 0
 
 -- the byte `?`, behind which a query stands
-abbrev pub question_mark : ℕ
-question_mark = 63
+abbrev pub query_mark : ℕ
+query_mark = 63
 
 -- what a request waits for: only a GET waits
 abbrev pub WaitsFor : WaitRule → RequestHead → Option Wait → Type 0
 WaitsFor rule head wait =
     (head.method ≢ codes "GET" → wait ≡ None)
-    × (head.method ≡ codes "GET" → rule (before question_mark head.target) (behind question_mark head.target) wait)
+    × (head.method ≡ codes "GET" → rule (before query_mark head.target) (behind query_mark head.target) wait)
 
 -- a whole head of so many bytes, which no body follows
 pub record IsWhole (rule : WaitRule) (held : List ℕ) (len : ℕ) (wait : Option Wait) : Type 0 where
