@@ -5,7 +5,8 @@ ghost use Rattle.std.specs.Prelude.{◌≡◌, ◌++◌, [], ◌∷◌, ◌↔�
 ghost use Rattle.http_uri.specs.Uri.{uri_path, uri_query};
 ghost use Rattle.http_server.specs.Response.{IsBlank, IsResponse, fields_of};
 ghost use Rattle.lg_http.specs.declared.site.Kind.TheVariants.{Json};
-ghost use Rattle.lg_http.specs.Meaning.Answers.{IsReply, IsServedMethod, closing, content_type, kind_words, status_number, method_body, crowded_body, allowed, retry};
+ghost use Rattle.lg_http.specs.Meaning.Answers.{IsReply, IsServedMethod, closing, content_type, kind_words};
+ghost use Rattle.lg_http.specs.Meaning.Answers.{status_number, method_body, crowded_body, allowed, retry};
 
 use crate::site::{Answer, Kind, Site, Status};
 use bytes::{BufMut, Bytes};

@@ -225,7 +225,8 @@ impl Peer {
     #[tactic(auto, using(crate::proofs::ChainLaws::adds_both))]
     pub(crate) fn run<S: Site>(&mut self, desk: &mut Desk<S>, turn: &Turn) -> Left
         ensures current { result ≢ Left.Gone → IsCurrent turn.now.at turn.now.version self.new }
-        ensures parks { IsAwake self.old.phase → IsFalse turn.now.may_park → result ≢ Left.Gone → IsAwake self.new.phase }
+        ensures parks { IsAwake self.old.phase → IsFalse turn.now.may_park → result ≢ Left.Gone
+            → IsAwake self.new.phase }
         ensures answers { Answers S.answers desk.old.site self.old self.new }
         ensures site { desk.new.site ≡ desk.old.site }
         ensures bounded { IsBounded self.old → IsBounded self.new }
@@ -255,7 +256,8 @@ impl Peer {
             → result ≢ Step.Gone → IsAwake self.new.phase }
         ensures over { (after : ℕ) → self.old.phase ≡ Parked after → self.old.until ≤ turn.now.at
             → result ≢ Step.Gone → IsAwake self.new.phase }
-        ensures parks { IsAwake self.old.phase → IsFalse turn.now.may_park → result ≢ Step.Gone → IsAwake self.new.phase }
+        ensures parks { IsAwake self.old.phase → IsFalse turn.now.may_park → result ≢ Step.Gone
+            → IsAwake self.new.phase }
         ensures keeps { ¬ (IsDraining self.old.phase) → GoesOn self.old self.new }
         ensures answers { Answers S.answers desk.old.site self.old self.new }
         ensures site { desk.new.site ≡ desk.old.site }

@@ -10,7 +10,8 @@ use Rattle.http_server.specs.declared.state.State.{State}
 use Rattle.http_server.specs.declared.state.State.TheVariants.{Closing}
 use Rattle.http_server.specs.declared.state.Reason.TheVariants.{Refused}
 use Rattle.http_server.specs.declared.state.Refusal.{Refusal}
-use Rattle.http_server.specs.declared.state.Refusal.TheVariants.{Unreadable, BodyTooLarge, InvalidPart, UnknownCoding, InvalidResponse}
+use Rattle.http_server.specs.declared.state.Refusal.TheVariants.{Unreadable, BodyTooLarge, InvalidPart}
+use Rattle.http_server.specs.declared.state.Refusal.TheVariants.{UnknownCoding, InvalidResponse}
 use Rattle.lg_http.specs.declared.own.OwnRefusal.{OwnRefusal}
 use Rattle.lg_http.specs.declared.own.OwnRefusal.TheVariants as Own
 

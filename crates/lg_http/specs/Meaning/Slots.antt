@@ -1,5 +1,6 @@
 -- What holds of a server's slots, each of which has a client's connection or is free.
-use Rattle.std.specs.Prelude.{◌≡◌, ℕ, ◌≤◌, List, length, replicate, sum_by, All, Bool, true, false, Option, Some, None, if◌then◌else◌, ⊤}
+use Rattle.std.specs.Prelude.{◌≡◌, ℕ, ◌≤◌, List, length, replicate, sum_by, All, Bool, true, false}
+use Rattle.std.specs.Prelude.{Option, Some, None, if◌then◌else◌, ⊤}
 use Rattle.lg_http.specs.declared.peer.Peer.{Peer}
 use Rattle.lg_http.specs.declared.peer.Phase.{Phase}
 use Rattle.lg_http.specs.declared.peer.Phase.TheVariants.{Parked}
