@@ -1,6 +1,7 @@
 //! The site as a service of `http_server`.
 //!
 //! Defined in: `specs/Meaning/Answers.antt`.
+//! Tested in: `lg_http_tests/src/serving.rt`.
 ghost use Rattle.std.specs.Prelude.{◌≡◌, ◌++◌, [], ◌∷◌, ◌↔◌, OnOk, IfOk, IsTrue, codes, option_map, option_copied};
 ghost use Rattle.http_uri.specs.Uri.{uri_path, uri_query};
 ghost use Rattle.http_server.specs.Response.{IsBlank, IsResponse, fields_of};

@@ -4,6 +4,7 @@
 //! unchanged and in order.
 //!
 //! Defined in: `specs/Meaning/Fronts.antt`.
+//! Tested in: `lg_http_tests/src/serving.rt`.
 ghost use Rattle.std.specs.Prelude.{◌≡◌, ◌≤◌, ◌↔◌, length, map, All, IsTrue, IsFalse};
 ghost use Rattle.httparse.specs.Spans.{IsHeaderWithin, IsRequestWithin, IsRequestOf, header_bytes};
 ghost use Rattle.lg_text.specs.Meaning.Cutting.{before, behind};

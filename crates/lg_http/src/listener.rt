@@ -1,4 +1,6 @@
 //! Where a server listens.
+//!
+//! Tested in: `lg_http_tests/src/serving.rt`.
 
 use mio::net::{TcpListener, TcpStream};
 use mio::{Interest, Registry, Token};

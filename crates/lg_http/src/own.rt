@@ -1,6 +1,7 @@
 //! The server's own refusals as JSON, in the place of the empty ones of `http_server`.
 //!
 //! Defined in: `specs/Meaning/Own.antt`.
+//! Tested in: `lg_http_tests/src/serving.rt`.
 ghost use Rattle.std.specs.Prelude.{◌≡◌};
 ghost use Rattle.lg_http.specs.Meaning.Own.{own_text, own_for, own_of_part, own_of_read, own_in};
 

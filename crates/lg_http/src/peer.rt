@@ -1,6 +1,7 @@
 //! A client's connection: its socket, what is held back, and where it stands.
 //!
 //! Defined in: `specs/Meaning/Phases.antt`, `specs/Meaning/Peers.antt`.
+//! Tested in: `lg_http_tests/src/serving.rt`.
 ghost use Rattle.std.specs.Prelude.{◌≡◌, ◌≢◌, ℕ, ◌≤◌, ◌<◌, ◌-◌, ◌↔◌, IsFalse, IsTrue};
 ghost use Rattle.lg_http.specs.declared.peer.Phase.TheVariants.{Parked};
 ghost use Rattle.lg_http.specs.Meaning.Phases.{MayBecome, IsAwake, IsDraining};

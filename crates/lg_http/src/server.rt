@@ -1,6 +1,7 @@
 //! The loop over all sockets.
 //!
 //! Defined in: `specs/Meaning/Slots.antt`.
+//! Tested in: `lg_http_tests/src/serving.rt`.
 ghost use Rattle.std.specs.Prelude.{◌≡◌, IfOk, OnOk, All};
 ghost use Rattle.lg_http.specs.Meaning.Peers.{IsCurrent};
 ghost use Rattle.lg_http.specs.Meaning.Slots.{AreFree, AreSlots, InSlot, slots_of};

@@ -1,4 +1,6 @@
 //! How other threads reach the server.
+//!
+//! Tested in: `lg_http_tests/src/serving.rt`.
 
 use mio::{Registry, Token, Waker};
 use std::io;

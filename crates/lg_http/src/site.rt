@@ -1,6 +1,7 @@
 //! What is shown to the clients, as a trait that the program above implements.
 //!
 //! Defined in: `specs/Meaning/Answers.antt`.
+//! Tested in: `lg_http_tests/src/serving.rt`.
 ghost use Rattle.std.specs.Prelude.{◌≡◌, ℕ, List, Option, IfOk, option_map};
 ghost use Rattle.lg_http.specs.declared.site.Answer.{Answer};
 ghost use Rattle.lg_http.specs.declared.site.Wait.{Wait};

@@ -1,6 +1,7 @@
 //! The slots of a server, each of which has a client's connection or is free.
 //!
 //! Defined in: `specs/Meaning/Slots.antt`.
+//! Tested in: `lg_http_tests/src/serving.rt`.
 ghost use Rattle.std.specs.Prelude.{◌≡◌, ◌≤◌, ◌<◌, ◌+◌, length, All, IfOk, IfSome, IsSome, IsFalse};
 ghost use Rattle.lg_http.specs.Meaning.Peers.{Answers, IsCurrent, IsBounded, IsNewPeer};
 ghost use Rattle.lg_http.specs.Meaning.Phases.{IsAwake};

@@ -1,6 +1,7 @@
 //! Giving the connection what was held back.
 //!
 //! Defined in: `specs/Meaning/Peers.antt`.
+//! Tested in: `lg_http_tests/src/serving.rt`.
 ghost use Rattle.std.specs.Prelude.{◌≡◌, ◌≢◌, ◌≤◌, ◌<◌, ◌+◌, length, IfOk, OnErr};
 ghost use Rattle.http_server.specs.Connection.{config_of, history};
 ghost use Rattle.http_server.specs.History.{Rests};

@@ -1,6 +1,7 @@
 //! Reading from a client, and what is done with a request.
 //!
 //! Defined in: `specs/Meaning/Phases.antt`, `specs/Meaning/Peers.antt`.
+//! Tested in: `lg_http_tests/src/serving.rt`.
 ghost use Rattle.std.specs.Prelude.{◌≡◌, ◌≢◌, ◌≤◌, ◌<◌, ◌+◌, length, IsFalse};
 ghost use Rattle.lg_http.specs.declared.peer.Phase.TheVariants.{Parked};
 ghost use Rattle.lg_http.specs.Meaning.Phases.{MayBecome, IsAwake};

@@ -1,6 +1,7 @@
 //! Sending an answer to a client.
 //!
 //! Defined in: `specs/Meaning/Phases.antt`, `specs/Meaning/Peers.antt`.
+//! Tested in: `lg_http_tests/src/serving.rt`.
 ghost use Rattle.std.specs.Prelude.{◌≡◌, ◌≢◌, ◌<◌};
 ghost use Rattle.lg_http.specs.Meaning.Phases.{MayBecome};
 ghost use Rattle.lg_http.specs.Meaning.Peers.{stream_of, calls_of};

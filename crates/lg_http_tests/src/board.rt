@@ -1,0 +1,84 @@
+//! What the server of the tests shows: a number.
+ghost use Rattle.std.specs.Prelude.{⊤};
+
+use lg_http::{Answer, Kind, Site, Status, Wait};
+use std::alloc::{AllocError, Global};
+use std::sync::atomic::AtomicU64;
+use std::sync::atomic::Ordering::SeqCst;
+
+/// How long the long polls of the tests wait at most, in milliseconds.
+pub(crate) const WAIT_MS: u64 = 300;
+
+/// A number that another thread changes.
+#[derive(Drop)]
+pub(crate) struct Board<'a> {
+    pub(crate) number: &'a AtomicU64,
+    pub(crate) seen: u64,
+}
+
+/// An answer with this body.
+fn answer_of(alloc: Global, status: Status, kind: Kind, body: &[u8]) -> Result<Answer, AllocError> {
+    Ok(Answer {
+        status,
+        kind,
+        body: Vec::from_slice(alloc, body)?,
+    })
+}
+
+impl<'a> Site for Board<'a> {
+    ghost answers = { λ site path query answer. ⊤ };
+
+    ghost version = { λ site. site.seen };
+
+    ghost waits = { λ path query wait. ⊤ };
+
+    fn refresh(&mut self) -> u64 {
+        self.seen = self.number.load(SeqCst);
+        self.seen
+    }
+
+    fn wait_of(&self, path: &[u8], query: Option<&[u8]>) -> Option<Wait> {
+        let wait_ms = match query {
+            Some(b"at-once") => 0,
+            Some(_) => WAIT_MS,
+            None => return None,
+        };
+        if path == b"/next".as_slice() {
+            Some(Wait { after: 0, wait_ms })
+        } else {
+            None
+        }
+    }
+
+    fn answer(
+        &self,
+        alloc: Global,
+        path: &[u8],
+        _query: Option<&[u8]>,
+    ) -> Result<Answer, AllocError> {
+        match path {
+            b"/" => answer_of(alloc, Status::Fine, Kind::Html, b"<p>page</p>"),
+            b"/metrics" => answer_of(alloc, Status::Fine, Kind::Metrics, b"number 0\n"),
+            b"/bad" => answer_of(
+                alloc,
+                Status::BadRequest,
+                Kind::Json,
+                b"{\"error\":\"bad\"}",
+            ),
+            b"/ill" => answer_of(alloc, Status::Unavailable, Kind::Json, b"{\"ill\":true}"),
+            b"/next" if self.seen == 0 => answer_of(
+                alloc,
+                Status::Fine,
+                Kind::Json,
+                b"{\"number\":0}",
+            ),
+            b"/next" => answer_of(alloc, Status::Fine, Kind::Json, b"{\"number\":1}"),
+            _ => answer_of(
+                alloc,
+                Status::NotFound,
+                Kind::Json,
+                b"{\"error\":\"unknown\"}",
+            ),
+        }
+    }
+}

@@ -1,0 +1,9 @@
+//! Tests of a server over sockets on loopback, which a client in another thread asks.
+#![tactic(auto)]
+
+#[cfg(test)]
+mod board;
+#[cfg(test)]
+mod client;
+#[cfg(test)]
+mod serving;
