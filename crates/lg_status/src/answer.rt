@@ -1,6 +1,7 @@
 //! The answer to a request.
 //!
 //! Defined in: `specs/Meaning/Answers.antt`.
+//! Tested in: `lg_status_tests/src/answer.rt`, `lg_status_tests/src/refused_memory.rt`.
 ghost use Rattle.std.specs.Prelude.{◌≡◌, IfOk, List, map, string_bytes};
 ghost use Rattle.std.specs.Option.{option_map};
 ghost use Rattle.lg_status.specs.Meaning.Answers.{answer_to, answer_value, error_answer, health_answer, health_code};

@@ -1,6 +1,7 @@
 //! Writes changes as JSON.
 //!
 //! Defined in: `specs/Meaning/Changes.antt`.
+//! Tested in: `lg_status_tests/src/answer.rt`.
 ghost use Rattle.std.specs.Prelude.{◌≡◌, [], ◌∷◌, ◌++◌, IfOk, List, OnOk, string_bytes};
 ghost use Rattle.std.specs.List.{flat_map};
 ghost use Rattle.lg_status.specs.Meaning.Changes.{all_changes, as_changes, change_at, change_json, changes_body};

@@ -1,6 +1,7 @@
 //! Writes the health, and faults, as JSON.
 //!
 //! Defined in: `specs/Meaning/Bodies.antt`.
+//! Tested in: `lg_status_tests/src/answer.rt`.
 ghost use Rattle.std.specs.Prelude.{◌≡◌, ◌++◌, IfOk, OnOk, length, string_bytes};
 ghost use Rattle.lg_rules.specs.Meaning.Table.{is_failed};
 ghost use Rattle.lg_status.specs.Meaning.Bodies.{error_body, health_body, health_counts, health_front, health_times};

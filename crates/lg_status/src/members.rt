@@ -4,6 +4,7 @@
 //! text may have grown by a part of what was to be appended.
 //!
 //! Defined in: `specs/Meaning/Members.antt`.
+//! Tested in: `lg_status_tests/src/answer.rt`.
 ghost use Rattle.std.specs.Prelude.{◌≡◌, ◌++◌, IfOk, OnOk, string_bytes};
 ghost use Rattle.std.specs.List.{flat_map};
 ghost use Rattle.lg_report.specs.Meaning.Records.{status_text};

@@ -1,6 +1,7 @@
 //! The metrics of a node that have one value each: one table of their names, helps, types and values.
 //!
 //! Defined in: `specs/Meaning/MetricTable.antt`.
+//! Tested in: `lg_status_tests/src/answer.rt`, `lg_status_tests/src/metrics.rt`.
 ghost use Rattle.std.specs.Prelude.{◌≡◌};
 ghost use Rattle.lg_status.specs.Meaning.MetricTable.{bit_of, metric_amount, metric_help, metric_name, metric_type};
 

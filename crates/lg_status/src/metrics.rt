@@ -1,6 +1,7 @@
 //! Writes the metrics as Prometheus reads them.
 //!
 //! Defined in: `specs/Meaning/Metrics.antt`, `specs/Meaning/MetricTable.antt`.
+//! Tested in: `lg_status_tests/src/answer.rt`, `lg_status_tests/src/metrics.rt`.
 ghost use Rattle.std.specs.Prelude.{◌≡◌, ◌++◌, IfOk, OnOk, string_bytes};
 ghost use Rattle.std.specs.List.{flat_map};
 ghost use Rattle.lg_status.specs.Meaning.Metrics.{amount_text, count_of_kind, dropped_lines, drops_line};

@@ -4,6 +4,7 @@
 //! fetches nothing but the answers of this node. Without a script the table stays as it is.
 //!
 //! Defined in: `specs/Meaning/Page.antt`.
+//! Tested in: `lg_status_tests/src/answer.rt`, `lg_status_tests/src/page.rt`.
 ghost use Rattle.std.specs.Prelude.{◌≡◌, ◌++◌, IfOk, OnOk, string_bytes};
 ghost use Rattle.std.specs.List.{flat_map};
 ghost use Rattle.lg_status.specs.Meaning.Page.{body_tag, live_words, member_row, name_cells, name_heading};

@@ -1,6 +1,7 @@
 //! The paths that there are, but for those of single members: one table.
 //!
 //! Defined in: `specs/Meaning/Places.antt`.
+//! Tested in: `lg_status_tests/src/route.rt`.
 ghost use Rattle.std.specs.Prelude.{◌≡◌};
 ghost use Rattle.std.specs.Option.{option_map};
 ghost use Rattle.lg_status.specs.Meaning.Places.{has_path, member_name, place_at, place_path};

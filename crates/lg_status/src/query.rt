@@ -1,6 +1,7 @@
 //! What a query asks for.
 //!
 //! Defined in: `specs/Meaning/Queries.antt`, `lg_text/specs/Meaning/Cutting.antt`, `Numbers.antt`.
+//! Tested in: `lg_status_tests/src/route.rt`.
 ghost use Rattle.std.specs.Prelude.{◌≡◌};
 ghost use Rattle.std.specs.Option.{option_map};
 ghost use Rattle.lg_status.specs.Meaning.Queries.{changes_asked, first_of_two, pair_said, pairs_said, two_pairs_said};

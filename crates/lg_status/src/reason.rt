@@ -1,6 +1,7 @@
 //! Why a target is no route.
 //!
 //! Defined in: `specs/Meaning/Reasons.antt`.
+//! Tested in: `lg_status_tests/src/route.rt`.
 ghost use Rattle.std.specs.Prelude.{◌≡◌};
 ghost use Rattle.lg_status.specs.Meaning.Reasons.{reason_text, status_code};
 

@@ -1,6 +1,7 @@
 //! Keeps the newest changes of records, and finds those behind a version.
 //!
 //! Defined in: `specs/Meaning/Changes.antt`, `lg_rules/specs/Meaning/View.antt`; `specs/Support/Kept.antt`.
+//! Tested in: `lg_status_tests/src/ring.rt`.
 ghost use Rattle.std.specs.Prelude.{◌≡◌, ◌+◌, ◌<◌, List, [], ◌∷◌, ◌++◌, IfOk, filter, map};
 ghost use Rattle.std.specs.Option.{option_map};
 ghost use Rattle.std.specs.VecDeque.{deque_capacity, deque_len};

@@ -1,6 +1,7 @@
 //! Which route a target is.
 //!
 //! Defined in: `specs/Meaning/Routes.antt`, `specs/Meaning/Places.antt`, `specs/Meaning/Queries.antt`.
+//! Tested in: `lg_status_tests/src/route.rt`.
 ghost use Rattle.std.specs.Prelude.{◌≡◌};
 ghost use Rattle.lg_status.specs.Meaning.Routes.{changes_route, has_kind_query, is_kind_of, kind_query, member_route};
 ghost use Rattle.lg_status.specs.Meaning.Routes.{members_route, path_route, place_route, plain_route, route_of};
