@@ -188,7 +188,56 @@ fn ask<R: Net<Stream = TcpStream> + rt::Clock>(
     })
 }
 
-/// A server, and a client that asks it.
+/// Serves the number until the signal says to stop.
+fn serve<R: rt::Clock>(
+    rt: &R,
+    alloc: Global,
+    server: Server,
+    number: &AtomicU64,
+    signal: &Signal,
+) -> io::Result<(End, Counts)> {
+    let mut server = server;
+    let clock = MachineClock::new(rt)?;
+    let mut desk = Desk::new(alloc, Board { number, seen: 0 });
+    Ok(server.serve(&mut desk, &clock, signal))
+}
+
+/// Asks as [`ask`] does, and then tells the server to stop.
+fn ask_and_stop<R: Net<Stream = TcpStream> + rt::Clock>(
+    rt: &R,
+    alloc: Global,
+    address: SocketAddr,
+    number: &AtomicU64,
+    signal: &Signal,
+) -> io::Result<Seen> {
+    let seen = ask(rt, alloc, address, number, signal);
+    signal.stop();
+    seen
+}
+
+/// What a server did.
+type Served = io::Result<(End, Counts)>;
+
+/// Runs a server, and a client that asks it.
+fn both<R>(
+    rt: &R,
+    alloc: Global,
+    server: Server,
+    address: SocketAddr,
+    number: &AtomicU64,
+    signal: &Signal,
+) -> (Served, io::Result<Seen>)
+where
+    R: Net<Stream = TcpStream> + rt::Clock + Threads + Sync,
+{
+    join(
+        rt,
+        move || -> Served { serve(rt, alloc, server, number, signal) },
+        move || -> io::Result<Seen> { ask_and_stop(rt, alloc, address, number, signal) },
+    )
+}
+
+/// A server at a free port, and a client that asks it.
 fn play<R>(rt: &R, alloc: Global) -> io::Result<(End, Counts, Seen)>
 where
     R: Net<Listener = TcpListener, Stream = TcpStream> + RandomSource + rt::Clock + Threads + Sync,
@@ -196,25 +245,10 @@ where
     let any = SocketAddr::from((Ipv4Addr::LOCALHOST, 0));
     let listener = Listener::bind(rt, any).map_err(io::Error::from)?;
     let address = listener.address().map_err(io::Error::from)?;
-    let (mut server, signal) = Server::new(rt, alloc, listener)?;
+    let (server, signal) = Server::new(rt, alloc, listener)?;
     let number = AtomicU64::new(0);
-    let mut desk = Desk::new(
-        alloc,
-        Board {
-            number: &number,
-            seen: 0,
-        },
-    );
-    let clock = MachineClock::new(rt)?;
-    let ((end, counts), seen) = join(
-        rt,
-        || server.serve(&mut desk, &clock, &signal),
-        || {
-            let seen = ask(rt, alloc, address, &number, &signal);
-            signal.stop();
-            seen
-        },
-    );
+    let (served, seen) = both(rt, alloc, server, address, &number, &signal);
+    let (end, counts) = served?;
     Ok((end, counts, seen?))
 }
 
