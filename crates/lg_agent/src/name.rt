@@ -1,4 +1,7 @@
 //! The type parameter that names an agent.
+//!
+//! Defined in: this file.
+//! Tested in: `lg_agent_tests/src/playing.rt`.
 use lg_view::PairName;
 use std::marker::Brand;
 

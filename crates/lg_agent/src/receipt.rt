@@ -1,4 +1,7 @@
 //! What an answered call gives.
+//!
+//! Defined in: this file.
+//! Tested in: `lg_agent_tests/src/agent/calls.rt`.
 use lg_detector::Reply;
 
 /// What an answered call gives.

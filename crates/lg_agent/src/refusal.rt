@@ -1,6 +1,7 @@
 //! Why a call or a look is refused, and why an agent isn't closed.
 //!
 //! Defined in: `specs/Meaning/Numbers.antt`, `specs/Meaning/Calls.antt`, `specs/Meaning/Closing.antt`.
+//! Tested in: `lg_agent_tests/src/agent/rows.rt`, `lg_command_tests/src/launch/told.rt`.
 ghost use Rattle.std.specs.Prelude.{◌≡◌};
 ghost use Rattle.lg_agent.specs.Meaning.Numbers.{refusal_number, close_fault_number};
 

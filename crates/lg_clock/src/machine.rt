@@ -1,5 +1,6 @@
 //! The machine's clock.
 //!
+//! Defined in: this file.
 //! Tested in: `lg_command_tests/src/node/machine.rt`.
 
 use crate::clock::Clock;

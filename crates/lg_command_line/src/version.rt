@@ -1,5 +1,6 @@
 //! What `lg --version` tells.
 //!
+//! Defined in: this file.
 //! Tested in: `cases/command_line.case`. `gate/documents` sees that README names the same kit.
 
 /// The version of the program, the wire versions that it reads and writes, and the kit that it is proved with. The

@@ -1,4 +1,7 @@
 //! A packet to be sent, before its version, its sender and its claims are written.
+//!
+//! Defined in: `specs/Meaning/Send.antt`.
+//! Tested in: `lg_detector_tests/src/detector/probing.rt`.
 ghost use Rattle.std.specs.Prelude.{◌≡◌, [], ◌∷◌};
 
 use crate::reply::MAX_SENDS;

@@ -1,6 +1,7 @@
 //! Laws of legal histories.
 //!
 //! Defined in: `specs/Meaning/History.antt`, `specs/Meaning/Rest.antt`.
+//! Tested in: nothing that runs, since they are laws.
 ghost use Rattle.std.specs.Prelude.{◌≡◌, ℕ, ◌<◌, ◌≤◌, ◌+◌, ◌++◌, [], ◌∷◌, List, length, take};
 ghost use Rattle.std.specs.Prelude.{slice_get, Some, false, true};
 ghost use Rattle.lg_timing.specs.declared.config.Config.{Config};

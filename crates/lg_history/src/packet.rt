@@ -1,5 +1,6 @@
 //! Packets, in as much memory as their claims need.
 //!
+//! Defined in: this file.
 //! Tested in: `lg_agent_tests/src/history/refused_memory.rt`.
 ghost use Rattle.std.specs.Prelude.{◌≡◌, IfOk};
 

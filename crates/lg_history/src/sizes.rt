@@ -1,5 +1,8 @@
 //! How much memory an entry takes: its slot in the history's list, which can be twice as long as the entries, and its
 //! boxes and lists. The bounds are this project's choice.
+//!
+//! Defined in: this file.
+//! Tested in: nothing that runs, since the checker proves the bounds.
 use crate::entry::Entry;
 use crate::event::Hearing;
 use crate::packet::StoredOutgoing;

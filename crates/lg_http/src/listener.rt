@@ -1,5 +1,6 @@
 //! Where a server listens.
 //!
+//! Defined in: this file.
 //! Tested in: `lg_http_tests/src/serving.rt`.
 
 use mio::net::{TcpListener, TcpStream};

@@ -1,5 +1,6 @@
 //! How other threads reach the server.
 //!
+//! Defined in: this file.
 //! Tested in: `lg_http_tests/src/serving.rt`.
 
 use mio::{Registry, Token, Waker};

@@ -1,5 +1,6 @@
 //! Reads a configuration file.
 //!
+//! Defined in: this file.
 //! Tested in: `lg_command_tests/src/launch/ends.rt`.
 ghost use Rattle.std.specs.Prelude.{◌≡◌, ◌⊎◌, IfErr};
 

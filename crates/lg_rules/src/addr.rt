@@ -1,4 +1,7 @@
 //! The address of a member.
+//!
+//! Defined in: this file.
+//! Tested in: `lg_detector_tests/src/packet.rt`.
 ghost use Rattle.std.specs.Prelude.{◌≡◌};
 
 /// Where a member is reached: an IPv4 address and a port.

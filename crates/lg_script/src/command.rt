@@ -1,4 +1,7 @@
 //! The commands of a script.
+//!
+//! Defined in: `specs/Meaning/Commands.antt`.
+//! Tested in: `cases/sim_commands.case`.
 use arrayvec::ArrayVec;
 use lg_rules::Name;
 use lg_timing::{Key, MAX_SEEDS, Moment, Seed};

@@ -1,4 +1,7 @@
 //! What the answers are made of: plain values of one look at a node.
+//!
+//! Defined in: this file.
+//! Tested in: `lg_status_tests/src/answer.rt`.
 
 use lg_rules::{Incarnation, Name, Record};
 use lg_timing::{Config, Moment};

@@ -1,6 +1,7 @@
 //! What the writer hands to the published value.
 //!
 //! Defined in: `specs/Support/Updates.antt`.
+//! Tested in: `lg_agent_tests/src/view/looks.rt`.
 use crate::book::PairName;
 use crate::front::Front;
 use lg_detector::Event;
