@@ -79,8 +79,8 @@ pub enum NodeFault {
 /// It binds a socket to the configured address, opens an agent with three passes, and asks each seed for its table,
 /// in order. Then it runs [`run_loops`](crate::run_loops) with the steady clock
 /// ([`SteadyClock`](lg_clock::SteadyClock)), the words of [`PcgDice`](crate::PcgDice), and loops that are endless. So
-/// the ticking loop asks the seeds until a Page is heard, and again while it is alone. It asks a member every `pull_ms`.
-/// At the end the members are read, and the agent is closed. A node that hears of no member goes on alone.
+/// the ticking loop asks the seeds until a Page is heard, and again while it is alone. It asks a member every
+/// `pull_ms`. At the end the members are read, and the agent is closed. A node that hears of no member goes on alone.
 ///
 /// If the node is followed, the pass that has asked the seeds watches beside the loops ([`lg_watch::watch`]), in a
 /// thread of its own, and [`NodeEnd::watched`] says how that ended. A writer that fails ends the watcher alone. If the

@@ -44,8 +44,8 @@ use std::thread::Threads;
 /// The least stall of a clock that isn't the machine's, in milliseconds.
 const MIN_STALL_MS: u64 = 25;
 
-/// How many passes a node has: one for the receiving loop, one for the ticking loop, and one that asks the seeds and then
-/// watches.
+/// How many passes a node has: one for the receiving loop, one for the ticking loop, and one that asks the seeds and
+/// then watches.
 const PLACES: usize = 3;
 
 /// What a node is set up with, and when its ticking loop ends.
@@ -127,8 +127,8 @@ fn stall_of(settings: &Settings) -> u64 {
     }
 }
 
-/// How long a turn of a node waits at most, in milliseconds: a tenth of the configuration's `timeout_ms`, but at least 5
-/// and at most 50, and at most half the stall of its clock, if there is one.
+/// How long a turn of a node waits at most, in milliseconds: a tenth of the configuration's `timeout_ms`, but at least
+/// 5 and at most 50, and at most half the stall of its clock, if there is one.
 fn wait_of(config: &Config, stall: u64) -> u64 {
     let wait = (config.timeout_ms / 10).clamp(5, 50);
     match stall {

@@ -81,8 +81,8 @@ next_look since turns = last_moment since (flat_map looks_in turns) + look_ms
 abbrev pub next_choice : ℕ → ℕ → List Turn → ℕ
 next_choice since pull_ms turns = last_moment since (flat_map choices_in turns) + pull_ms
 
--- The seeds that wait to be asked after a turn, by those that waited before it. A look decides whether all of them wait.
--- One that was asked waits no longer.
+-- The seeds that wait to be asked after a turn, by those that waited before it. A look decides whether all of them
+-- wait. One that was asked waits no longer.
 abbrev pub waiting : List Addr → List Addr → Turn → List Addr
 waiting seeds before (Looked now seen asks) = if asks then seeds else []
 waiting seeds before (AskedSeed now peer r sent) = drop 1 before
