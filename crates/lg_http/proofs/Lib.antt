@@ -3,3 +3,4 @@ pub mod FeedLaws
 pub mod FramingLaws
 pub mod ReplyLaws
 pub mod SlotLaws
+pub mod TimeLaws

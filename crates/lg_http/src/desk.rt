@@ -39,6 +39,14 @@ impl<S: Site> Desk<S> {
             is_full: false,
         }
     }
+
+    /// Ends the desk, and gives its site.
+    pub fn finish(self) -> S
+        ensures { result ≡ self.site }
+    {
+        let Desk { site, .. } = self;
+        site
+    }
 }
 
 /// The code as `http` has it.

@@ -1,11 +1,11 @@
 //! A client's connection: its socket, what is held back, and where it stands.
 //!
 //! Defined in: `specs/Meaning/Phases.antt`, `specs/Meaning/Peers.antt`.
-//! Tested in: `lg_http_tests/src/serving.rt`.
-ghost use Rattle.std.specs.Prelude.{◌≡◌, ◌≢◌, ℕ, ◌≤◌, ◌<◌, ◌-◌, ◌↔◌, IsFalse, IsTrue};
+//! Tested in: `lg_http_tests/src/serving.rt`, `lg_http_tests/src/late.rt`.
+ghost use Rattle.std.specs.Prelude.{◌≡◌, ◌≢◌, ℕ, ◌≤◌, ◌<◌, ◌+◌, ◌-◌, ◌↔◌, IsFalse};
 ghost use Rattle.lg_http.specs.declared.peer.Phase.TheVariants.{Parked};
-ghost use Rattle.lg_http.specs.Meaning.Phases.{MayBecome, IsAwake, IsDraining};
-ghost use Rattle.lg_http.specs.Meaning.Peers.{calls_of, GoesOn, Answers, IsCurrent, IsBounded, IsNewPeer};
+ghost use Rattle.lg_http.specs.Meaning.Phases.{MayBecome, IsAwake, IsDraining, may_yield};
+ghost use Rattle.lg_http.specs.Meaning.Peers.{calls_of, GoesOn, Answers, IsCurrent, IsBounded, IsNewPeer, KeepsTime};
 
 use crate::desk::Desk;
 use crate::gate::MAX_HEAD;
@@ -20,6 +20,7 @@ use mio::net::TcpStream;
 use mio::{Interest, Registry, Token};
 use std::alloc::Global;
 use std::hash::RandomState;
+use std::io::ErrorKind;
 
 mod giving;
 mod reading;
@@ -71,6 +72,24 @@ enum Step {
     Wait,
     /// The connection is over.
     Gone,
+}
+
+impl Step {
+    /// What a read or a write that failed leaves to do. If the socket isn't ready, that is noted.
+    fn after_failure(kind: ErrorKind, is_ready: &mut bool) -> Step
+        ensures blocked { kind ≡ ErrorKind.WouldBlock → (result ≡ Step.Wait) × IsFalse is_ready.new }
+        ensures again { kind ≡ ErrorKind.Interrupted → (result ≡ Step.On) × (is_ready.new ≡ is_ready.old) }
+        ensures failed { kind ≢ ErrorKind.WouldBlock → kind ≢ ErrorKind.Interrupted → result ≡ Step.Gone }
+    {
+        match kind {
+            ErrorKind::WouldBlock => {
+                *is_ready = false;
+                Step::Wait
+            }
+            ErrorKind::Interrupted => Step::On,
+            _ => Step::Gone,
+        }
+    }
 }
 
 /// What a turn left.
@@ -139,7 +158,8 @@ fn config() -> Config {
 impl Peer {
     /// A connection that begins at this moment. Allocates nothing. The keys are those of the maps of header fields.
     pub(crate) fn new(alloc: Global, keys: RandomState, stream: TcpStream, at: Moment) -> Peer
-        ensures { IsNewPeer result }
+        ensures new { IsNewPeer result }
+        ensures time { result.until ≡ at + LIMIT_MS }
     {
         Peer {
             stream,
@@ -198,7 +218,7 @@ impl Peer {
     /// Whether a new connection may have its slot if all are taken: its last answer was sent, or it has waited a while
     /// for a request.
     pub(crate) fn may_yield(&self, at: Moment) -> bool
-        ensures { IsTrue result → IsAwake self.now.phase }
+        ensures { result ≡ may_yield self.now.phase (self.now.until - at) }
     {
         match self.phase {
             Phase::Draining => true,
@@ -228,6 +248,7 @@ impl Peer {
         ensures current { result ≢ Left.Gone → IsCurrent turn.now.at turn.now.version self.new }
         ensures parks { IsAwake self.old.phase → IsFalse turn.now.may_park → result ≢ Left.Gone
             → IsAwake self.new.phase }
+        ensures time { result ≢ Left.Gone → KeepsTime turn.now.at self.old self.new }
         ensures answers { Answers S.answers desk.old.site self.old self.new }
         ensures site { desk.new.site ≡ desk.old.site }
         ensures bounded { IsBounded self.old → IsBounded self.new }
@@ -259,6 +280,7 @@ impl Peer {
             → result ≢ Step.Gone → IsAwake self.new.phase }
         ensures parks { IsAwake self.old.phase → IsFalse turn.now.may_park → result ≢ Step.Gone
             → IsAwake self.new.phase }
+        ensures time { result ≢ Step.Gone → KeepsTime turn.now.at self.old self.new }
         ensures keeps { ¬ (IsDraining self.old.phase) → GoesOn self.old self.new }
         ensures answers { Answers S.answers desk.old.site self.old self.new }
         ensures site { desk.new.site ≡ desk.old.site }

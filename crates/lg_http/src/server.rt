@@ -1,7 +1,7 @@
 //! The loop over all sockets.
 //!
 //! Defined in: `specs/Meaning/Slots.antt`.
-//! Tested in: `lg_http_tests/src/serving.rt`.
+//! Tested in: `lg_http_tests/src/serving.rt`, `lg_http_tests/src/crowd.rt`.
 ghost use Rattle.std.specs.Prelude.{◌≡◌, IfOk, OnOk, All};
 ghost use Rattle.lg_http.specs.Meaning.Peers.{IsCurrent};
 ghost use Rattle.lg_http.specs.Meaning.Slots.{AreFree, AreSlots, InSlot, slots_of};
@@ -79,7 +79,8 @@ pub struct Server {
 
 /// Notes which sockets are ready. Gives whether a client may be waiting.
 fn note_events<S: Site>(events: &Events, slots: &mut Slots) -> bool
-    ensures { AreSlots S.answers slots.old.slots.items → AreSlots S.answers slots.new.slots.items }
+    ensures { (site : S) → AreSlots S.answers S.later site slots.old.slots.items
+        → AreSlots S.answers S.later site slots.new.slots.items }
 {
     let mut can_accept = false;
     for event in events.iter() {
@@ -128,8 +129,10 @@ impl Server {
         clock: &C,
         signal: &Signal,
     ) -> (End, Counts)
-        ensures free { AreFree (slots_of self.old) → AreSlots S.answers (slots_of self.new) }
-        ensures served { AreSlots S.answers (slots_of self.old) → AreSlots S.answers (slots_of self.new) }
+        ensures free { AreFree (slots_of self.old) → AreSlots S.answers S.later desk.new.site (slots_of self.new) }
+        ensures served { AreSlots S.answers S.later desk.old.site (slots_of self.old)
+            → AreSlots S.answers S.later desk.new.site (slots_of self.new) }
+        ensures goes_on { S.later desk.old.site desk.new.site }
     {
         for _ in 0..u64::MAX {
             if signal.is_stopped() {
@@ -150,7 +153,9 @@ impl Server {
         clock: &C,
         signal: &Signal,
     ) -> Result<(), ErrorKind>
-        ensures { AreSlots S.answers (slots_of self.old) → AreSlots S.answers (slots_of self.new) }
+        ensures served { AreSlots S.answers S.later desk.old.site (slots_of self.old)
+            → AreSlots S.answers S.later desk.new.site (slots_of self.new) }
+        ensures goes_on { S.later desk.old.site desk.new.site }
     {
         self.counts.turns = self.counts.turns.wrapping_add(1);
         let wait_ms = self.run_clients(desk, clock.now(), signal);
@@ -167,7 +172,9 @@ impl Server {
 
     /// Lets each connection do what it can. Gives how long the next wait may be, in milliseconds.
     fn run_clients<S: Site>(&mut self, desk: &mut Desk<S>, at: Moment, signal: &Signal) -> u64
-        ensures { AreSlots S.answers (slots_of self.old) → AreSlots S.answers (slots_of self.new) }
+        ensures served { AreSlots S.answers S.later desk.old.site (slots_of self.old)
+            → AreSlots S.answers S.later desk.new.site (slots_of self.new) }
+        ensures goes_on { S.later desk.old.site desk.new.site }
     {
         let version = desk.site.refresh();
         let rest = self.slots.run(desk, at, version);
@@ -195,7 +202,8 @@ impl Server {
 
     /// Takes some of the connections that wait.
     fn accept_some<S: Site>(&mut self, at: Moment)
-        ensures { AreSlots S.answers (slots_of self.old) → AreSlots S.answers (slots_of self.new) }
+        ensures { (site : S) → AreSlots S.answers S.later site (slots_of self.old)
+            → AreSlots S.answers S.later site (slots_of self.new) }
     {
         for _ in 0..ACCEPTS {
             if !self.can_accept || at.milliseconds() < self.accept_from {
@@ -224,7 +232,8 @@ impl Server {
 
     /// Gives a connection a slot, or closes it if there is none.
     fn admit<S: Site>(&mut self, stream: TcpStream, at: Moment)
-        ensures { AreSlots S.answers (slots_of self.old) → AreSlots S.answers (slots_of self.new) }
+        ensures { (site : S) → AreSlots S.answers S.later site (slots_of self.old)
+            → AreSlots S.answers S.later site (slots_of self.new) }
     {
         let Some(number) = self.slots.place_for(at) else {
             self.counts.turned_away = self.counts.turned_away.wrapping_add(1);

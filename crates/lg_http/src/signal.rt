@@ -1,7 +1,7 @@
 //! How other threads reach the server.
 //!
 //! Defined in: this file.
-//! Tested in: `lg_http_tests/src/serving.rt`.
+//! Tested in: `lg_http_tests/src/serving.rt`, `lg_http_tests/src/crowd.rt`.
 
 use mio::{Registry, Token, Waker};
 use std::io;
@@ -26,9 +26,18 @@ impl Signal {
         })
     }
 
-    /// Call this after each change was published. If no long poll waits, it costs one exchange of a flag.
+    /// Call this after each change was published, in the thread that published it. If no long poll waits, it costs one
+    /// load of a flag that hardly changes.
+    ///
+    /// The change has to be published by an atomic that is `SeqCst`, which [`Site::refresh`](crate::Site::refresh)
+    /// reads, or under a lock that `refresh` takes.
     pub fn published(&self) {
-        if self.is_awaited.swap(false, SeqCst) {
+        // No change is lost. Before the server sleeps it sets the flag and then looks at the version a second time. If
+        // that look misses a change, then in the one order of all `SeqCst` operations the look comes before the change,
+        // so the flag was set before the load. If a lock guards the change, the look released it before the publisher
+        // took it, so the same holds. The load then finds the flag set, unless another publisher has reset it since,
+        // and that one wakes the server. The server looks again after each wake, and sleeps only behind such a look.
+        if self.is_awaited.load(SeqCst) && self.is_awaited.swap(false, SeqCst) {
             self.wake();
         }
     }

@@ -5,7 +5,7 @@
 ghost use Rattle.std.specs.Prelude.{◌≡◌, ℕ, List, Option, IfOk, option_map};
 ghost use Rattle.lg_http.specs.declared.site.Answer.{Answer};
 ghost use Rattle.lg_http.specs.declared.site.Wait.{Wait};
-ghost use Rattle.lg_http.specs.Meaning.Answers.{status_number, kind_words};
+ghost use Rattle.lg_http.specs.Meaning.Answers.{status_number, kind_words, IsSiteOrder};
 
 use std::alloc::{AllocError, Global};
 
@@ -84,12 +84,16 @@ pub trait Site {
     // The version of what a state shows.
     ghost version: { Self → ℕ };
 
+    // Of two states, the second is the first or a later one.
+    ghost later: { Self → Self → Type 0 };
+
     // A request for a path and a query waits for this, or for nothing.
     ghost waits: { List ℕ → Option (List ℕ) → Option Wait → Type 0 };
 
     /// Takes in what there is to show now. Returns its version, a number that grows with each change.
     fn refresh(&mut self) -> u64
-        ensures { result ≡ version self.new };
+        ensures version { result ≡ version self.new }
+        ensures goes_on { later self.old self.new };
 
     /// What a GET of this path and query waits for, if it waits. It is answered at once if `wait_ms` is 0, or if the
     /// version is after `after`. The bytes are as the client sent them: percent-encoding isn't undone.
@@ -100,4 +104,7 @@ pub trait Site {
     /// alone, and closes the client's connection. The bytes are as the client sent them.
     fn answer(&self, alloc: Global, path: &[u8], query: Option<&[u8]>) -> Result<Answer, AllocError>
         ensures { IfOk result (λ a. answers self.now path.now (option_map (λ q. q.now) query.entry) a) };
+
+    // A state counts as later than itself, and what is later than a later one is later.
+    ghost order: { IsSiteOrder later };
 }

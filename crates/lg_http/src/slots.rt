@@ -1,11 +1,12 @@
 //! The slots of a server, each of which has a client's connection or is free.
 //!
 //! Defined in: `specs/Meaning/Slots.antt`.
-//! Tested in: `lg_http_tests/src/serving.rt`.
-ghost use Rattle.std.specs.Prelude.{◌≡◌, ◌≤◌, ◌<◌, ◌+◌, length, All, IfOk, IfSome, IsSome, IsFalse};
+//! Tested in: `lg_http_tests/src/serving.rt`, `lg_http_tests/src/crowd.rt`.
+ghost use Rattle.std.specs.Prelude.{◌≡◌, ◌≤◌, ◌<◌, ◌+◌, length, position, All, IfOk, IfSome, IsSome, IsFalse};
 ghost use Rattle.lg_http.specs.Meaning.Peers.{Answers, IsCurrent, IsBounded, IsNewPeer};
 ghost use Rattle.lg_http.specs.Meaning.Phases.{IsAwake};
-ghost use Rattle.lg_http.specs.Meaning.Slots.{InSlot, IsAnsweredSlot, AreFree, AreSlots, parked_count, parked_in};
+ghost use Rattle.lg_http.specs.Meaning.Slots.{InSlot, IsAnsweredSlot, AreFree, AreSlots};
+ghost use Rattle.lg_http.specs.Meaning.Slots.{is_free, is_to_have, place_for, parked_count, parked_in};
 
 use crate::desk::Desk;
 use crate::peer::{Left, Peer, Turn};
@@ -50,6 +51,7 @@ fn run_peer<S: Site>(peer: &mut Peer, desk: &mut Desk<S>, turn: &Turn) -> Option
     ensures current { IsSome result → IsCurrent turn.now.at turn.now.version peer.new }
     ensures parks { IsAwake peer.old.phase → IsFalse turn.now.may_park → IsSome result → IsAwake peer.new.phase }
     ensures answers { Answers S.answers desk.old.site peer.old peer.new }
+    ensures site { desk.new.site ≡ desk.old.site }
     ensures bounded { IsBounded peer.old → IsBounded peer.new }
 {
     if !peer.is_due(turn) {
@@ -68,7 +70,9 @@ fn run_slot<S: Site>(slot: &mut Option<Peer>, desk: &mut Desk<S>, turn: &Turn) -
     ensures current { InSlot (IsCurrent turn.now.at turn.now.version) slot.new }
     ensures parks { IsFalse turn.now.may_park → parked_in slot.new ≤ parked_in slot.old }
     ensures bounded { InSlot IsBounded slot.old → InSlot IsBounded slot.new }
-    ensures answered { IsAnsweredSlot S.answers slot.old → IsAnsweredSlot S.answers slot.new }
+    ensures answered { IsAnsweredSlot S.answers S.later desk.old.site slot.old
+        → IsAnsweredSlot S.answers S.later desk.old.site slot.new }
+    ensures site { desk.new.site ≡ desk.old.site }
 {
     let Some(peer) = slot else {
         return u64::MAX;
@@ -93,7 +97,9 @@ fn run_next<S: Site>(
     ensures count { result.parked + parked_in slot.old ≡ rest.parked + parked_in slot.new }
     ensures few { rest.parked ≤ MAX_PARKED → result.parked ≤ MAX_PARKED }
     ensures bounded { InSlot IsBounded slot.old → InSlot IsBounded slot.new }
-    ensures answered { IsAnsweredSlot S.answers slot.old → IsAnsweredSlot S.answers slot.new }
+    ensures answered { IsAnsweredSlot S.answers S.later desk.old.site slot.old
+        → IsAnsweredSlot S.answers S.later desk.old.site slot.new }
+    ensures site { desk.new.site ≡ desk.old.site }
 {
     let turn = Turn {
         at,
@@ -112,19 +118,38 @@ fn run_next<S: Site>(
 fn note_slot<S: Site>(slot: &mut Option<Peer>, event: &Event)
     ensures parked { parked_in slot.new ≡ parked_in slot.old }
     ensures bounded { InSlot IsBounded slot.old → InSlot IsBounded slot.new }
-    ensures answered { IsAnsweredSlot S.answers slot.old → IsAnsweredSlot S.answers slot.new }
+    ensures answered { (site : S) → IsAnsweredSlot S.answers S.later site slot.old
+        → IsAnsweredSlot S.answers S.later site slot.new }
 {
     if let Some(peer) = slot {
         peer.note(event);
     }
 }
 
-/// Whether the connection of a slot may yield it.
-fn may_yield(slot: &Option<Peer>, at: Moment) -> bool {
+/// Whether a new connection may have a slot: it is free, or its connection may yield it.
+fn may_yield(slot: &Option<Peer>, at: Moment) -> bool
+    ensures { result ≡ is_to_have at slot.now }
+{
     match slot {
         Some(peer) => peer.may_yield(at),
         None => true,
     }
+}
+
+/// The first slot that is free, if there is one.
+fn first_free(slots: &[Option<Peer>]) -> Option<usize>
+    ensures number { IfSome result (λ number. number < length slots.now) }
+    ensures place { result ≡ position is_free slots.now }
+{
+    slots.iter().position(|slot| slot.is_none())
+}
+
+/// The first slot that a new connection may have, if there is one.
+fn first_to_have(slots: &[Option<Peer>], at: Moment) -> Option<usize>
+    ensures number { IfSome result (λ number. number < length slots.now) }
+    ensures place { result ≡ position (is_to_have at) slots.now }
+{
+    slots.iter().position(|slot| may_yield(slot, at))
 }
 
 // Some methods have the type parameter of a site for their contracts alone.
@@ -157,7 +182,9 @@ impl Slots {
     pub(crate) fn run<S: Site>(&mut self, desk: &mut Desk<S>, at: Moment, version: u64) -> Rest
         ensures current { All (InSlot (IsCurrent at version)) self.new.slots.items }
         ensures parked { result.parked ≡ parked_count self.new.slots.items }
-        ensures served { AreSlots S.answers self.old.slots.items → AreSlots S.answers self.new.slots.items }
+        ensures served { AreSlots S.answers S.later desk.old.site self.old.slots.items
+            → AreSlots S.answers S.later desk.new.site self.new.slots.items }
+        ensures site { desk.new.site ≡ desk.old.site }
     {
         let mut rest = Rest {
             parked: self.parked(),
@@ -171,7 +198,8 @@ impl Slots {
 
     /// Notes what the system tells of a slot's socket. Other numbers than those of slots are passed over.
     pub(crate) fn note<S: Site>(&mut self, number: usize, event: &Event)
-        ensures { AreSlots S.answers self.old.slots.items → AreSlots S.answers self.new.slots.items }
+        ensures { (site : S) → AreSlots S.answers S.later site self.old.slots.items
+            → AreSlots S.answers S.later site self.new.slots.items }
     {
         if number < self.slots.len() {
             note_slot::<S>(&mut self.slots[number], event);
@@ -180,11 +208,12 @@ impl Slots {
 
     /// The slot for a new connection, if there is one: a free one, or else one whose connection may yield it.
     pub(crate) fn place_for(&self, at: Moment) -> Option<usize>
-        ensures { IfSome result (λ number. number < length self.now.slots.items) }
+        ensures number { IfSome result (λ number. number < length self.now.slots.items) }
+        ensures place { result ≡ place_for at self.now.slots.items }
     {
-        match self.slots.iter().position(|slot| slot.is_none()) {
+        match first_free(&self.slots) {
             Some(number) => Some(number),
-            None => self.slots.iter().position(|slot| may_yield(slot, at)),
+            None => first_to_have(&self.slots, at),
         }
     }
 
@@ -192,7 +221,8 @@ impl Slots {
     pub(crate) fn put<S: Site>(&mut self, number: usize, peer: Peer)
         requires room { number < length self.old.slots.items }
         requires fresh { IsNewPeer peer }
-        ensures { AreSlots S.answers self.old.slots.items → AreSlots S.answers self.new.slots.items }
+        ensures { (site : S) → AreSlots S.answers S.later site self.old.slots.items
+            → AreSlots S.answers S.later site self.new.slots.items }
     {
         self.slots[number] = Some(peer);
     }

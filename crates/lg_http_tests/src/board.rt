@@ -6,8 +6,14 @@ use std::alloc::{AllocError, Global};
 use std::sync::atomic::AtomicU64;
 use std::sync::atomic::Ordering::SeqCst;
 
-/// How long the long polls of the tests wait at most, in milliseconds.
+/// How long a long poll waits at most, in milliseconds.
 pub(crate) const WAIT_MS: u64 = 300;
+
+/// How long the query `long` waits at most, in milliseconds.
+const LONG_MS: u64 = 30_000;
+
+/// How many bytes the largest answer has: more than the system holds for a client that reads nothing.
+pub(crate) const LARGE: usize = 16 * 1024 * 1024;
 
 /// A number that another thread changes.
 #[derive(Drop)]
@@ -25,12 +31,27 @@ fn answer_of(alloc: Global, status: Status, kind: Kind, body: &[u8]) -> Result<A
     })
 }
 
+/// The largest answer.
+fn large(alloc: Global) -> Result<Answer, AllocError> {
+    let mut body = Vec::new(alloc);
+    body.resize(LARGE, b'a')?;
+    Ok(Answer {
+        status: Status::Fine,
+        kind: Kind::Html,
+        body,
+    })
+}
+
 impl<'a> Site for Board<'a> {
     ghost answers = { λ site path query answer. ⊤ };
 
     ghost version = { λ site. site.seen };
 
+    ghost later = { λ first second. ⊤ };
+
     ghost waits = { λ path query wait. ⊤ };
+
+    ghost order = { record { same = λ _. tt; both = λ _ _ _ _ _. tt } };
 
     fn refresh(&mut self) -> u64 {
         self.seen = self.number.load(SeqCst);
@@ -40,6 +61,7 @@ impl<'a> Site for Board<'a> {
     fn wait_of(&self, path: &[u8], query: Option<&[u8]>) -> Option<Wait> {
         let wait_ms = match query {
             Some(b"at-once") => 0,
+            Some(b"long") => LONG_MS,
             Some(_) => WAIT_MS,
             None => return None,
         };
@@ -65,6 +87,7 @@ impl<'a> Site for Board<'a> {
                 Kind::Json,
                 b"{\"error\":\"bad\"}",
             ),
+            b"/large" => large(alloc),
             b"/ill" => answer_of(alloc, Status::Unavailable, Kind::Json, b"{\"ill\":true}"),
             b"/next" if self.seen == 0 => answer_of(
                 alloc,

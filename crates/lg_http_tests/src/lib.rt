@@ -6,4 +6,10 @@ mod board;
 #[cfg(test)]
 mod client;
 #[cfg(test)]
+mod crowd;
+#[cfg(test)]
+mod late;
+#[cfg(test)]
+mod playing;
+#[cfg(test)]
 mod serving;

@@ -1,40 +1,78 @@
 //! What a client reads: answers, refusals, pipelined answers in order, and answers to long polls.
 
-use super::board::{Board, WAIT_MS};
-use super::client::{answer_to, sent, told};
-use lg_clock::MachineClock;
-use lg_http::{Counts, Desk, End, Listener, Server, Signal};
-use std::alloc::Global;
-use std::net::{Ipv4Addr, Net, SocketAddr, TcpListener, TcpStream};
-use std::random::RandomSource;
-use std::sync::atomic::AtomicU64;
+use super::board::WAIT_MS;
+use super::client::{Text, answer_to, is_made_of, passed_ms, sent, told};
+use super::playing::{Place, Play, Wrong, expect, played};
+use lg_http::End;
+use std::net::{Net, TcpStream};
 use std::sync::atomic::Ordering::SeqCst;
-use std::thread::{Threads, join};
 use std::time::{Duration, Instant};
-use std::{io, rt, thread};
+use std::{rt, thread};
 
-/// What is sent on a connection, and texts that come for it, in this order.
+/// What is sent on a connection, and texts that come for it, in this order. Nothing comes behind the last.
 struct Row {
-    sent: &'static [u8],
+    sent: Text,
     parts: &'static [&'static [u8]],
 }
 
-const ROWS: &[Row] = &[
+const BAD_REQUEST: &[&[u8]] = &[
+    b"HTTP/1.1 400 Bad Request\r\n",
+    b"connection: close\r\n",
+    b"content-type: application/json\r\n",
+    b"content-length: 23\r\n\r\n{\"error\":\"bad request\"}",
+];
+
+const BODY_TOO_LARGE: &[&[u8]] = &[
+    b"HTTP/1.1 413 Content Too Large\r\n",
+    b"connection: close\r\n",
+    b"content-length: 26\r\n\r\n{\"error\":\"body too large\"}",
+];
+
+const TARGET_TOO_LONG: &[&[u8]] = &[
+    b"HTTP/1.1 414 URI Too Long\r\n",
+    b"connection: close\r\n",
+    b"content-length: 27\r\n\r\n{\"error\":\"target too long\"}",
+];
+
+const FIELDS_TOO_LARGE: &[&[u8]] = &[
+    b"HTTP/1.1 431 Request Header Fields Too Large\r\n",
+    b"connection: close\r\n",
+    b"content-length: 35\r\n\r\n{\"error\":\"header fields too large\"}",
+];
+
+const UNKNOWN_CODING: &[&[u8]] = &[
+    b"HTTP/1.1 501 Not Implemented\r\n",
+    b"connection: close\r\n",
+    b"content-length: 34\r\n\r\n{\"error\":\"coding not implemented\"}",
+];
+
+const PAGE: &[&[u8]] = &[
+    b"HTTP/1.1 200 OK\r\n",
+    b"content-type: text/html; charset=utf-8\r\n",
+    b"content-length: 11",
+    b"\r\n\r\n<p>page</p>",
+];
+
+const METHOD_NOT_ALLOWED: &[&[u8]] = &[
+    b"HTTP/1.1 405 Method Not Allowed\r\n",
+    b"connection: close\r\n",
+    b"allow: GET, HEAD\r\n",
+    b"\r\n\r\n{\"error\":\"method not allowed\"}",
+];
+
+/// Answers of the site.
+const ANSWERS: &[Row] = &[
     Row {
-        sent: b"GET / HTTP/1.1\r\nHost: a\r\nConnection: close\r\n\r\n",
-        parts: &[
-            b"HTTP/1.1 200 OK\r\n",
-            b"content-type: text/html; charset=utf-8\r\n",
-            b"content-length: 11\r\n",
-            b"\r\n\r\n<p>page</p>",
-        ],
+        sent: Text::Whole(b"GET / HTTP/1.1\r\nHost: a\r\nConnection: close\r\n\r\n"),
+        parts: PAGE,
+    },
+    // Behind the head of an answer to HEAD nothing comes (RFC 9110, section 9.3.2).
+    Row {
+        sent: Text::Whole(b"HEAD / HTTP/1.1\r\nHost: a\r\nConnection: close\r\n\r\n"),
+        parts: &[b"HTTP/1.1 200 OK\r\n", b"content-length: 11", b"\r\n\r\n"],
     },
     Row {
-        sent: b"HEAD / HTTP/1.1\r\nHost: a\r\nConnection: close\r\n\r\n",
-        parts: &[b"HTTP/1.1 200 OK\r\n", b"content-length: 11\r\n"],
-    },
-    Row {
-        sent: b"GET /metrics HTTP/1.0\r\n\r\n",
+        sent: Text::Whole(b"GET /metrics HTTP/1.0\r\n\r\n"),
         parts: &[
             b" 200 OK\r\n",
             b"content-type: text/plain; version=0.0.4; charset=utf-8\r\n",
@@ -42,230 +80,263 @@ const ROWS: &[Row] = &[
         ],
     },
     Row {
-        sent: b"GET /bad HTTP/1.1\r\nHost: a\r\n\r\nGET /none HTTP/1.1\r\nHost: a\r\n\r\n\
+        sent: Text::Whole(b"GET /next?at-once HTTP/1.1\r\nHost: a\r\nConnection: close\r\n\r\n"),
+        parts: &[b"HTTP/1.1 200 OK\r\n", b"\r\n\r\n{\"number\":0}"],
+    },
+    Row {
+        sent: Text::Whole(b"POST / HTTP/1.1\r\nHost: a\r\nContent-Length: 3\r\n\r\nabc"),
+        parts: METHOD_NOT_ALLOWED,
+    },
+    // A short body of a GET is read and means nothing (RFC 9110, section 9.3.1).
+    Row {
+        sent: Text::Whole(b"GET / HTTP/1.1\r\nHost: a\r\nContent-Length: 3\r\n\r\nabc"),
+        parts: PAGE,
+    },
+];
+
+/// Requests that come one behind another, without a wait for the answers (RFC 9112, section 9.3.2).
+const PIPELINED: &[Row] = &[
+    Row {
+        sent: Text::Whole(
+            b"GET /bad HTTP/1.1\r\nHost: a\r\n\r\nGET /none HTTP/1.1\r\nHost: a\r\n\r\n\
 GET /ill HTTP/1.1\r\nHost: a\r\nConnection: close\r\n\r\n",
+        ),
         parts: &[
             b"HTTP/1.1 400 Bad Request\r\n",
             b"{\"error\":\"bad\"}HTTP/1.1 404 Not Found\r\n",
             b"{\"error\":\"unknown\"}HTTP/1.1 503 Service Unavailable\r\n",
-            b"{\"ill\":true}",
+            b"\r\n\r\n{\"ill\":true}",
         ],
     },
     Row {
-        sent: b"POST / HTTP/1.1\r\nHost: a\r\nContent-Length: 3\r\n\r\nabc",
+        sent: Text::Whole(
+            b"DELETE / HTTP/1.1\r\nHost: a\r\n\r\nGET /next HTTP/1.1\r\nHost: a\r\nConnection: close\r\n\r\n",
+        ),
         parts: &[
             b"HTTP/1.1 405 Method Not Allowed\r\n",
-            b"connection: close\r\n",
             b"allow: GET, HEAD\r\n",
-            b"{\"error\":\"method not allowed\"}",
-        ],
-    },
-    Row {
-        sent: b"DELETE / HTTP/1.1\r\nHost: a\r\n\r\nGET /next HTTP/1.1\r\nHost: a\r\nConnection: close\r\n\r\n",
-        parts: &[
-            b"HTTP/1.1 405 Method Not Allowed\r\n",
             b"{\"error\":\"method not allowed\"}HTTP/1.1 200 OK\r\n",
-            b"{\"number\":0}",
+            b"\r\n\r\n{\"number\":0}",
         ],
     },
+    // What stands behind a long poll waits with it.
     Row {
-        sent: b"GET / HTTP/1.1\r\n\r\n",
+        sent: Text::Whole(
+            b"HEAD /bad HTTP/1.1\r\nHost: a\r\n\r\nGET /next?wait HTTP/1.1\r\nHost: a\r\n\r\n\
+GET /bad HTTP/1.1\r\nHost: a\r\nConnection: close\r\n\r\n",
+        ),
         parts: &[
             b"HTTP/1.1 400 Bad Request\r\n",
-            b"connection: close\r\n",
-            b"content-type: application/json\r\n",
-            b"content-length: 23\r\n",
-            b"{\"error\":\"bad request\"}",
+            b"\r\n\r\nHTTP/1.1 200 OK\r\n",
+            b"{\"number\":0}HTTP/1.1 400 Bad Request\r\n",
+            b"\r\n\r\n{\"error\":\"bad\"}",
         ],
     },
     Row {
-        sent: b"\x16\x03\x01\x02\x00\x01\x00",
+        sent: Text::Long {
+            begin: b"GET /bad HTTP/1.1\r\nHost: a\r\n\r\n",
+            part: b"GET /none HTTP/1.1\r\nHost: a\r\n\r\n",
+            times: 500,
+            rest: b"GET / HTTP/1.1\r\nHost: a\r\nConnection: close\r\n\r\n",
+        },
         parts: &[
-            b"HTTP/1.1 400 Bad Request\r\n",
-            b"{\"error\":\"bad request\"}",
+            b"{\"error\":\"bad\"}HTTP/1.1 404 Not Found\r\n",
+            b"{\"error\":\"unknown\"}HTTP/1.1 200 OK\r\n",
+            b"\r\n\r\n<p>page</p>",
         ],
-    },
-    Row {
-        sent: b"POST / HTTP/1.1\r\nHost: a\r\nContent-Length: 5000000\r\n\r\nabc",
-        parts: &[
-            b"HTTP/1.1 413 Content Too Large\r\n",
-            b"content-length: 26\r\n",
-            b"{\"error\":\"body too large\"}",
-        ],
-    },
-    Row {
-        sent: b"POST / HTTP/1.1\r\nHost: a\r\nTransfer-Encoding: gzip, chunked\r\n\r\n",
-        parts: &[
-            b"HTTP/1.1 501 Not Implemented\r\n",
-            b"content-length: 34\r\n",
-            b"{\"error\":\"coding not implemented\"}",
-        ],
-    },
-    Row {
-        sent: b"GET /next?at-once HTTP/1.1\r\nHost: a\r\nConnection: close\r\n\r\n",
-        parts: &[b"HTTP/1.1 200 OK\r\n", b"{\"number\":0}"],
     },
 ];
 
-/// Where a text stands in what is left from an index on, and where it ends.
-fn end_of(got: &[u8], from: usize, text: &[u8]) -> Option<usize> {
-    let rest = got.get(from..)?;
-    let at = rest
-        .windows(text.len().max(1))
-        .position(|part| part == text)?;
-    from.checked_add(at)?.checked_add(text.len())
-}
+/// What is no request (RFC 9112, sections 2.2, 3.2, 5.1, 5.2, 6.3 and 8; RFC 9110, section 5.5).
+const DAMAGED: &[&[u8]] = &[
+    b"\x16\x03\x01\x02\x00\x01\x00",
+    b"GET / HTTP/1.1\r\n\r\n",
+    b"GET / HTTP/1.1\r\nHost: a\r\nHost: b\r\n\r\n",
+    b"GET / HTTP/1.1\r\nHost: a b\r\n\r\n",
+    b"GET / HTTP/1.1\r\nHost a\r\n\r\n",
+    b"GET / HTTP/1.1\r\nHost : a\r\n\r\n",
+    b"GET / HTTP/1.1\r\nHost: a\r\nX: b\x00c\r\n\r\n",
+    b"GET / HTTP/1.1\r\nHost: a\r\nX: b\r\n c\r\n\r\n",
+    b"GET / HTTP/1.1\r\nHost: a\r\nX\xff: b\r\n\r\n",
+    b"GET /\r\nHost: a\r\n\r\n",
+    b"GET / HTTP/x.1\r\nHost: a\r\n\r\n",
+    b"G\x00T / HTTP/1.1\r\nHost: a\r\n\r\n",
+    b"GET / HTTP/1.1\r\nHost: a\r\nContent-Length: x\r\n\r\n",
+    b"GET / HTTP/1.1\r\nHost: a\r\nContent-Length: 1\r\nContent-Length: 2\r\n\r\n",
+    b"GET / HTTP/1.1\r\nHost: a\r\nTransfer-Encoding: gzip\r\n\r\n",
+    b"GET / HTTP/1.1\r\nHost: a\r\nTransfer-Encoding: chunked\r\n\r\nx\r\n",
+];
 
-/// Whether these texts stand in what came, in order.
-fn has_parts(got: &[u8], parts: &[&[u8]]) -> bool {
-    let mut from = 0;
-    for part in parts {
-        match end_of(got, from, part) {
-            Some(end) => from = end,
-            None => return false,
-        }
-    }
-    true
-}
+/// Requests that are too large, or are cut off.
+const REFUSED: &[Row] = &[
+    // The first line alone is too long.
+    Row {
+        sent: Text::Long {
+            begin: b"GET /",
+            part: b"a",
+            times: 9_000,
+            rest: b"",
+        },
+        parts: TARGET_TOO_LONG,
+    },
+    // Its head has 8,192 bytes, as many as it may have.
+    Row {
+        sent: Text::Long {
+            begin: b"GET / HTTP/1.1\r\nHost: a\r\nConnection: close\r\nX: ",
+            part: b"a",
+            times: 8_141,
+            rest: b"\r\n\r\n",
+        },
+        parts: PAGE,
+    },
+    // Its head has 8,193 bytes.
+    Row {
+        sent: Text::Long {
+            begin: b"GET / HTTP/1.1\r\nHost: a\r\nConnection: close\r\nX: ",
+            part: b"a",
+            times: 8_142,
+            rest: b"\r\n\r\n",
+        },
+        parts: FIELDS_TOO_LARGE,
+    },
+    // Its head has 65 fields.
+    Row {
+        sent: Text::Long {
+            begin: b"GET / HTTP/1.1\r\nHost: a\r\n",
+            part: b"X: a\r\n",
+            times: 64,
+            rest: b"\r\n",
+        },
+        parts: FIELDS_TOO_LARGE,
+    },
+    // A body of 1 MiB.
+    Row {
+        sent: Text::Long {
+            begin: b"GET / HTTP/1.1\r\nHost: a\r\nContent-Length: 1048576\r\n\r\n",
+            part: b"a",
+            times: 1_048_576,
+            rest: b"",
+        },
+        parts: BODY_TOO_LARGE,
+    },
+    // The same as one chunk.
+    Row {
+        sent: Text::Long {
+            begin: b"GET / HTTP/1.1\r\nHost: a\r\nTransfer-Encoding: chunked\r\n\r\n100000\r\n",
+            part: b"a",
+            times: 1_048_576,
+            rest: b"\r\n0\r\n\r\n",
+        },
+        parts: BODY_TOO_LARGE,
+    },
+    // The same under a coding that isn't known.
+    Row {
+        sent: Text::Long {
+            begin: b"GET / HTTP/1.1\r\nHost: a\r\nTransfer-Encoding: gzip, chunked\r\n\r\n100000\r\n",
+            part: b"a",
+            times: 1_048_576,
+            rest: b"\r\n0\r\n\r\n",
+        },
+        parts: UNKNOWN_CODING,
+    },
+    // A half of a head, and no more.
+    Row {
+        sent: Text::Ended(b"GET / HTTP/1.1\r\nHo"),
+        parts: BAD_REQUEST,
+    },
+    // Nothing at all.
+    Row {
+        sent: Text::Ended(b""),
+        parts: &[],
+    },
+];
 
-/// The index of the first row that isn't answered as it should be.
-fn first_wrong<R: Net<Stream = TcpStream>>(
+/// Whether each row is answered as it should be.
+fn are_answered<R: Net<Stream = TcpStream>>(
     rt: &R,
-    alloc: Global,
-    address: SocketAddr,
-) -> Option<usize> {
-    for (i, row) in ROWS.iter().enumerate() {
-        match answer_to(rt, alloc, address, row.sent) {
-            Ok(got) if has_parts(got.as_slice(), row.parts) => {}
-            _ => return Some(i),
-        }
+    place: &Place<'_>,
+    rows: &[Row],
+    what: &'static str,
+) -> Result<(), Wrong> {
+    for (i, row) in rows.iter().enumerate() {
+        let got = answer_to(rt, place, &row.sent)?;
+        expect(is_made_of(got.as_slice(), row.parts), what, i as u64)?;
     }
-    None
+    Ok(())
 }
 
-const POLL: &[u8] = b"GET /next?wait HTTP/1.1\r\nHost: a\r\nConnection: close\r\n\r\n";
-
-/// What the client saw.
-#[derive(Debug, Drop)]
-struct Seen {
-    /// The first row that was answered wrongly.
-    wrong: Option<usize>,
-    /// How many milliseconds the long poll took that no change came for.
-    waited_ms: u128,
-    /// Whether it got the number from before.
-    is_old: bool,
-    /// How many milliseconds the long poll took for which a change came.
-    changed_ms: u128,
-    /// Whether it got the number from after.
-    is_new: bool,
+/// Whether each text that is no request is refused with 400.
+fn are_refused<R: Net<Stream = TcpStream>>(rt: &R, place: &Place<'_>) -> Result<(), Wrong> {
+    for (i, sent) in DAMAGED.iter().enumerate() {
+        let got = answer_to(rt, place, &Text::Whole(sent))?;
+        expect(
+            is_made_of(got.as_slice(), BAD_REQUEST),
+            "a damaged head",
+            i as u64,
+        )?;
+    }
+    Ok(())
 }
 
-/// Asks the rows, and then two long polls.
-fn ask<R: Net<Stream = TcpStream> + rt::Clock>(
+const POLL: Text = Text::Whole(b"GET /next?wait HTTP/1.1\r\nHost: a\r\nConnection: close\r\n\r\n");
+
+/// A long poll for which no change comes: it gets the number from before when it has waited long enough.
+fn is_patient<R: Net<Stream = TcpStream> + rt::Clock>(
     rt: &R,
-    alloc: Global,
-    address: SocketAddr,
-    number: &AtomicU64,
-    signal: &Signal,
-) -> io::Result<Seen> {
-    let wrong = first_wrong(rt, alloc, address);
+    place: &Place<'_>,
+) -> Result<(), Wrong> {
     let start = Instant::now(rt)?;
-    let old = answer_to(rt, alloc, address, POLL)?;
-    let waited_ms = start.elapsed(rt)?.as_millis();
-    let start = Instant::now(rt)?;
-    let mut stream = sent(rt, address, POLL)?;
-    thread::sleep(rt, Duration::from_millis(50));
-    number.store(1, SeqCst);
-    signal.published();
-    let new = told(alloc, &mut stream)?;
-    let changed_ms = start.elapsed(rt)?.as_millis();
-    Ok(Seen {
-        wrong,
+    let got = answer_to(rt, place, &POLL)?;
+    let waited_ms = passed_ms(rt, start)?;
+    let is_old = is_made_of(got.as_slice(), &[b"200 OK", b"\r\n\r\n{\"number\":0}"]);
+    let is_timely = waited_ms >= WAIT_MS && waited_ms < 2_000;
+    expect(
+        is_old && is_timely,
+        "a long poll without a change",
         waited_ms,
-        is_old: has_parts(old.as_slice(), &[b"200 OK", b"{\"number\":0}"]),
-        changed_ms,
-        is_new: has_parts(new.as_slice(), &[b"200 OK", b"{\"number\":1}"]),
-    })
-}
-
-/// Serves the number until the signal says to stop.
-fn serve<R: rt::Clock>(
-    rt: &R,
-    alloc: Global,
-    server: Server,
-    number: &AtomicU64,
-    signal: &Signal,
-) -> io::Result<(End, Counts)> {
-    let mut server = server;
-    let clock = MachineClock::new(rt)?;
-    let mut desk = Desk::new(alloc, Board { number, seen: 0 });
-    Ok(server.serve(&mut desk, &clock, signal))
-}
-
-/// Asks as [`ask`] does, and then tells the server to stop.
-fn ask_and_stop<R: Net<Stream = TcpStream> + rt::Clock>(
-    rt: &R,
-    alloc: Global,
-    address: SocketAddr,
-    number: &AtomicU64,
-    signal: &Signal,
-) -> io::Result<Seen> {
-    let seen = ask(rt, alloc, address, number, signal);
-    signal.stop();
-    seen
-}
-
-/// What a server did.
-type Served = io::Result<(End, Counts)>;
-
-/// Runs a server, and a client that asks it.
-fn both<R>(
-    rt: &R,
-    alloc: Global,
-    server: Server,
-    address: SocketAddr,
-    number: &AtomicU64,
-    signal: &Signal,
-) -> (Served, io::Result<Seen>)
-where
-    R: Net<Stream = TcpStream> + rt::Clock + Threads + Sync,
-{
-    join(
-        rt,
-        move || -> Served { serve(rt, alloc, server, number, signal) },
-        move || -> io::Result<Seen> { ask_and_stop(rt, alloc, address, number, signal) },
     )
 }
 
-/// A server at a free port, and a client that asks it.
-fn play<R>(rt: &R, alloc: Global) -> io::Result<(End, Counts, Seen)>
-where
-    R: Net<Listener = TcpListener, Stream = TcpStream> + RandomSource + rt::Clock + Threads + Sync,
-{
-    let any = SocketAddr::from((Ipv4Addr::LOCALHOST, 0));
-    let listener = Listener::bind(rt, any).map_err(io::Error::from)?;
-    let address = listener.address().map_err(io::Error::from)?;
-    let (server, signal) = Server::new(rt, alloc, listener)?;
-    let number = AtomicU64::new(0);
-    let (served, seen) = both(rt, alloc, server, address, &number, &signal);
-    let (end, counts) = served?;
-    Ok((end, counts, seen?))
+/// A long poll for which a change comes: it gets the number from after, at once.
+fn is_told<R: Net<Stream = TcpStream> + rt::Clock>(rt: &R, place: &Place<'_>) -> Result<(), Wrong> {
+    let start = Instant::now(rt)?;
+    let mut stream = sent(rt, place, &POLL)?;
+    thread::sleep(rt, Duration::from_millis(50));
+    place.number.store(1, SeqCst);
+    place.signal.published();
+    let got = told(place, &mut stream)?;
+    let waited_ms = passed_ms(rt, start)?;
+    let is_new = is_made_of(got.as_slice(), &[b"200 OK", b"\r\n\r\n{\"number\":1}"]);
+    expect(
+        is_new && waited_ms < 2_000,
+        "a long poll with a change",
+        waited_ms,
+    )
+}
+
+/// Asks the rows, and then two long polls.
+pub(crate) fn ask<R: Net<Stream = TcpStream> + rt::Clock>(
+    rt: &R,
+    place: &Place<'_>,
+) -> Result<(), Wrong> {
+    are_answered(rt, place, ANSWERS, "an answer")?;
+    are_answered(rt, place, PIPELINED, "pipelined requests")?;
+    are_refused(rt, place)?;
+    are_answered(rt, place, REFUSED, "a refusal")?;
+    is_patient(rt, place)?;
+    is_told(rt, place)
 }
 
 #[test]
 fn answers_what_it_should(rt: HostRuntime) {
-    let played = play(&rt, rt.alloc());
+    let played = played(&rt, rt.alloc(), Play::Rows);
+    let rows = ANSWERS.len() + PIPELINED.len() + DAMAGED.len() + REFUSED.len();
     let met = played.as_ref().is_ok_and(|(end, counts, seen)| {
         *end == End::Stopped
-            && counts.accepted == 13
+            && counts.accepted == rows as u64 + 2
             && counts.turned_away == 0
             && counts.failed == 0
-            && seen.wrong.is_none()
-            && seen.is_old
-            && seen.is_new
-            && seen.waited_ms >= u128::from(WAIT_MS)
-            && seen.waited_ms < 2_000
-            && seen.changed_ms < 2_000
+            && seen.is_ok()
     });
     assert!(rt; met, "{played:?}");
 }

@@ -75,9 +75,22 @@ pub record IsReply {S : Type 0} (answers : SiteAnswers S) (last full : Bool) (si
 abbrev pub IsAnsweredFrom : {S : Type 0} → SiteAnswers S → S → Call → Type 0
 IsAnsweredFrom answers site call = (last : Bool) × (full : Bool) × IsReply answers last full site call.0 call.1
 
--- each call was answered from some state of the site
-abbrev pub AreAnswered : {S : Type 0} → SiteAnswers S → List Call → Type 0
-AreAnswered {S} answers calls = All (λ call. (site : S) × IsAnsweredFrom answers site call) calls
+-- of two states of a site, whether the second is the first or a later one
+abbrev pub SiteOrder : Type 0 → Type 1
+SiteOrder S = S → S → Type 0
+
+-- Time goes on: each state counts as later than itself, and what is later than a later one is later.
+pub record IsSiteOrder {S : Type 0} (later : SiteOrder S) : Type 0 where
+  pub same : (site : S) → later site site
+  pub both : (first second third : S) → later first second → later second third → later first third
+
+-- The calls were answered one after another, and never from an earlier state of the site than the call before: the first
+-- from the first state or a later one, each from the state of the call before or a later one, and the last state is that
+-- of the last call or a later one.
+abbrev pub AreAnswered : {S : Type 0} → SiteAnswers S → SiteOrder S → S → List Call → S → Type 0
+AreAnswered answers later first [] last = later first last
+AreAnswered {S} answers later first (call ∷ calls) last =
+    (site : S) × later first site × IsAnsweredFrom answers site call × AreAnswered answers later site calls last
 
 -- further calls were made, each answered from this state of the site
 abbrev pub AddsCalls : {S : Type 0} → SiteAnswers S → S → List Call → List Call → Type 0

@@ -3,7 +3,7 @@ use Rattle.std.specs.Prelude.{◌≡◌, ℕ, [], ◌∷◌, Some, None, codes, 
 use Rattle.http1.specs.declared.error.ReadError.TheVariants.{UriTooLong, TooLarge, Host}
 use Rattle.http_server.specs.declared.state.State.TheVariants.{Open, Closing}
 use Rattle.http_server.specs.declared.state.Reason.TheVariants.{Asked, Refused}
-use Rattle.http_server.specs.declared.state.Refusal.TheVariants.{Unreadable, BodyTooLarge, Truncated}
+use Rattle.http_server.specs.declared.state.Refusal.TheVariants.{Unreadable, BodyTooLarge}
 use Rattle.lg_text.specs.Meaning.Cutting.{before, behind}
 use Rattle.lg_http.specs.declared.own.OwnRefusal.TheVariants as Own
 use Rattle.lg_http.specs.declared.peer.Phase.TheVariants.{Reading, Parked, Answering, Draining}
@@ -11,7 +11,7 @@ use Rattle.lg_http.specs.declared.site.Kind.TheVariants.{Json}
 use Rattle.lg_http.specs.Meaning.Answers.{closing, content_type}
 use Rattle.lg_http.specs.Meaning.Fronts.{query_mark}
 use Rattle.lg_http.specs.Meaning.Own.{own_text, own_body, own_in}
-use Rattle.lg_http.specs.Meaning.Phases.{MayBecome}
+use Rattle.lg_http.specs.Meaning.Phases.{MayBecome, time_limit, may_yield}
 
 path-of-target : before query_mark (codes "/v1/changes?after=1?2") ≡ codes "/v1/changes"
 unfolding before
@@ -76,3 +76,18 @@ parked-may-be-answered after = tt
 
 drained-is-never-answered : ¬ (MayBecome Draining Answering)
 drained-is-never-answered wrong = wrong
+
+head-has-5-s : time_limit Reading ≡ 5000
+head-has-5-s = refl
+
+poll-has-30-s : (after : ℕ) → time_limit (Parked after) ≡ 30000
+poll-has-30-s after = refl
+
+may-yield-after-250-ms : may_yield Reading 4750 ≡ true
+may-yield-after-250-ms = refl
+
+is-kept-until-then : may_yield Reading 4751 ≡ false
+is-kept-until-then = refl
+
+answered-is-kept : may_yield Answering 0 ≡ false
+answered-is-kept = refl

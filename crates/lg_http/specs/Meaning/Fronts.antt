@@ -1,5 +1,5 @@
 -- What stands at the front of the bytes that a client sent.
-use Rattle.std.specs.Prelude.{◌≡◌, ◌≢◌, ℕ, ◌≤◌, ◌<◌, ◌⊎◌, List, ◌++◌, length, drop, map, codes, Option, None, Some, All}
+use Rattle.std.specs.Prelude.{◌≡◌, ◌≢◌, ℕ, ◌≤◌, ◌<◌, ◌⊎◌, List, length, drop, map, codes, Option, None, All}
 use Rattle.std.specs.Char.{to_ascii_lowercase}
 use Rattle.httparse.specs.Grammar.{RequestHead, HasNoRequest, ReadsRequest, print_request}
 use Rattle.httparse.specs.Spans.{name_and_value}

@@ -38,7 +38,7 @@ impl Peer {
     ) -> Step
         requires { len ≤ length self.old.held.items }
         ensures phase { result ≢ Step.Gone → IsGiven self.new.phase }
-        ensures current { result ≢ Step.Gone → turn.now.at < self.new.until }
+        ensures time { result ≢ Step.Gone → self.new.until ≡ turn.now.at + LIMIT_MS }
         // Each whole request that the connection was given is answered now.
         ensures rests { result ≢ Step.Gone → Rests (config_of self.new.http) (history self.new.http) }
         ensures stream { stream_of self.new ≡ stream_of self.old }

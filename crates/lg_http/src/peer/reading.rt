@@ -1,17 +1,18 @@
 //! Reading from a client, and what is done with a request.
 //!
 //! Defined in: `specs/Meaning/Phases.antt`, `specs/Meaning/Peers.antt`.
-//! Tested in: `lg_http_tests/src/serving.rt`.
-ghost use Rattle.std.specs.Prelude.{◌≡◌, ◌≢◌, ◌≤◌, ◌<◌, ◌+◌, length, IsFalse};
+//! Tested in: `lg_http_tests/src/serving.rt`, `lg_http_tests/src/late.rt`.
+ghost use Rattle.std.specs.Prelude.{◌≡◌, ◌≢◌, ◌≤◌, ◌<◌, ◌+◌, ◌⊎◌, length, IsFalse, MatchOption};
 ghost use Rattle.lg_http.specs.declared.peer.Phase.TheVariants.{Parked};
 ghost use Rattle.lg_http.specs.Meaning.Phases.{MayBecome, IsAwake};
-ghost use Rattle.lg_http.specs.Meaning.Peers.{GoesOn, Answers, IsCurrent, IsBounded, calls_of, stream_of};
+ghost use Rattle.lg_http.specs.Meaning.Peers.{GoesOn, Answers, IsCurrent, IsBounded, KeepsTime, WaitsFrom};
+ghost use Rattle.lg_http.specs.Meaning.Peers.{calls_of, stream_of};
 
 use super::{MAX_WAIT_MS, Peer, Phase, ROOM, Step, Turn};
 use crate::desk::Desk;
 use crate::gate::{Front, MAX_HEAD, look_at};
 use crate::site::{Site, Wait};
-use std::io::{ErrorKind, Read};
+use std::io::Read;
 
 impl Peer {
     /// Reads once from the socket, if there is room.
@@ -35,24 +36,7 @@ impl Peer {
                     Err(_) => Step::Gone,
                 }
             }
-            Err(e) => self.missed(e.kind()),
-        }
-    }
-
-    /// What a read that failed leaves to do.
-    fn missed(&mut self, kind: ErrorKind) -> Step
-        ensures phase { self.new.phase ≡ self.old.phase }
-        ensures until { self.new.until ≡ self.old.until }
-        ensures http { self.new.http ≡ self.old.http }
-        ensures held { self.new.held ≡ self.old.held }
-    {
-        match kind {
-            ErrorKind::WouldBlock => {
-                self.can_read = false;
-                Step::Wait
-            }
-            ErrorKind::Interrupted => Step::On,
-            _ => Step::Gone,
+            Err(e) => Step::after_failure(e.kind(), &mut self.can_read),
         }
     }
 
@@ -78,6 +62,7 @@ impl Peer {
         ensures current { result ≢ Step.Gone → IsCurrent turn.now.at turn.now.version self.new }
         ensures came { after < turn.now.version → result ≢ Step.Gone → IsAwake self.new.phase }
         ensures over { self.old.until ≤ turn.now.at → result ≢ Step.Gone → IsAwake self.new.phase }
+        ensures time { result ≢ Step.Gone → KeepsTime turn.now.at self.old self.new }
         ensures stream { GoesOn self.old self.new }
         ensures answers { Answers S.answers desk.old.site self.old self.new }
         ensures site { desk.new.site ≡ desk.old.site }
@@ -103,6 +88,7 @@ impl Peer {
         ensures moves { result ≢ Step.Gone → MayBecome self.old.phase self.new.phase }
         ensures current { result ≢ Step.Gone → IsCurrent turn.now.at turn.now.version self.new }
         ensures parks { IsFalse turn.now.may_park → result ≢ Step.Gone → IsAwake self.new.phase }
+        ensures time { result ≢ Step.Gone → KeepsTime turn.now.at self.old self.new }
         ensures stream { GoesOn self.old self.new }
         ensures answers { Answers S.answers desk.old.site self.old self.new }
         ensures site { desk.new.site ≡ desk.old.site }
@@ -141,6 +127,9 @@ impl Peer {
         ensures moves { result ≢ Step.Gone → MayBecome self.old.phase self.new.phase }
         ensures current { result ≢ Step.Gone → IsCurrent turn.now.at turn.now.version self.new }
         ensures parks { IsFalse turn.now.may_park → result ≢ Step.Gone → IsAwake self.new.phase }
+        ensures waits { result ≢ Step.Gone → IsAwake self.new.phase
+            ⊎ MatchOption wait ⊥ (λ w. WaitsFrom turn.now.at w self.new) }
+        ensures time { result ≢ Step.Gone → KeepsTime turn.now.at self.old self.new }
         ensures stream { stream_of self.new ≡ stream_of self.old }
         ensures answers { Answers S.answers desk.old.site self.old self.new }
         ensures site { desk.new.site ≡ desk.old.site }

@@ -1,14 +1,14 @@
 //! Sending an answer to a client.
 //!
 //! Defined in: `specs/Meaning/Phases.antt`, `specs/Meaning/Peers.antt`.
-//! Tested in: `lg_http_tests/src/serving.rt`.
-ghost use Rattle.std.specs.Prelude.{◌≡◌, ◌≢◌, ◌<◌};
+//! Tested in: `lg_http_tests/src/serving.rt`, `lg_http_tests/src/late.rt`.
+ghost use Rattle.std.specs.Prelude.{◌≡◌, ◌≢◌, ◌<◌, ◌+◌};
 ghost use Rattle.lg_http.specs.Meaning.Phases.{MayBecome};
-ghost use Rattle.lg_http.specs.Meaning.Peers.{stream_of, calls_of};
+ghost use Rattle.lg_http.specs.Meaning.Peers.{stream_of, calls_of, KeepsTime, IsWithinLimit};
 
 use super::{DRAIN_MS, LIMIT_MS, OwnText, Peer, Phase, Step, Turn};
 use std::io;
-use std::io::{ErrorKind, Write};
+use std::io::Write;
 use std::net::Shutdown;
 
 impl Peer {
@@ -18,6 +18,7 @@ impl Peer {
         requires timely { turn.now.at < self.old.until }
         ensures moves { MayBecome self.old.phase self.new.phase }
         ensures current { result ≢ Step.Gone → turn.now.at < self.new.until }
+        ensures time { result ≢ Step.Gone → KeepsTime turn.now.at self.old self.new }
         ensures calls { calls_of self.new ≡ calls_of self.old }
         ensures held { self.new.held ≡ self.old.held }
         ensures stream { stream_of self.new ≡ stream_of self.old }
@@ -31,7 +32,7 @@ impl Peer {
                 self.until = turn.at.milliseconds().saturating_add(LIMIT_MS);
                 self.go_on(turn)
             }
-            Err(e) => self.blocked(e.kind()),
+            Err(e) => Step::after_failure(e.kind(), &mut self.can_write),
         }
     }
 
@@ -56,23 +57,6 @@ impl Peer {
         Ok(count)
     }
 
-    /// What a write that failed leaves to do.
-    fn blocked(&mut self, kind: ErrorKind) -> Step
-        ensures phase { self.new.phase ≡ self.old.phase }
-        ensures until { self.new.until ≡ self.old.until }
-        ensures http { self.new.http ≡ self.old.http }
-        ensures held { self.new.held ≡ self.old.held }
-    {
-        match kind {
-            ErrorKind::WouldBlock => {
-                self.can_write = false;
-                Step::Wait
-            }
-            ErrorKind::Interrupted => Step::On,
-            _ => Step::Gone,
-        }
-    }
-
     /// Whether something is left to send.
     fn has_output(&self) -> bool {
         match self.own {
@@ -84,9 +68,10 @@ impl Peer {
     /// Goes on behind a write: with the rest of the answer, with the next request, or with the end.
     fn go_on(&mut self, turn: &Turn) -> Step
         requires phase { self.old.phase ≡ Phase.Answering }
-        requires timely { turn.now.at < self.old.until }
+        requires time { self.old.until ≡ turn.now.at + LIMIT_MS }
         ensures moves { MayBecome self.old.phase self.new.phase }
         ensures current { result ≢ Step.Gone → turn.now.at < self.new.until }
+        ensures time { result ≢ Step.Gone → IsWithinLimit turn.now.at self.new }
         ensures http { self.new.http ≡ self.old.http }
         ensures held { self.new.held ≡ self.old.held }
     {

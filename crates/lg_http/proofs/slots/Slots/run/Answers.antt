@@ -1,7 +1,7 @@
-use Rattle.std.proofs.Common.{rules, ◌<◌, length}
+use Rattle.std.proofs.Common.{rules, ◌<◌, length, set, subst, sym, ◌∙◌}
 use Rattle.std.proofs.lemmas.List.Elements.{AllWithin-more_set}
 use Rattle.lg_http.specs.Meaning.Peers.{IsCurrent}
-use Rattle.lg_http.specs.Meaning.Slots.{InSlot}
+use Rattle.lg_http.specs.Meaning.Slots.{InSlot, AreSlots}
 use Rattle.lg_http.proofs.SlotLaws.{parked_more, slots_more}
 use Rattle.lg_http.proofs.slots.Slots.run.Goals as goal
 
@@ -17,6 +17,8 @@ loop-slot-preserved g c =
       current = AllWithin-more_set slots k c.run_next-rest.new.slot within (InSlot (IsCurrent c.args.at c.args.version)) was.current ran.current;
       parked = parked;
       slots = λ h.
-          slots_more g.S.Site.answers slots k c.loop-slot.rest.parked c.run_next-rest.result.parked _ c.run_next-rest.new.slot was.parked parked
-          ran.few ran.bounded ran.answered (search rules) within (was.slots h);
+          subst (λ site. AreSlots g.S.Site.answers g.S.Site.later site (set slots k c.run_next-rest.new.slot)) (sym ran.site)
+          (slots_more g.S.Site.answers g.S.Site.later c.loop-slot.desk.site slots k c.loop-slot.rest.parked c.run_next-rest.result.parked _
+          c.run_next-rest.new.slot was.parked parked ran.few ran.bounded ran.answered (search rules) within (was.slots h));
+      site = ran.site ∙ was.site;
     }

@@ -1,4 +1,4 @@
-use Rattle.std.proofs.Common.{◌≡◌, length}
+use Rattle.std.proofs.Common.{◌≡◌}
 use Rattle.std.specs.List.{AllWithin}
 use Rattle.lg_http.specs.Meaning.Peers.{IsCurrent}
 use Rattle.lg_http.specs.Meaning.Slots.{InSlot, AreSlots, parked_count}
@@ -9,5 +9,7 @@ abbrev pub invariant-loop-slot : goal.invariant-loop-slot
 invariant-loop-slot g l = record {
   current : AllWithin (InSlot (IsCurrent l.at l.version)) l.slot-items 0 l.slot-index;
   parked : l.rest.parked ≡ parked_count l.slot-items;
-  slots : AreSlots g.S.Site.answers l.initial.slot-items → AreSlots g.S.Site.answers l.slot-items;
+  slots : AreSlots g.S.Site.answers g.S.Site.later l.fn.desk.site l.initial.slot-items
+      → AreSlots g.S.Site.answers g.S.Site.later l.desk.site l.slot-items;
+  site : l.desk.site ≡ l.fn.desk.site;
 }

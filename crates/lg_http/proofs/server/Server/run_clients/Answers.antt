@@ -1,0 +1,31 @@
+use Rattle.lg_http.specs.Meaning.Slots.{slots_of}
+use Rattle.lg_http.proofs.SlotLaws.{slots_until}
+use Rattle.lg_http.proofs.server.Server.run_clients.Goals as goal
+
+pub returns-then-rest-eq0-clause-served : goal.returns-then-rest-eq0-clause-served
+returns-then-rest-eq0-clause-served g c = λ h.
+    c.run-rest.ensures.served
+    (slots_until g.S.Site.answers g.S.Site.later g.met.S.Site.order _ _ c.refresh-version.ensures.goes_on (slots_of c.args.self.now) h)
+
+pub returns-then-refresh-version-clause-served : goal.returns-then-refresh-version-clause-served
+returns-then-refresh-version-clause-served g c = λ h.
+    slots_until g.S.Site.answers g.S.Site.later g.met.S.Site.order _ _ c.refresh.ensures.goes_on c.run-rest.new.self.slots.items
+    (c.run-rest.ensures.served
+    (slots_until g.S.Site.answers g.S.Site.later g.met.S.Site.order _ _ c.refresh-version.ensures.goes_on (slots_of c.args.self.now) h))
+
+pub returns-else-refresh-version-clause-served : goal.returns-else-refresh-version-clause-served
+returns-else-refresh-version-clause-served g c = λ h.
+    slots_until g.S.Site.answers g.S.Site.later g.met.S.Site.order _ _ c.refresh.ensures.goes_on c.run-rest.new.self.slots.items
+    (c.run-rest.ensures.served
+    (slots_until g.S.Site.answers g.S.Site.later g.met.S.Site.order _ _ c.refresh-version.ensures.goes_on (slots_of c.args.self.now) h))
+
+pub returns-then-rest-eq0-clause-goes_on : goal.returns-then-rest-eq0-clause-goes_on
+returns-then-rest-eq0-clause-goes_on g c = rw c.run-rest.ensures.site c.refresh-version.ensures.goes_on
+
+pub returns-then-refresh-version-clause-goes_on : goal.returns-then-refresh-version-clause-goes_on
+returns-then-refresh-version-clause-goes_on g c =
+    g.met.S.Site.order.both _ _ _ c.refresh-version.ensures.goes_on (rw c.run-rest.ensures.site at c.refresh.ensures.goes_on)
+
+pub returns-else-refresh-version-clause-goes_on : goal.returns-else-refresh-version-clause-goes_on
+returns-else-refresh-version-clause-goes_on g c =
+    g.met.S.Site.order.both _ _ _ c.refresh-version.ensures.goes_on (rw c.run-rest.ensures.site at c.refresh.ensures.goes_on)
