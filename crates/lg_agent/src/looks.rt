@@ -1,11 +1,12 @@
 //! What a pass reads without the lock: each look answers from what was published last, and waits for nobody.
 //!
-//! Defined in: `specs/Meaning/Calls.antt`, `lg_detector/specs/Meaning/Step.antt`.
+//! Defined in: `specs/Meaning/Calls.antt`, `lg_detector/specs/Meaning/Step.antt`, `lg_view/specs/Meaning/Views.antt`.
 //! Tested in: `lg_agent_tests/src/agent/rows.rt`.
 ghost use Rattle.std.specs.Prelude.{◌≡◌, ◌⊎◌, length, Some, MatchResult};
 ghost use Rattle.lg_rules.specs.Meaning.Claim.{name_of};
 ghost use Rattle.lg_rules.specs.Meaning.Rows.{name_cmp, row_at};
 ghost use Rattle.lg_detector.specs.Meaning.Step.{view_after, deadline_after};
+ghost use Rattle.lg_view.specs.Meaning.Views.{IsOverview};
 ghost use Rattle.lg_agent.specs.declared.refusal.Refusal.TheVariants.{NoView, NoMemory};
 ghost use Rattle.lg_agent.specs.Meaning.Calls.{IsLook};
 
@@ -14,7 +15,7 @@ use crate::pass::Pass;
 use crate::refusal::Refusal;
 use crate::spent::Spent;
 use lg_rules::{Name, Record};
-use lg_view::MembersFault;
+use lg_view::{MembersFault, Overview};
 use std::alloc::Global;
 
 impl<'a, A: AgentName> Pass<'a, A> {
@@ -54,6 +55,16 @@ impl<'a, A: AgentName> Pass<'a, A> {
             (λ e. ((e ≡ NoView) ⊎ (e ≡ NoMemory)) × (self.new ≡ self.old)) }
     {
         self.own.members(alloc)
+    }
+
+    /// The records of all members, how many events they are after, and what this member knows of itself after the same
+    /// events: its score, its incarnation, and whether it was ousted. So all of it agrees. Allocates memory for 256
+    /// records, and takes no lock. Refused as [`Pass::members`] is.
+    pub fn overview(&mut self, alloc: Global) -> Result<Overview, Refusal>
+        ensures { MatchResult result (λ found. IsOverview found self.new.seen × IsLook self.old self.new)
+            (λ e. ((e ≡ NoView) ⊎ (e ≡ NoMemory)) × (self.new ≡ self.old)) }
+    {
+        self.own.overview(alloc)
     }
 }
 
@@ -107,11 +118,20 @@ impl<A: AgentName> Spent<A> {
             (λ records. (records.items ≡ view_after self.new.seen) × IsLook self.old self.new)
             (λ e. ((e ≡ NoView) ⊎ (e ≡ NoMemory)) × (self.new ≡ self.old)) }
     {
-        let answer = self.look.members(alloc);
+        let overview = self.overview(alloc)?;
+        Ok(overview.records)
+    }
+
+    /// As [`Pass::overview`].
+    fn overview(&mut self, alloc: Global) -> Result<Overview, Refusal>
+        ensures { MatchResult result (λ found. IsOverview found self.new.seen × IsLook self.old self.new)
+            (λ e. ((e ≡ NoView) ⊎ (e ≡ NoMemory)) × (self.new ≡ self.old)) }
+    {
+        let answer = self.look.overview(alloc);
         // What was seen is an accepted list.
         let _seen = self.look.seen();
         match answer {
-            Ok(records) => Ok(records),
+            Ok(overview) => Ok(overview),
             Err(MembersFault::NoView) => Err(Refusal::NoView),
             Err(MembersFault::NoMemory) => Err(Refusal::NoMemory),
         }

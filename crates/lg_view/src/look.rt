@@ -6,12 +6,13 @@ ghost use Rattle.std.specs.Prelude.{◌≡◌, length, true, Some, MatchResult};
 ghost use Rattle.lg_rules.specs.Meaning.Claim.{name_of};
 ghost use Rattle.lg_rules.specs.Meaning.Rows.{name_cmp, row_at};
 ghost use Rattle.lg_detector.specs.Meaning.Step.{view_after, deadline_after, is_accepted};
-ghost use Rattle.lg_view.specs.Meaning.Views.{begins_open};
+ghost use Rattle.lg_view.specs.Meaning.Views.{begins_open, IsOverview};
 ghost use mathlib.Core.List.{IsPrefix};
 
-use self::reading::{read_deadline, read_front, read_members, read_status};
+use self::reading::{read_deadline, read_front, read_overview, read_status};
 use crate::book::PairName;
 use crate::front::Front;
+use crate::overview::Overview;
 use crate::published::Published;
 use core::mem::replace_with;
 use crossbeam_utils::rule::Unruled;
@@ -132,11 +133,21 @@ impl<P: PairName> Look<P> {
             (λ records. (records.items ≡ view_after self.new) × IsPrefix self.old self.new)
             (λ _. self.new ≡ self.old) }
     {
+        let overview = self.overview(alloc)?;
+        Ok(overview.records)
+    }
+
+    /// The records of all members, how many events they are after, and what this member knows of itself after the same
+    /// events. Allocates memory and fails as [`Look::members`] does.
+    pub fn overview(&mut self, alloc: Global) -> Result<Overview, MembersFault>
+        ensures { MatchResult result (λ found. IsOverview found self.new × IsPrefix self.old self.new)
+            (λ _. self.new ≡ self.old) }
+    {
         let Ok(records) = Vec::with_capacity(alloc, MAX_MEMBERS) else {
             return Err(MembersFault::NoMemory);
         };
-        match replace_with(&mut self.reader, records, read_members) {
-            Some((records, front)) if self.seen.advance_to(&front) => Ok(records),
+        match replace_with(&mut self.reader, records, read_overview) {
+            Some((overview, front)) if self.seen.advance_to(&front) => Ok(overview),
             _ => Err(MembersFault::NoView),
         }
     }

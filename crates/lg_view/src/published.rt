@@ -5,7 +5,7 @@
 ghost use Rattle.std.specs.Prelude.{◌≡◌, [], IfOk, Some};
 ghost use Rattle.lg_rules.specs.Meaning.Claim.{name_of};
 ghost use Rattle.lg_rules.specs.Meaning.Rows.{name_cmp, row_at};
-ghost use Rattle.lg_detector.specs.Meaning.Step.{view_after, deadline_after};
+ghost use Rattle.lg_detector.specs.Meaning.Step.{view_after, deadline_after, own_standing_after};
 ghost use Rattle.lg_view.specs.Support.Updates.{taken_events};
 
 use crate::book::PairName;
@@ -13,7 +13,7 @@ use crate::front::Front;
 use crate::update::{Added, Update};
 use arrayvec::ArrayVec;
 use left_right::Absorb;
-use lg_detector::{Detector, Event, MAX_MEMBERS, NoMemory, Reply};
+use lg_detector::{Detector, Event, MAX_MEMBERS, NoMemory, Reply, Standing};
 use lg_rules::{Name, Record};
 use std::alloc::{AllocError, Global};
 use std::marker::Model;
@@ -69,6 +69,13 @@ impl<P: PairName> Published<P> {
         ensures { result ≡ row_at name_cmp name_of name.now (view_after self.now) }
     {
         self.detector.record_of(name)
+    }
+
+    /// What this member knows of itself.
+    pub(crate) fn standing(&self) -> Standing
+        ensures { result ≡ own_standing_after self.now }
+    {
+        self.detector.standing()
     }
 
     /// The least deadline. There is none before the opening.

@@ -6,8 +6,8 @@ ghost use Rattle.lg_view.specs.Meaning.Views.{begins_open};
 use super::keeper::Keeper;
 use super::playing::{Outcome, Play, Shown, told};
 use super::{ping_of_a, tick};
-use lg_detector::Event;
-use lg_testing::{alive, at, letter, local};
+use lg_detector::{Event, Standing};
+use lg_testing::{alive, at, incarnation, letter, local};
 use lg_timing::Config;
 use lg_view::{Look, PairName};
 use std::alloc::Global;
@@ -77,12 +77,22 @@ fn look_on<P: PairName, R: Wait>(
     ]
 }
 
-/// Whether b and c are the members, as a look sees them.
+/// Whether b and c are the members, as a look sees them, and b knows of itself that nothing was held against it.
 fn has_both<P: PairName>(alloc: Global, look: &mut Look<P>) -> bool {
     let both = [alive(b'b', 0), alive(b'c', 0)];
-    match look.members(alloc) {
-        Ok(members) => members.as_slice() == both.as_slice(),
-        Err(_) => false,
+    let standing = Standing {
+        score: 0,
+        number: incarnation(0),
+        ousted: false,
+    };
+    match (look.members(alloc), look.overview(alloc)) {
+        (Ok(members), Ok(overview)) => {
+            members.as_slice() == both.as_slice()
+                && overview.records.as_slice() == both.as_slice()
+                && overview.version == 3
+                && overview.standing == standing
+        }
+        _ => false,
     }
 }
 

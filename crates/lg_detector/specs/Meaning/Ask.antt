@@ -1,4 +1,5 @@
--- The events Ask and Health: questions. They change nothing but the moment and the number of events.
+-- The events Ask and Health: questions. They change nothing but the moment and the number of events. And what this
+-- member knows of itself.
 use Rattle.std.specs.Prelude.{ℕ, List}
 use Rattle.lg_rules.specs.Meaning.Claim.{name_of}
 use Rattle.lg_rules.specs.Meaning.Rows.{name_cmp, row_at}
@@ -6,6 +7,7 @@ use Rattle.lg_membership.specs.Meaning.Log as group
 use Rattle.lg_membership.specs.Meaning.Log.{group_view}
 use Rattle.lg_detector.specs.declared.reply.Answer.{Answer}
 use Rattle.lg_detector.specs.declared.reply.Answer.TheVariants.{Status, Health}
+use Rattle.lg_detector.specs.declared.standing.Standing.{Standing}
 use Rattle.lg_detector.specs.Meaning.Log.{Log, group_log}
 use Rattle.lg_detector.specs.Meaning.Timing.{score}
 use Rattle.lg_detector.specs.Meaning.Apply.{come}
@@ -22,3 +24,9 @@ abbrev pub health : Log → Answer
 health log =
     let members = group_log log in
     Health (score log).value (group.own members).number (group.live members)
+
+-- what this member knows of itself, which is no event: its score, its incarnation, and whether it was ousted
+abbrev pub own_standing : Log → Standing
+own_standing log =
+    let own = group.own (group_log log) in
+    record { score = (score log).value; number = own.number; ousted = own.ousted }

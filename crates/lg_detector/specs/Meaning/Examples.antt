@@ -31,7 +31,7 @@ use Rattle.lg_detector.specs.declared.reply.Answer.TheVariants.{Status as OfStat
 use Rattle.lg_detector.specs.declared.reply.Outgoing.{Outgoing}
 use Rattle.lg_detector.specs.declared.reply.Reply.{Reply}
 use Rattle.lg_detector.specs.Meaning.Log.{Log, moment, group_log}
-use Rattle.lg_detector.specs.Meaning.Step.{log_of, reply_after, view_after, deadline_after, is_accepted}
+use Rattle.lg_detector.specs.Meaning.Step.{log_of, reply_after, view_after, deadline_after, own_standing_after, is_accepted}
 
 -- What has to be unfolded to compute a worked event.
 unfoldable pub by_computing : Unit {0}
@@ -264,6 +264,18 @@ one_that_is_ousted_keeps_its_number :
     oneself_after (opening 0 ∷ pings 0 1 b (suspect b 1000000000 a ∷ []) ∷ []) ≡ b_is 0 true
 unfolding by_computing
 one_that_is_ousted_keeps_its_number = refl
+
+-- what it knows of itself: a refutation of a suspicion marks the score, and one that is ousted says so
+abbrev accused_at_the_bound : List Event
+accused_at_the_bound = opening 0 ∷ pings 0 1 b (suspect b 1000000000 a ∷ []) ∷ []
+
+it_knows_its_score : own_standing_after (opening 0 ∷ accused_twice ∷ []) ≡ record { score = 1; number = 1; ousted = false }
+unfolding by_computing
+it_knows_its_score = refl
+
+it_knows_that_it_is_ousted : own_standing_after accused_at_the_bound ≡ record { score = 0; number = 0; ousted = true }
+unfolding by_computing
+it_knows_that_it_is_ousted = refl
 
 -- Moments may go back: an event at an earlier moment leaves the moment as it is, and no packet moves a deadline.
 abbrev moment_after : List Event → ℕ

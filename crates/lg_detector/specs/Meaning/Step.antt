@@ -30,13 +30,14 @@ use Rattle.lg_detector.specs.declared.event.Event.TheVariants.{Open, Tick, Heard
 use Rattle.lg_detector.specs.declared.reply.Answer.{Answer}
 use Rattle.lg_detector.specs.declared.reply.Outgoing.{Outgoing}
 use Rattle.lg_detector.specs.declared.reply.Reply.{Reply}
+use Rattle.lg_detector.specs.declared.standing.Standing.{Standing}
 use Rattle.lg_detector.specs.Meaning.Log.{Log, group_log}
 use Rattle.lg_detector.specs.Meaning.Timing.{due, pending, deadline_in, or_zero}
 use Rattle.lg_detector.specs.Meaning.Apply.{come}
 use Rattle.lg_detector.specs.Meaning.Open.{open_with}
 use Rattle.lg_detector.specs.Meaning.Hear.{hear_claims, hear, sends_to}
 use Rattle.lg_detector.specs.Meaning.Tick.{tick, sends_at}
-use Rattle.lg_detector.specs.Meaning.Ask.{ask, status, health}
+use Rattle.lg_detector.specs.Meaning.Ask.{ask, status, health, own_standing}
 use Rattle.lg_detector.specs.Meaning.Joining.{pull, pulls}
 
 -- the log once an event has come
@@ -94,8 +95,8 @@ reply e log =
       next = or_zero (deadline_in (pending behind));
     }
 
--- The same after a list of events, the earliest first: the reply to one more event, the member table, and the least
--- deadline.
+-- The same after a list of events, the earliest first: the reply to one more event, the member table, the least
+-- deadline, and what this member knows of itself.
 abbrev pub reply_after : List Event → Event → Reply
 reply_after f e = reply e (log_of (reverse f))
 
@@ -104,6 +105,9 @@ view_after f = view (log_of (reverse f))
 
 abbrev pub deadline_after : List Event → Option ℕ
 deadline_after f = deadline_in (pending (log_of (reverse f)))
+
+abbrev pub own_standing_after : List Event → Standing
+own_standing_after f = own_standing (log_of (reverse f))
 
 -- the most events of a list that is accepted (this project's choice)
 abbrev pub most_events : ℕ

@@ -1,4 +1,4 @@
--- The events Ask and Health, as functions of the state.
+-- The events Ask and Health, and what this member knows of itself, as functions of the state.
 use Rattle.std.specs.Prelude.{ℕ, List}
 use Rattle.lg_rules.specs.Meaning.Claim.{name_of}
 use Rattle.lg_rules.specs.Meaning.Rows.{name_cmp, row_at}
@@ -6,6 +6,7 @@ use Rattle.lg_rules.specs.Meaning.Table.{live_in}
 use Rattle.lg_membership.specs.Support.State.{shown}
 use Rattle.lg_detector.specs.declared.reply.Answer.{Answer}
 use Rattle.lg_detector.specs.declared.reply.Answer.TheVariants.{Status, Health}
+use Rattle.lg_detector.specs.declared.standing.Standing.{Standing}
 use Rattle.lg_detector.specs.Support.State.{State, come_state}
 
 abbrev pub ask_state : ℕ → State → State
@@ -16,3 +17,7 @@ status_state name s = Status (row_at name_cmp name_of name (shown s.membership))
 
 abbrev pub health_state : State → Answer
 health_state s = Health s.score.value s.membership.own.number (live_in s.membership.members.table)
+
+abbrev pub own_standing_state : State → Standing
+own_standing_state s =
+    record { score = s.score.value; number = s.membership.own.number; ousted = s.membership.own.ousted }

@@ -1,16 +1,19 @@
 //! What can be read of a detector without an event.
 //!
-//! Defined in: `specs/Meaning/Step.antt`, `specs/Support/Step.antt`, `lg_rules/specs/Meaning/Rows.antt`.
+//! Defined in: `specs/Meaning/Step.antt`, `specs/Meaning/Ask.antt`, `specs/Support/Step.antt`,
+//! `lg_rules/specs/Meaning/Rows.antt`.
 //! Tested in: `lg_detector_tests/src/detector/ask.rt`.
 ghost use Rattle.std.specs.Prelude.{◌≡◌, List, IfOk, length};
 ghost use Rattle.lg_rules.specs.Meaning.Claim.{name_of};
 ghost use Rattle.lg_rules.specs.Meaning.Rows.{name_cmp, row_at};
 ghost use Rattle.lg_detector.specs.declared.event.Event.{Event as Happened};
-ghost use Rattle.lg_detector.specs.Meaning.Step.{view_after, deadline_after};
+ghost use Rattle.lg_detector.specs.Meaning.Step.{view_after, deadline_after, own_standing_after};
 ghost use Rattle.lg_detector.specs.Meaning.Timing.{or_zero};
+ghost use Rattle.lg_detector.specs.Support.Ask.{own_standing_state};
 ghost use Rattle.lg_detector.specs.Support.Step.{state_after, deadline_state, view_state};
 
 use super::{Detector, NoMemory};
+use crate::standing::Standing;
 use arrayvec::ArrayVec;
 use lg_rules::{MAX_MEMBERS, Name, Record};
 use std::alloc::Global;
@@ -45,6 +48,19 @@ impl Detector {
         let mut row = ArrayVec::new();
         self.put_table(&mut row);
         Vec::from_slice(alloc, row.as_slice())
+    }
+
+    /// What this member knows of itself. Before the opening the score is 0, the incarnation 0, and it isn't ousted.
+    /// Allocates nothing.
+    pub fn standing(&self) -> Standing
+        ensures state { result ≡ own_standing_state self.now }
+        ensures list { (f : List Happened) → self.now ≡ state_after f → result ≡ own_standing_after f }
+    {
+        Standing {
+            score: self.parts.score.value(),
+            number: self.parts.membership.number(),
+            ousted: self.parts.membership.is_ousted(),
+        }
     }
 
     /// The least deadline of the timers that are set, in milliseconds. There is none before the opening.

@@ -64,7 +64,7 @@ pub(crate) enum Step<'a> {
     AnswersNothing,
     /// The answer is this record.
     Answers(Option<Said>),
-    /// The answer is this score, number and count of members.
+    /// The answer is this score, number and count of members. The detector knows the first two without an event.
     AnswersHealth(u64, u32, u64),
     /// Whether b is ousted.
     Ousted(bool),
@@ -196,7 +196,6 @@ fn is_replied(step: &Step<'_>, reply: &Reply) -> bool {
                     members: *members,
                 })
         }
-        Step::Ousted(ousted) => reply.ousted == *ousted,
         Step::Next(deadline) => reply.next == *deadline,
         _ => false,
     }
@@ -217,6 +216,13 @@ fn plays(step: &Step<'_>, detector: &mut Detector, reply: &mut Reply) -> bool {
         Step::Table(said) => are_said(table_of(detector).as_slice(), said),
         Step::Members(count) => table_of(detector).len() == *count,
         Step::Events(count) => detector.events() == *count,
+        Step::AnswersHealth(score, number, _) => {
+            let standing = detector.standing();
+            is_replied(step, reply)
+                && standing.score == *score
+                && standing.number == incarnation(*number)
+        }
+        Step::Ousted(ousted) => reply.ousted == *ousted && detector.standing().ousted == *ousted,
         _ => is_replied(step, reply),
     }
 }

@@ -9,10 +9,12 @@ ghost use Rattle.lg_rules.specs.Meaning.Claim.{name_of};
 ghost use Rattle.lg_rules.specs.Meaning.Rows.{name_cmp, row_at};
 ghost use Rattle.lg_detector.specs.Meaning.Step.{view_after, deadline_after};
 ghost use Rattle.lg_detector.specs.Meaning.Timing.{or_zero};
+ghost use Rattle.lg_view.specs.Meaning.Views.{IsOverview};
 
 use super::LookReader;
 use crate::book::PairName;
 use crate::front::Front;
+use crate::overview::Overview;
 use crate::published::Published;
 use arrayvec::ArrayVec;
 use crossbeam_utils::rule::Unruled;
@@ -67,21 +69,34 @@ pub(super) fn read_deadline<P: PairName>(
     }
 }
 
-/// The records of all members, in a list with enough capacity for them.
-pub(super) fn read_members<P: PairName>(
+/// An overview, with the records in a list that has enough capacity for them.
+pub(super) fn read_overview<P: PairName>(
     reader: LookReader<P>,
-    mut records: Vec<Record>,
-) -> (LookReader<P>, Option<(Vec<Record>, Front<P>)>)
+    records: Vec<Record>,
+) -> (LookReader<P>, Option<(Overview, Front<P>)>)
     requires { (records.items ≡ []) × (MAX_MEMBERS ≤ vec_capacity records) }
-    ensures { IfSome result.1 (λ taken. taken.0.items ≡ view_after taken.1) }
+    ensures { IfSome result.1 (λ taken. IsOverview taken.0 taken.1) }
 {
     match reader.enter_as::<Unruled>() {
         Ok(reading) => {
-            put_records(reading.get(), &mut records);
+            let overview = overview_of(reading.get(), records);
             let front = reading.get().front().copy();
-            (reading.leave(), Some((records, front)))
+            (reading.leave(), Some((overview, front)))
         }
         Err(reader) => (reader, None),
+    }
+}
+
+/// An overview of what is published, with the records in an empty list that has enough capacity for them.
+fn overview_of<P: PairName>(published: &Published<P>, mut records: Vec<Record>) -> Overview
+    requires { (records.items ≡ []) × (MAX_MEMBERS ≤ vec_capacity records) }
+    ensures { IsOverview result published.now }
+{
+    put_records(published, &mut records);
+    Overview {
+        version: published.front().len(),
+        records,
+        standing: published.standing(),
     }
 }
 
