@@ -4,11 +4,13 @@
 //! Tested in: `cases/check.case`.
 ghost use Rattle.std.specs.Prelude.{◌≡◌, ◌≤◌, ◌++◌, OnOk, string_bytes};
 ghost use Rattle.lg_timing.specs.Meaning.Config.{IsChecked};
-ghost use Rattle.lg_check.specs.Meaning.Checks.{address_lines, default_mark, group_line, key_line, member_line};
-ghost use Rattle.lg_check.specs.Meaning.Checks.{number_line, own_line, start_lines, times_line};
+ghost use Rattle.lg_check.specs.Meaning.Checks.{address_lines, default_mark, group_line, key_line, listening_line};
+ghost use Rattle.lg_check.specs.Meaning.Checks.{member_line, number_line, own_line, server_lines};
+ghost use Rattle.lg_check.specs.Meaning.Checks.{start_lines, status_open_line, times_line};
 
-use crate::spelling::{octets_text, seeds_spelled, text_of_name};
+use crate::spelling::{octets_text, seeds_spelled, status_spelled, text_of_name, truth_spelled};
 use lg_config::{DEFAULT_ADDRESS, DEFAULT_DICE, DEFAULT_PORT, NodeConfig, NodeKey};
+use lg_rules::Addr;
 use lg_timing::{Config, Key, MAX_LIVE, SuspicionTimeout, suspicion_ms};
 use std::alloc::{AllocError, Global};
 
@@ -77,6 +79,33 @@ pub(crate) fn put_own(node: &NodeConfig, key: NodeKey, text: &mut String) -> Res
     ensures { OnOk result (string_bytes text.new ≡ string_bytes text.old ++ own_line node.now key) }
 {
     put_number(key.name(), node.own_number(key), key.row().default, text)
+}
+
+/// Appends the line of where the status server listens to a text.
+fn put_listening(alloc: Global, status: Option<Addr>, text: &mut String) -> Result<(), AllocError>
+    ensures { OnOk result (string_bytes text.new ≡ string_bytes text.old ++ listening_line status) }
+{
+    let spelled = status_spelled(alloc, status)?;
+    put_key("status", spelled.as_str(), status.is_none(), text)
+}
+
+/// Appends the line of whether the status server may listen at an address that isn't loopback to a text.
+fn put_status_open(is_open: bool, text: &mut String) -> Result<(), AllocError>
+    ensures { OnOk result (string_bytes text.new ≡ string_bytes text.old ++ status_open_line is_open) }
+{
+    put_key("status_open", truth_spelled(is_open), !is_open, text)
+}
+
+/// Appends the lines of the status server to a text.
+pub(crate) fn put_server(
+    alloc: Global,
+    node: &NodeConfig,
+    text: &mut String,
+) -> Result<(), AllocError>
+    ensures { OnOk result (string_bytes text.new ≡ string_bytes text.old ++ server_lines node.now) }
+{
+    put_listening(alloc, node.status, text)?;
+    put_status_open(node.status_open, text)
 }
 
 /// Appends the line of a group of some members to a text, given its times in milliseconds.

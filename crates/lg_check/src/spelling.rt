@@ -1,11 +1,12 @@
-//! Spells names, addresses and seeds.
+//! Spells names, addresses, seeds and truth values.
 //!
 //! Defined in: `specs/Meaning/Spelling.antt`, `lg_report/specs/Meaning/Records.antt`.
 //! Tested in: `cases/check.case`.
 ghost use Rattle.std.specs.Prelude.{◌≡◌, ◌++◌, IfOk, OnOk, string_bytes};
 ghost use Rattle.std.specs.List.{flat_map};
 ghost use Rattle.lg_report.specs.Meaning.Records.{addr_text, dotted};
-ghost use Rattle.lg_check.specs.Meaning.Spelling.{next_seed, seed_spelled, seeds_spelled};
+ghost use Rattle.lg_check.specs.Meaning.Spelling.{next_seed, seed_spelled, seeds_spelled, status_spelled};
+ghost use Rattle.lg_check.specs.Meaning.Spelling.{truth_spelled};
 
 use lg_rules::{Addr, Name};
 use lg_timing::Seed;
@@ -71,4 +72,22 @@ pub(crate) fn seeds_spelled(alloc: Global, seeds: &[Seed]) -> Result<String, All
             Ok(text)
         }
     }
+}
+
+/// The text A.B.C.D:PORT of where a status server listens, or a word for no server. Allocates the text; the only error
+/// is that memory was refused.
+pub(crate) fn status_spelled(alloc: Global, status: Option<Addr>) -> Result<String, AllocError>
+    ensures { IfOk result (λ text. string_bytes text ≡ status_spelled status) }
+{
+    match status {
+        None => String::from_str(alloc, "none"),
+        Some(addr) => addr_text(alloc, addr),
+    }
+}
+
+/// The text of a truth value.
+pub(crate) fn truth_spelled(truth: bool) -> &'static str
+    ensures { result.now ≡ truth_spelled truth }
+{
+    if truth { "true" } else { "false" }
 }

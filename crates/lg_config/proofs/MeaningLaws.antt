@@ -17,8 +17,7 @@ use Rattle.toml.specs.declared.value.Value.{Value}
 use Rattle.lg_config.specs.declared.fault.FileFault.TheVariants as fault
 use Rattle.lg_config.specs.declared.node.NodeConfig.{NodeConfig}
 use Rattle.lg_config.specs.declared.node_keys.NodeKey.TheVariants.{PullMs, StallMs}
-use Rattle.lg_config.specs.Meaning.Answer.{meaning_of, unless_config, unless_node}
-use Rattle.lg_config.specs.Meaning.Keys.{are_right_keys}
+use Rattle.lg_config.specs.Meaning.Answer.{unless_config, unless_node}
 use Rattle.lg_config.specs.Meaning.Settings.{addr_in, dice_in, name_in, seeds_at, seeds_of_items, settings_of}
 use Rattle.lg_config.specs.Meaning.Settings.{own_number_in, with_numbers, with_seeds}
 use Rattle.lg_config.specs.Support.Reading.{fault_of_many, kept, with_first_seeds}
@@ -55,7 +54,7 @@ unfolding settings_of
 settings-seeds m node is = go (name_in m) (addr_in m) (dice_in m) (seeds_of_items (seeds_at m)) is
   where
     go : (name : Option (List ℕ)) (addr : Option Addr) (dice : Option ℕ) (seeds : Option (List Seed))
-        → option_and_then (λ n. option_and_then (λ a. option_and_then (λ d. option_and_then (λ ss. Some (let made : NodeConfig = record { config = with_seeds ss (with_numbers m (defaults n a)); dice = d; pull_ms = own_number_in PullMs m; stall_ms = own_number_in StallMs m } in made)) seeds) dice) addr) name ≡ Some node
+        → option_and_then (λ n. option_and_then (λ a. option_and_then (λ d. option_and_then (λ ss. Some (let made : NodeConfig = record { config = with_seeds ss (with_numbers m (defaults n a)); dice = d; pull_ms = own_number_in PullMs m; stall_ms = own_number_in StallMs m; status = None; status_open = false } in made)) seeds) dice) addr) name ≡ Some node
         → seeds ≡ Some node.config.seeds.items
     go None addr dice seeds e = absurd cc
     go (Some n) None dice seeds e = absurd cc
@@ -81,9 +80,9 @@ many-checked node many = many-seeds node.config node.config.seeds.items many
 checked-kept : (first : NodeConfig) (node : NodeConfig) (r : Result (Unit {0}) ConfigFault) → Some first ≡ Some (with_first_seeds node) → check_of first.config ≡ r → check_of (with_first_seeds node).config ≡ r
 checked-kept first node r same is = ap (λ n. check_of n.config) (sym (same_Some _ _ same)) ∙ is
 
-pub judged-many : (m : Members) (first : NodeConfig) (vs : List Value) → are_right_keys m ≡ true → Some first ≡ option_map with_first_seeds (settings_of m)
-    → items_view vs ≡ seeds_at m → most_seeds < length vs → Err (fault.Config (fault_of_many (check_of first.config))) ≡ meaning_of m
-judged-many m first vs right found same many = rw right (go (settings_of m) refl found)
+pub judged-many : (m : Members) (first : NodeConfig) (vs : List Value) → Some first ≡ option_map with_first_seeds (settings_of m)
+    → items_view vs ≡ seeds_at m → most_seeds < length vs → Err (fault.Config (fault_of_many (check_of first.config))) ≡ unless_node (settings_of m)
+judged-many m first vs found same many = go (settings_of m) refl found
   where
     go : (settings : Option NodeConfig) → settings_of m ≡ settings → Some first ≡ option_map with_first_seeds settings → Err (fault.Config (fault_of_many (check_of first.config))) ≡ unless_node settings
     go None s e = absurd cc
@@ -92,9 +91,9 @@ judged-many m first vs right found same many = rw right (go (settings_of m) refl
         ap (unless_config node) (sym (many-checked node past ∙ ap (λ r. Err (fault_of_many r)) (checked-kept first node _ e refl)))
 
 -- settings with few seeds are judged as they are checked
-pub judged-few : (m : Members) (first : NodeConfig) (vs : List Value) → are_right_keys m ≡ true → Some first ≡ option_map with_first_seeds (settings_of m)
-    → items_view vs ≡ seeds_at m → length vs ≤ most_seeds → unless_config first (check_of first.config) ≡ meaning_of m
-judged-few m first vs right found same few = rw right (go (settings_of m) refl found)
+pub judged-few : (m : Members) (first : NodeConfig) (vs : List Value) → Some first ≡ option_map with_first_seeds (settings_of m)
+    → items_view vs ≡ seeds_at m → length vs ≤ most_seeds → unless_config first (check_of first.config) ≡ unless_node (settings_of m)
+judged-few m first vs found same few = go (settings_of m) refl found
   where
     go : (settings : Option NodeConfig) → settings_of m ≡ settings → Some first ≡ option_map with_first_seeds settings → unless_config first (check_of first.config) ≡ unless_node settings
     go None s e = absurd cc

@@ -12,4 +12,6 @@ pub mod Ranges
 pub mod ReasonExamples
 pub mod Reasons
 pub mod Settings
+pub mod Status
+pub mod StatusReasons
 pub mod Texts

@@ -21,7 +21,8 @@ pub enum FileFault {
     /// The file has more than 65,536 bytes, isn't UTF-8 or isn't TOML.
     #[error("the file has to be TOML in UTF-8, of at most {most} bytes", most = MAX_FILE)]
     Syntax,
-    /// A key is unknown, the name is missing, or a value is of another TOML type than its key wants.
+    /// A key is unknown, the name is missing, or a value is of another TOML type than its key wants. The values of
+    /// `status` and `status_open` have faults of their own.
     #[error("a key is unknown or has a value of another type, or the name is missing")]
     Key,
     /// A name, an address, a port or a seed is out of its form, or the dice are negative.
@@ -33,10 +34,19 @@ pub enum FileFault {
     /// `stall_ms` isn't 0 to 60,000.
     #[error("stall_ms has to be 0 to {most}", most = MAX_STALL_MS)]
     Stall,
+    /// `status` is no text, or isn't `A.B.C.D:PORT`.
+    #[error("status has to be A.B.C.D:PORT")]
+    Status,
+    /// `status_open` is no boolean.
+    #[error("status_open has to be true or false")]
+    StatusOpen,
+    /// The address of `status` isn't loopback, and `status_open` isn't true.
+    #[error("status has to be in 127.0.0.0/8 if status_open isn't true")]
+    StatusNotLoopback,
 }
 
 impl FileFault {
-    /// The number of the fault: that of [`ConfigFault::number`], or 12, 13, 14, 16 or 17 for the others.
+    /// The number of the fault: that of [`ConfigFault::number`], or 12, 13, 14 or 16 to 20 for the others.
     pub fn number(self) -> u8
         ensures { result ≡ fault_number self }
     {
@@ -47,6 +57,9 @@ impl FileFault {
             FileFault::Value => 14,
             FileFault::Pull => 16,
             FileFault::Stall => 17,
+            FileFault::Status => 18,
+            FileFault::StatusOpen => 19,
+            FileFault::StatusNotLoopback => 20,
         }
     }
 }

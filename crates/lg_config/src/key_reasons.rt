@@ -20,14 +20,20 @@ fn wanted_type(kind: Kind) -> &'static str
         Kind::Text => "string",
         Kind::Number => "integer",
         Kind::Texts => "array of strings",
+        Kind::Any => "any",
     }
 }
 
-/// The reason of a key whose value isn't of the kind that it wants.
-fn type_reason(alloc: Global, kind: Kind, key: &str, value: &Value) -> Result<String, AllocError>
-    ensures { IfOk result (λ text. string_bytes text ≡ type_reason kind key.now (view value.now)) }
+/// The reason of a key whose value isn't of the type that it wants.
+pub(crate) fn type_reason(
+    alloc: Global,
+    wanted: &str,
+    key: &str,
+    value: &Value,
+) -> Result<String, AllocError>
+    ensures { IfOk result (λ text. string_bytes text ≡ type_reason wanted.now key.now (view value.now)) }
 {
-    let (given, wanted) = (value.type_str(), wanted_type(kind));
+    let given = value.type_str();
     format!(in alloc; "{key} is of type {given}, and has to be of type {wanted}\n")
 }
 
@@ -49,7 +55,7 @@ fn wrong_key_reason(
     ensures { IfOk result (λ text. string_bytes text ≡ wrong_key_reason kind key.now (view value.now)) }
 {
     match kind {
-        Some(kind) => type_reason(alloc, kind, key, value),
+        Some(kind) => type_reason(alloc, wanted_type(kind), key, value),
         None => unknown_reason(alloc, key),
     }
 }

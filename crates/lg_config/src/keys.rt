@@ -20,6 +20,8 @@ pub(crate) enum Kind {
     Number,
     /// An array of texts.
     Texts,
+    /// Anything. A value of another type than the key wants is a fault of its own.
+    Any,
 }
 
 /// The key of this member's name.
@@ -27,6 +29,12 @@ pub(crate) const NAME: &str = "name";
 
 /// The key of the members that it knows from the start.
 pub(crate) const SEEDS: &str = "seeds";
+
+/// The key of the status server's address.
+pub(crate) const STATUS: &str = "status";
+
+/// The key of whether the status server may listen at an address that isn't loopback.
+pub(crate) const STATUS_OPEN: &str = "status_open";
 
 /// The kind of a key's value. None if the key is unknown.
 #[tactic(auto, unfolding(crate::specs::Meaning::Keys::kind_of_key))]
@@ -37,6 +45,7 @@ pub(crate) fn kind_of(key: &str) -> Option<Kind>
         "name" | "address" => Some(Kind::Text),
         "port" | "dice" => Some(Kind::Number),
         "seeds" => Some(Kind::Texts),
+        "status" | "status_open" => Some(Kind::Any),
         _ if Key::named(key.as_bytes()).is_some() => Some(Kind::Number),
         _ if NodeKey::named(key.as_bytes()).is_some() => Some(Kind::Number),
         _ => None,
@@ -61,6 +70,7 @@ pub(crate) fn is_of_kind(kind: Option<Kind>, value: &Value) -> bool
             Some(values) => are_texts(values),
             None => false,
         },
+        Some(Kind::Any) => true,
         None => false,
     }
 }

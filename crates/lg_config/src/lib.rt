@@ -2,7 +2,7 @@
 //!
 //! [`NodeConfig::read`] reads the bytes of a file, which are TOML, and [`reason`] says in words what is wrong with
 //! them. Contracts of other crates cite `IsAnswer` and `answer_of` (`specs/Meaning/Answer.antt`), `fault_number`
-//! (`Faults.antt`) and `IsReason` (`Reasons.antt`).
+//! (`Faults.antt`), `may_listen` (`Status.antt`) and `IsReason` (`Reasons.antt`).
 #![tactic(auto)]
 
 mod document;
@@ -18,6 +18,8 @@ mod ranges;
 mod reasons;
 mod seeds;
 mod settings;
+mod status;
+mod status_reasons;
 mod texts;
 
 pub use document::MAX_FILE;

@@ -4,11 +4,19 @@
 //! Tested in: `lg_command_tests/src/config.rt`, `cases/config_probes.case`.
 ghost use Rattle.std.specs.Prelude.{◌≡◌};
 ghost use Rattle.std.specs.Option.{option_map};
-ghost use Rattle.toml.specs.View.{items_view, table_view};
+ghost use Rattle.toml.specs.Data.{get_member};
+ghost use Rattle.toml.specs.View.{items_view, table_view, view};
 ghost use Rattle.lg_config.specs.Meaning.Settings.{integer_at, natural, number_at_key, seeds_at, text_at};
 
 use crate::keys::SEEDS;
 use toml::{Table, Value};
+
+/// The value at a key, if there is one.
+pub(crate) fn value_at<'a>(table: &'a Table, key: &str) -> Option<&'a Value>
+    ensures { option_map (λ value. view value.now) result ≡ get_member key.now (table_view table.now) }
+{
+    table.get(key)
+}
 
 /// The text at a key, if there is one.
 pub(crate) fn text_at<'a>(table: &'a Table, key: &str) -> Option<&'a str>

@@ -2,10 +2,11 @@
 //!
 //! Defined in: `specs/Meaning/Answer.antt`, `lg_timing/specs/Meaning/Config.antt`.
 //! Tested in: `cases/config.case`, `lg_command_tests/src/config.rt`.
-ghost use Rattle.std.specs.Prelude.{◌≡◌, IfOk, None};
+ghost use Rattle.std.specs.Prelude.{◌≡◌, IfOk, None, true};
 ghost use Rattle.toml.specs.View.{table_view};
 ghost use Rattle.lg_timing.specs.Meaning.Config.{IsChecked};
-ghost use Rattle.lg_config.specs.Meaning.Answer.{meaning_of, unless_broken, IsAnswer};
+ghost use Rattle.lg_config.specs.Meaning.Answer.{meaning_of, unless_broken, unless_node, IsAnswer};
+ghost use Rattle.lg_config.specs.Meaning.Settings.{settings_of};
 ghost use Rattle.lg_config.specs.Support.Reading.{fault_of_many};
 
 use crate::document::table_in;
@@ -14,6 +15,8 @@ use crate::keys::are_right_keys;
 use crate::lookup::seeds_at;
 use crate::node_keys::{NODE_KEYS, NodeKey};
 use crate::settings::settings_in;
+use crate::status::with_status;
+use lg_rules::Addr;
 use lg_timing::{Config, ConfigFault, MAX_SEEDS};
 use std::alloc::Global;
 use toml::Table;
@@ -31,6 +34,11 @@ pub struct NodeConfig {
     /// The most by which the node's clock passes a loop's last turn, in milliseconds: 0 to 60,000. With 0 its clock is
     /// the machine's.
     pub stall_ms: u64,
+    /// Where the node's status server listens. None if the node has no such server.
+    pub status: Option<Addr>,
+    /// Whether the status server may listen at an address that isn't loopback (127.0.0.0/8). Its answers have no
+    /// authentication. If there is no status server, this means nothing.
+    pub status_open: bool,
 }
 
 /// The fault of a table with too many seeds, given what the check of a configuration with the first of them found. The
@@ -54,13 +62,10 @@ fn unless_broken(node: NodeConfig, broken: Option<NodeKey>) -> Result<NodeConfig
     }
 }
 
-/// The configuration that a table means, or its fault.
-fn meaning_in(table: &Table) -> Result<NodeConfig, FileFault>
-    ensures { result ≡ meaning_of (table_view table.now) }
+/// The settings of a table whose keys are right, or their fault. The status server isn't read yet.
+fn judged_in(table: &Table) -> Result<NodeConfig, FileFault>
+    ensures { result ≡ unless_node (settings_of (table_view table.now)) }
 {
-    if !are_right_keys(table) {
-        return Err(FileFault::Key);
-    }
     let node = settings_in(table).ok_or(FileFault::Value)?;
     let checked = node.config.check();
     if seeds_at(table).len() > MAX_SEEDS {
@@ -75,8 +80,20 @@ fn meaning_in(table: &Table) -> Result<NodeConfig, FileFault>
     }
 }
 
+/// The configuration that a table means, or its fault.
+fn meaning_in(table: &Table) -> Result<NodeConfig, FileFault>
+    ensures { result ≡ meaning_of (table_view table.now) }
+{
+    if !are_right_keys(table) {
+        return Err(FileFault::Key);
+    }
+    let node = judged_in(table)?;
+    with_status(table, node)
+}
+
 impl NodeConfig {
     ghost use Rattle.lg_config.specs.Meaning.NodeKeys.{own_broken, own_number};
+    ghost use Rattle.lg_config.specs.Meaning.Status.{may_listen};
 
     /// The number of a key of the node's own.
     pub fn own_number(&self, key: NodeKey) -> u64
@@ -101,10 +118,11 @@ impl NodeConfig {
     /// The configuration that the bytes of a file mean.
     ///
     /// The file is TOML. Its keys are `name`, which it must have, `address`, `port`, `dice`, `seeds`, the numbers of
-    /// [`Config`] and those of [`NodeKey`], by the names of their fields. The error is [`ReadFault::File`] with the
-    /// first of these: [`FileFault::Syntax`], [`FileFault::Key`], [`FileFault::Value`], [`FileFault::Config`],
-    /// [`FileFault::Pull`] and [`FileFault::Stall`]. Or it is [`ReadFault::NoMemory`], and then nothing is known of the
-    /// file.
+    /// [`Config`] and those of [`NodeKey`], by the names of their fields, `status` and `status_open`. The error is
+    /// [`ReadFault::File`] with the first of these: [`FileFault::Syntax`], [`FileFault::Key`], [`FileFault::Value`],
+    /// [`FileFault::Config`], [`FileFault::Pull`], [`FileFault::Stall`], [`FileFault::Status`],
+    /// [`FileFault::StatusOpen`] and [`FileFault::StatusNotLoopback`]. Or it is [`ReadFault::NoMemory`], and then
+    /// nothing is known of the file.
     ///
     /// Memory is allocated for the table that the file spells, and is freed again. For a file of more than
     /// [`MAX_FILE`](crate::MAX_FILE) bytes none is allocated.
@@ -112,6 +130,7 @@ impl NodeConfig {
         ensures answer { IsAnswer bytes.now result }
         ensures checked { IfOk result (λ node. IsChecked node.config) }
         ensures within { IfOk result (λ node. own_broken node ≡ None) }
+        ensures guarded { IfOk result (λ node. may_listen node.status node.status_open ≡ true) }
     {
         let table = table_in(alloc, bytes)?;
         Ok(meaning_in(&table)?)

@@ -15,6 +15,7 @@ use crate::key_reasons::key_reason;
 use crate::lookup::seeds_at;
 use crate::node_keys::NodeKey;
 use crate::ranges::{member_reason, own_reason};
+use crate::status_reasons::{loopback_reason, open_reason, status_reason};
 use lg_timing::{ConfigFault, KEYS, Key};
 use std::alloc::{AllocError, Global};
 use toml::Table;
@@ -50,6 +51,9 @@ fn reason_of(alloc: Global, fault: FileFault, table: &Table) -> Result<String, A
         FileFault::Value => value_reason(alloc, table),
         FileFault::Pull => own_reason(alloc, NodeKey::PullMs, table),
         FileFault::Stall => own_reason(alloc, NodeKey::StallMs, table),
+        FileFault::Status => status_reason(alloc, table),
+        FileFault::StatusOpen => open_reason(alloc, table),
+        FileFault::StatusNotLoopback => loopback_reason(alloc, table),
     }
 }
 

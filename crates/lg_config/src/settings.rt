@@ -114,7 +114,8 @@ fn own_number_at(table: &Table, key: NodeKey) -> u64
     number_at(table, key.name(), key.row().default)
 }
 
-/// All that a table says, but only the first 16 seeds. None if a value is out of its form.
+/// All that a table says but of the status server, and of its seeds only the first 16. None if a value is out of its
+/// form.
 #[tactic(auto, unfolding(crate::specs::Meaning::Settings::settings_of))]
 pub(crate) fn settings_in(table: &Table) -> Option<NodeConfig>
     ensures { result ≡ option_map with_first_seeds (settings_of (table_view table.now)) }
@@ -130,5 +131,7 @@ pub(crate) fn settings_in(table: &Table) -> Option<NodeConfig>
         dice,
         pull_ms: own_number_at(table, NodeKey::PullMs),
         stall_ms: own_number_at(table, NodeKey::StallMs),
+        status: None,
+        status_open: false,
     })
 }

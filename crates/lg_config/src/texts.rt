@@ -34,7 +34,7 @@ pub(crate) fn octets_in(text: &[u8]) -> Option<[u8; 4]>
 
 /// The address with its port that a text spells: A.B.C.D:PORT.
 #[tactic(auto, unfolding(crate::specs::Meaning::Texts::address_of))]
-fn address_in(text: &[u8]) -> Option<Addr>
+pub(crate) fn address_in(text: &[u8]) -> Option<Addr>
     ensures { result ≡ address_of text.now }
 {
     let (octets, port) = cut_at(text, b':');

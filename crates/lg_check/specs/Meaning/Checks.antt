@@ -1,8 +1,10 @@
 -- What a check of a configuration writes: a line for each key, and a line for each of four sizes of a group (this
 -- project's choice).
-use Rattle.std.specs.Prelude.{ℕ, ◌==◌, Bool, true, false, List, [], ◌∷◌, ◌++◌, codes, decimal, length}
+use Rattle.std.specs.Prelude.{ℕ, ◌==◌, Bool, true, false, not, List, [], ◌∷◌, ◌++◌, Option, is_none, codes, decimal}
+use Rattle.std.specs.Prelude.{length}
 use Rattle.std.specs.List.{flat_map}
 use Rattle.std.specs.Str.{bytes_eq}
+use Rattle.lg_rules.specs.declared.addr.Addr.{Addr}
 use Rattle.lg_timing.specs.declared.config.Config.{Config}
 use Rattle.lg_timing.specs.declared.keys.Key.{Key}
 use Rattle.lg_timing.specs.Meaning.Keys.{key_name, keys, number_of_key, row_of}
@@ -13,7 +15,7 @@ use Rattle.lg_config.specs.declared.node.NodeConfig.{NodeConfig}
 use Rattle.lg_config.specs.declared.node_keys.NodeKey.{NodeKey}
 use Rattle.lg_config.specs.Meaning.Bounds.{default_address, default_dice, default_port}
 use Rattle.lg_config.specs.Meaning.NodeKeys.{node_key_name, node_keys, node_row_of, own_number}
-use Rattle.lg_check.specs.Meaning.Spelling.{seeds_spelled}
+use Rattle.lg_check.specs.Meaning.Spelling.{seeds_spelled, status_spelled, truth_spelled}
 
 -- what stands behind a value that is the default of its key
 abbrev pub default_mark : Bool → List ℕ
@@ -47,6 +49,16 @@ member_line c key = number_line (key_name key) (number_of_key key c) (row_of key
 abbrev pub own_line : NodeConfig → NodeKey → List ℕ
 own_line node key = number_line (node_key_name key) (own_number key node) (node_row_of key).default
 
+-- the lines of the status server: where it listens, and whether that may be an address that isn't loopback
+abbrev pub listening_line : Option Addr → List ℕ
+listening_line status = key_line (codes "status") (status_spelled status) (is_none status)
+
+abbrev pub status_open_line : Bool → List ℕ
+status_open_line is_open = key_line (codes "status_open") (truth_spelled is_open) (not is_open)
+
+abbrev pub server_lines : NodeConfig → List ℕ
+server_lines node = listening_line node.status ++ status_open_line node.status_open
+
 -- MEMBERS members: a round takes ROUND ms, a suspicion lasts LEAST to GREATEST ms
 abbrev pub times_line : ℕ → ℕ → ℕ → ℕ → List ℕ
 times_line members round least greatest =
@@ -68,4 +80,4 @@ unfoldable pub check_text : NodeConfig → List ℕ
 check_text node =
     address_lines node.config ++ start_lines node
     ++ flat_map (member_line node.config) keys ++ flat_map (own_line node) node_keys
-    ++ flat_map (group_line node.config) group_sizes
+    ++ server_lines node ++ flat_map (group_line node.config) group_sizes

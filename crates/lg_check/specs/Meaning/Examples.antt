@@ -1,5 +1,5 @@
 -- Worked checks.
-use Rattle.std.specs.Prelude.{⊤, ◌≡◌, ℕ, List, [], ◌∷◌, codes, refl}
+use Rattle.std.specs.Prelude.{⊤, ◌≡◌, ℕ, true, false, List, [], ◌∷◌, None, Some, codes, refl}
 use Rattle.std.specs.Fmt.{digits}
 use Rattle.lg_rules.specs.declared.addr.Addr.{Addr}
 use Rattle.lg_timing.specs.declared.config.Config.{Config}
@@ -9,7 +9,8 @@ use Rattle.lg_timing.specs.Meaning.Tables.{log10_of, ratio_of}
 use Rattle.lg_timing.specs.Meaning.Timeouts.{range_of, timeout_of}
 use Rattle.lg_config.specs.declared.node.NodeConfig.{NodeConfig}
 use Rattle.lg_config.specs.declared.node_keys.NodeKey.TheVariants.{PullMs, StallMs}
-use Rattle.lg_check.specs.Meaning.Checks.{address_lines, group_line, member_line, own_line, start_lines}
+use Rattle.lg_check.specs.Meaning.Checks.{address_lines, group_line, member_line, own_line, server_lines}
+use Rattle.lg_check.specs.Meaning.Checks.{start_lines}
 use Rattle.lg_check.specs.Meaning.Spelling.{seeds_spelled}
 
 -- what the rows have to unfold
@@ -25,7 +26,8 @@ abbrev b-by-default : Config
 b-by-default = defaults (98 ∷ []) (addr_of (127 ∷ 0 ∷ 0 ∷ 1 ∷ []) 7946)
 
 abbrev usual : NodeConfig
-usual = record { config = b-by-default; dice = 1; pull_ms = 30000; stall_ms = 100 }
+usual =
+    record { config = b-by-default; dice = 1; pull_ms = 30000; stall_ms = 100; status = None; status_open = false }
 
 -- the times of the table in the documents, by the default numbers: 5.0 s; 6.0 and 36.1 s; 9.0 and 54.2 s; 12.0 and
 -- 72.2 s
@@ -86,3 +88,25 @@ no-pulls = refl
 default-stall : own_line usual StallMs ≡ codes "stall_ms = 100 (default)\n"
 unfolding on_checks
 default-stall = refl
+
+no-server : server_lines usual ≡ codes "status = none (default)\nstatus_open = false (default)\n"
+unfolding on_checks
+no-server = refl
+
+loopback-server :
+    server_lines (record usual { status = Some (addr_of (127 ∷ 0 ∷ 0 ∷ 1 ∷ []) 8946) })
+    ≡ codes "status = 127.0.0.1:8946\nstatus_open = false (default)\n"
+unfolding on_checks
+loopback-server = refl
+
+open-server :
+    server_lines (record usual { status = Some (addr_of (0 ∷ 0 ∷ 0 ∷ 0 ∷ []) 65535); status_open = true })
+    ≡ codes "status = 0.0.0.0:65535\nstatus_open = true\n"
+unfolding on_checks
+open-server = refl
+
+-- without a server it means nothing, and is written all the same
+open-without-server :
+    server_lines (record usual { status_open = true }) ≡ codes "status = none (default)\nstatus_open = true\n"
+unfolding on_checks
+open-without-server = refl

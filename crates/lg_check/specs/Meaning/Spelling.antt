@@ -1,6 +1,7 @@
 -- The values of a configuration as a check spells them (this project's choice).
-use Rattle.std.specs.Prelude.{ℕ, List, [], ◌∷◌, ◌++◌, codes}
+use Rattle.std.specs.Prelude.{ℕ, Bool, true, false, List, [], ◌∷◌, ◌++◌, Option, None, Some, codes}
 use Rattle.std.specs.List.{flat_map}
+use Rattle.lg_rules.specs.declared.addr.Addr.{Addr}
 use Rattle.lg_timing.specs.declared.config.Seed.{Seed}
 use Rattle.lg_report.specs.Meaning.Records.{addr_text}
 
@@ -15,3 +16,13 @@ next_seed seed = codes ", " ++ seed_spelled seed
 abbrev pub seeds_spelled : List Seed → List ℕ
 seeds_spelled [] = codes "none"
 seeds_spelled (seed ∷ seeds) = seed_spelled seed ++ flat_map next_seed seeds
+
+-- where a status server listens, as A.B.C.D:PORT, or the word for no server
+abbrev pub status_spelled : Option Addr → List ℕ
+status_spelled None = codes "none"
+status_spelled (Some addr) = addr_text addr
+
+-- a truth value, as TOML spells it
+abbrev pub truth_spelled : Bool → List ℕ
+truth_spelled true = codes "true"
+truth_spelled false = codes "false"

@@ -1,5 +1,6 @@
 -- What reading a configuration file answers. If there are several faults, the first of these counts: of the document,
--- of its keys and their types, of the form of a value, of the configuration's own check, of the node's own numbers.
+-- of its keys and their types, of the form of a value, of the configuration's own check, of the node's own numbers, of
+-- the status server.
 use Rattle.std.specs.Prelude.{ℕ, Bool, ◌&&◌, nat_le, List, length, Option, Some, None, Result, Ok, Err}
 use Rattle.std.specs.Prelude.{if◌then◌else◌, ◌≡◌, true}
 use Rattle.std.specs.Str.{is_utf8}
@@ -18,6 +19,7 @@ use Rattle.lg_config.specs.Meaning.Bounds.{most_bytes}
 use Rattle.lg_config.specs.Meaning.Keys.{are_right_keys}
 use Rattle.lg_config.specs.Meaning.NodeKeys.{node_row_of, own_broken}
 use Rattle.lg_config.specs.Meaning.Settings.{settings_of}
+use Rattle.lg_config.specs.Meaning.Status.{open_in, status_addr_in, with_status}
 
 -- whether bytes are read as TOML: they are few enough, and UTF-8
 abbrev pub is_text_file : List ℕ → Bool
@@ -42,9 +44,15 @@ abbrev pub unless_node : Option NodeConfig → Result NodeConfig FileFault
 unless_node None = Err fault.Value
 unless_node (Some node) = unless_config node (check_of node.config)
 
+-- what a document's settings mean, with the status server that it wants, or the fault that either has
+abbrev pub and_status : Members → Result NodeConfig FileFault → Result NodeConfig FileFault
+and_status members (Ok node) = with_status node (status_addr_in members) (open_in members)
+and_status _ (Err found) = Err found
+
 -- what a document means, or the fault Key if its keys are wrong
 abbrev pub meaning_of : Members → Result NodeConfig FileFault
-meaning_of members = if are_right_keys members then unless_node (settings_of members) else Err fault.Key
+meaning_of members =
+    if are_right_keys members then and_status members (unless_node (settings_of members)) else Err fault.Key
 
 -- what a file means, or the fault Syntax if it is no document
 abbrev pub unless_syntax : Option Members → Result NodeConfig FileFault

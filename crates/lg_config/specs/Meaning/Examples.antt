@@ -1,5 +1,5 @@
 -- Worked files.
-use Rattle.std.specs.Prelude.{⊤, ◌≡◌, ℕ, ◌++◌, List, [], ◌∷◌, replicate, codes, refl}
+use Rattle.std.specs.Prelude.{⊤, ◌≡◌, ℕ, Bool, true, false, ◌++◌, List, [], ◌∷◌, replicate, codes, refl}
 use Rattle.std.specs.Prelude.{Some, None, Result, Ok, Err}
 use Rattle.std.specs.List.{flat_map}
 use Rattle.std.specs.Str.{chars, is_utf8}
@@ -39,7 +39,8 @@ b-by-default = defaults (98 ∷ []) (local 7946)
 
 -- a file that means this configuration, with the default dice
 abbrev means : Config → Result NodeConfig FileFault
-means config = Ok record { config = config; dice = 1; pull_ms = 30000; stall_ms = 100 }
+means config =
+    Ok record { config = config; dice = 1; pull_ms = 30000; stall_ms = 100; status = None; status_open = false }
 
 -- ---- files that mean a configuration
 
@@ -60,8 +61,11 @@ counted = codes "indirect = 0\nmax_score = 1\nconfirmations = 4\nlambda = 5\nhis
 abbrev owned : List ℕ
 owned = codes "pull_ms = 0\nstall_ms = 60000\n"
 
+abbrev served : List ℕ
+served = codes "status = \"10.0.0.7:8946\"\nstatus_open = true\n"
+
 all-keys :
-    answer_of (b-with (addressed ++ timed ++ counted ++ owned))
+    answer_of (b-with (addressed ++ timed ++ counted ++ owned ++ served))
     ≡ Ok record {
       config =
           record (defaults (98 ∷ []) (record { octets = 10 ∷ 0 ∷ 0 ∷ 7 ∷ []; port = 1 })) {
@@ -81,6 +85,8 @@ all-keys :
       dice = 9223372036854775807;
       pull_ms = 0;
       stall_ms = 60000;
+      status = Some record { octets = 10 ∷ 0 ∷ 0 ∷ 7 ∷ []; port = 8946 };
+      status_open = true;
     }
 unfolding on_files
 all-keys = refl
@@ -225,6 +231,82 @@ pulls-before-stall = refl
 wire-before-pulls : answer_of (b-with (codes "pull_ms = -1\nwire = 3")) ≡ Err (fault.Config Wire)
 unfolding on_files
 wire-before-pulls = refl
+
+-- ---- the status server
+
+-- what a file of the member b means whose server listens there, by its status_open
+abbrev b-at : Addr → Bool → Result NodeConfig FileFault
+b-at addr is_open =
+    Ok record {
+      config = b-by-default;
+      dice = 1;
+      pull_ms = 30000;
+      stall_ms = 100;
+      status = Some addr;
+      status_open = is_open;
+    }
+
+on-loopback : answer_of (b-with (codes "status = \"127.0.0.1:8946\"")) ≡ b-at (local 8946) false
+unfolding on_files
+on-loopback = refl
+
+all-of-127 :
+    answer_of (b-with (codes "status = \"127.255.255.255:65535\"\nstatus_open = false"))
+    ≡ b-at (record { octets = 127 ∷ 255 ∷ 255 ∷ 255 ∷ []; port = 65535 }) false
+unfolding on_files
+all-of-127 = refl
+
+-- 0.0.0.0 stands for each address of the machine
+open-to-all :
+    answer_of (b-with (codes "status = \"0.0.0.0:1\"\nstatus_open = true"))
+    ≡ b-at (record { octets = 0 ∷ 0 ∷ 0 ∷ 0 ∷ []; port = 1 }) true
+unfolding on_files
+open-to-all = refl
+
+-- without a server it means nothing
+open-alone :
+    answer_of (b-with (codes "status_open = true"))
+    ≡ Ok record { config = b-by-default; dice = 1; pull_ms = 30000; stall_ms = 100; status = None; status_open = true }
+unfolding on_files
+open-alone = refl
+
+status-for-number : answer_of (b-with (codes "status = 8946")) ≡ Err fault.Status
+unfolding on_files
+status-for-number = refl
+
+status-without-port : answer_of (b-with (codes "status = \"127.0.0.1\"")) ≡ Err fault.Status
+unfolding on_files
+status-without-port = refl
+
+status-at-port-0 : answer_of (b-with (codes "status = \"127.0.0.1:0\"")) ≡ Err fault.Status
+unfolding on_files
+status-at-port-0 = refl
+
+open-as-text : answer_of (b-with (codes "status_open = \"true\"")) ≡ Err fault.StatusOpen
+unfolding on_files
+open-as-text = refl
+
+-- the addresses on both sides of 127.0.0.0/8
+below-127 : answer_of (b-with (codes "status = \"126.255.255.255:1\"")) ≡ Err fault.StatusNotLoopback
+unfolding on_files
+below-127 = refl
+
+above-127 : answer_of (b-with (codes "status = \"128.0.0.0:1\"\nstatus_open = false")) ≡ Err fault.StatusNotLoopback
+unfolding on_files
+above-127 = refl
+
+-- it is judged last, in this order
+stall-before-status : answer_of (b-with (codes "status = 1\nstall_ms = -1")) ≡ Err fault.Stall
+unfolding on_files
+stall-before-status = refl
+
+status-before-open : answer_of (b-with (codes "status_open = 1\nstatus = 1")) ≡ Err fault.Status
+unfolding on_files
+status-before-open = refl
+
+open-before-loopback : answer_of (b-with (codes "status_open = 1\nstatus = \"1.2.3.4:1\"")) ≡ Err fault.StatusOpen
+unfolding on_files
+open-before-loopback = refl
 
 -- ---- texts
 

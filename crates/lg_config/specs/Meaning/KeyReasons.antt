@@ -3,7 +3,7 @@ use Rattle.std.specs.Prelude.{ℕ, List, ◌++◌, codes, Option, Some, None, if
 use Rattle.toml.specs.Data.{Data, Members, no_members, member, type_name}
 use Rattle.lg_text.specs.Meaning.Lines.{newline}
 use Rattle.lg_config.specs.declared.keys.Kind.{Kind}
-use Rattle.lg_config.specs.declared.keys.Kind.TheVariants.{Text, Number, Texts}
+use Rattle.lg_config.specs.declared.keys.Kind.TheVariants.{Text, Number, Texts, Any}
 use Rattle.lg_config.specs.Meaning.Keys.{is_of_kind, kind_of_key}
 use Rattle.lg_config.specs.Meaning.Quoting.{quoted}
 
@@ -12,12 +12,13 @@ abbrev pub wanted_type : Kind → List ℕ
 wanted_type Text = codes "string"
 wanted_type Number = codes "integer"
 wanted_type Texts = codes "array of strings"
+wanted_type Any = codes "any"
 
--- the reason of a key whose value isn't of the kind that it wants
-abbrev pub type_reason : Kind → List ℕ → Data → List ℕ
-type_reason kind key value =
+-- the reason of a key whose value isn't of the type that it wants
+abbrev pub type_reason : List ℕ → List ℕ → Data → List ℕ
+type_reason wanted key value =
     key ++ (codes " is of type " ++ (type_name value
-    ++ (codes ", and has to be of type " ++ (wanted_type kind ++ newline))))
+    ++ (codes ", and has to be of type " ++ (wanted ++ newline))))
 
 -- the reason of a key that is unknown
 abbrev pub unknown_reason : List ℕ → List ℕ
@@ -26,7 +27,7 @@ unknown_reason key = codes "the key " ++ (quoted key ++ codes " is unknown\n")
 -- the reason of a key that is wrong; None stands for the kind of one that is unknown
 abbrev pub wrong_key_reason : Option Kind → List ℕ → Data → List ℕ
 wrong_key_reason None key value = unknown_reason key
-wrong_key_reason (Some kind) key value = type_reason kind key value
+wrong_key_reason (Some kind) key value = type_reason (wanted_type kind) key value
 
 -- the reason of a document with wrong keys: of the first that is wrong, in the order of their bytes; or the name is
 -- missing

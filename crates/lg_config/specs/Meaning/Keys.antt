@@ -8,7 +8,7 @@ use Rattle.toml.specs.Data.{as_str, as_integer, as_array}
 use Rattle.lg_timing.specs.Meaning.Keys.{key_named}
 use Rattle.lg_config.specs.Meaning.NodeKeys.{node_key_named}
 use Rattle.lg_config.specs.declared.keys.Kind.{Kind}
-use Rattle.lg_config.specs.declared.keys.Kind.TheVariants.{Text, Number, Texts}
+use Rattle.lg_config.specs.declared.keys.Kind.TheVariants.{Text, Number, Texts, Any}
 
 -- the keys whose value is a text
 abbrev pub text_keys : List (List ℕ)
@@ -22,6 +22,14 @@ number_keys = codes "port" ∷ codes "dice" ∷ []
 abbrev pub texts_key : List ℕ
 texts_key = codes "seeds"
 
+-- the keys of the status server: of its address, and of whether that may be one that isn't loopback; a value of another
+-- type is a fault of its own
+abbrev pub status_key : List ℕ
+status_key = codes "status"
+
+abbrev pub open_key : List ℕ
+open_key = codes "status_open"
+
 -- whether a key is one of these
 abbrev pub is_listed : List (List ℕ) → List ℕ → Bool
 is_listed keys key = list_any (λ known. bytes_eq key known) keys
@@ -32,6 +40,7 @@ kind_of_key key =
     if is_listed text_keys key then Some Text
     else if is_listed number_keys key then Some Number
     else if bytes_eq key texts_key then Some Texts
+    else if is_listed (status_key ∷ open_key ∷ []) key then Some Any
     else if is_some (key_named key) then Some Number
     else if is_some (node_key_named key) then Some Number
     else None
@@ -58,6 +67,7 @@ is_of_kind None value = false
 is_of_kind (Some Text) value = is_text value
 is_of_kind (Some Number) value = is_whole_number value
 is_of_kind (Some Texts) value = is_array_of_texts (as_array value)
+is_of_kind (Some Any) value = true
 
 -- whether each key is known, and its value is of its kind
 abbrev pub are_known : Members → Bool

@@ -121,6 +121,28 @@ no-name : why (answer_of (codes "port = 1")) (document_of (codes "port = 1")) �
 unfolding on_reasons
 no-name = refl
 
+status-for-number :
+    said (codes "status = 8946") ≡ Some (codes "status is of type integer, and has to be of type string\n")
+unfolding on_reasons
+status-for-number = refl
+
+status-without-port :
+    said (codes "status = \"127.0.0.1\"") ≡ Some (codes "status is \"127.0.0.1\", and has to be A.B.C.D:PORT\n")
+unfolding on_reasons
+status-without-port = refl
+
+open-as-text :
+    said (codes "status_open = \"true\"")
+    ≡ Some (codes "status_open is of type string, and has to be of type boolean\n")
+unfolding on_reasons
+open-as-text = refl
+
+no-loopback :
+    said (codes "status = \"0.0.0.0:1\"")
+    ≡ Some (codes "status is \"0.0.0.0:1\", and has to be in 127.0.0.0/8 if status_open isn't true\n")
+unfolding on_reasons
+no-loopback = refl
+
 -- a letter of two bytes and an escape character
 quoted-bytes : quoted (195 ∷ 169 ∷ 27 ∷ codes "a") ≡ codes "\"???a\""
 quoted-bytes = refl

@@ -18,6 +18,7 @@ use Rattle.lg_config.specs.Meaning.FormReasons.{seeds_reason, value_reason}
 use Rattle.lg_config.specs.Meaning.KeyReasons.{key_reason}
 use Rattle.lg_config.specs.Meaning.Ranges.{member_reason, own_reason}
 use Rattle.lg_config.specs.Meaning.Settings.{seeds_at}
+use Rattle.lg_config.specs.Meaning.StatusReasons.{loopback_reason, open_reason, status_reason}
 
 -- the key of the member's number that has a fault; None for the fault of the seeds
 abbrev pub key_of_fault : ConfigFault → Option Key
@@ -36,6 +37,9 @@ reason_of fault.Key members = key_reason members
 reason_of fault.Value members = value_reason members
 reason_of fault.Pull members = own_reason PullMs members
 reason_of fault.Stall members = own_reason StallMs members
+reason_of fault.Status members = status_reason members
+reason_of fault.StatusOpen members = open_reason members
+reason_of fault.StatusNotLoopback members = loopback_reason members
 
 -- the number of the line at a place of a text, from 1 on
 abbrev pub line_at : ℕ → List ℕ → ℕ

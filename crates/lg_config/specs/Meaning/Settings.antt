@@ -1,5 +1,5 @@
 -- The configuration that the members of a document mean. None if a value is out of its form. The keys are right.
-use Rattle.std.specs.Prelude.{ℕ, ℤ, pos, negsuc, List, [], ◌∷◌, codes, Option, Some, None}
+use Rattle.std.specs.Prelude.{ℕ, ℤ, pos, negsuc, false, List, [], ◌∷◌, codes, Option, Some, None}
 use Rattle.std.specs.Prelude.{option_and_then, unwrap_or}
 use Rattle.std.specs.Option.{option_map}
 use Rattle.toml.specs.Data.{Data, Items, no_items, item, Members, get_member, as_str, as_integer, as_array}
@@ -104,7 +104,8 @@ own_number_in key members = number_at_key (node_key_name key) (node_row_of key).
 abbrev pub with_seeds : List Seed → Config → Config
 with_seeds seeds config = record config { seeds = record { items = seeds } }
 
--- All that a document says. It may have too many seeds, or numbers out of their ranges; that is judged later.
+-- All that a document says but of the status server, which is read later. It may have too many seeds, or numbers out
+-- of their ranges; that is judged later.
 unfoldable pub settings_of : Members → Option NodeConfig
 settings_of members = do
   name ← name_in members
@@ -116,4 +117,6 @@ settings_of members = do
     dice = dice;
     pull_ms = own_number_in PullMs members;
     stall_ms = own_number_in StallMs members;
+    status = None;
+    status_open = false;
   }

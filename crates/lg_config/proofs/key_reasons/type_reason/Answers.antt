@@ -1,8 +1,7 @@
-use Rattle.std.proofs.Common.{ℕ, List, ◌++◌, ap, codes, ◌∙◌}
+use Rattle.std.proofs.Common.{ℕ, List, ◌++◌, ap, codes}
 use Rattle.lg_text.specs.Meaning.Lines.{newline}
 use Rattle.toml.specs.Data.{type_name}
 use Rattle.toml.specs.View.{view}
-use Rattle.lg_config.specs.Meaning.KeyReasons.{wanted_type}
 use Rattle.lg_config.proofs.ReasonLaws.{said_as}
 use Rattle.lg_config.proofs.key_reasons.type_reason.Goals as goal
 
@@ -13,7 +12,7 @@ of_types key given wanted = key ++ (codes " is of type " ++ (given ++ (codes ", 
 pub returns : goal.returns
 returns c =
     let given = c.type_str-given.result.now in
-    let wanted = c.wanted_type-wanted.result.now in
+    let wanted = c.args.wanted.now in
     let key = c.args.key.now in
-    said_as c.format.result (of_types key given wanted) (of_types key (type_name (view c.args.value.now)) (wanted_type c.args.kind)) c.format.ensures.ok
-    (ap (λ word. of_types key word wanted) c.type_str-given.ensures ∙ ap (of_types key (type_name (view c.args.value.now))) c.wanted_type-wanted.ensures)
+    said_as c.format.result (of_types key given wanted) (of_types key (type_name (view c.args.value.now)) wanted) c.format.ensures.ok
+    (ap (λ word. of_types key word wanted) c.type_str-given.ensures)
