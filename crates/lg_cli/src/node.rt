@@ -9,6 +9,7 @@ use lg_text::report;
 use std::alloc::{AllocError, Global};
 use std::io::{Read, Write};
 use std::net::Net;
+use std::random::RandomSource;
 use std::rt::Files;
 use std::sync::atomic::{AtomicBool, Ordering};
 use std::sync::{Arc, Wait};
@@ -29,7 +30,7 @@ pub fn run_node<M, I, W, F>(
     faults: &mut F,
 ) -> u8
 where
-    M: Wait + Threads + Net + rt::Clock + Files + Sync,
+    M: Wait + Threads + Net + rt::Clock + Files + RandomSource + Sync,
     I: Read + Send + Drop + 'static,
     W: Write + Send,
     F: Write,

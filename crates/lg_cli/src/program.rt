@@ -23,6 +23,7 @@ use std::alloc::Global;
 use std::convert::AsStr;
 use std::io::{ErrorKind as IoErrorKind, Read, Write};
 use std::net::Net;
+use std::random::RandomSource;
 use std::rt::Files;
 use std::sync::Wait;
 use std::thread::Threads;
@@ -55,7 +56,7 @@ pub fn run_words<M, S, I, R, W, F>(
     faults: &mut F,
 ) -> u8
 where
-    M: Wait + Threads + Net + rt::Clock + Files + Sync,
+    M: Wait + Threads + Net + rt::Clock + Files + RandomSource + Sync,
     S: AsStr,
     I: Read + Send + Drop + 'static,
     R: Read,
@@ -84,7 +85,7 @@ fn run_asked<M, I, R, W, F>(
     faults: &mut F,
 ) -> u8
 where
-    M: Wait + Threads + Net + rt::Clock + Files + Sync,
+    M: Wait + Threads + Net + rt::Clock + Files + RandomSource + Sync,
     I: Read + Send + Drop + 'static,
     R: Read,
     W: Write + Send,

@@ -2,6 +2,7 @@
 use lg_config::{
     DEFAULT_ADDRESS, DEFAULT_DICE, DEFAULT_PORT, FileFault, MAX_FILE, NodeConfig, ReadFault, reason,
 };
+use lg_rules::Addr;
 use lg_testing::name;
 use std::alloc::Global;
 
@@ -20,6 +21,8 @@ struct Row {
     /// The numbers, in the order of the keys: from `interval_ms` to `history_limit`, and `wire`.
     numbers: [u64; 11],
     seeds: &'static [Known],
+    /// Where the status server listens, and `status_open`.
+    status: (Option<Addr>, bool),
 }
 
 /// The numbers of a file that gives none.
@@ -44,6 +47,8 @@ history_limit = 7
 wire = 2
 pull_ms = 3600000
 stall_ms = 0
+status = \"10.1.2.3:8946\"
+status_open = true
 seeds = [\"c@127.0.0.1:7002\", \"a@1.2.3.4:5\"]
 ";
 
@@ -75,6 +80,7 @@ fn is_of(node: &NodeConfig, row: &Row) -> bool {
         && (config.addr.octets, config.addr.port, node.dice) == (row.octets, row.port, row.dice)
         && numbers == row.numbers
         && [node.pull_ms, node.stall_ms] == row.own
+        && (node.status, node.status_open) == row.status
         && config.seeds.len() == row.seeds.len()
         && config.seeds.iter().zip(row.seeds).all(|(seed, known)| {
             seed.name == name(known.0) && (seed.addr.octets, seed.addr.port) == (known.1, known.2)
@@ -82,7 +88,8 @@ fn is_of(node: &NodeConfig, row: &Row) -> bool {
 }
 
 /// Each value of some files: one with only its name, one that writes the defaults, one with all keys, one at the other
-/// edges of the node's own numbers, and one whose address and port the program can't have.
+/// edges of the node's own numbers, one with the last address of loopback for its status server, one that would allow
+/// any but has no such server, and one whose address and port the program can't have.
 #[test]
 fn each_value(rt: HostRuntime) {
     let alone = Row {
@@ -93,6 +100,7 @@ fn each_value(rt: HostRuntime) {
         own: [30_000, 100],
         numbers: USUAL,
         seeds: &[],
+        status: (None, false),
     };
     let rows = [
         alone,
@@ -108,10 +116,21 @@ fn each_value(rt: HostRuntime) {
             own: [3_600_000, 0],
             numbers: [200, 50, 0, 1, 2, 3, 4, 5, 6, 7, 2],
             seeds: &[(b"c", [127, 0, 0, 1], 7002), (b"a", [1, 2, 3, 4], 5)],
+            status: (Some(Addr::new([10, 1, 2, 3], 8946)), true),
         },
         Row {
             text: "name = \"b\"\npull_ms = 0\nstall_ms = 60000",
             own: [0, 60_000],
+            ..alone
+        },
+        Row {
+            text: "name = \"b\"\nstatus = \"127.255.255.255:65535\"",
+            status: (Some(Addr::new([127, 255, 255, 255], 65_535)), false),
+            ..alone
+        },
+        Row {
+            text: "name = \"b\"\nstatus_open = true",
+            status: (None, true),
             ..alone
         },
         Row {

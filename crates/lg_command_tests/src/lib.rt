@@ -16,11 +16,15 @@ mod node;
 #[cfg(test)]
 mod plays;
 #[cfg(test)]
+mod ports;
+#[cfg(test)]
 mod readers;
 #[cfg(test)]
 mod refused_memory;
 #[cfg(test)]
 mod replies;
+#[cfg(test)]
+mod showing;
 #[cfg(test)]
 mod streams;
 #[cfg(test)]

@@ -131,6 +131,12 @@ const FILES: &[(FileFault, &str)] = &[
     ),
     (FileFault::Pull, "pull_ms has to be 0 to 3600000"),
     (FileFault::Stall, "stall_ms has to be 0 to 60000"),
+    (FileFault::Status, "status has to be A.B.C.D:PORT"),
+    (FileFault::StatusOpen, "status_open has to be true or false"),
+    (
+        FileFault::StatusNotLoopback,
+        "status has to be in 127.0.0.0/8 if status_open isn't true",
+    ),
 ];
 
 const READS: &[(ReadFault, &str)] = &[

@@ -1,5 +1,5 @@
 -- What is written and told at the end of a node, by the steps to it.
-use Rattle.std.proofs.Common.{◌≡◌, ℕ, Bool, true, false, List, Option, Result, Ok, Err, MatchResult, OnErr, refl, ap, sym, ◌∙◌, subst}
+use Rattle.std.proofs.Common.{◌≡◌, ℕ, Bool, true, false, List, Option, Result, Ok, Err, MatchResult, OnErr, is_some, refl, ap, sym, ◌∙◌, subst}
 use Rattle.lg_config.specs.declared.node.NodeConfig.{NodeConfig}
 use Rattle.lg_text.specs.Meaning.Running.{AppendsFront}
 use Rattle.lg_text.specs.declared.fault.RunFault.{RunFault}
@@ -30,7 +30,7 @@ both-as reported reports first first' second second' both same same' =
 
 -- a node that didn't follow ran, whatever bytes a writer had taken
 unfollowed-as : (n : NodeConfig) (until : ℕ) (held holds held' holds' : Option (List ℕ)) (e : NodeEnd) → HasRun n until false held holds e → HasRun n until false held' holds' e
-unfollowed-as n until held holds held' holds' e ran = (ran.0, ran.1, ran.2, ran.3, unfollowed _ _ _ _ _ _ _ _ _ _ _ held holds held' holds' e ran.4)
+unfollowed-as n until held holds held' holds' e ran = (ran.0, ran.1, ran.2, ran.3, unfollowed _ _ _ _ _ _ _ _ _ _ _ held holds held' holds' (is_some n.status) e ran.4)
 
 -- the run of a node, by the bytes that the writer had taken in the end: after it followed nothing more is written
 pub run-written : {W : Type 0} (contents : W → Option (List ℕ)) (n : NodeConfig) (until : ℕ) (follow : Bool) (held : Option (List ℕ)) (between after : W) (ran : Result NodeEnd NodeFault) (written : Result (Unit {0}) RunFault)

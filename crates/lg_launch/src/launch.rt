@@ -3,29 +3,32 @@
 //!
 //! Defined in: `specs/Meaning/Running.antt`, `specs/Meaning/Telling.antt`, `lg_text/specs/Meaning/Running.antt`.
 //! Tested in: `cases/node.case`, `lg_command_tests/src/launch/ends.rt`.
-ghost use Rattle.std.specs.Prelude.{◌≡◌, false, MatchResult, OnErr, OnOk, string_bytes};
+ghost use Rattle.std.specs.Prelude.{◌≡◌, ◌⊎◌, ℕ, List, [], Err, false, MatchResult, OnErr, OnOk, string_bytes};
 ghost use Rattle.std.specs.Option.{option_map};
 ghost use Rattle.lg_timing.specs.Meaning.Config.{IsChecked};
 ghost use Rattle.lg_launch.specs.Meaning.Running.{table_wished, Announces, HasRun, IsSecond, RunsBytes};
 ghost use Rattle.lg_launch.specs.Meaning.Running.{RunsFile, RunsNode, RunsOrRefused, Writes};
 ghost use Rattle.lg_launch.specs.Meaning.Wishes.{end_wished};
 ghost use Rattle.lg_node.specs.Meaning.Nodes.{IsEarly};
-ghost use Rattle.lg_launch.specs.Meaning.Words.{start_line};
+ghost use Rattle.lg_launch.specs.Meaning.Reporting.{ReportsBoth};
+ghost use Rattle.lg_launch.specs.Meaning.Telling.{line_of, status_told};
+ghost use Rattle.lg_launch.specs.Meaning.Words.{link_reason, start_line};
 
 use crate::file::file_bytes;
 use crate::reporting::{tell, tell_both, tell_fault};
 use crate::telling::table_of;
 use crate::told::Told;
 use crate::wishes::{Wishes, end_wished, is_announced};
-use crate::words::{link_reason, start_line};
+use crate::words::{link_reason, served_line, start_line};
 use lg_config::{NodeConfig, ReadFault};
 use lg_node::{NodeEnd, NodeFault, Settings, run_node};
 use lg_report::put_table;
 use lg_rules::{Addr, Record};
 use lg_text::{RunFault, report, write_whole};
 use std::alloc::{AllocError, Global};
-use std::io::Write;
+use std::io::{ErrorKind, Write};
 use std::net::Net;
+use std::random::RandomSource;
 use std::rt;
 use std::rt::Files;
 use std::sync::Wait;
@@ -46,7 +49,7 @@ pub fn run_file<R, W, F>(
     faults: &mut F,
 ) -> u8
 where
-    R: Wait + Threads + Net + rt::Clock + Files + Sync,
+    R: Wait + Threads + Net + rt::Clock + Files + RandomSource + Sync,
     W: Write + Send,
     F: Write,
     ensures { RunsFile writer.old writer.new (W.contents writer.old) (W.contents writer.new)
@@ -74,7 +77,7 @@ pub fn run_bytes<R, W, F>(
     faults: &mut F,
 ) -> u8
 where
-    R: Wait + Threads + Net + rt::Clock + Sync,
+    R: Wait + Threads + Net + rt::Clock + RandomSource + Sync,
     W: Write + Send,
     F: Write,
     ensures { RunsBytes writer.old writer.new (W.contents writer.old) (W.contents writer.new)
@@ -98,8 +101,8 @@ where
 /// The node is run by [`run_node`](lg_node::run_node), and [`Told::of`] says what is told of it. If it follows, its
 /// watcher writes what it sees, and nothing else is written. Otherwise, if both loops stopped or the node was ousted,
 /// the members are written as [`put_table`](lg_report::put_table) does, a line each. In all other cases nothing is
-/// written. A socket that can't be bound has a second line, which says to which address and why. A line that `faults`
-/// doesn't take is dropped. The configuration has to be checked. Apart from what the node allocates, memory is
+/// written. A socket that can't be bound has a second line, which says to which address and why; so has a status server,
+/// and one that ended before the node. A line that `faults` doesn't take is dropped. The configuration has to be checked. Apart from what the node allocates, memory is
 /// allocated only for these texts.
 ///
 /// What is said of bytes holds for writers that tell their bytes, as those over memory do.
@@ -113,7 +116,7 @@ pub fn run_config<R, W, F>(
     faults: &mut F,
 ) -> u8
 where
-    R: Wait + Threads + Net + rt::Clock + Sync,
+    R: Wait + Threads + Net + rt::Clock + RandomSource + Sync,
     W: Write + Send,
     F: Write,
     requires { IsChecked node.now.config }
@@ -156,7 +159,7 @@ fn run_announced<R, W, F>(
     faults: &mut F,
 ) -> u8
 where
-    R: Wait + Threads + Net + rt::Clock + Sync,
+    R: Wait + Threads + Net + rt::Clock + RandomSource + Sync,
     W: Write + Send,
     F: Write,
     requires { IsChecked node.now.config }
@@ -165,8 +168,7 @@ where
 {
     let ran = run(rt, alloc, node, wishes, stop, writer);
     let written = write_table(alloc, &ran, wishes.follow, writer);
-    let second = second_line(alloc, node.config.addr, &ran);
-    tell_both(Told::of(&ran, written), second.as_str(), faults)
+    tell_run(alloc, node, &ran, Told::of(&ran, written), faults)
 }
 
 /// Runs the node of a configuration. The writer is written to only if it follows, and else stays as it is.
@@ -179,7 +181,7 @@ fn run<R, W>(
     writer: &mut W,
 ) -> Result<NodeEnd, NodeFault>
 where
-    R: Wait + Threads + Net + rt::Clock + Sync,
+    R: Wait + Threads + Net + rt::Clock + RandomSource + Sync,
     W: Write + Send,
     requires { IsChecked node.now.config }
     ensures ran { MatchResult result (HasRun node.now (end_wished wishes.now.until) wishes.now.follow
@@ -192,22 +194,52 @@ where
         pull_ms: node.pull_ms,
         stall_ms: node.stall_ms,
         follow: wishes.follow,
+        status: node.status,
+        status_open: node.status_open,
     };
     let until = end_wished(wishes.until);
     run_node(rt, alloc, &node.config, &settings, until, stop, writer)
 }
 
-/// The second line of what is told of a node that was run. It is empty if there is none, or if memory for it was
-/// refused.
-fn second_line(alloc: Global, addr: Addr, ran: &Result<NodeEnd, NodeFault>) -> String
-    ensures { IsSecond addr ran.now (string_bytes result) }
+/// Why an address can't be bound. It is empty if memory for it was refused.
+fn bind_line(alloc: Global, addr: Addr, kind: ErrorKind) -> String
+    ensures { (string_bytes result ≡ []) ⊎ (string_bytes result ≡ link_reason addr kind) }
+{
+    match link_reason(alloc, addr, kind) {
+        Ok(line) => line,
+        Err(_) => String::new(alloc),
+    }
+}
+
+/// The second line of a node that couldn't be bound. It is empty if there is none, or if memory for it was refused.
+fn fault_line(alloc: Global, node: &NodeConfig, fault: &NodeFault) -> String
+    ensures { IsSecond node.now (Err fault.now) (string_bytes result) }
+{
+    match (fault, node.status) {
+        (NodeFault::Socket(kind), _) => bind_line(alloc, node.config.addr, *kind),
+        (NodeFault::Status(kind), Some(addr)) => bind_line(alloc, addr, *kind),
+        _ => String::new(alloc),
+    }
+}
+
+/// Reports what is told of a node that was run, with the second line if there is one, and gives the status.
+fn tell_run<F: Write>(
+    alloc: Global,
+    node: &NodeConfig,
+    ran: &Result<NodeEnd, NodeFault>,
+    told: Told,
+    faults: &mut F,
+) -> u8
+    ensures lines { (second : List ℕ) × IsSecond node.now ran.now second
+        × ReportsBoth (F.contents faults.old) (F.contents faults.new) (line_of told) second }
+    ensures status { result ≡ status_told told }
 {
     match ran {
-        Err(NodeFault::Socket(kind)) => match link_reason(alloc, addr, *kind) {
-            Ok(line) => line,
-            Err(_) => String::new(alloc),
-        },
-        _ => String::new(alloc),
+        Ok(end) => tell_both(told, served_line(end.served), faults),
+        Err(fault) => {
+            let line = fault_line(alloc, node, fault);
+            tell_both(told, line.as_str(), faults)
+        }
     }
 }
 

@@ -37,14 +37,15 @@ impl Told {
     /// The first end that isn't [`Why::Stopped`] is told, the receiving loop's before the ticking loop's. If there is
     /// none, or it is [`Why::Ousted`], the table was to be written. Then the first of these is told before the end:
     /// that the members were refused, that the writing failed, that the agent wasn't closed. A node that ended before
-    /// its loops is told as [`Told::Link`] if its socket couldn't be bound, as [`Told::Refused`] if the clock
-    /// couldn't be read, and otherwise as its refusal.
+    /// its loops is told as [`Told::Link`] if its socket couldn't be bound, as [`Told::Status`] if its status server
+    /// couldn't be, as [`Told::Refused`] if the clock couldn't be read, and otherwise as its refusal.
     pub fn of(ran: &Result<NodeEnd, NodeFault>, written: Result<(), RunFault>) -> Told
         ensures { result ≡ run_told ran.now written }
     {
         match ran {
             Ok(end) => node_told(end, written),
             Err(NodeFault::Socket(_)) => Told::Link,
+            Err(NodeFault::Status(_)) => Told::Status,
             Err(NodeFault::Clock) => Told::Refused,
             Err(NodeFault::Refused(refusal)) => Told::from(*refusal),
         }

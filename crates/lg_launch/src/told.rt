@@ -40,11 +40,13 @@ pub enum Told {
     Ousted,
     /// The socket couldn't be bound, or receiving failed.
     Link,
+    /// The status server couldn't be bound to its address.
+    Status,
 }
 
 impl Told {
     /// The exit status: 0 for [`Told::Done`], 3 for [`Told::Config`], 4 for [`Told::Ousted`], 5 for [`Told::Link`],
-    /// and 1 for the others.
+    /// 6 for [`Told::Status`], and 1 for the others.
     pub fn status(self) -> u8
         ensures { result ≡ status_told self }
     {
@@ -53,6 +55,7 @@ impl Told {
             Told::Config(_) => 3,
             Told::Ousted => 4,
             Told::Link => 5,
+            Told::Status => 6,
             Told::Memory
             | Told::Read
             | Told::Write
@@ -80,6 +83,7 @@ impl Told {
             Told::Config(fault) => config_line(fault.number()),
             Told::Ousted => line_with("lg: ousted\n"),
             Told::Link => line_with("lg: link\n"),
+            Told::Status => line_with("lg: status\n"),
         }
     }
 }

@@ -12,17 +12,19 @@ unwatched before after held holds held' holds' (Some end) watched = watched
 unwatched before after held holds held' holds' None watched = watched
 
 -- nothing is said of the bytes of a writer
-pub unfollowed : {D : Type 0} (throws : D → List ℕ → D → Type 0) (dice : D) (tells : Bool) (bound : ℕ) (config : Config) (pull_ms until : ℕ) (hears hears' sends sends' : LinkValue) (held holds held' holds' : Option (List ℕ)) (e : NodeEnd)
-    → IsRun throws dice tells bound config pull_ms until hears hears' sends sends' false held holds e → IsRun throws dice tells bound config pull_ms until hears hears' sends sends' false held' holds' e
-unfollowed throws dice tells bound config pull_ms until hears hears' sends sends' held holds held' holds' e run = record {
+pub unfollowed : {D : Type 0} (throws : D → List ℕ → D → Type 0) (dice : D) (tells : Bool) (bound : ℕ) (config : Config) (pull_ms until : ℕ) (hears hears' sends sends' : LinkValue) (held holds held' holds' : Option (List ℕ)) (serving : Bool) (e : NodeEnd)
+    → IsRun throws dice tells bound config pull_ms until hears hears' sends sends' false held holds serving e → IsRun throws dice tells bound config pull_ms until hears hears' sends sends' false held' holds' serving e
+unfollowed throws dice tells bound config pull_ms until hears hears' sends sends' held holds held' holds' serving e run = record {
   start = run.start;
   receiver = run.receiver;
   ticker = run.ticker;
   asker = run.asker;
   watcher = run.watcher;
   reader = run.reader;
+  status = run.status;
   served = run.served;
   watched = unwatched run.asker run.watcher held holds held' holds' e.watched run.watched;
+  shown = run.shown;
   members = run.members;
   closed = run.closed;
 }

@@ -36,8 +36,9 @@ pub(crate) fn ask_each<A: AgentName, R: Wait, L: Link, C: Clock>(
     let mut unsent = 0;
     let mut reply = Reply::default();
     for seed in seeds {
-        calling::pull(shared, pass, shared.clock.now(), seed.addr, &mut reply)?;
-        unsent += Turned::of(link, &reply).unsent;
+        let now = shared.clock.now();
+        calling::pull(shared, pass, now, seed.addr, &mut reply)?;
+        unsent += Turned::of(shared, link, now, &reply).unsent;
     }
     Ok(unsent)
 }

@@ -33,9 +33,14 @@ fn make_room<A: AgentName, R: Wait, C>(
     match refusal {
         Refusal::HistoryFull(_) => {
             pass.rotate(shared.rt, shared.alloc)?;
+            shared.counters.note_rotated();
             Ok(())
         }
-        _ => Err(refusal),
+        Refusal::BadPacket(_) => Err(refusal),
+        _ => {
+            shared.counters.note_refused();
+            Err(refusal)
+        }
     }
 }
 

@@ -78,7 +78,7 @@ pub(crate) fn ask_seed<A: AgentName, R: Wait, L: Link, C>(
 {
     agenda.note_seed();
     match calling::pull(shared, &mut side.pass, now, peer, reply) {
-        Ok(_) => Turned::of(&mut side.link, reply),
+        Ok(_) => Turned::of(shared, &mut side.link, now, reply),
         Err(refusal) => Turned::end(Why::Refused(refusal)),
     }
 }
@@ -133,7 +133,7 @@ pub(crate) fn ask_member<A: AgentName, R: Wait, L: Link, C, D: Dice>(
     let words = dice.words();
     let peer = chosen(records.as_slice(), &words);
     match calling::pull(shared, &mut side.pass, now, peer, reply) {
-        Ok(_) => Turned::of(&mut side.link, reply),
+        Ok(_) => Turned::of(shared, &mut side.link, now, reply),
         Err(refusal) => Turned::end(Why::Refused(refusal)),
     }
 }

@@ -1,4 +1,4 @@
-//! A node: two loops over an agent.
+//! A node: two loops over an agent, and beside them a watcher and a status server.
 #![tactic(auto)]
 
 mod agenda;
@@ -14,8 +14,11 @@ mod plan;
 mod receiving;
 mod running;
 mod sending;
+mod serving;
 mod shared;
+mod sockets;
 mod start;
+mod threads;
 mod ticking;
 mod turned;
 mod udp;
@@ -24,6 +27,7 @@ pub use agenda::LOOK_MS;
 pub use dice::{Dice, PcgDice};
 pub use ending::{End, Ended, Why};
 pub use lg_clock::{Clock, Loop, MachineClock, SteadyClock};
+pub use lg_serve::{Counters, Served};
 pub use lg_watch::Watched;
 pub use link::{Link, LinkFault, MAX_DATAGRAM};
 pub use node::{NodeEnd, NodeFault, Settings, run_node};

@@ -2,17 +2,20 @@
 //!
 //! Defined in: `specs/Meaning/Nodes.antt`, `specs/Meaning/Turns.antt`, `specs/Meaning/Words.antt`.
 //! Tested in: `lg_command_tests/src/node/asking.rt`, `cases/nodes`.
-ghost use Rattle.std.specs.Prelude.{◌≡◌, false, IfOk, IfErr, OnErr};
+ghost use Rattle.std.specs.Prelude.{◌≡◌, false, is_some, IfOk, IfErr, OnErr};
 ghost use Rattle.lg_timing.specs.Meaning.Config.{IsChecked};
 ghost use Rattle.lg_node.specs.Meaning.Nodes.{IsRun, IsEarly};
 ghost use Rattle.lg_node.specs.Meaning.Turns.{LinkValue};
 ghost use Rattle.lg_node.specs.Meaning.Words.{seeded, DrawsEight};
 
 use crate::ending::End;
+use crate::serving::status_server;
 use crate::shared::MAX_TURNS;
+use crate::sockets::Sockets;
 use crate::start::{Setup, open_and_serve};
 use lg_agent::{CloseFault, Closed, Refusal};
-use lg_rules::Record;
+use lg_rules::{Addr, Record};
+use lg_serve::Served;
 use lg_timing::{Config, Moment};
 use lg_view::UnnamedBook;
 use lg_watch::Watched;
@@ -20,6 +23,7 @@ use std::alloc::Global;
 use std::io::{ErrorKind, Write};
 use std::marker::Brand;
 use std::net::Net;
+use std::random::RandomSource;
 use std::rt;
 use std::sync::Wait;
 use std::sync::atomic::AtomicBool;
@@ -39,6 +43,10 @@ pub struct Settings {
     pub stall_ms: u64,
     /// Whether the node is followed: a watcher tells on a writer what it learns.
     pub follow: bool,
+    /// Where its status server listens, if it has one.
+    pub status: Option<Addr>,
+    /// Whether that may be an address that isn't loopback. It is only shown: the node listens where it is told to.
+    pub status_open: bool,
 }
 
 /// How a node ended whose loops had begun.
@@ -53,6 +61,8 @@ pub struct NodeEnd {
     pub members: Result<Vec<Record>, Refusal>,
     /// How the watcher ended, if the node was followed.
     pub watched: Option<Watched>,
+    /// How the status server ended, if there was one.
+    pub served: Option<Served>,
     /// The history, from the last rotation on if there was one, or why the agent wasn't closed.
     pub closed: Result<Closed, CloseFault>,
     /// How many milliseconds the clock of the node has left out, since one of the loops began no turn.
@@ -65,6 +75,9 @@ pub enum NodeFault {
     /// The socket couldn't be bound to the configured address. This is the kind of the error.
     #[error("the socket can't be bound to the configured address")]
     Socket(ErrorKind),
+    /// The status server couldn't be bound to its address, or watched. This is the kind of the error.
+    #[error("the status server can't be bound to its address")]
+    Status(ErrorKind),
     /// The machine's clock couldn't be read.
     #[error("the machine's clock can't be read")]
     Clock,
@@ -76,7 +89,7 @@ pub enum NodeFault {
 /// Runs a node over UDP until a moment, in milliseconds from its start, until somebody sets the stop flag, or until one
 /// of its loops ends before that.
 ///
-/// It binds a socket to the configured address, opens an agent with three passes, and asks each seed for its table,
+/// It binds a socket to the configured address, opens an agent with four passes, and asks each seed for its table,
 /// in order. Then it runs [`run_loops`](crate::run_loops) with the steady clock
 /// ([`SteadyClock`](lg_clock::SteadyClock)), the words of [`PcgDice`](crate::PcgDice), and loops that are endless. So
 /// the ticking loop asks the seeds until a Page is heard, and again while it is alone. It asks a member every
@@ -85,6 +98,10 @@ pub enum NodeFault {
 /// If the node is followed, the pass that has asked the seeds watches beside the loops ([`lg_watch::watch`]), in a
 /// thread of its own, and [`NodeEnd::watched`] says how that ended. A writer that fails ends the watcher alone. If the
 /// node isn't followed, or there are no loops, the writer stays as it is.
+///
+/// If the settings have an address for a status server, it is bound before the agent is opened. It serves beside the
+/// loops ([`lg_serve::serve`]), in a thread of its own and with a pass of its own, until the loops have ended, and
+/// [`NodeEnd::served`] says how that ended. A server that fails ends nothing else.
 ///
 /// A turn of a loop waits a tenth of the configuration's `timeout_ms` at most, but at least 5 and at most 50
 /// milliseconds, and at most half of the clock's stall.
@@ -95,19 +112,19 @@ pub enum NodeFault {
 /// stop flag.
 ///
 /// The configuration has to be checked. The error says why there were no loops: [`NodeFault::Socket`],
-/// [`NodeFault::Clock`], or [`NodeFault::Refused`] if memory was refused or there was no reader for a pass. If a seed's
+/// [`NodeFault::Status`], [`NodeFault::Clock`], or [`NodeFault::Refused`] if memory was refused or there was no reader for a pass. If a seed's
 /// call was refused, it may also be [`Refusal::HistoryFull`] or [`Refusal::Behind`], but neither should ever happen.
-pub fn run_node<R, W>(
+pub fn run_node<'n, R, W>(
     rt: &R,
     alloc: Global,
-    config: &Config,
-    settings: &Settings,
+    config: &'n Config,
+    settings: &'n Settings,
     until: Moment,
-    stop: &AtomicBool,
+    stop: &'n AtomicBool,
     writer: &mut W,
 ) -> Result<NodeEnd, NodeFault>
 where
-    R: Wait + Threads + Net + rt::Clock + Sync,
+    R: Wait + Threads + Net + rt::Clock + RandomSource + Sync,
     W: Write + Send,
     requires { IsChecked config.now }
     // Of a link over UDP contracts see only the failures.
@@ -115,15 +132,31 @@ where
         × (sends' : LinkValue)
         × IsRun DrawsEight (seeded settings.now.dice) false MAX_TURNS config.now settings.now.pull_ms until
         hears hears' sends sends'
-        settings.now.follow (W.contents writer.old) (W.contents writer.new) e) }
+        settings.now.follow (W.contents writer.old) (W.contents writer.new) (is_some settings.now.status) e) }
     ensures refused { IfErr result (IsEarly config.now) }
     ensures alone { settings.now.follow ≡ false → writer.new ≡ writer.old }
     ensures unwritten { OnErr result (writer.new ≡ writer.old) }
 {
+    let sockets = match Sockets::bind(rt, alloc, config, settings) {
+        Ok(sockets) => sockets,
+        Err(fault) => return Err(fault),
+    };
+    let Sockets {
+        socket,
+        server,
+        signal,
+    } = sockets;
     let setup = Setup {
         config,
         settings,
         until,
+        stop,
+        socket: &socket,
+        signal: signal.as_ref(),
     };
-    open_and_serve::<Brand, R, W>(rt, alloc, UnnamedBook::new(), &setup, stop, writer)
+    let status = match status_server(rt, &setup, server) {
+        Ok(status) => status,
+        Err(fault) => return Err(fault),
+    };
+    open_and_serve::<Brand, R, W>(rt, alloc, UnnamedBook::new(), &setup, status, writer)
 }

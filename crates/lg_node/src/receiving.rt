@@ -52,10 +52,13 @@ fn hear<A: AgentName, R: Wait, L: Link, C>(
     match calling::datagram(shared, &mut side.pass, now, source, bytes, reply) {
         Ok(_) => {
             note_page(shared, bytes);
-            Turned::of(&mut side.link, reply)
+            Turned::of(shared, &mut side.link, now, reply)
         }
         Err(refusal) => match refusal {
-            Refusal::BadPacket(_) => Turned::dropped(),
+            Refusal::BadPacket(fault) => {
+                shared.counters.note_dropped(fault);
+                Turned::dropped()
+            }
             _ => Turned::end(Why::Refused(refusal)),
         },
     }
@@ -73,14 +76,11 @@ fn receive_turn<A: AgentName, R: Wait, L: Link, C: Clock>(
 {
     match side.link.receive(buffer, shared.wait_ms) {
         Ok(None) => Turned::on(),
-        Ok(Some((source, length))) => hear(
-            shared,
-            side,
-            shared.clock.now(),
-            source,
-            &buffer[..length],
-            reply,
-        ),
+        Ok(Some((source, length))) => {
+            shared.counters.note_received();
+            let now = shared.clock.now();
+            hear(shared, side, now, source, &buffer[..length], reply)
+        }
         Err(_) => Turned::end(Why::LinkFailed),
     }
 }

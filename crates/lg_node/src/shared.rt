@@ -5,7 +5,10 @@
 
 use left_right::Absorb;
 use lg_agent::{AgentName, Pass};
-use lg_detector::Event;
+use lg_detector::{Event, Reply};
+use lg_http::Signal;
+use lg_serve::Counters;
+use lg_timing::Moment;
 use lg_view::{Published, Update};
 use std::alloc::Global;
 use std::sync::atomic::AtomicBool;
@@ -26,12 +29,29 @@ pub struct Shared<'a, R, C> {
     pub stop: &'a AtomicBool,
     /// Whether a Page was heard: then some member's table is known. The receiving loop sets it.
     pub page_heard: &'a AtomicBool,
+    /// What the loops count for the status server.
+    pub counters: &'a Counters,
+    /// By which the status server is woken when a record has changed, if there is one.
+    pub signal: Option<&'a Signal>,
     /// How many turns each loop may make, at most [`MAX_TURNS`]. With 0 a loop ends at once, unless it is endless.
     pub bound: u64,
     /// Whether a loop that has made so many turns counts them anew and goes on.
     pub endless: bool,
     /// How long one turn waits at most, in milliseconds.
     pub wait_ms: u64,
+}
+
+impl<'a, R, C> Shared<'a, R, C> {
+    /// Counts a call that was answered at a moment by this reply, and wakes the status server if a record changed. So
+    /// many of the reply's packets weren't sent. Waits for nobody, and allocates nothing.
+    pub(crate) fn note_reply(&self, now: Moment, reply: &Reply, unsent: u64) {
+        self.counters.note_reply(now, reply, unsent);
+        if let Some(signal) = self.signal
+            && reply.changed.len() > 0
+        {
+            signal.published();
+        }
+    }
 }
 
 /// What one loop works with: the pass that it calls, and its link.

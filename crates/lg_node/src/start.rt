@@ -1,12 +1,12 @@
-//! The start of a node, from its socket to its loops, and its end.
+//! The start of a node, from its clock to its loops, and its end. Its sockets are bound by then.
 //!
-//! [`open_and_serve`] binds the socket, reads the clock, opens the agent and closes it. Between these [`serve`] hands
-//! out the passes, asks the seeds, runs both loops, watches beside them, and reads the members.
+//! [`open_and_serve`] reads the clock, opens the agent and closes it. Between these [`serve`] hands out the passes, asks
+//! the seeds, runs both loops and what is beside them, and reads the members.
 //!
 //! Defined in: `specs/Meaning/Nodes.antt`, `specs/Meaning/Turns.antt`, `specs/Meaning/Words.antt`.
 //! Tested in: `lg_command_tests/src/node/asking.rt`, `cases/nodes`.
 ghost use Rattle.std.specs.Prelude.{◌≡◌, ◌≤◌, ◌⊎◌, ◌∷◌, [], ℕ, false, true};
-ghost use Rattle.std.specs.Prelude.{All, IfOk, IfErr, IfSome, MatchResult, OnErr, length};
+ghost use Rattle.std.specs.Prelude.{All, IfOk, IfErr, IfSome, MatchResult, OnErr, is_some, length};
 ghost use Rattle.std.specs.Vec.{vec_capacity};
 ghost use Rattle.lg_timing.specs.Meaning.Config.{IsChecked};
 ghost use Rattle.lg_timing.specs.declared.config.Config.{Config as Opened};
@@ -16,26 +16,29 @@ ghost use Rattle.lg_agent.specs.declared.refusal.Refusal.TheVariants.{NoMemory, 
 ghost use Rattle.lg_agent.specs.Meaning.Values.{PassValue};
 ghost use Rattle.lg_agent.specs.Meaning.Calls.{IsLook};
 ghost use Rattle.lg_agent.specs.Meaning.Closing.{IsClosed, IsRefusedClosing};
-ghost use Rattle.lg_node.specs.Meaning.Nodes.{HasServed, WatchesIf, IsRun, IsRefusedEarly, IsEarly, fresh_own};
+ghost use Rattle.lg_node.specs.Meaning.Nodes.{HasServed, ServesIf, WatchesIf, IsRun, IsRefusedEarly, IsEarly, fresh_own};
 ghost use Rattle.lg_node.specs.Meaning.Turns.{LinkValue};
 ghost use Rattle.lg_node.specs.Meaning.Words.{seeded, DrawsEight};
 
 use crate::asking::ask_each;
 use crate::ending::End;
-use crate::following::run_followed;
 use crate::node::{NodeEnd, NodeFault, Settings};
 use crate::plan::Plan;
+use crate::serving::StatusServer;
 use crate::shared::{MAX_TURNS, Shared, Side};
+use crate::threads::{Lookers, Sides, run_threads};
 use crate::udp::UdpLink;
 use lg_agent::{Agent, AgentName, Pass, Refusal, Spent, Unclosed};
 use lg_clock::{Clock, SteadyClock};
+use lg_http::Signal;
 use lg_rules::Record;
+use lg_serve::{Counters, Served};
 use lg_timing::{Config, Moment};
 use lg_view::UnnamedBook;
 use lg_watch::Watched;
 use std::alloc::Global;
 use std::io::Write;
-use std::net::{Ipv4Addr, Net, UdpSocket};
+use std::net::UdpSocket;
 use std::rt;
 use std::sync::Wait;
 use std::sync::atomic::AtomicBool;
@@ -44,30 +47,34 @@ use std::thread::Threads;
 /// The least stall of a clock that isn't the machine's, in milliseconds.
 const MIN_STALL_MS: u64 = 25;
 
-/// How many passes a node has: one for the receiving loop, one for the ticking loop, and one that asks the seeds and
-/// then watches.
-const PLACES: usize = 3;
+/// How many passes a node has: one for the receiving loop, one for the ticking loop, one that asks the seeds and then
+/// watches, and one for the status server.
+const PLACES: usize = 4;
 
-/// What a node is set up with, and when its ticking loop ends.
+/// What a node is set up with, when its ticking loop ends, what stops it earlier, and its sockets.
 #[derive(Drop)]
-pub(crate) struct Setup<'a> {
-    pub(crate) config: &'a Config,
-    pub(crate) settings: &'a Settings,
+pub(crate) struct Setup<'n, 's> {
+    pub(crate) config: &'n Config,
+    pub(crate) settings: &'n Settings,
     pub(crate) until: Moment,
+    pub(crate) stop: &'n AtomicBool,
+    pub(crate) socket: &'s UdpSocket,
+    /// By which the status server is woken, if there is one.
+    pub(crate) signal: Option<&'s Signal>,
 }
 
-/// Opens a node at its configured address, serves until one of its loops ends, and closes it.
+/// Opens a node over its socket, serves until one of its loops ends, and closes it.
 pub(crate) fn open_and_serve<A, R, W>(
     rt: &R,
     alloc: Global,
     book: UnnamedBook,
-    setup: &Setup<'_>,
-    stop: &AtomicBool,
+    setup: &Setup<'_, '_>,
+    status: Option<StatusServer<'_, '_, '_, R>>,
     writer: &mut W,
 ) -> Result<NodeEnd, NodeFault>
 where
     A: AgentName + Send + Sync,
-    R: Wait + Threads + Net + rt::Clock + Sync,
+    R: Wait + Threads + rt::Clock + Sync,
     W: Write + Send,
     requires book { book.seen.book ≡ A.book }
     requires places { A.places ≡ PLACES }
@@ -76,17 +83,12 @@ where
         × (sends' : LinkValue)
         × IsRun DrawsEight (seeded setup.now.settings.now.dice) false MAX_TURNS setup.now.config.now
         setup.now.settings.now.pull_ms setup.now.until hears hears' sends sends'
-        setup.now.settings.now.follow (W.contents writer.old) (W.contents writer.new) e) }
+        setup.now.settings.now.follow (W.contents writer.old) (W.contents writer.new) (is_some status.entry) e) }
     ensures refused { IfErr result (IsEarly setup.now.config.now) }
     ensures alone { setup.now.settings.now.follow ≡ false → writer.new ≡ writer.old }
     ensures unwritten { OnErr result (writer.new ≡ writer.old) }
 {
     let config = setup.config;
-    let address = (Ipv4Addr::from_octets(config.addr.octets), config.addr.port);
-    let socket = match UdpSocket::bind(rt, address) {
-        Ok(socket) => socket,
-        Err(fault) => return Err(NodeFault::Socket(fault.kind())),
-    };
     let stall = stall_of(setup.settings);
     let Ok(clock) = SteadyClock::new(rt, stall) else {
         return Err(NodeFault::Clock);
@@ -94,22 +96,26 @@ where
     let Ok(room) = Vec::with_capacity(alloc, PLACES) else {
         return Err(NodeFault::Refused(Refusal::NoMemory));
     };
-    let mut agent = match Agent::<A>::open(rt, alloc, book, clock.now(), config.copy(), PLACES) {
+    let start = clock.now();
+    let mut agent = match Agent::<A>::open(rt, alloc, book, start, config.copy(), PLACES) {
         Ok(agent) => agent,
         Err(refusal) => return Err(NodeFault::Refused(refusal)),
     };
     let page_heard = AtomicBool::new(false);
+    let counters = Counters::new(config.name, start);
     let shared = Shared {
         rt,
         alloc,
         clock: &clock,
-        stop,
+        stop: setup.stop,
         page_heard: &page_heard,
+        counters: &counters,
+        signal: setup.signal,
         bound: MAX_TURNS,
         endless: true,
         wait_ms: wait_of(config, stall),
     };
-    match serve(&shared, &mut agent, &socket, setup, writer) {
+    match serve(&shared, &mut agent, setup, status, writer) {
         Ok(left) => Ok(close(rt, agent, left, clock.stood_still(), room)),
         Err(refusal) => {
             agent.abandon(rt);
@@ -144,23 +150,25 @@ struct Left<A: AgentName> {
     ticked: End,
     members: Result<Vec<Record>, Refusal>,
     watched: Option<Watched>,
+    served: Option<Served>,
     receiver: Spent<A>,
     ticker: Spent<A>,
     reader: Spent<A>,
+    status: Spent<A>,
 }
 
-/// Hands out the passes of a fresh agent, asks the seeds, runs both loops over the socket until one of them ends, and
-/// reads the members.
+/// Hands out the passes of a fresh agent, asks the seeds, runs both loops over the socket until one of them ends, with
+/// a watcher and a status server beside them if they are wanted, and reads the members.
 fn serve<A, R, C, W>(
     shared: &Shared<'_, R, C>,
     agent: &mut Agent<A>,
-    socket: &UdpSocket,
-    setup: &Setup<'_>,
+    setup: &Setup<'_, '_>,
+    status: Option<StatusServer<'_, '_, '_, R>>,
     writer: &mut W,
 ) -> Result<Left<A>, Refusal>
 where
     A: AgentName + Send + Sync,
-    R: Wait + Threads + Sync,
+    R: Wait + Threads + rt::Clock + Sync,
     C: Clock + Sync,
     W: Write + Send,
     requires places { length agent.old.told ≡ PLACES }
@@ -174,6 +182,7 @@ where
         l.received l.ticked l.receiver l.ticker asker
         × WatchesIf setup.now.settings.now.follow asker watcher (W.contents writer.old) (W.contents writer.new)
         l.watched
+        × ServesIf (is_some status.entry) (fresh_own setup.now.config.now start 4) l.status l.served
         × MatchResult l.members (λ records. (records.items ≡ view_after l.reader.seen) × IsLook watcher l.reader)
         (λ r. ((r ≡ NoView) ⊎ (r ≡ NoMemory)) × (l.reader ≡ watcher))) }
     ensures refused { (start : ℕ) → agent.old.name ≡ setup.now.config.now.name
@@ -189,27 +198,34 @@ where
         receiver,
         ticker,
         asker,
+        status: looker,
     } = passes;
     let mut asker = asker;
-    let mut sends = UdpLink::new(socket);
+    let mut sends = UdpLink::new(setup.socket);
     let unsent = ask_each(shared, &mut asker, &mut sends, &setup.config.seeds)?;
-    let hears = UdpLink::new(socket);
-    let receiver = Side {
-        pass: receiver,
-        link: hears,
+    let hears = UdpLink::new(setup.socket);
+    let sides = Sides {
+        receiver: Side {
+            pass: receiver,
+            link: hears,
+        },
+        ticker: Side {
+            pass: ticker,
+            link: sends,
+        },
     };
-    let ticker = Side {
-        pass: ticker,
-        link: sends,
+    let lookers = Lookers {
+        watcher: asker,
+        status: looker,
     };
     let plan = Plan::new(setup.config, setup.settings.pull_ms, setup.until);
-    let ((watcher, watched), (received, ticked)) = run_followed(
+    let ((watcher, watched), ((looker, served), (received, ticked))) = run_threads(
         shared,
-        receiver,
-        ticker,
+        sides,
         setup.settings,
         &plan,
-        asker,
+        lookers,
+        status,
         writer,
     );
     let (mut ticked, mut watcher) = (ticked, watcher);
@@ -220,19 +236,23 @@ where
         ticked: ticked.end,
         members,
         watched,
+        served,
         receiver: received.spent,
         ticker: ticked.spent,
         reader: watcher.finish(),
+        status: looker.finish(),
     })
 }
 
-/// The three passes of a node.
+/// The four passes of a node.
 #[derive(Drop)]
 struct Passes<'a, A: AgentName> {
     receiver: Pass<'a, A>,
     ticker: Pass<'a, A>,
     /// It asks the seeds, watches, and reads the members.
     asker: Pass<'a, A>,
+    /// It looks for the status server.
+    status: Pass<'a, A>,
 }
 
 /// The passes of a fresh agent, or none if memory was refused.
@@ -241,20 +261,23 @@ fn passes_of<'a, A: AgentName>(alloc: Global, agent: &'a mut Agent<A>) -> Option
     ensures { (config : Opened) → (start : ℕ) → agent.old.name ≡ config.name
         → All (λ seen. seen ≡ Open start config ∷ []) agent.old.told
         → IfSome result (λ passes. (passes.receiver ≡ fresh_own config start 1)
-        × (passes.ticker ≡ fresh_own config start 2) × (passes.asker ≡ fresh_own config start 3)) }
+        × (passes.ticker ≡ fresh_own config start 2) × (passes.asker ≡ fresh_own config start 3)
+        × (passes.status ≡ fresh_own config start 4)) }
 {
     let Ok(passes) = agent.passes(alloc) else {
         return None;
     };
     let mut passes = passes;
+    let status = passes.pop();
     let asker = passes.pop();
     let ticker = passes.pop();
     let receiver = passes.pop();
-    match (receiver, ticker, asker) {
-        (Some(receiver), Some(ticker), Some(asker)) => Some(Passes {
+    match (receiver, ticker, asker, status) {
+        (Some(receiver), Some(ticker), Some(asker), Some(status)) => Some(Passes {
             receiver,
             ticker,
             asker,
+            status,
         }),
         _ => None,
     }
@@ -273,23 +296,27 @@ fn close<A: AgentName, R: Wait>(
     ensures ticked { result.ticked ≡ left.ticked }
     ensures members { result.members ≡ left.members }
     ensures watched { result.watched ≡ left.watched }
+    ensures served { result.served ≡ left.served }
     ensures closed { MatchResult result.closed
-        (λ c. IsClosed A.places c (left.receiver ∷ left.ticker ∷ left.reader ∷ []))
-        (λ f. IsRefusedClosing A.places (left.receiver ∷ left.ticker ∷ left.reader ∷ []) f) }
+        (λ c. IsClosed A.places c (left.receiver ∷ left.ticker ∷ left.reader ∷ left.status ∷ []))
+        (λ f. IsRefusedClosing A.places (left.receiver ∷ left.ticker ∷ left.reader ∷ left.status ∷ []) f) }
 {
     let Left {
         received,
         ticked,
         members,
         watched,
+        served,
         receiver,
         ticker,
         reader,
+        status,
     } = left;
     let mut spents = room;
     spents.push_reserved(receiver);
     spents.push_reserved(ticker);
     spents.push_reserved(reader);
+    spents.push_reserved(status);
     let closed = match agent.close(rt, spents) {
         Ok(closed) => Ok(closed),
         Err(unclosed) => {
@@ -307,6 +334,7 @@ fn close<A: AgentName, R: Wait>(
         ticked,
         members,
         watched,
+        served,
         closed,
         stood_still,
     }

@@ -39,7 +39,7 @@ fn tick<A: AgentName, R: Wait, L: Link, C, D: Dice>(
         × Threw D.throws dice.old (words_in acted.took.turn) dice.new }
 {
     match calling::tick(shared, &mut side.pass, now, dice.words(), reply) {
-        Ok(_) => Turned::of(&mut side.link, reply),
+        Ok(_) => Turned::of(shared, &mut side.link, now, reply),
         Err(refusal) => Turned::end(Why::Refused(refusal)),
     }
 }

@@ -9,7 +9,9 @@ ghost use Rattle.lg_node.specs.Meaning.Links.{WereHanded};
 use crate::ending::Why;
 use crate::link::Link;
 use crate::sending::send_all;
+use crate::shared::Shared;
 use lg_detector::Reply;
+use lg_timing::Moment;
 
 /// What one turn reports to its loop.
 #[derive(Drop)]
@@ -62,8 +64,14 @@ impl Turned {
         }
     }
 
-    /// A call was answered by this reply: hands its packets to the link. The loop ends then if the member was ousted.
-    pub(crate) fn of<L: Link>(link: &mut L, reply: &Reply) -> Turned
+    /// A call was answered at a moment by this reply: hands its packets to the link, and counts. The loop ends then if
+    /// the member was ousted.
+    pub(crate) fn of<R, C, L: Link>(
+        shared: &Shared<'_, R, C>,
+        link: &mut L,
+        now: Moment,
+        reply: &Reply,
+    ) -> Turned
         ensures handed { WereHanded L.tells (L.log link.old) (L.log link.new) (L.failed link.old) (L.failed link.new)
             reply.now.sends.items result.unsent }
         ensures few { result.unsent ≤ 8 }
@@ -71,6 +79,7 @@ impl Turned {
         ensures dropped { result.dropped ≡ 0 }
     {
         let unsent = send_all(link, reply.sends.as_slice());
+        shared.note_reply(now, reply, unsent);
         let why = if reply.ousted {
             Some(Why::Ousted)
         } else {

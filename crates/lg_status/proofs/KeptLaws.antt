@@ -1,12 +1,12 @@
--- A ring with one change more, and the changes behind a version.
+-- A ring with one change more, the changes behind a version, and the newest change.
 use Rattle.std.proofs.Common.{◌≡◌, ℕ, zero, suc, ◌+◌, ◌-◌, ◌<◌, ◌≤◌, max, Bool, true, false, cond, ◌||◌, List, [], ◌∷◌, ◌++◌, length, take, refl, sym, ap, ◌∙◌, arith, append_assoc, length-append}
-use Rattle.std.specs.Prelude.{filter, nat_lt, if◌then◌else◌, Some, None}
-use Rattle.std.specs.List.{list_any}
+use Rattle.std.specs.Prelude.{filter, nat_lt, if◌then◌else◌, option_map, unwrap_or, Option, Some, None}
+use Rattle.std.specs.List.{last_or, list_any, slice_index_or}
 use Rattle.std.proofs.Math.Seq.{take-append_seam}
 use Rattle.std.proofs.lemmas.Bool.Decides.{nat_tests}
 use Rattle.std.proofs.lemmas.List.Elements.{filter-append}
 use Rattle.lg_status.specs.declared.ring.Change.{Change}
-use Rattle.lg_status.specs.Meaning.Changes.{changes_after, forgotten, is_after, most_changes}
+use Rattle.lg_status.specs.Meaning.Changes.{changes_after, forgotten, is_after, last_version, most_changes}
 use Rattle.lg_status.specs.declared.ring.Changes.{Changes}
 use Rattle.lg_status.specs.Support.Kept.{greatest_version, KeepsNewest}
 use Rattle.std.specs.VecDeque.{deque_capacity, deque_len}
@@ -114,3 +114,37 @@ keeps_full old new all rest oldest change k above popped items len room lost =
       room = room ∙ k.room;
       counted = len ∙ k.counted ∙ shorter ∙ sym longer;
     }
+
+last_behind : (o : Option Change) (xs ys : List Change) → last_or o (xs ++ ys) ≡ last_or (last_or o xs) ys
+last_behind o [] ys = refl
+last_behind o (x ∷ xs) ys = last_behind (Some x) xs ys
+
+-- the last change is the one at the last place
+last_at : (o : Option Change) (xs : List Change) (n : ℕ) (x : Change) → length xs ≡ n + 1 → slice_index_or xs n x ≡ x → last_or o xs ≡ Some x
+last_at o [] n x long is = absurd (omega (arith, long))
+last_at o (y ∷ []) zero x long is = ap Some is
+last_at o (y ∷ []) (suc n) x long is = absurd (omega (arith, long))
+last_at o (y ∷ z ∷ zs) zero x long is = absurd (omega (arith, long))
+last_at o (y ∷ z ∷ zs) (suc n) x long is = last_at (Some y) (z ∷ zs) n x (omega (arith, long)) is
+
+pub last_is_kept : (ring : Changes) (all : List Change) (x : Change) → KeepsNewest ring all → 0 < deque_len ring.rows
+    → slice_index_or ring.rows.items (deque_len ring.rows - 1) x ≡ x → x.version ≡ last_version all
+last_is_kept ring all x k some is =
+    let long : length ring.rows.items ≡ deque_len ring.rows - 1 + 1 = omega (arith, some, k.counted) in
+    sym (ap last_version k.are
+    ∙ ap (λ (o : Option Change). unwrap_or (option_map (λ (c : Change). c.version) o) 0)
+    (last_behind None k.others ring.rows.items ∙ last_at (last_or None k.others) ring.rows.items (deque_len ring.rows - 1) x long is))
+
+none_before : (o r : ℕ) → (0 < o → r ≡ 1024) → r ≡ 0 → o ≡ 0
+none_before zero r full none = refl
+none_before (suc o) r full none = let is : r ≡ 1024 = full (omega arith) in absurd (omega (arith, is, none))
+
+of_none : (all others rows : List Change) → all ≡ others ++ rows → length others ≡ 0 → length rows ≡ 0 → 0 ≡ last_version all
+of_none all [] [] are o r = sym (ap last_version are)
+of_none all (c ∷ cs) rows are o r = absurd (omega (arith, o))
+of_none all [] (c ∷ cs) are o r = absurd (omega (arith, r))
+
+pub last_of_none : (ring : Changes) (all : List Change) → KeepsNewest ring all → deque_len ring.rows ≡ 0 → 0 ≡ last_version all
+last_of_none ring all k none =
+    let empty : length ring.rows.items ≡ 0 = omega (arith, none, k.counted) in
+    of_none all k.others ring.rows.items k.are (none_before (length k.others) (length ring.rows.items) k.full empty) empty

@@ -2,10 +2,10 @@
 //!
 //! Defined in: `specs/Meaning/Answers.antt`.
 //! Tested in: `lg_status_tests/src/answer.rt`, `lg_status_tests/src/refused_memory.rt`.
-ghost use Rattle.std.specs.Prelude.{◌≡◌, IfOk, List, map, string_bytes};
+ghost use Rattle.std.specs.Prelude.{◌≡◌, IfOk, List, string_bytes};
 ghost use Rattle.std.specs.Option.{option_map};
-ghost use Rattle.lg_status.specs.Meaning.Answers.{answer_to, answer_value, error_answer, health_answer, health_code};
-ghost use Rattle.lg_status.specs.Meaning.Answers.{media_type, member_answer, record_named, route_answer};
+ghost use Rattle.lg_status.specs.Meaning.Answers.{answer_to, answer_value, error_answer, found_answer, health_answer};
+ghost use Rattle.lg_status.specs.Meaning.Answers.{health_status, member_answer, record_named, route_answer};
 ghost use Rattle.lg_status.specs.Meaning.Changes.{all_changes, Recorded};
 ghost use Rattle.lg_status.specs.Support.Kept.{HasRecorded};
 
@@ -18,65 +18,31 @@ use crate::page::page_body;
 use crate::reason::RouteFault;
 use crate::ring::Changes;
 use crate::route::{Route, route_of};
-use crate::snapshot::{Setup, Snapshot};
+use crate::snapshot::{ShownConfig, Snapshot};
+use lg_http::{Answer, Kind, Status};
 use lg_rules::{Name, Record};
 use std::alloc::{AllocError, Global};
 
-/// What a body is.
-#[derive(Clone, Copy, Debug, PartialEq, Eq)]
-pub enum ContentType {
-    /// JSON.
-    Json,
-    /// The metrics, as Prometheus reads them.
-    Metrics,
-    /// HTML.
-    Html,
-}
-
-impl ContentType {
-    /// The value of the field `content-type`.
-    pub fn media_type(self) -> &'static str
-        ensures { result.now ≡ media_type self }
-    {
-        match self {
-            ContentType::Json => "application/json",
-            ContentType::Metrics => "text/plain; version=0.0.4; charset=utf-8",
-            ContentType::Html => "text/html; charset=utf-8",
-        }
-    }
-}
-
-/// An answer.
-#[derive(Debug, Drop)]
-pub struct Answer {
-    /// The status code: 200, 400, 404 or 503.
-    pub code: u16,
-    /// What the body is.
-    pub content: ContentType,
-    /// The body.
-    pub body: String,
-}
-
-/// An answer with the code 200.
-fn found(content: ContentType, body: String) -> Answer
-    ensures { result ≡ record { code = 200; content = content; body = body } }
+/// An answer with the status 200.
+fn found(kind: Kind, body: String) -> Answer
+    ensures { answer_value result ≡ found_answer kind (string_bytes body) }
 {
     Answer {
-        code: 200,
-        content,
-        body,
+        status: Status::Fine,
+        kind,
+        body: body.into_bytes(),
     }
 }
 
 /// An answer with a fault in words.
-fn error_answer(alloc: Global, code: u16, reason: &str) -> Result<Answer, AllocError>
-    ensures { IfOk result (λ answer. answer_value answer ≡ error_answer code reason.now) }
+fn error_answer(alloc: Global, status: Status, reason: &str) -> Result<Answer, AllocError>
+    ensures { IfOk result (λ answer. answer_value answer ≡ error_answer status reason.now) }
 {
     let body = error_body(alloc, reason)?;
     Ok(Answer {
-        code,
-        content: ContentType::Json,
-        body,
+        status,
+        kind: Kind::Json,
+        body: body.into_bytes(),
     })
 }
 
@@ -94,17 +60,21 @@ fn member_answer(alloc: Global, snapshot: &Snapshot, name: &Name) -> Result<Answ
     match record_named(name, &snapshot.records) {
         Some(member) => {
             let body = member_body(alloc, snapshot.version, member)?;
-            Ok(found(ContentType::Json, body))
+            Ok(found(Kind::Json, body))
         }
-        None => error_answer(alloc, 404, "no member of this name is known"),
+        None => error_answer(alloc, Status::NotFound, "no member of this name is known"),
     }
 }
 
-/// The status code of the health: 503 if this member is ousted, so that a load balancer can read it alone.
-fn health_code(ousted: bool) -> u16
-    ensures { result ≡ health_code ousted }
+/// The status of the health: 503 if this member is ousted, so that a load balancer can read it alone.
+fn health_status(ousted: bool) -> Status
+    ensures { result ≡ health_status ousted }
 {
-    if ousted { 503 } else { 200 }
+    if ousted {
+        Status::Unavailable
+    } else {
+        Status::Fine
+    }
 }
 
 /// The answer for the health.
@@ -113,9 +83,9 @@ fn health_answer(alloc: Global, snapshot: &Snapshot) -> Result<Answer, AllocErro
 {
     let body = health_body(alloc, snapshot)?;
     Ok(Answer {
-        code: health_code(snapshot.ousted),
-        content: ContentType::Json,
-        body,
+        status: health_status(snapshot.ousted),
+        kind: Kind::Json,
+        body: body.into_bytes(),
     })
 }
 
@@ -125,34 +95,34 @@ fn route_answer(
     alloc: Global,
     snapshot: &Snapshot,
     changes: &Changes,
-    setup: &Setup,
+    setup: &ShownConfig,
     route: Route,
 ) -> Result<Answer, AllocError>
     ensures { (looks : List Recorded) → HasRecorded changes.now looks → IfOk result (λ answer.
         answer_value answer ≡ route_answer snapshot.now (all_changes looks) setup.now route) }
 {
     match route {
-        Route::Page => Ok(found(ContentType::Html, page_body(alloc, snapshot)?)),
+        Route::Page => Ok(found(Kind::Html, page_body(alloc, snapshot)?)),
         Route::Members(kind) => {
             let body = members_body(alloc, snapshot, kind)?;
-            Ok(found(ContentType::Json, body))
+            Ok(found(Kind::Json, body))
         }
         Route::Member(name) => member_answer(alloc, snapshot, &name),
         Route::Health => health_answer(alloc, snapshot),
-        Route::Changes(asked) => {
-            let body = changes_body(alloc, snapshot, changes, asked.after)?;
-            Ok(found(ContentType::Json, body))
+        Route::Changes(wait) => {
+            let body = changes_body(alloc, snapshot, changes, wait.after)?;
+            Ok(found(Kind::Json, body))
         }
-        Route::Config => Ok(found(ContentType::Json, config_body(alloc, setup)?)),
-        Route::Metrics => Ok(found(ContentType::Metrics, metrics_body(alloc, snapshot)?)),
+        Route::Config => Ok(found(Kind::Json, config_body(alloc, setup)?)),
+        Route::Metrics => Ok(found(Kind::Metrics, metrics_body(alloc, snapshot)?)),
     }
 }
 
-/// The answer to a request for a target, from one look at the node, the changes that were recorded, and the
+/// The answer to a request for a path and a query, from one look at the node, the changes that were recorded, and the
 /// configuration that runs. It is made at once: to wait for a change is the caller's, who finds by
-/// [`route_of`](crate::route_of) how long.
+/// [`wait_of`](crate::wait_of) how long.
 ///
-/// The code is 200; 404 if the path or the member is unknown; 400 if the name or the query is faulty; and 503 for the
+/// The status is 200; 404 if the path or the member is unknown; 400 if the name or the query is faulty; and 503 for the
 /// health if this member is ousted. The body of a fault is `{"error":"WORDS"}`. Memory is allocated for the body and
 /// for what it is made of. The only error is that it was refused.
 #[tactic(auto, unfolding(crate::specs::Meaning::Answers::answer_to))]
@@ -160,14 +130,16 @@ pub fn answer_to(
     alloc: Global,
     snapshot: &Snapshot,
     changes: &Changes,
-    setup: &Setup,
-    target: &[u8],
+    setup: &ShownConfig,
+    path: &[u8],
+    query: Option<&[u8]>,
 ) -> Result<Answer, AllocError>
     ensures { (looks : List Recorded) → HasRecorded changes.now looks → IfOk result (λ answer.
-        answer_value answer ≡ answer_to snapshot.now (all_changes looks) setup.now target.now) }
+        answer_value answer
+        ≡ answer_to snapshot.now (all_changes looks) setup.now path.now (option_map (λ bytes. bytes.now) query.entry)) }
 {
-    match route_of(target) {
+    match route_of(path, query) {
         Ok(route) => route_answer(alloc, snapshot, changes, setup, route),
-        Err(fault) => error_answer(alloc, fault.code(), fault.text()),
+        Err(fault) => error_answer(alloc, fault.status(), fault.text()),
     }
 }

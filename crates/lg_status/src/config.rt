@@ -1,18 +1,20 @@
 //! Writes the configuration as JSON.
 //!
-//! Defined in: `specs/Meaning/Bodies.antt`, `lg_timing/specs/Meaning/Keys.antt`.
+//! Defined in: `specs/Meaning/Bodies.antt`, `lg_timing/specs/Meaning/Keys.antt`, `lg_report/specs/Meaning/Records.antt`.
 //! Tested in: `lg_status_tests/src/answer.rt`.
 ghost use Rattle.std.specs.Prelude.{◌≡◌, ◌++◌, IfOk, OnOk, codes, string_bytes};
 ghost use Rattle.std.specs.List.{flat_map};
+ghost use Rattle.lg_report.specs.Meaning.Records.{addr_text};
 ghost use Rattle.lg_timing.specs.Meaning.Keys.{keys};
 ghost use Rattle.lg_status.specs.Meaning.Bodies.{config_body, config_front, key_field, number_field, own_field};
-ghost use Rattle.lg_status.specs.Meaning.Bodies.{seed_json};
+ghost use Rattle.lg_status.specs.Meaning.Bodies.{open_field, seed_json, status_field, status_value};
 ghost use Rattle.lg_status.specs.Meaning.Members.{behind_comma, comma_separated};
 
+use crate::health::put_truth;
 use crate::members::put_address;
-use crate::snapshot::{NodeNumber, Setup};
+use crate::snapshot::{NodeNumber, ShownConfig};
 use lg_check::text_of_name;
-use lg_rules::Name;
+use lg_rules::{Addr, Name};
 use lg_timing::{Config, KEYS, Key, Seed};
 use std::alloc::{AllocError, Global};
 
@@ -60,6 +62,46 @@ fn put_owns(numbers: &[NodeNumber], text: &mut String) -> Result<(), AllocError>
     Ok(())
 }
 
+/// Appends the text A.B.C.D:PORT of an address.
+fn put_addr_text(addr: &Addr, text: &mut String) -> Result<(), AllocError>
+    ensures { OnOk result (string_bytes text.new ≡ string_bytes text.old ++ addr_text addr.now) }
+{
+    let [a, b, c, d] = addr.octets;
+    let port = addr.port;
+    write!(text, "{a}.{b}.{c}.{d}:{port}")
+}
+
+/// Appends where the node answers over HTTP, or `null`.
+fn put_status(status: Option<Addr>, text: &mut String) -> Result<(), AllocError>
+    ensures { OnOk result (string_bytes text.new ≡ string_bytes text.old ++ status_value status) }
+{
+    match status {
+        Some(addr) => {
+            text.push_str("\"")?;
+            put_addr_text(&addr, text)?;
+            text.push_str("\"")
+        }
+        None => text.push_str("null"),
+    }
+}
+
+/// Appends where the node answers over HTTP, behind its key.
+#[tactic(auto, unfolding(crate::specs::Meaning::Bodies::status_field))]
+fn put_status_field(status: Option<Addr>, text: &mut String) -> Result<(), AllocError>
+    ensures { OnOk result (string_bytes text.new ≡ string_bytes text.old ++ status_field status) }
+{
+    text.push_str(",\"status\":")?;
+    put_status(status, text)
+}
+
+/// Appends whether the node may answer at an address that isn't loopback, behind its key.
+fn put_open_field(is_open: bool, text: &mut String) -> Result<(), AllocError>
+    ensures { OnOk result (string_bytes text.new ≡ string_bytes text.old ++ open_field is_open) }
+{
+    text.push_str(",\"status_open\":")?;
+    put_truth(is_open, text)
+}
+
 /// Appends a seed.
 #[tactic(auto, unfolding(crate::specs::Meaning::Bodies::seed_json))]
 fn put_seed(seed: &Seed, text: &mut String) -> Result<(), AllocError>
@@ -97,13 +139,15 @@ fn put_seeds(seeds: &[Seed], text: &mut String) -> Result<(), AllocError>
 
 /// The body of the configuration.
 #[tactic(auto, unfolding(crate::specs::Meaning::Bodies::config_body))]
-pub(crate) fn config_body(alloc: Global, setup: &Setup) -> Result<String, AllocError>
+pub(crate) fn config_body(alloc: Global, setup: &ShownConfig) -> Result<String, AllocError>
     ensures { IfOk result (λ body. string_bytes body ≡ config_body setup.now) }
 {
     let mut text = String::new(alloc);
     put_front(&setup.config, &mut text)?;
     put_keys(&setup.config, &KEYS, &mut text)?;
     put_owns(&setup.numbers, &mut text)?;
+    put_status_field(setup.status, &mut text)?;
+    put_open_field(setup.status_open, &mut text)?;
     text.push_str(",\"seeds\":[")?;
     put_seeds(&setup.config.seeds, &mut text)?;
     text.push_str("]}")?;

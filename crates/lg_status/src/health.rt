@@ -19,6 +19,13 @@ pub(crate) fn truth_word(truth: bool) -> &'static str
     if truth { "true" } else { "false" }
 }
 
+/// Appends the word for a truth in JSON.
+pub(crate) fn put_truth(truth: bool, text: &mut String) -> Result<(), AllocError>
+    ensures { OnOk result (string_bytes text.new ≡ string_bytes text.old ++ truth_text truth) }
+{
+    text.push_str(truth_word(truth))
+}
+
 /// Whether a member has failed.
 fn has_failed(member: &Record) -> bool
     ensures { result ≡ is_failed member.now.status }

@@ -1,10 +1,9 @@
-//! What a node answers when it is asked over HTTP: which route a target is, and the body of each answer. No input, no
-//! output and no threads: plain values are handed in, and a text is handed out.
+//! What a node answers when it is asked over HTTP: which route a path and a query are, and the body of each answer. No
+//! input, no output and no threads: plain values are handed in, and an answer is handed out.
 //!
-//! [`answer_to`] makes the answer to a request for a target, from a [`Snapshot`], the [`Changes`] that were recorded,
-//! and the [`Setup`]. [`route_of`] says which route the target is, and so how long a request for changes waits.
-//! `specs/Meaning` defines each route and each body, and the files there whose names end in `Examples` have worked
-//! ones.
+//! [`answer_to`] makes the answer to a request, from a [`Snapshot`], the [`Changes`] that were recorded, and the
+//! [`ShownConfig`]. [`route_of`] says which route a request has, and [`wait_of`] what it waits for. `specs/Meaning` defines
+//! each route and each body, and the files there whose names end in `Examples` have worked ones.
 #![tactic(auto)]
 
 mod answer;
@@ -22,9 +21,9 @@ mod ring;
 mod route;
 mod snapshot;
 
-pub use answer::{Answer, ContentType, answer_to};
-pub use query::{ChangesAsked, MAX_WAIT_MS};
+pub use answer::answer_to;
+pub use query::MAX_WAIT_MS;
 pub use reason::RouteFault;
 pub use ring::{Change, Changes, MAX_CHANGES};
-pub use route::{Route, StatusKind, route_of};
-pub use snapshot::{Counts, Drops, NodeNumber, Setup, Snapshot};
+pub use route::{Route, StatusKind, route_of, wait_of};
+pub use snapshot::{Counts, Drops, NodeNumber, ShownConfig, Snapshot};

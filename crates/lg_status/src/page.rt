@@ -42,16 +42,20 @@ const TABLE_FRONT: &str = "\
     <table>\n\
     <thead><tr><th>member<th>status<th>incarnation<th>address<th>accuser</thead>\n";
 
-/// What stands behind the rows of the members.
+/// What stands behind the rows of the members. Its script reads all members anew if an answer failed, or if the node
+/// began anew, and says so if there is no answer.
 const PAGE_END: &str = "\
     </tbody>\n\
     </table>\n\
     <h2>Changes</h2>\n\
+    <noscript><p>Load this page again to see changes.</p></noscript>\n\
     <ol id='changes' reversed></ol>\n\
     <script>\n\
     const members = document.getElementById('members')\n\
     const changes = document.getElementById('changes')\n\
+    const health = document.getElementById('health')\n\
     let version = Number(members.dataset.version)\n\
+    let lost = false\n\
     const place = (m) => m.address + ':' + m.port\n\
     function cells(m) {\n\
     \x20 return [m.name, m.status, m.incarnation, place(m), m.accuser ?? '']\n\
@@ -74,29 +78,42 @@ const PAGE_END: &str = "\
     \x20 changes.prepend(item)\n\
     \x20 while (changes.children.length > 100) changes.lastChild.remove()\n\
     }\n\
-    async function ask(path) {\n\
-    \x20 const answer = await fetch(path)\n\
-    \x20 return answer.json()\n\
+    async function ask(path, wait = 0) {\n\
+    \x20 const signal = AbortSignal.timeout(wait + 5000)\n\
+    \x20 const answer = await fetch(path, { cache: 'no-store', signal })\n\
+    \x20 const body = await answer.json()\n\
+    \x20 if (body.error) throw new Error(body.error)\n\
+    \x20 return body\n\
     }\n\
     function showHealth(h) {\n\
     \x20 const ousted = h.ousted ? ', ousted' : ''\n\
-    \x20 document.getElementById('health').textContent = 'score ' + h.score +\n\
-    \x20   ', incarnation ' + h.incarnation + ', ' + h.live + ' of ' + h.known + ' members live' + ousted\n\
+    \x20 health.textContent = 'score ' + h.score + ', incarnation ' + h.incarnation +\n\
+    \x20   ', ' + h.live + ' of ' + h.known + ' members live' + ousted\n\
+    }\n\
+    async function readAll() {\n\
+    \x20 const all = await ask('/v1/members')\n\
+    \x20 members.replaceChildren()\n\
+    \x20 all.members.forEach(show)\n\
+    \x20 version = all.version\n\
     }\n\
     async function follow() {\n\
-    \x20 const news = await ask('/v1/changes?after=' + version + '&wait_ms=20000')\n\
-    \x20 if (news.version < version) location.reload()\n\
+    \x20 if (lost) await readAll()\n\
+    \x20 lost = false\n\
+    \x20 showHealth(await ask('/v1/health'))\n\
+    \x20 const news = await ask('/v1/changes?after=' + version + '&wait_ms=20000', 20000)\n\
+    \x20 lost = news.version < version\n\
     \x20 if (news.missed) members.replaceChildren()\n\
     \x20 news.changes.forEach(show)\n\
-    \x20 news.changes.forEach(tell)\n\
+    \x20 if (!news.missed) news.changes.forEach(tell)\n\
     \x20 version = news.version\n\
-    \x20 showHealth(await ask('/v1/health'))\n\
     }\n\
     async function run() {\n\
     \x20 for (;;) {\n\
     \x20   try {\n\
     \x20     await follow()\n\
     \x20   } catch (fault) {\n\
+    \x20     if (lost) health.textContent = 'no answer'\n\
+    \x20     lost = true\n\
     \x20     await new Promise((go) => setTimeout(go, 1000))\n\
     \x20   }\n\
     \x20 }\n\
@@ -266,7 +283,7 @@ fn put_rows(members: &[Record], text: &mut String) -> Result<(), AllocError>
     Ok(())
 }
 
-/// The body of the page. Memory is allocated for the text, of some 2,700 bytes and 148 at most for each member.
+/// The body of the page. Memory is allocated for the text, of some 3,100 bytes and 148 at most for each member.
 #[tactic(auto, unfolding(crate::specs::Meaning::Page::page_body))]
 pub(crate) fn page_body(alloc: Global, snapshot: &Snapshot) -> Result<String, AllocError>
     ensures { IfOk result (λ body. string_bytes body ≡ page_body snapshot.now) }

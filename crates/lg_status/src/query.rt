@@ -7,19 +7,11 @@ ghost use Rattle.std.specs.Option.{option_map};
 ghost use Rattle.lg_status.specs.Meaning.Queries.{changes_asked, first_of_two, pair_said, pairs_said, two_pairs_said};
 ghost use Rattle.lg_status.specs.Meaning.Queries.{value_said};
 
+use lg_http::Wait;
 use lg_text::{cut_at, number_in, number_within};
 
 /// The longest wait for a change, in milliseconds: 30,000 (this project's choice).
 pub const MAX_WAIT_MS: u64 = 30_000;
-
-/// Which changes are asked for.
-#[derive(Clone, Copy, Debug, Default, PartialEq, Eq)]
-pub struct ChangesAsked {
-    /// The version behind which they are, 0 to 9,999,999,999,999,999.
-    pub after: u64,
-    /// How long to wait if there are none, in milliseconds: 0 to [`MAX_WAIT_MS`].
-    pub wait_ms: u64,
-}
 
 /// What the pairs of a query said so far.
 #[derive(Clone, Copy)]
@@ -101,15 +93,15 @@ fn pairs_said(query: &[u8]) -> Option<Said>
     two_pairs_said(query)
 }
 
-/// Which changes a query asks for: `after=V` and `wait_ms=W`, each at most once and in any order, with an `&` between
-/// them. What isn't said is 0. V has 1 to 16 decimal digits. W is a number of at most [`MAX_WAIT_MS`]. None if the
-/// query is anything else.
+/// Which changes a query asks for, and how long to wait if there are none: `after=V` and `wait_ms=W`, each at most once
+/// and in any order, with an `&` between them. What isn't said is 0. V has 1 to 16 decimal digits. W is a number of at
+/// most [`MAX_WAIT_MS`]. None if the query is anything else.
 #[tactic(auto, unfolding(crate::specs::Meaning::Queries::changes_asked))]
-pub(crate) fn changes_asked(query: &[u8]) -> Option<ChangesAsked>
+pub(crate) fn changes_asked(query: &[u8]) -> Option<Wait>
     ensures { result ≡ changes_asked query.now }
 {
     let said = pairs_said(query)?;
-    Some(ChangesAsked {
+    Some(Wait {
         after: said.after.unwrap_or(0),
         wait_ms: said.wait_ms.unwrap_or(0),
     })

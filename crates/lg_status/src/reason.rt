@@ -1,13 +1,14 @@
-//! Why a target is no route.
+//! Why a request has no route.
 //!
 //! Defined in: `specs/Meaning/Reasons.antt`.
 //! Tested in: `lg_status_tests/src/route.rt`.
 ghost use Rattle.std.specs.Prelude.{◌≡◌};
-ghost use Rattle.lg_status.specs.Meaning.Reasons.{reason_text, status_code};
+ghost use Rattle.lg_status.specs.Meaning.Reasons.{fault_status, reason_text};
 
+use lg_http::Status;
 use thiserror::Error;
 
-/// Why a target is no route.
+/// Why a request has no route.
 #[derive(Clone, Copy, Debug, PartialEq, Eq, Error)]
 pub enum RouteFault {
     /// The path is none of those that there are.
@@ -28,16 +29,16 @@ pub enum RouteFault {
 }
 
 impl RouteFault {
-    /// The status code of the answer: 404 if the path is unknown, or else 400 (RFC 9110, sections 15.5.1 and 15.5.5).
-    pub fn code(self) -> u16
-        ensures { result ≡ status_code self }
+    /// The status of the answer: 404 if the path is unknown, or else 400 (RFC 9110, sections 15.5.1 and 15.5.5).
+    pub fn status(self) -> Status
+        ensures { result ≡ fault_status self }
     {
         match self {
-            RouteFault::UnknownPath => 404,
+            RouteFault::UnknownPath => Status::NotFound,
             RouteFault::NoName
             | RouteFault::NoQuery
             | RouteFault::BadStatus
-            | RouteFault::BadChanges => 400,
+            | RouteFault::BadChanges => Status::BadRequest,
         }
     }
 

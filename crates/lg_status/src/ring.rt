@@ -9,7 +9,8 @@ ghost use Rattle.lg_rules.specs.Meaning.Claim.{name_of};
 ghost use Rattle.lg_rules.specs.Meaning.Rows.{name_cmp, row_at, Rises};
 ghost use Rattle.lg_rules.specs.Meaning.View.{changed, is_row};
 ghost use Rattle.lg_status.specs.declared.ring.Change.{Change};
-ghost use Rattle.lg_status.specs.Meaning.Changes.{all_changes, change_at, changes_after, is_after, Recorded};
+ghost use Rattle.lg_status.specs.Meaning.Changes.{all_changes, change_at, changes_after, is_after};
+ghost use Rattle.lg_status.specs.Meaning.Changes.{last_version, Recorded};
 ghost use Rattle.lg_status.specs.Support.Kept.{HasRecorded, KeepsNewest};
 
 use lg_rules::{Claim, Record, index_of};
@@ -133,6 +134,17 @@ impl Changes {
             } ∷ []) }
     {
         self.keep_changed(told, found, version, moment);
+    }
+
+    /// The version of the newest change: how many events the look was after that found it. 0 if no look found one. A
+    /// request for the changes behind a version has some to get if this is greater.
+    pub fn last_version(&self) -> u64
+        ensures { (looks : List Recorded) → HasRecorded self.now looks → result ≡ last_version (all_changes looks) }
+    {
+        match self.rows.back() {
+            Some(change) => change.version,
+            None => 0,
+        }
     }
 
     /// The changes behind a version among those that are kept.

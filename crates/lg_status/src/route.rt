@@ -1,16 +1,18 @@
-//! Which route a target is.
+//! Which route a request has.
 //!
 //! Defined in: `specs/Meaning/Routes.antt`, `specs/Meaning/Places.antt`, `specs/Meaning/Queries.antt`.
 //! Tested in: `lg_status_tests/src/route.rt`.
 ghost use Rattle.std.specs.Prelude.{◌≡◌};
+ghost use Rattle.std.specs.Option.{option_map};
 ghost use Rattle.lg_status.specs.Meaning.Routes.{changes_route, has_kind_query, is_kind_of, kind_query, member_route};
 ghost use Rattle.lg_status.specs.Meaning.Routes.{members_route, path_route, place_route, plain_route, route_of};
+ghost use Rattle.lg_status.specs.Meaning.Routes.{wait_of};
 
 use crate::place::{Place, member_name};
-use crate::query::{ChangesAsked, changes_asked};
+use crate::query::changes_asked;
 use crate::reason::RouteFault;
+use lg_http::Wait;
 use lg_rules::{Name, Status};
-use lg_text::cut_at;
 
 /// A status without its accuser.
 #[derive(Clone, Copy, Debug, PartialEq, Eq)]
@@ -41,8 +43,8 @@ pub enum Route {
     Member(Name),
     /// The health, `/v1/health`.
     Health,
-    /// The changes behind a version, `/v1/changes`.
-    Changes(ChangesAsked),
+    /// The changes behind a version, `/v1/changes`, and how long to wait if there are none.
+    Changes(Wait),
     /// The configuration, `/v1/config`.
     Config,
     /// The metrics, `/metrics`.
@@ -123,7 +125,7 @@ fn changes_route(query: &[u8]) -> Result<Route, RouteFault>
     ensures { result ≡ changes_route query.now }
 {
     match changes_asked(query) {
-        Some(asked) => Ok(Route::Changes(asked)),
+        Some(wait) => Ok(Route::Changes(wait)),
         None => Err(RouteFault::BadChanges),
     }
 }
@@ -155,8 +157,8 @@ fn path_route(path: &[u8], query: &[u8]) -> Result<Route, RouteFault>
     }
 }
 
-/// Which route the target of a request is, or why it is none. The target is a path, with a query behind the first `?`
-/// if it has one (RFC 9112, section 3.2.1, origin form). An empty query is as none.
+/// Which route a request has, or why it has none, by the two parts of its target: the path, and the query behind the
+/// first `?` if there is one (RFC 9112, section 3.2.1, origin form). An empty query is as none.
 ///
 /// | Path | Query |
 /// |---|---|
@@ -168,9 +170,19 @@ fn path_route(path: &[u8], query: &[u8]) -> Result<Route, RouteFault>
 /// No byte of these needs percent-encoding, and none is decoded: a `%` stands in no path, name or number. Paths and
 /// names differ if their cases do. The error is [`RouteFault::UnknownPath`] exactly if the path is none of these.
 #[tactic(auto, unfolding(crate::specs::Meaning::Routes::route_of))]
-pub fn route_of(target: &[u8]) -> Result<Route, RouteFault>
-    ensures { result ≡ route_of target.now }
+pub fn route_of(path: &[u8], query: Option<&[u8]>) -> Result<Route, RouteFault>
+    ensures { result ≡ route_of path.now (option_map (λ bytes. bytes.now) query.entry) }
 {
-    let (path, query) = cut_at(target, b'?');
     path_route(path, query.unwrap_or(&[]))
+}
+
+/// What a request for a path and a query waits for, if it waits: that of `/v1/changes` waits for a change behind its
+/// version. None for any other request, and for one that has no route.
+pub fn wait_of(path: &[u8], query: Option<&[u8]>) -> Option<Wait>
+    ensures { result ≡ wait_of path.now (option_map (λ bytes. bytes.now) query.entry) }
+{
+    match route_of(path, query) {
+        Ok(Route::Changes(wait)) => Some(wait),
+        _ => None,
+    }
 }

@@ -3,7 +3,7 @@
 //! Defined in: this file.
 //! Tested in: `lg_status_tests/src/answer.rt`.
 
-use lg_rules::{Incarnation, Name, Record};
+use lg_rules::{Addr, Incarnation, Name, Record};
 use lg_timing::{Config, Moment};
 
 /// How many datagrams a node dropped for one fault of their bytes.
@@ -82,9 +82,13 @@ pub struct NodeNumber {
 
 /// The configuration that a node runs with, defaults filled in.
 #[derive(Debug, Drop)]
-pub struct Setup {
+pub struct ShownConfig {
     /// The configuration of its member.
     pub config: Config,
     /// The numbers of the node's own, in the order in which they are shown.
     pub numbers: Vec<NodeNumber>,
+    /// Where the node answers over HTTP. None if it doesn't.
+    pub status: Option<Addr>,
+    /// Whether it may answer at an address that isn't loopback.
+    pub status_open: bool,
 }

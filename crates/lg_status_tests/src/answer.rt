@@ -1,4 +1,4 @@
-//! The answer to each target: its code, its media type and its body.
+//! The answer to each target: its status, its media type and its body.
 use crate::bodies::{ROWS, is_of};
 
 /// Each row.

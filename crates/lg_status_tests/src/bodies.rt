@@ -1,7 +1,8 @@
 //! What b has to answer to each target, by the form of each body and by what b knows.
 use crate::nodes::Node::{self, Busy, Ousted, Usual};
 use Body::{Lines, Whole};
-use lg_status::Answer;
+use lg_http::Answer;
+use std::str;
 
 /// JSON (RFC 8259).
 const JSON: &str = "application/json";
@@ -91,7 +92,16 @@ const MISSED: &str =
 const CONFIG: &str =
     "{\"name\":\"b\",\"address\":\"127.0.0.1\",\"port\":7102,\"interval_ms\":2000,\"timeout_ms\":500,\
     \"indirect\":3,\"max_score\":8,\"alpha\":5,\"beta\":6,\"confirmations\":3,\"lambda\":4,\"nack_thousandths\":800,\
-    \"history_limit\":20000,\"wire\":1,\"dice\":1,\"pull_ms\":30000,\"stall_ms\":100,\"seeds\":[\
+    \"history_limit\":20000,\"wire\":1,\"dice\":1,\"pull_ms\":30000,\"stall_ms\":100,\
+    \"status\":\"127.0.0.1:8946\",\"status_open\":false,\"seeds\":[\
+    {\"name\":\"a\",\"address\":\"127.0.0.1\",\"port\":7101},\
+    {\"name\":\"d\",\"address\":\"127.0.0.1\",\"port\":7104}]}";
+
+const CLOSED_CONFIG: &str =
+    "{\"name\":\"b\",\"address\":\"127.0.0.1\",\"port\":7102,\"interval_ms\":2000,\"timeout_ms\":500,\
+    \"indirect\":3,\"max_score\":8,\"alpha\":5,\"beta\":6,\"confirmations\":3,\"lambda\":4,\"nack_thousandths\":800,\
+    \"history_limit\":20000,\"wire\":1,\"dice\":1,\"pull_ms\":30000,\"stall_ms\":100,\
+    \"status\":null,\"status_open\":true,\"seeds\":[\
     {\"name\":\"a\",\"address\":\"127.0.0.1\",\"port\":7101},\
     {\"name\":\"d\",\"address\":\"127.0.0.1\",\"port\":7104}]}";
 
@@ -184,6 +194,7 @@ pub const ROWS: &[Row] = &[
     (Busy, "/v1/changes?after=6", 200, JSON, Whole(MISSED)),
     (Busy, "/v1/changes?after=7", 200, JSON, Whole(THREE)),
     (Usual, "/v1/config", 200, JSON, Whole(CONFIG)),
+    (Ousted, "/v1/config", 200, JSON, Whole(CLOSED_CONFIG)),
     (Usual, "/metrics", 200, TEXT, Lines(METRICS)),
     (Ousted, "/metrics", 200, TEXT, Lines(OUSTED_METRICS)),
     (Usual, "/", 200, HTML, Lines(PAGE)),
@@ -195,6 +206,7 @@ pub const ROWS: &[Row] = &[
         JSON,
         Whole("{\"error\":\"there is nothing at this path\"}"),
     ),
+    (Usual, "/v1/health?", 200, JSON, Whole(HEALTH)),
     (
         Usual,
         "/v1/health?a",
@@ -227,8 +239,15 @@ impl Body {
     }
 }
 
+/// The body of an answer as a text.
+pub fn text_of(answer: &Answer) -> Option<&str> {
+    str::from_utf8(&answer.body).ok()
+}
+
 /// Whether an answer is that of a row.
 pub fn is_of(answer: &Answer, row: &Row) -> bool {
     let (_, _, code, media, body) = *row;
-    answer.code == code && answer.content.media_type() == media && body.is_met(answer.body.as_str())
+    answer.status.number() == code
+        && answer.kind.words() == media
+        && text_of(answer).is_some_and(|text| body.is_met(text))
 }

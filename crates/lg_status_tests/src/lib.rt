@@ -18,3 +18,5 @@ mod refused_memory;
 mod ring;
 #[cfg(test)]
 mod route;
+#[cfg(test)]
+mod target;

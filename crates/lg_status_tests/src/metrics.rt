@@ -1,4 +1,5 @@
 //! The form of the metrics, which Prometheus and its conventions ask for.
+use crate::bodies::text_of;
 use crate::nodes::Node;
 
 /// Whether a line is a sample of a metric: its name, its labels if it has some, and its value.
@@ -40,8 +41,8 @@ fn first_wrong(text: &str) -> Option<&str> {
 #[test]
 fn form(rt: HostRuntime) {
     let answer = Node::Usual.answer(rt.alloc(), "/metrics");
-    let is_met = answer
-        .as_ref()
-        .is_ok_and(|answer| first_wrong(answer.body.as_str()).is_none());
+    let is_met = answer.as_ref().is_ok_and(|answer| text_of(answer).is_some_and(|text| first_wrong(
+        text,
+    ).is_none()));
     assert!(rt; is_met, "{answer:?}");
 }

@@ -1,7 +1,9 @@
 //! What b answers from: it knows that a is suspected by c, and that c has failed.
+use crate::target::parts_of;
+use lg_http::Answer;
 use lg_rules::{Record, Status};
 use lg_status::{
-    Answer, Changes, Counts, Drops, MAX_CHANGES, NodeNumber, Setup, Snapshot, answer_to,
+    Changes, Counts, Drops, MAX_CHANGES, NodeNumber, ShownConfig, Snapshot, answer_to,
 };
 use lg_testing::{at, claim, incarnation, letter, local};
 use lg_timing::{Config, Seed};
@@ -12,7 +14,7 @@ use std::alloc::{AllocError, Global};
 pub enum Node {
     /// It lives, and recorded three changes.
     Usual,
-    /// It is ousted.
+    /// It is ousted, and may answer at any address, but has none.
     Ousted,
     /// It recorded 1,024 changes of a at version 7, before the three.
     Busy,
@@ -23,7 +25,7 @@ pub enum Node {
 pub struct Sources {
     snapshot: Snapshot,
     changes: Changes,
-    setup: Setup,
+    setup: ShownConfig,
 }
 
 /// The record of a member at a port.
@@ -115,11 +117,14 @@ fn own(key: &'static str, value: u64) -> NodeNumber {
 }
 
 /// What b runs with.
-fn setup(alloc: Global) -> Result<Setup, AllocError> {
+fn setup(alloc: Global, node: Node) -> Result<ShownConfig, AllocError> {
+    let is_open = node == Node::Ousted;
     let numbers = [own("dice", 1), own("pull_ms", 30_000), own("stall_ms", 100)];
-    Ok(Setup {
+    Ok(ShownConfig {
         config: config(),
         numbers: Vec::from_array(alloc, numbers)?,
+        status: (!is_open).then_some(local(8946)),
+        status_open: is_open,
     })
 }
 
@@ -142,7 +147,7 @@ impl Node {
         Ok(Sources {
             snapshot: snapshot(alloc, self == Node::Ousted)?,
             changes: changes(alloc, older)?,
-            setup: setup(alloc)?,
+            setup: setup(alloc, self)?,
         })
     }
 
@@ -156,12 +161,14 @@ impl Node {
 impl Sources {
     /// The answer to a request for a target.
     pub fn answer(&self, alloc: Global, target: &str) -> Result<Answer, AllocError> {
+        let (path, query) = parts_of(target);
         answer_to(
             alloc,
             &self.snapshot,
             &self.changes,
             &self.setup,
-            target.as_bytes(),
+            path,
+            query,
         )
     }
 }

@@ -67,6 +67,18 @@ fn keeps_the_newest(rt: HostRuntime) {
     assert!(rt; MAX_CHANGES == 1024);
 }
 
+/// The version of the newest change, after so many looks. It is kept if older changes are forgotten.
+#[test]
+fn knows_the_newest(rt: HostRuntime) {
+    for looks in [0, 1, 3, 1024, 1025, 3000] {
+        let ring = ring_after(rt.alloc(), looks);
+        let is_met = ring
+            .as_ref()
+            .is_ok_and(|ring| ring.last_version() == u64::from(looks));
+        assert!(rt; is_met, "{looks}");
+    }
+}
+
 /// A record of the member named by a letter.
 #[derive(Clone, Copy, Debug)]
 enum Kind {

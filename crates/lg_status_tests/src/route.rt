@@ -1,13 +1,15 @@
-//! Which route each target is, and why others are none.
+//! Which route each target has, and why others have none.
+use crate::target::parts_of;
 use Route::{Changes, Config, Health, Member, Members, Metrics, Page};
 use RouteFault::{BadChanges, BadStatus, NoName, NoQuery, UnknownPath};
+use lg_http::Wait;
 use lg_status::StatusKind::{Alive, Failed, Suspect};
-use lg_status::{ChangesAsked, MAX_WAIT_MS, Route, RouteFault, route_of};
+use lg_status::{MAX_WAIT_MS, Route, RouteFault, route_of, wait_of};
 use lg_testing::name;
 
 /// The changes behind a version, with a wait in milliseconds.
 fn changes(after: u64, wait_ms: u64) -> Route {
-    Changes(ChangesAsked { after, wait_ms })
+    Changes(Wait { after, wait_ms })
 }
 
 /// The member with a name.
@@ -47,12 +49,13 @@ fn routes(rt: HostRuntime) {
         ("/metrics", Metrics),
     ];
     for (target, route) in rows {
-        assert_eq!(rt; route_of(target.as_bytes()), Ok(route), "{target}");
+        let (path, query) = parts_of(target);
+        assert_eq!(rt; route_of(path, query), Ok(route), "{target}");
     }
     assert!(rt; MAX_WAIT_MS == 30_000);
 }
 
-/// Targets that are no route, with the fault, its code and its words.
+/// Targets that have no route, with the fault.
 #[test]
 fn faults(rt: HostRuntime) {
     let rows = [
@@ -84,11 +87,33 @@ fn faults(rt: HostRuntime) {
         ("/v1/changes?after=1&wait_ms=2&x=3", BadChanges),
     ];
     for (target, fault) in rows {
-        assert_eq!(rt; route_of(target.as_bytes()), Err(fault), "{target}");
+        let (path, query) = parts_of(target);
+        assert_eq!(rt; route_of(path, query), Err(fault), "{target}");
     }
 }
 
-/// The code of each fault, and its words, which its message is too.
+/// Targets, and what a request for each waits for.
+#[test]
+fn waits(rt: HostRuntime) {
+    let rows = [
+        ("/v1/changes", Some((0, 0))),
+        ("/v1/changes?", Some((0, 0))),
+        ("/v1/changes?after=41", Some((41, 0))),
+        ("/v1/changes?after=41&wait_ms=30000", Some((41, 30_000))),
+        ("/v1/changes?after=41&wait_ms=30001", None),
+        ("/v1/changes/?after=41", None),
+        ("/v1/members?after=41", None),
+        ("/v1/members", None),
+        ("/", None),
+    ];
+    for (target, wanted) in rows {
+        let (path, query) = parts_of(target);
+        let wait = wait_of(path, query).map(|wait| (wait.after, wait.wait_ms));
+        assert_eq!(rt; wait, wanted, "{target}");
+    }
+}
+
+/// The status of each fault, and its words, which its message is too.
 #[test]
 fn words(rt: HostRuntime) {
     let rows = [
@@ -112,7 +137,7 @@ fn words(rt: HostRuntime) {
     ];
     for (fault, code, words) in rows {
         let message = format!(in rt.alloc(); "{fault}");
-        let is_met = fault.code() == code
+        let is_met = fault.status().number() == code
             && fault.text() == words
             && message.is_ok_and(|message| message.as_str() == words);
         assert!(rt; is_met, "{fault:?}");

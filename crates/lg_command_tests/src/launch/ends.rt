@@ -1,19 +1,21 @@
-//! Runs of nodes and of files, over writers that fail and while memory is refused.
+//! Runs of nodes and of files, over writers that fail.
+use crate::ports::{free_port, with_port};
 use crate::streams::Room;
 use lg_launch::{Wishes, run_bytes, run_file};
 use lg_testing::at;
-use std::alloc::Global;
+use std::alloc::{AllocError, Global};
 use std::net::Net;
-use std::rt;
+use std::random::RandomSource;
 use std::rt::Files;
 use std::sync::Wait;
 use std::sync::atomic::AtomicBool;
 use std::thread::Threads;
+use std::{io, rt};
 
 /// What is run for a millisecond.
 #[derive(Clone, Copy, Debug)]
 enum Source {
-    /// The bytes of a file.
+    /// The bytes of a file, in which `#` stands for a free port.
     Bytes(&'static str),
     /// The file at a path.
     Path(&'static str),
@@ -22,7 +24,7 @@ enum Source {
 use Source::{Bytes, Path};
 
 /// What is run; which call of the output fails, counted from 1, or 0 if none does; then the status, what is written
-/// and what is told.
+/// and what is told. What is written has `#` for the port too.
 type Row = (Source, usize, u8, &'static str, &'static str);
 
 /// What came of a run.
@@ -35,14 +37,14 @@ struct Outcome {
 
 /// Whether this was written, and nothing else. With an empty text, no call may have been made except up to the one
 /// that fails.
-fn has(room: &Room, text: &str) -> bool {
-    room.has(text.as_bytes()) && (!text.is_empty() || room.calls <= room.fails_at)
+fn has(room: &Room, text: &[u8]) -> bool {
+    room.has(text) && (!text.is_empty() || room.calls <= room.fails_at)
 }
 
 impl Outcome {
     /// Whether a run ended with this status, and wrote and told this.
-    fn is(&self, status: u8, written: &str, told: &str) -> bool {
-        self.status == status && has(&self.writer, written) && has(&self.faults, told)
+    fn is(&self, status: u8, written: &[u8], told: &str) -> bool {
+        self.status == status && has(&self.writer, written) && has(&self.faults, told.as_bytes())
     }
 }
 
@@ -59,44 +61,47 @@ fn wishes_of(source: Source) -> Wishes<'static> {
     }
 }
 
-/// Runs the node of a source over an output whose call with this number fails.
-fn run<R>(rt: &R, alloc: Global, source: Source, fails_at: usize) -> Outcome
+/// Runs the node of a source at a port, over an output whose call with this number fails. The error is refused memory.
+fn run<R>(
+    rt: &R,
+    alloc: Global,
+    source: Source,
+    port: u16,
+    fails_at: usize,
+) -> Result<Outcome, AllocError>
 where
-    R: Wait + Threads + Net + rt::Clock + Files + Sync,
+    R: Wait + Threads + Net + rt::Clock + Files + RandomSource + Sync,
 {
     let (mut writer, mut faults) = (Room::failing(fails_at), Room::failing(0));
     let (wishes, stop) = (wishes_of(source), AtomicBool::new(false));
     let (writer_of, faults_of) = (&mut writer, &mut faults);
     let status = match source {
         Bytes(text) => {
-            let bytes = text.as_bytes();
-            run_bytes(rt, alloc, bytes, &wishes, &stop, writer_of, faults_of)
+            let bytes = with_port(alloc, text, port)?;
+            run_bytes(rt, alloc, &bytes, &wishes, &stop, writer_of, faults_of)
         }
         Path(_) => run_file(rt, alloc, &wishes, &stop, writer_of, faults_of),
     };
-    Outcome {
+    Ok(Outcome {
         status,
         writer,
         faults,
-    }
+    })
 }
 
-/// How often a run is tried while its port is taken.
-const TRIES: usize = 1000;
+/// How often a row is tried, if another program has taken its port meanwhile.
+const TRIES: usize = 10;
 
-/// Runs a source as [`run`] does, and again while another program has its port for a moment.
-fn run_when_free<R>(rt: &R, alloc: Global, source: Source, fails_at: usize) -> Outcome
+/// Whether the run of a row at a free port ends as it should.
+fn ends_so<R>(rt: &R, alloc: Global, row: Row) -> io::Result<bool>
 where
-    R: Wait + Threads + Net + rt::Clock + Files + Sync,
+    R: Wait + Threads + Net + rt::Clock + Files + RandomSource + Sync,
 {
-    let mut outcome = run(rt, alloc, source, fails_at);
-    for _ in 0..TRIES {
-        if outcome.status != 5 {
-            return outcome;
-        }
-        outcome = run(rt, alloc, source, fails_at);
-    }
-    outcome
+    let (source, fails_at, status, written, told) = row;
+    let port = free_port(rt)?;
+    let outcome = run(rt, alloc, source, port, fails_at)?;
+    let written = with_port(alloc, written, port)?;
+    Ok(outcome.is(status, written.as_slice(), told))
 }
 
 /// A node alone and a seeded one. An output that fails at its first byte, at a later one, and at the flush after the
@@ -104,32 +109,26 @@ where
 /// empty path, a folder, an empty file and one without an end.
 const ROWS: [Row; 11] = [
     (
-        Bytes("name = \"b\"\nport = 17106"),
+        Bytes("name = \"b\"\nport = #"),
         0,
         0,
-        "record b alive 0 127.0.0.1:17106\n",
+        "record b alive 0 127.0.0.1:#\n",
         "",
     ),
     (
-        Bytes("name = \"b\"\nport = 17106\nseeds = [\"a@127.0.0.1:17199\"]"),
+        Bytes("name = \"b\"\nport = #\nseeds = [\"a@127.0.0.1:17199\"]"),
         0,
         0,
-        "record a alive 0 127.0.0.1:17199\nrecord b alive 0 127.0.0.1:17106\n",
+        "record a alive 0 127.0.0.1:17199\nrecord b alive 0 127.0.0.1:#\n",
         "",
     ),
-    (Bytes("name = \"b\"\nport = 17106"), 1, 1, "", "lg: write\n"),
+    (Bytes("name = \"b\"\nport = #"), 1, 1, "", "lg: write\n"),
+    (Bytes("name = \"b\"\nport = #"), 4, 1, "rec", "lg: write\n"),
     (
-        Bytes("name = \"b\"\nport = 17106"),
-        4,
-        1,
-        "rec",
-        "lg: write\n",
-    ),
-    (
-        Bytes("name = \"b\"\nport = 17106"),
+        Bytes("name = \"b\"\nport = #"),
         34,
         1,
-        "record b alive 0 127.0.0.1:17106\n",
+        "record b alive 0 127.0.0.1:#\n",
         "lg: write\n",
     ),
     (Path("/nowhere/b.toml"), 0, 1, "", "lg: read\n"),
@@ -152,19 +151,11 @@ const ROWS: [Row; 11] = [
     ),
 ];
 
-/// Each run ends as it should. If memory is refused, nothing but that is told, and the next run goes well.
+/// Each run ends as it should.
 #[test]
 fn have_their_statuses(rt: HostRuntime) {
     for row in ROWS {
-        let (source, fails_at, status, written, told) = row;
-        let mut outcome = run_when_free(&rt, rt.alloc(), source, fails_at);
-        if outcome.is(1, "", "lg: memory\n") {
-            outcome = run_when_free(&rt, rt.alloc(), source, fails_at);
-        }
-        assert!(rt;
-            outcome.is(status, written, told),
-            "{row:?}: {}",
-            outcome.status
-        );
+        let ends = (0..TRIES).any(|_| ends_so(&rt, rt.alloc(), row).is_ok_and(|ends| ends));
+        assert!(rt; ends, "{row:?}");
     }
 }

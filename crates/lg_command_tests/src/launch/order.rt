@@ -11,6 +11,7 @@ use lg_text::RunFault;
 use lg_timing::Config;
 use std::alloc::Global;
 use std::net::Net;
+use std::random::RandomSource;
 use std::rt;
 use std::sync::Wait;
 use std::sync::atomic::AtomicBool;
@@ -172,36 +173,30 @@ fn first_untold(alloc: Global, ran: &mut Result<NodeEnd, NodeFault>, rows: &[Row
 }
 
 /// How often a run is tried while it fails.
-const TRIES: usize = 1000;
+const TRIES: usize = 10;
 
-/// A run of a node that ends at once and tells nothing.
+/// A run of a node, at a port that the system gives it, that ends at once and tells nothing.
 fn run_at_once<R>(rt: &R, alloc: Global) -> Result<NodeEnd, NodeFault>
 where
-    R: Wait + Threads + Net + rt::Clock + Sync,
+    R: Wait + Threads + Net + rt::Clock + RandomSource + Sync,
 {
     let settings = Settings {
         dice: 1,
         pull_ms: 0,
         stall_ms: 0,
         follow: false,
+        status: None,
+        status_open: false,
     };
     let stop = AtomicBool::new(false);
     let mut unread = Room::failing(0);
-    run_node(
-        rt,
-        alloc,
-        &config(17110),
-        &settings,
-        at(0),
-        &stop,
-        &mut unread,
-    )
+    run_node(rt, alloc, &config(0), &settings, at(0), &stop, &mut unread)
 }
 
 /// A node that ran. A run fails if memory is refused, and while another program has the port for a moment.
 fn ran<R>(rt: &R, alloc: Global) -> Result<NodeEnd, NodeFault>
 where
-    R: Wait + Threads + Net + rt::Clock + Sync,
+    R: Wait + Threads + Net + rt::Clock + RandomSource + Sync,
 {
     let mut ran = run_at_once(rt, alloc);
     for _ in 0..TRIES {

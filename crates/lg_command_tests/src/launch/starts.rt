@@ -1,16 +1,18 @@
 //! What is announced of a node before it starts.
+use crate::ports::{free_port, with_port};
 use crate::streams::Room;
 use lg_launch::{Wishes, run_bytes};
 use lg_testing::at;
-use std::alloc::{AllocError, Global};
+use std::alloc::Global;
 use std::net::Net;
-use std::rt;
+use std::random::RandomSource;
 use std::sync::Wait;
 use std::sync::atomic::AtomicBool;
 use std::thread::Threads;
+use std::{io, rt};
 
 /// Further lines of a file; the moment at which its node ends, or None for one that is told to stop before it starts;
-/// whether it follows; and what is told.
+/// whether it follows; and what is told. Each `#` stands for the node's port.
 type Row = (&'static str, Option<u64>, bool, &'static str);
 
 /// A node that a time ends is announced only if it follows.
@@ -20,29 +22,30 @@ const ROWS: [Row; 4] = [
         "",
         Some(1),
         true,
-        "lg: b at 127.0.0.1:17111, file b.toml, wire 1, 0 seeds\n",
+        "lg: b at 127.0.0.1:#, file b.toml, wire 1, 0 seeds\n",
     ),
     (
         "wire = 2\nseeds = [\"a@127.0.0.1:17199\"]",
         None,
         false,
-        "lg: b at 127.0.0.1:17111, file b.toml, wire 2, 1 seed\n",
+        "lg: b at 127.0.0.1:#, file b.toml, wire 2, 1 seed\n",
     ),
     (
         "seeds = [\"a@127.0.0.1:17199\", \"c@1.2.3.4:5\"]",
         None,
         true,
-        "lg: b at 127.0.0.1:17111, file b.toml, wire 1, 2 seeds\n",
+        "lg: b at 127.0.0.1:#, file b.toml, wire 1, 2 seeds\n",
     ),
 ];
 
-/// Runs the node of a row, and gives its status and what was told.
-fn run<R>(rt: &R, alloc: Global, row: Row) -> Result<(u8, Room), AllocError>
+/// Runs the node of a row at a free port. Returns whether it ended with status 0, and told what the row says.
+fn runs<R>(rt: &R, alloc: Global, row: Row) -> io::Result<bool>
 where
-    R: Wait + Threads + Net + rt::Clock + Sync,
+    R: Wait + Threads + Net + rt::Clock + RandomSource + Sync,
 {
-    let (line, until, follow, _) = row;
-    let text = format!(in alloc; "name = \"b\"\nport = 17111\n{line}\n")?;
+    let (line, until, follow, told) = row;
+    let port = free_port(rt)?;
+    let text = format!(in alloc; "name = \"b\"\nport = {port}\n{line}\n")?;
     let wishes = Wishes {
         file: "b.toml",
         until: until.map(at),
@@ -59,25 +62,17 @@ where
         &mut writer,
         &mut faults,
     );
-    Ok((status, faults))
+    Ok(status == 0 && faults.has(with_port(alloc, told, port)?.as_slice()))
 }
 
-/// How often a run is tried while its port is taken.
-const TRIES: usize = 1000;
+/// How often a run is tried, if another program has taken its port meanwhile.
+const TRIES: usize = 10;
 
 /// Each node is announced as it should be, and ends with status 0.
 #[test]
 fn are_announced(rt: HostRuntime) {
     for row in ROWS {
-        let mut done = false;
-        for _ in 0..TRIES {
-            if let Ok((status, faults)) = run(&rt, rt.alloc(), row) {
-                done = done || status == 0 && faults.has(row.3.as_bytes());
-            }
-            if done {
-                break;
-            }
-        }
+        let done = (0..TRIES).any(|_| runs(&rt, rt.alloc(), row).is_ok_and(|done| done));
         assert!(rt; done, "{row:?}");
     }
 }

@@ -80,7 +80,7 @@ const ENDS: [(Of, u8, &str); 24] = [
 ];
 
 /// Each fault of a file with its number and its line.
-const FAULTS: [(FileFault, u8, &str); 17] = [
+const FAULTS: [(FileFault, u8, &str); 20] = [
     (
         FileFault::Config(ConfigFault::Interval),
         1,
@@ -118,6 +118,9 @@ const FAULTS: [(FileFault, u8, &str); 17] = [
     (FileFault::Config(ConfigFault::Wire), 15, "lg: config 15\n"),
     (FileFault::Pull, 16, "lg: config 16\n"),
     (FileFault::Stall, 17, "lg: config 17\n"),
+    (FileFault::Status, 18, "lg: config 18\n"),
+    (FileFault::StatusOpen, 19, "lg: config 19\n"),
+    (FileFault::StatusNotLoopback, 20, "lg: config 20\n"),
 ];
 
 /// Each end has its status and its line, and each fault of a file its number, the status 3 and its line.

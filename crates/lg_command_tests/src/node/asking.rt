@@ -10,6 +10,7 @@ use lg_timing::{Config, Seed};
 use std::alloc::Global;
 use std::io;
 use std::net::{Ipv4Addr, Net, UdpSocket};
+use std::random::RandomSource;
 use std::rt::Clock;
 use std::sync::Wait;
 use std::sync::atomic::AtomicBool;
@@ -112,7 +113,7 @@ fn asked(closed: &Result<Closed, CloseFault>) -> Option<(Addr, Addr)> {
 /// How the ticking loop of a node ended, and whom the node asked, in order.
 fn ran<R>(rt: &R, alloc: Global, config: &Config) -> Option<(End, Option<(Addr, Addr)>)>
 where
-    R: Threads + Wait + Net + Clock + Sync,
+    R: Threads + Wait + Net + Clock + RandomSource + Sync,
 {
     config.check().ok()?;
     let settings = Settings {
@@ -120,6 +121,8 @@ where
         pull_ms: 0,
         stall_ms: 0,
         follow: false,
+        status: None,
+        status_open: false,
     };
     let stop = AtomicBool::new(false);
     let mut unread = Room::failing(0);
@@ -162,7 +165,7 @@ impl Group {
     /// Whether b asks both seeds in order, if something can be sent to the first and to the second or not.
     fn is_asked<R>(&self, rt: &R, alloc: Global, first: bool, second: bool, unsent: u64) -> bool
     where
-        R: Threads + Wait + Net + Clock + Sync,
+        R: Threads + Wait + Net + Clock + RandomSource + Sync,
     {
         let (one, two) = (self.one.port_if(first), self.two.port_if(second));
         let seen = ran(rt, alloc, &config(self.own, one, two));

@@ -5,7 +5,7 @@ ghost use Rattle.std.specs.Prelude.{◌≡◌, ◌+◌, MatchBool};
 
 use super::clocks::FixedDice;
 use super::links::{PING_7, put};
-use super::loops::{WAIT_MS, ticks_until};
+use super::loops::{Noted, WAIT_MS, ticks_until};
 use super::playing::{Play, Shown, told};
 use lg_agent::{AgentName, Pass, Spent};
 use lg_clock::Clock;
@@ -172,6 +172,30 @@ fn begun() -> Meeting {
 /// What both loops give back, the receiving one first.
 type BothEnded<'a, A, R> = (Ended<MeetingLink<'a, R>, A>, Ended<MeetingLink<'a, R>, A>);
 
+/// What the loops share: one clock, and the flag by which they are told to stop.
+fn shared<'a, R, C>(
+    rt: &'a R,
+    alloc: Global,
+    clock: &'a C,
+    stop: &'a AtomicBool,
+    noted: &'a Noted,
+) -> Shared<'a, R, C>
+    ensures { result.bound ≡ BOUND }
+{
+    Shared {
+        rt,
+        alloc,
+        clock,
+        stop,
+        page_heard: &noted.page_heard,
+        counters: &noted.counters,
+        signal: None,
+        bound: BOUND,
+        endless: false,
+        wait_ms: WAIT_MS,
+    }
+}
+
 /// Runs both loops until the last moment.
 fn run<'a, A, R>(
     rt: &'a R,
@@ -185,17 +209,8 @@ where
     R: Threads + Wait + rt::Clock + Sync,
 {
     let clock = StandingClock { rt };
-    let page_heard = AtomicBool::new(false);
-    let shared = Shared {
-        rt,
-        alloc,
-        clock: &clock,
-        stop: &meeting.stop,
-        page_heard: &page_heard,
-        bound: BOUND,
-        endless: false,
-        wait_ms: WAIT_MS,
-    };
+    let noted = Noted::new(false);
+    let shared = shared(rt, alloc, &clock, &meeting.stop, &noted);
     let dice = FixedDice { word: 0 };
     run_loops(
         &shared,

@@ -2,7 +2,7 @@
 //! after as many turns as its bound allows.
 use super::clocks::{MemoryClock, SteppingDice};
 use super::links::port_of;
-use super::loops::shared;
+use super::loops::{Noted, shared};
 use super::playing::{Play, Shown, told};
 use arrayvec::ArrayVec;
 use lg_agent::{AgentName, Pass, Spent};
@@ -163,14 +163,14 @@ fn run_loop<'a, A: AgentName, R: Wait>(
     pass: Pass<'_, A>,
     search: Search,
     clock: &'a MemoryClock,
-    page_heard: &'a AtomicBool,
+    noted: &'a Noted,
 ) -> Ended<PullLink<'a>, A> {
     let stop = AtomicBool::new(false);
     let bound = search.bound.min(MAX_TURNS);
-    let shared = shared(rt, alloc, clock, &stop, page_heard, bound, search.endless);
+    let shared = shared(rt, alloc, clock, &stop, noted, bound, search.endless);
     let link = PullLink {
         clock,
-        page_heard,
+        page_heard: &noted.page_heard,
         page_after: search.page_after,
         pulls: ArrayVec::new(),
     };
@@ -187,8 +187,8 @@ fn run_pass<A: AgentName, R: Wait>(
     let mut pass = pass;
     search.tell_failed(rt, alloc, &mut pass);
     let clock = MemoryClock::new(0);
-    let page_heard = AtomicBool::new(search.page_after == 0);
-    let Ended { link, spent, end } = run_loop(rt, alloc, pass, search, &clock, &page_heard);
+    let noted = Noted::new(search.page_after == 0);
+    let Ended { link, spent, end } = run_loop(rt, alloc, pass, search, &clock, &noted);
     let found = Found {
         end,
         over: clock.milliseconds(),

@@ -4,7 +4,7 @@ ghost use Rattle.std.specs.Prelude.{◌≡◌, ◌≤◌};
 use super::clocks::{FixedDice, MemoryClock};
 use arrayvec::ArrayVec;
 use lg_agent::{AgentName, Pass};
-use lg_node::{Ended, Link, MAX_TURNS, Plan, Shared, Side, receive_loop, tick_loop};
+use lg_node::{Counters, Ended, Link, MAX_TURNS, Plan, Shared, Side, receive_loop, tick_loop};
 use lg_rules::Name;
 use lg_testing::at;
 use lg_timing::Moment;
@@ -15,13 +15,30 @@ use std::sync::atomic::AtomicBool;
 /// How long a turn waits at most, in milliseconds.
 pub(super) const WAIT_MS: u64 = 20;
 
+/// What the loops of a test note for others.
+#[derive(Drop)]
+pub(super) struct Noted {
+    pub(super) page_heard: AtomicBool,
+    pub(super) counters: Counters,
+}
+
+impl Noted {
+    /// Nothing is noted so far, but perhaps that a Page was heard.
+    pub(super) fn new(page_heard: bool) -> Noted {
+        Noted {
+            page_heard: AtomicBool::new(page_heard),
+            counters: Counters::new(Name::default(), at(0)),
+        }
+    }
+}
+
 /// What a loop of at most `bound` turns shares with nobody. If it is endless, it counts them anew and goes on.
 pub(super) fn shared<'a, R>(
     rt: &'a R,
     alloc: Global,
     clock: &'a MemoryClock,
     stop: &'a AtomicBool,
-    page_heard: &'a AtomicBool,
+    noted: &'a Noted,
     bound: u64,
     endless: bool,
 ) -> Shared<'a, R, MemoryClock>
@@ -32,7 +49,9 @@ pub(super) fn shared<'a, R>(
         alloc,
         clock,
         stop,
-        page_heard,
+        page_heard: &noted.page_heard,
+        counters: &noted.counters,
+        signal: None,
         bound,
         endless,
         wait_ms: WAIT_MS,
@@ -51,8 +70,8 @@ pub(super) fn receive<A: AgentName, R: Wait, L: Link>(
 ) -> Ended<L, A>
     requires { bound ≤ MAX_TURNS }
 {
-    let page_heard = AtomicBool::new(false);
-    let shared = shared(rt, alloc, clock, stop, &page_heard, bound, false);
+    let noted = Noted::new(false);
+    let shared = shared(rt, alloc, clock, stop, &noted, bound, false);
     receive_loop(&shared, Side { pass, link })
 }
 
@@ -79,8 +98,8 @@ pub(super) fn tick<A: AgentName, R: Wait, L: Link>(
 ) -> Ended<L, A>
     requires { bound ≤ MAX_TURNS }
 {
-    let page_heard = AtomicBool::new(false);
-    let shared = shared(rt, alloc, clock, stop, &page_heard, bound, false);
+    let noted = Noted::new(false);
+    let shared = shared(rt, alloc, clock, stop, &noted, bound, false);
     let dice = FixedDice { word: 0 };
     tick_loop(&shared, Side { pass, link }, dice, &ticks_until(at(until)))
 }

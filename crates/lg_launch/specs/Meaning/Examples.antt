@@ -143,6 +143,16 @@ no_socket :
     (kind : ErrorKind) (written : Result (Unit {0}) RunFault) → run_told (Err (node.Socket kind)) written ≡ told.Link
 no_socket kind written = refl
 
+no_status_server :
+    (kind : ErrorKind) (written : Result (Unit {0}) RunFault) → run_told (Err (node.Status kind)) written ≡ told.Status
+no_status_server kind written = refl
+
+status_line : line_of told.Status ≡ codes "lg: status\n"
+status_line = refl
+
+status_of_no_server : status_told told.Status ≡ 6
+status_of_no_server = refl
+
 no_clock : (written : Result (Unit {0}) RunFault) → run_told (Err node.Clock) written ≡ told.Refused
 no_clock written = refl
 

@@ -1,6 +1,6 @@
 -- How the node of a configuration is run: what is announced, what is written, and what is told of its end.
 use Rattle.std.specs.Prelude.{◌≡◌, ◌⊎◌, ℕ, Bool, true, false, List, [], if◌then◌else◌}
-use Rattle.std.specs.Prelude.{Option, Some, None, Result, Ok, Err, MatchResult, OnErr}
+use Rattle.std.specs.Prelude.{Option, Some, None, is_some, Result, Ok, Err, MatchResult, OnErr}
 use Rattle.std.specs.Option.{option_map}
 use Rattle.std.specs.Result.{result_ok}
 use Rattle.lg_rules.specs.declared.addr.Addr.{Addr}
@@ -23,7 +23,7 @@ use Rattle.lg_launch.specs.Meaning.Checking.{WritesText}
 use Rattle.lg_launch.specs.Meaning.Reporting.{ReportsBoth, TellsAlone, TellsFault}
 use Rattle.lg_launch.specs.Meaning.Telling.{ending, line_of, run_told, status_told}
 use Rattle.lg_launch.specs.Meaning.Wishes.{end_wished, is_announced}
-use Rattle.lg_launch.specs.Meaning.Words.{link_reason, start_line}
+use Rattle.lg_launch.specs.Meaning.Words.{link_reason, served_line, start_line}
 
 -- the records of the table that is to be written, if one is to be
 abbrev pub table_at_end : Result NodeEnd NodeFault → Option (List Claim)
@@ -60,13 +60,15 @@ AnnouncesIf false reported reports line = reports ≡ reported
 abbrev pub Announces : Option ℕ → Bool → (reported reports : Option (List ℕ)) (line : List ℕ) → Type 0
 Announces until follow reported reports line = AnnouncesIf (is_announced until follow) reported reports line
 
--- The second line of what is told of a node that was run: why its socket can't be bound. If memory for it is refused,
--- there is none.
-abbrev pub IsSecond : Addr → Result NodeEnd NodeFault → List ℕ → Type 0
-IsSecond addr (Err (node.Socket kind)) second = (second ≡ []) ⊎ (second ≡ link_reason addr kind)
-IsSecond addr (Err node.Clock) second = second ≡ []
-IsSecond addr (Err (node.Refused refusal)) second = second ≡ []
-IsSecond addr (Ok e) second = second ≡ []
+-- The second line of what is told of a node that was run: why its socket or that of its status server can't be bound,
+-- or why its status server ended before it. If memory for it is refused, there is none.
+abbrev pub IsSecond : NodeConfig → Result NodeEnd NodeFault → List ℕ → Type 0
+IsSecond n (Err (node.Socket kind)) second = (second ≡ []) ⊎ (second ≡ link_reason n.config.addr kind)
+IsSecond n (Err (node.Status kind)) second =
+    (second ≡ []) ⊎ ((addr : Addr) × (n.status ≡ Some addr) × (second ≡ link_reason addr kind))
+IsSecond n (Err node.Clock) second = second ≡ []
+IsSecond n (Err (node.Refused refusal)) second = second ≡ []
+IsSecond n (Ok e) second = second ≡ served_line e.served
 
 -- The node of a configuration ran until a moment. If it followed, its watcher wrote all that the writer gained. Its
 -- links tell nothing but their failures. Each loop counts its turns anew after 1,000,000,000.
@@ -74,7 +76,7 @@ abbrev pub HasRun : NodeConfig → ℕ → Bool → (held holds : Option (List �
 HasRun n until follow held holds e =
     (hears : LinkValue) × (hears' : LinkValue) × (sends : LinkValue) × (sends' : LinkValue)
     × IsRun DrawsEight (seeded n.dice) false 1000000000 n.config n.pull_ms until hears hears' sends sends' follow held
-    holds e
+    holds (is_some n.status) e
 
 -- The node of a configuration ran, or it ended before its loops, and then nothing was written. If it followed, its
 -- watcher wrote what it saw. Otherwise its table was written, if it was to be. What is told of it was reported, and a
@@ -89,7 +91,7 @@ pub record RunsNode
   pub run : MatchResult ran (HasRun n (end_wished until) follow held holds) (IsEarly n.config)
   pub unwritten : OnErr ran (after ≡ before)
   pub table : WritesEnd follow before after held holds (table_at_end ran) written
-  pub reason : IsSecond n.config.addr ran second
+  pub reason : IsSecond n ran second
   pub lines : ReportsBoth reported reports (line_of (run_told ran written)) second
   pub is : status ≡ status_told (run_told ran written)
 

@@ -14,7 +14,7 @@ use Rattle.lg_node.specs.declared.node.NodeFault.{NodeFault}
 use Rattle.lg_node.specs.declared.node.NodeFault.TheVariants as node
 use Rattle.lg_launch.specs.declared.told.Told.{Told}
 use Rattle.lg_launch.specs.declared.told.Told.TheVariants.{Done, Memory, Read, Write, History, Turns, Refused, Close}
-use Rattle.lg_launch.specs.declared.told.Told.TheVariants.{Config, Ousted, Link}
+use Rattle.lg_launch.specs.declared.told.Told.TheVariants.{Config, Ousted, Link, Status}
 
 -- the exit status
 abbrev pub status_told : Told → ℕ
@@ -22,6 +22,7 @@ status_told Done = 0
 status_told (Config fault) = 3
 status_told Ousted = 4
 status_told Link = 5
+status_told Status = 6
 status_told Memory = 1
 status_told Read = 1
 status_told Write = 1
@@ -51,6 +52,7 @@ line_of Close = said_line (codes "close")
 line_of (Config fault) = config_line (fault_number fault)
 line_of Ousted = said_line (codes "ousted")
 line_of Link = said_line (codes "link")
+line_of Status = said_line (codes "status")
 
 -- what is told of a refusal, and of a fault of memory, reading or writing
 abbrev pub refusal_told : Refusal → Told
@@ -110,6 +112,8 @@ finished (Ok members) (Ok done) (Ok whole) told = told
 abbrev pub run_told : Result NodeEnd NodeFault → Result (Unit {0}) RunFault → Told
 -- its socket couldn't be bound: status 5, `lg: link`
 run_told (Err (node.Socket kind)) written = Link
+-- its status server couldn't be bound: status 6, `lg: status`
+run_told (Err (node.Status kind)) written = Status
 -- the machine's clock couldn't be read: status 1, `lg: refused`
 run_told (Err node.Clock) written = Refused
 -- it was refused before its loops: status 1, `lg: memory`, `lg: history` or `lg: refused`

@@ -1,11 +1,15 @@
--- The lines in words: who starts, and why a socket can't be bound (this project's choice).
-use Rattle.std.specs.Prelude.{ℕ, ◌==◌, List, ◌++◌, codes, decimal, length, if◌then◌else◌}
+-- The lines in words: who starts, why a socket can't be bound, and why a status server ended early (this project's
+-- choice).
+use Rattle.std.specs.Prelude.{ℕ, ◌==◌, List, [], ◌++◌, codes, decimal, length, Option, Some, None, if◌then◌else◌}
 use Rattle.std.specs.declared.io.ErrorKind.{ErrorKind}
 use Rattle.std.specs.declared.io.ErrorKind.TheVariants as error
 use Rattle.lg_rules.specs.declared.addr.Addr.{Addr}
 use Rattle.lg_text.specs.Meaning.Lines.{newline}
 use Rattle.lg_report.specs.Meaning.Records.{addr_text}
 use Rattle.lg_config.specs.declared.node.NodeConfig.{NodeConfig}
+use Rattle.lg_http.specs.declared.server.End.TheVariants.{Stopped, WaitFailed}
+use Rattle.lg_serve.specs.declared.serving.Served.{Served}
+use Rattle.lg_serve.specs.declared.serving.Served.TheVariants.{Refused, Ended}
 
 abbrev pub seed_count : ℕ → List ℕ
 seed_count n = if n == 1 then codes "1 seed" else decimal n ++ codes " seeds"
@@ -29,3 +33,11 @@ bind_words _ = codes "the machine refuses it"
 -- A.B.C.D:PORT can't be bound: WHY
 abbrev pub link_reason : Addr → ErrorKind → List ℕ
 link_reason addr kind = addr_text addr ++ (codes " can't be bound: " ++ (bind_words kind ++ newline))
+
+-- why a status server ended before its node; there is no line if it was told to stop, or if there was none
+abbrev pub served_line : Option Served → List ℕ
+served_line None = []
+served_line (Some (Refused refusal)) = codes "the status server couldn't begin: memory is refused" ++ newline
+served_line (Some (Ended Stopped counts)) = []
+served_line (Some (Ended (WaitFailed kind) counts)) =
+    codes "the status server ended early: the machine's wait failed" ++ newline

@@ -13,12 +13,13 @@ use Rattle.lg_agent.specs.Meaning.Values.{PassValue}
 use Rattle.lg_agent.specs.Meaning.Calls.{IsLook}
 use Rattle.lg_agent.specs.Meaning.Closing.{IsClosed, IsRefusedClosing}
 use Rattle.lg_watch.specs.declared.watched.Watched.{Watched}
-use Rattle.lg_watch.specs.Meaning.Sights.{HasWatched}
+use Rattle.lg_watch.specs.Meaning.Sights.{HasWatched, OnlyLooked}
+use Rattle.lg_serve.specs.declared.serving.Served.{Served}
 use Rattle.lg_node.specs.declared.ending.End.{End}
 use Rattle.lg_node.specs.declared.ending.Why.TheVariants.{Stopped}
 use Rattle.lg_node.specs.declared.node.NodeEnd.{NodeEnd}
 use Rattle.lg_node.specs.declared.node.NodeFault.{NodeFault}
-use Rattle.lg_node.specs.declared.node.NodeFault.TheVariants.{Socket, Clock, Refused}
+use Rattle.lg_node.specs.declared.node.NodeFault.TheVariants.{Socket, Status, Clock, Refused}
 use Rattle.lg_node.specs.Meaning.Turns.{Turn, LinkValue, Made, Lasted, HadNoThread}
 use Rattle.lg_node.specs.Meaning.Turns.{is_pull, receives, losses, peers_in}
 use Rattle.lg_node.specs.Meaning.Pulling.{addrs, plan_of, Ticking}
@@ -67,26 +68,36 @@ WatchesIf true before after held holds None = ⊥
 WatchesIf false before after held holds (Some end) = ⊥
 WatchesIf false before after held holds None = after ≡ before
 
--- A node ran. It opened an agent with three places, asked its seeds and ran its loops. The pass that had asked the
--- seeds watched beside the loops, if the node was followed. Then it read the members, and the agent was closed with
--- what the three passes left. Reading or closing may have been refused.
+-- What the status server's pass did beside the loops: it only looked. If there was no server, it did nothing.
+abbrev pub ServesIf : Bool → (before after : PassValue) → Option Served → Type 0
+ServesIf true before after (Some end) = OnlyLooked before after
+ServesIf true before after None = ⊥
+ServesIf false before after (Some end) = ⊥
+ServesIf false before after None = after ≡ before
+
+-- A node ran. It opened an agent with four places, asked its seeds and ran its loops. The pass that had asked the
+-- seeds watched beside the loops, if the node was followed, and a fourth pass looked for the status server, if there
+-- was one. Then the members were read, and the agent was closed with what the four passes left. Reading or closing may
+-- have been refused.
 pub record IsRun
     {D : Type 0} (throws : D → List ℕ → D → Type 0) (dice : D) (tells : Bool) (bound : ℕ) (config : Config)
     (pull_ms until : ℕ) (hears hears' sends sends' : LinkValue) (followed : Bool) (held holds : Option (List ℕ))
-    (e : NodeEnd) : Type 0 where
+    (serving : Bool) (e : NodeEnd) : Type 0 where
   pub start : ℕ
   pub receiver : PassValue
   pub ticker : PassValue
   pub asker : PassValue
   pub watcher : PassValue
   pub reader : PassValue
+  pub status : PassValue
   pub served : HasServed throws dice tells bound config pull_ms until start hears hears' sends sends' e.received
       e.ticked receiver ticker asker
   pub watched : WatchesIf followed asker watcher held holds e.watched
+  pub shown : ServesIf serving (fresh_own config start 4) status e.served
   pub members : MatchResult e.members (λ records. (records.items ≡ view_after reader.seen) × IsLook watcher reader)
       (λ r. ((r ≡ NoView) ⊎ (r ≡ NoMemory)) × (reader ≡ watcher))
-  pub closed : MatchResult e.closed (λ c. IsClosed 3 c (receiver ∷ ticker ∷ reader ∷ []))
-      (λ f. IsRefusedClosing 3 (receiver ∷ ticker ∷ reader ∷ []) f)
+  pub closed : MatchResult e.closed (λ c. IsClosed 4 c (receiver ∷ ticker ∷ reader ∷ status ∷ []))
+      (λ f. IsRefusedClosing 4 (receiver ∷ ticker ∷ reader ∷ status ∷ []) f)
 
 -- What a node can be refused for before its loops. Memory can be refused throughout, and a reader for a pass at the
 -- opening. The call that asks a seed can be refused for a full history, which has the configuration's limit or the most
@@ -102,5 +113,6 @@ IsRefusedEarly config NoView = ⊥
 -- why a node can end before its loops
 abbrev pub IsEarly : Config → NodeFault → Type 0
 IsEarly config (Socket kind) = Unit {0}
+IsEarly config (Status kind) = Unit {0}
 IsEarly config Clock = Unit {0}
 IsEarly config (Refused refusal) = IsRefusedEarly config refusal

@@ -1,6 +1,9 @@
 -- The bodies of the health, of the configuration and of a fault, as JSON (this project's choice).
 use Rattle.std.specs.Prelude.{ℕ, Bool, true, false, not, List, ◌++◌, codes, decimal, count_by, length}
+use Rattle.std.specs.Prelude.{Option, Some, None}
 use Rattle.std.specs.List.{flat_map}
+use Rattle.lg_report.specs.Meaning.Records.{addr_text}
+use Rattle.lg_rules.specs.declared.addr.Addr.{Addr}
 use Rattle.lg_rules.specs.declared.claim.Claim.{Claim}
 use Rattle.lg_rules.specs.Meaning.Table.{is_failed}
 use Rattle.lg_timing.specs.declared.config.Config.{Config}
@@ -8,7 +11,7 @@ use Rattle.lg_timing.specs.declared.config.Seed.{Seed}
 use Rattle.lg_timing.specs.declared.keys.Key.{Key}
 use Rattle.lg_timing.specs.Meaning.Keys.{key_name, keys, number_of_key}
 use Rattle.lg_status.specs.declared.snapshot.NodeNumber.{NodeNumber}
-use Rattle.lg_status.specs.declared.snapshot.Setup.{Setup}
+use Rattle.lg_status.specs.declared.snapshot.ShownConfig.{ShownConfig}
 use Rattle.lg_status.specs.declared.snapshot.Snapshot.{Snapshot}
 use Rattle.lg_status.specs.Meaning.Members.{address_fields, comma_separated}
 
@@ -42,7 +45,8 @@ unfoldable pub health_body : Snapshot → List ℕ
 health_body s =
     health_front s ++ health_counts (live_among s.records.items) (length s.records.items) ++ health_times s
 
--- {"name":"NAME","address":"A.B.C.D","port":PORT, the numbers of the member and of the node's own, "seeds":[..]}
+-- {"name":"NAME","address":"A.B.C.D","port":PORT, the numbers of the member and of the node's own,
+-- "status":STATUS,"status_open":OPEN,"seeds":[..]}
 abbrev pub config_front : Config → List ℕ
 config_front c = codes "{\"name\":\"" ++ (c.name ++ codes "\",") ++ address_fields c.addr
 
@@ -56,11 +60,25 @@ key_field c key = number_field (key_name key) (number_of_key key c)
 abbrev pub own_field : NodeNumber → List ℕ
 own_field own = number_field own.key.now own.value
 
+-- where the node answers over HTTP: "A.B.C.D:PORT", or null if it doesn't
+abbrev pub status_value : Option Addr → List ℕ
+status_value None = codes "null"
+status_value (Some addr) = codes "\"" ++ addr_text addr ++ codes "\""
+
+-- ,"status":STATUS
+unfoldable pub status_field : Option Addr → List ℕ
+status_field status = codes ",\"status\":" ++ status_value status
+
+-- ,"status_open":OPEN, whether it may answer at an address that isn't loopback
+unfoldable pub open_field : Bool → List ℕ
+open_field is_open = codes ",\"status_open\":" ++ truth_text is_open
+
 -- {"name":"NAME","address":"A.B.C.D","port":PORT}
 unfoldable pub seed_json : Seed → List ℕ
 seed_json seed = codes "{\"name\":\"" ++ (seed.name ++ codes "\",") ++ address_fields seed.addr ++ codes "}"
 
-unfoldable pub config_body : Setup → List ℕ
+unfoldable pub config_body : ShownConfig → List ℕ
 config_body setup =
     config_front setup.config ++ flat_map (key_field setup.config) keys ++ flat_map own_field setup.numbers.items
+    ++ status_field setup.status ++ open_field setup.status_open
     ++ codes ",\"seeds\":[" ++ comma_separated seed_json setup.config.seeds.items ++ codes "]}"

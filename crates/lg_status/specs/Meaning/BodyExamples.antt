@@ -1,12 +1,13 @@
 -- Worked parts of bodies: b knows that a is suspected by c, and that c has failed.
-use Rattle.std.specs.Prelude.{⊤, ◌≡◌, ℕ, true, List, [], ◌∷◌, ◌++◌, Some, None, codes, refl}
+use Rattle.std.specs.Prelude.{⊤, ◌≡◌, ℕ, true, false, List, [], ◌∷◌, ◌++◌, Some, None, codes, refl}
 use Rattle.std.specs.Fmt.{digits}
 use Rattle.lg_rules.specs.declared.addr.Addr.{Addr}
 use Rattle.lg_rules.specs.declared.claim.Claim.{Claim}
 use Rattle.lg_rules.specs.declared.claim.Status.{Status}
 use Rattle.lg_rules.specs.declared.claim.Status.TheVariants as status
 use Rattle.lg_status.specs.declared.route.StatusKind.TheVariants.{Alive}
-use Rattle.lg_status.specs.Meaning.Bodies.{error_body, health_counts, live_among, number_field, seed_json}
+use Rattle.lg_status.specs.Meaning.Bodies.{error_body, health_counts, live_among, number_field, open_field, seed_json}
+use Rattle.lg_status.specs.Meaning.Bodies.{status_field}
 use Rattle.lg_status.specs.Meaning.Members.{address_fields, comma_separated, member_body, member_fields, member_json}
 use Rattle.lg_status.specs.Meaning.Members.{members_asked, members_front_of, moment_front}
 use Rattle.lg_status.specs.Meaning.Metrics.{drops_sample, kind_line, members_lines, metric_head, seconds_text}
@@ -16,8 +17,8 @@ use Rattle.lg_status.specs.Meaning.Page.{live_words, member_row, name_cells, row
 -- what the rows have to unfold
 unfoldable by_writing : ⊤
 unfolding digits address_fields drops_sample kind_line live_words member_body member_fields member_json member_row
-    members_front_of members_lines metric_head moment_front name_cells row_front seed_json status_cells status_line
-    summary_text
+    members_front_of members_lines metric_head moment_front name_cells open_field row_front seed_json status_cells
+    status_field status_line summary_text
 by_writing = tt
 
 abbrev at : ℕ → Addr
@@ -93,6 +94,15 @@ a_seed : seed_json record { name = codes "a"; addr = at 7101 }
     ≡ codes "{\"name\":\"a\",\"address\":\"127.0.0.1\",\"port\":7101}"
 unfolding by_writing
 a_seed = refl
+
+answers_at_8946 : status_field (Some (at 8946)) ++ open_field true
+    ≡ codes ",\"status\":\"127.0.0.1:8946\",\"status_open\":true"
+unfolding by_writing
+answers_at_8946 = refl
+
+answers_nowhere : status_field None ++ open_field false ≡ codes ",\"status\":null,\"status_open\":false"
+unfolding by_writing
+answers_nowhere = refl
 
 -- ---- metrics
 

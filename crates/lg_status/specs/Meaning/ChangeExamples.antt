@@ -6,6 +6,7 @@ use Rattle.lg_rules.specs.declared.claim.Claim.{Claim}
 use Rattle.lg_rules.specs.declared.claim.Status.{Status}
 use Rattle.lg_rules.specs.declared.claim.Status.TheVariants as status
 use Rattle.lg_status.specs.Meaning.Changes.{Recorded, all_changes, change_at, change_json, changes_after, changes_json}
+use Rattle.lg_status.specs.Meaning.Changes.{last_version}
 use Rattle.lg_status.specs.Meaning.Members.{address_fields, member_fields, moment_front}
 
 -- what the rows have to unfold
@@ -65,6 +66,14 @@ two_behind_30 = refl
 none_behind_41 : changes_after 41 (all_changes looks) ≡ Some []
 unfolding by_changing
 none_behind_41 = refl
+
+the_newest : last_version (all_changes looks) ≡ 41
+unfolding by_changing
+the_newest = refl
+
+no_newest : last_version (all_changes []) ≡ 0
+unfolding by_changing
+no_newest = refl
 
 no_text : changes_json 41 false [] ≡ codes "{\"version\":41,\"missed\":false,\"changes\":[]}"
 unfolding by_changing

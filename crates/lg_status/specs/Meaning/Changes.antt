@@ -1,7 +1,7 @@
 -- The changes of all looks that were recorded, and those behind a version (this project's choice).
 use Rattle.std.specs.Prelude.{ℕ, ◌-◌, Bool, true, false, nat_lt, List, ◌++◌, codes, decimal, length, map}
-use Rattle.std.specs.Prelude.{filter, take, Option, Some, None, if◌then◌else◌}
-use Rattle.std.specs.List.{flat_map, list_any}
+use Rattle.std.specs.Prelude.{filter, take, option_map, unwrap_or, Option, Some, None, if◌then◌else◌}
+use Rattle.std.specs.List.{flat_map, last_or, list_any}
 use Rattle.lg_rules.specs.declared.claim.Claim.{Claim}
 use Rattle.lg_rules.specs.Meaning.View.{changed}
 use Rattle.lg_status.specs.declared.ring.Change.{Change}
@@ -31,6 +31,10 @@ changes_in look = map (change_at look.version look.moment) (changed look.told lo
 -- the changes of all looks, the oldest first
 unfoldable pub all_changes : List Recorded → List Change
 all_changes looks = flat_map changes_in looks
+
+-- the version of the newest change, or 0 if there is none
+abbrev pub last_version : List Change → ℕ
+last_version all = unwrap_or (option_map (λ change. change.version) (last_or None all)) 0
 
 -- whether a change is behind a version
 abbrev pub is_after : ℕ → Change → Bool

@@ -2,8 +2,8 @@
 use Rattle.std.specs.Prelude.{ℕ, ◌==◌, List, length, codes, unwrap_or}
 use Rattle.std.specs.Prelude.{Option, Some, None, if◌then◌else◌}
 use Rattle.std.specs.Str.{bytes_eq}
+use Rattle.lg_http.specs.declared.site.Wait.{Wait}
 use Rattle.lg_text.specs.Meaning.Numbers.{number_of, number_within}
-use Rattle.lg_status.specs.declared.query.ChangesAsked.{ChangesAsked}
 use Rattle.lg_status.specs.declared.query.Said.{Said}
 use Rattle.lg_text.specs.Meaning.Steps.{◌>>=◌}
 use Rattle.lg_text.specs.Meaning.Cutting.{before, behind}
@@ -64,11 +64,11 @@ two_pairs_said query = do
 abbrev pub pairs_said : List ℕ → Option Said
 pairs_said query = if length query == 0 then Some nothing_said else two_pairs_said query
 
--- the changes that a query asks for; what isn't said is 0
-abbrev pub changes_said : Said → ChangesAsked
+-- the changes that a query asks for, and how long to wait for one; what isn't said is 0
+abbrev pub changes_said : Said → Wait
 changes_said said = record { after = unwrap_or said.after 0; wait_ms = unwrap_or said.wait_ms 0 }
 
-unfoldable pub changes_asked : List ℕ → Option ChangesAsked
+unfoldable pub changes_asked : List ℕ → Option Wait
 changes_asked query = do
   said ← pairs_said query
   Some (changes_said said)

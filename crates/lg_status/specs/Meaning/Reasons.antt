@@ -1,15 +1,17 @@
--- Why a target is no route: the status code of the answer, and the words (this project's choice).
+-- Why a request has no route: the status of the answer, and the words (this project's choice).
 use Rattle.std.specs.Prelude.{ℕ, List, codes}
+use Rattle.lg_http.specs.declared.site.Status.{Status}
+use Rattle.lg_http.specs.declared.site.Status.TheVariants.{BadRequest, NotFound}
 use Rattle.lg_status.specs.declared.reason.RouteFault.{RouteFault}
 use Rattle.lg_status.specs.declared.reason.RouteFault.TheVariants.{UnknownPath, NoName, NoQuery, BadStatus, BadChanges}
 
 -- 404 Not Found if the path is unknown, or else 400 Bad Request (RFC 9110)
-abbrev pub status_code : RouteFault → ℕ
-status_code UnknownPath = 404
-status_code NoName = 400
-status_code NoQuery = 400
-status_code BadStatus = 400
-status_code BadChanges = 400
+abbrev pub fault_status : RouteFault → Status
+fault_status UnknownPath = NotFound
+fault_status NoName = BadRequest
+fault_status NoQuery = BadRequest
+fault_status BadStatus = BadRequest
+fault_status BadChanges = BadRequest
 
 -- the fault in words
 abbrev pub reason_text : RouteFault → List ℕ

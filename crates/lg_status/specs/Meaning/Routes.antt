@@ -1,14 +1,14 @@
--- Which route a target is, or why it is none.
+-- Which route a request has, or why it has none, and what it waits for.
 use Rattle.std.specs.Prelude.{ℕ, ◌==◌, Bool, true, false, List, [], ◌∷◌, length, codes, find, unwrap_or}
 use Rattle.std.specs.Prelude.{Option, Some, None, Result, Ok, Err, if◌then◌else◌}
 use Rattle.std.specs.Str.{bytes_eq}
+use Rattle.lg_http.specs.declared.site.Wait.{Wait}
 use Rattle.lg_rules.specs.declared.claim.Status.{Status}
 use Rattle.lg_rules.specs.declared.claim.Status.TheVariants as status
 use Rattle.lg_rules.specs.declared.name.NameFault.{NameFault}
 use Rattle.lg_rules.specs.Meaning.Name.{name_of_text}
 use Rattle.lg_status.specs.declared.place.Place.{Place}
 use Rattle.lg_status.specs.declared.place.Place.TheVariants as variants
-use Rattle.lg_status.specs.declared.query.ChangesAsked.{ChangesAsked}
 use Rattle.lg_status.specs.declared.reason.RouteFault.{RouteFault}
 use Rattle.lg_status.specs.declared.reason.RouteFault.TheVariants.{UnknownPath, NoName, NoQuery, BadStatus, BadChanges}
 use Rattle.lg_status.specs.declared.route.Route.{Route}
@@ -17,11 +17,6 @@ use Rattle.lg_status.specs.declared.route.StatusKind.{StatusKind}
 use Rattle.lg_status.specs.declared.route.StatusKind.TheVariants.{Alive, Suspect, Failed}
 use Rattle.lg_status.specs.Meaning.Places.{member_name, place_at}
 use Rattle.lg_status.specs.Meaning.Queries.{changes_asked}
-use Rattle.lg_text.specs.Meaning.Cutting.{before, behind}
-
--- the byte at which a target is cut: `?`
-abbrev pub question_mark : ℕ
-question_mark = 63
 
 -- the statuses without their accusers, and the queries that ask for members of one
 abbrev pub status_kinds : List StatusKind
@@ -69,9 +64,9 @@ abbrev pub member_route : List ℕ → List ℕ → Result Route RouteFault
 member_route name query = named_route (name_of_text name) query
 
 -- the route of the changes
-abbrev pub asked_route : Option ChangesAsked → Result Route RouteFault
+abbrev pub asked_route : Option Wait → Result Route RouteFault
 asked_route None = Err BadChanges
-asked_route (Some asked) = Ok (Changes asked)
+asked_route (Some wait) = Ok (Changes wait)
 
 abbrev pub changes_route : List ℕ → Result Route RouteFault
 changes_route query = asked_route (changes_asked query)
@@ -97,6 +92,14 @@ route_unless_member (Some name) path query = member_route name query
 abbrev pub path_route : List ℕ → List ℕ → Result Route RouteFault
 path_route path query = route_unless_member (member_name path) path query
 
--- the route of a target, cut at its first `?`
-unfoldable pub route_of : List ℕ → Result Route RouteFault
-route_of target = path_route (before question_mark target) (unwrap_or (behind question_mark target) [])
+-- the route of a request for a path and a query; an empty query is as none
+unfoldable pub route_of : List ℕ → Option (List ℕ) → Result Route RouteFault
+route_of path query = path_route path (unwrap_or query [])
+
+-- what a request waits for: only one for changes waits
+abbrev pub wait_in : Result Route RouteFault → Option Wait
+wait_in (Ok (Changes wait)) = Some wait
+wait_in _ = None
+
+abbrev pub wait_of : List ℕ → Option (List ℕ) → Option Wait
+wait_of path query = wait_in (route_of path query)

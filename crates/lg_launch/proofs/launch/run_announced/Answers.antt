@@ -1,4 +1,4 @@
-use Rattle.std.proofs.Common.{ap, string_bytes, ◌∙◌}
+use Rattle.std.proofs.Common.{ap, refl, ◌∙◌}
 use Rattle.lg_launch.specs.Meaning.Wishes.{end_wished}
 use Rattle.lg_launch.specs.Meaning.Telling.{line_of, status_told}
 use Rattle.lg_launch.proofs.EndLaws.{both-as, end-written, run-written, unwritten-early}
@@ -9,7 +9,7 @@ returns g c =
     record {
       ran = c.run-ran.result;
       written = c.write_table-written.result;
-      second = string_bytes c.second_line-second.result;
+      second = c.tell_run.ensures.lines.0;
       run =
           run-written g.W.Write.contents c.args.node.now (end_wished c.args.wishes.now.until) c.args.wishes.now.follow
           (g.W.Write.contents c.args.writer.now) c.run-ran.new.writer c.write_table-written.new.writer c.run-ran.result
@@ -20,7 +20,7 @@ returns g c =
       table =
           end-written g.W.Write.contents c.args.wishes.now.follow c.args.writer.now c.run-ran.new.writer c.write_table-written.new.writer
           c.run-ran.result c.write_table-written.result c.run-ran.ensures.alone c.write_table-written.ensures;
-      reason = c.second_line-second.ensures;
-      lines = both-as _ _ _ _ _ _ c.tell_both.ensures.lines (ap line_of c.of.ensures) c.as_str.ensures.value;
-      is = c.tell_both.ensures.status ∙ ap status_told c.of.ensures;
+      reason = c.tell_run.ensures.lines.1;
+      lines = both-as _ _ _ _ _ _ c.tell_run.ensures.lines.2 (ap line_of c.of.ensures) refl;
+      is = c.tell_run.ensures.status ∙ ap status_told c.of.ensures;
     }

@@ -27,10 +27,10 @@ returns-in-Ok g c = λ log came.
     }
 
 pub returns-in-BadPacket : goal.returns-in-BadPacket
-returns-in-BadPacket g c = λ log came. let e = c.in-Err in let b = c.in-BadPacket in let end = c.dropped.ensures in let bad = e.ensures.only b.field-0 (ap Err b.is) in record {
+returns-in-BadPacket g c = λ log came. let e = c.in-Err in let b = c.in-BadPacket in let end = c.dropped.ensures in let bad = e.ensures.only b.fault (ap Err b.is) in record {
   turn = Dropped c.args.source c.args.bytes.now;
   kind_is = refl;
-  is = ((e.ensures.bad b.field-0 bad).1, (b.field-0, bad));
+  is = ((e.ensures.bad b.fault bad).1, (b.fault, bad));
   told = came;
   failed = omega arith;
   why = sym end.why;

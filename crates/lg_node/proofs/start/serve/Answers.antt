@@ -17,20 +17,21 @@ returns-clause-left g c = λ start name told.
     let ready = c.in-Some.ensures _ start name told in
     let seeds : c.deref.result.now ≡ c.args.setup.now.config.now.seeds.items = cc in (
       line [] c.new-hears.result.failures,
-      line [] c.run_followed-watcher.result.1.0.link.failures,
+      line [] c.run_threads-watcher.result.1.1.0.link.failures,
       line [] c.new-sends.result.failures,
-      line [] c.run_followed-watcher.result.1.1.link.failures,
+      line [] c.run_threads-watcher.result.1.1.1.link.failures,
       c.ask_each.new.pass,
-      c.run_followed-watcher.result.0.0,
+      c.run_threads-watcher.result.0.0,
       record {
         between = line [] c.ask_each.new.link.failures;
         unsent = c.in_ok-unsent.unsent;
-        later = c.run_followed-watcher.result.1.1.end.unsent;
+        later = c.run_threads-watcher.result.1.1.1.end.unsent;
         asked = rw (ready.2, seeds) at c.in_ok-unsent.ensures.asked;
-        received_so = rw (ready.0, c.requires.bound.1) at c.run_followed-watcher.ensures.received;
-        ticked_so = rw (ready.1, c.new-plan.ensures, c.requires.bound.1) at c.run_followed-watcher.ensures.ticked;
+        received_so = rw (ready.0, c.requires.bound.1) at c.run_threads-watcher.ensures.received;
+        ticked_so = rw (ready.1, c.new-plan.ensures, c.requires.bound.1) at c.run_threads-watcher.ensures.ticked;
         counted = λ low. omega (arith, low);
       },
-      c.run_followed-watcher.ensures.watched,
+      c.run_threads-watcher.ensures.watched,
+      rw c.finish-2.ensures (rw ready.3 at c.run_threads-watcher.ensures.served),
       rw c.finish.ensures c.members-members.ensures,
     )

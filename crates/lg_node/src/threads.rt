@@ -1,0 +1,167 @@
+//! All threads of a node: both loops, and beside them a watcher and a status server if they are wanted.
+//!
+//! Defined in: `specs/Meaning/Nodes.antt`, `specs/Meaning/Turns.antt`, `specs/Meaning/Pulling.antt`.
+//! Tested in: `cases/nodes`, `cases/status`.
+ghost use Rattle.std.specs.Prelude.{◌≡◌, ◌≤◌, ◌⊎◌, false, is_some};
+ghost use Rattle.lg_node.specs.declared.ending.Why.TheVariants.{Stopped};
+ghost use Rattle.lg_node.specs.Meaning.Nodes.{ServesIf, WatchesIf};
+ghost use Rattle.lg_node.specs.Meaning.Pulling.{Ticking};
+ghost use Rattle.lg_node.specs.Meaning.Turns.{line, receives, Lasted, HadNoThread};
+ghost use Rattle.lg_node.specs.Meaning.Words.{seeded, DrawsEight};
+
+use crate::dice::PcgDice;
+use crate::ending::Ended;
+use crate::following::watch_if;
+use crate::link::Link;
+use crate::node::Settings;
+use crate::plan::Plan;
+use crate::running::run_loops;
+use crate::serving::{StatusServer, serve_if};
+use crate::shared::{MAX_TURNS, Shared, Side};
+use left_right::Absorb;
+use lg_agent::{AgentName, Pass};
+use lg_clock::Clock;
+use lg_detector::Event;
+use lg_serve::Served;
+use lg_view::{Published, Update};
+use lg_watch::Watched;
+use std::io::Write;
+use std::rt;
+use std::sync::Wait;
+use std::thread::Threads;
+
+/// What both loops give back, the receiving one first.
+type Both<L, A> = (Ended<L, A>, Ended<L, A>);
+
+/// What both loops work with.
+#[derive(Drop)]
+pub(crate) struct Sides<'p, L, A: AgentName>
+where
+    Published<A>: Absorb<Update<A>, State = [Event; 0]>,
+{
+    pub(crate) receiver: Side<'p, L, A>,
+    pub(crate) ticker: Side<'p, L, A>,
+}
+
+/// The passes of those who only look, beside the loops.
+#[derive(Drop)]
+pub(crate) struct Lookers<'p, A: AgentName>
+where
+    Published<A>: Absorb<Update<A>, State = [Event; 0]>,
+{
+    pub(crate) watcher: Pass<'p, A>,
+    pub(crate) status: Pass<'p, A>,
+}
+
+/// Does some work. Beside it, it watches if the settings say that the node is followed, and serves if there is a status
+/// server. Returns for each of the two its pass and how it ended, if there was one, and what the work gave.
+fn work_beside<'p, A, R, C, W, G, B>(
+    shared: &Shared<'_, R, C>,
+    follow: bool,
+    lookers: Lookers<'p, A>,
+    status: Option<StatusServer<'_, '_, '_, R>>,
+    writer: &mut W,
+    work: G,
+) -> (
+    (Pass<'p, A>, Option<Watched>),
+    ((Pass<'p, A>, Option<Served>), B),
+)
+where
+    A: AgentName + Send + Sync,
+    R: Wait + Threads + rt::Clock + Sync,
+    C: Clock + Sync,
+    W: Write + Send,
+    G: FnOnce() -> B,
+    requires { G.pre work }
+    ensures watched { WatchesIf follow lookers.entry.watcher result.0.0 (W.contents writer.old)
+        (W.contents writer.new) result.0.1 }
+    ensures alone { follow ≡ false → writer.new ≡ writer.old }
+    ensures served { ServesIf (is_some status.entry) lookers.entry.status result.1.0.0 result.1.0.1 }
+    ensures gave { G.post work result.1.1 }
+{
+    let Lookers {
+        watcher,
+        status: pass,
+    } = lookers;
+    watch_if(
+        shared,
+        follow,
+        watcher,
+        writer,
+        move || -> ((Pass<'_, A>, Option<Served>), B)
+            requires { G.pre work }
+            ensures served { ServesIf (is_some status.entry) pass.entry result.0.0 result.0.1 }
+            ensures gave { G.post work result.1 }
+        { serve_if(shared, status, pass, work) },
+    )
+}
+
+/// Runs both loops, as [`run_loops`] does, with the dice that the settings seed. If the settings say that the node is
+/// followed, a watcher tells on the writer what the node learns, in a thread of its own, until the loops end. If there
+/// is a status server, it serves in a thread of its own, until the loops have ended.
+///
+/// Returns the watcher's pass and the server's, which did nothing but look, how each ended if there was one, and both
+/// ends of the loops, the receiving one's first.
+pub(crate) fn run_threads<'p, A, R, L, C, W>(
+    shared: &Shared<'_, R, C>,
+    sides: Sides<'_, L, A>,
+    settings: &Settings,
+    plan: &Plan,
+    lookers: Lookers<'p, A>,
+    status: Option<StatusServer<'_, '_, '_, R>>,
+    writer: &mut W,
+) -> (
+    (Pass<'p, A>, Option<Watched>),
+    ((Pass<'p, A>, Option<Served>), Both<L, A>),
+)
+where
+    A: AgentName + Send + Sync,
+    R: Wait + Threads + rt::Clock + Sync,
+    L: Link + Send + Drop,
+    C: Clock + Sync,
+    W: Write + Send,
+    requires { shared.now.bound ≤ MAX_TURNS }
+    ensures watched { WatchesIf settings.now.follow lookers.entry.watcher result.0.0 (W.contents writer.old)
+        (W.contents writer.new) result.0.1 }
+    ensures alone { settings.now.follow ≡ false → writer.new ≡ writer.old }
+    ensures served { ServesIf (is_some status.entry) lookers.entry.status result.1.0.0 result.1.0.1 }
+    ensures received { Lasted receives L.tells shared.now.bound shared.now.endless
+        (line (L.log sides.entry.receiver.link) (L.failed sides.entry.receiver.link))
+        (line (L.log result.1.1.0.link) (L.failed result.1.1.0.link)) sides.entry.receiver.pass result.1.1.0.spent
+        result.1.1.0.end
+        ⊎ (HadNoThread receives L.tells shared.now.bound shared.now.endless
+        (line (L.log sides.entry.receiver.link) (L.failed sides.entry.receiver.link))
+        (line (L.log result.1.1.0.link) (L.failed result.1.1.0.link)) sides.entry.receiver.pass result.1.1.0.spent
+        result.1.1.0.end
+        × (result.1.1.1.end ≡ record { why = Stopped; dropped = 0; unsent = 0; turns = 0 })) }
+    ensures ticked { Ticking DrawsEight (seeded settings.now.dice) plan.now L.tells shared.now.bound shared.now.endless
+        (line (L.log sides.entry.ticker.link) (L.failed sides.entry.ticker.link))
+        (line (L.log result.1.1.1.link) (L.failed result.1.1.1.link)) sides.entry.ticker.pass result.1.1.1.spent
+        result.1.1.1.end }
+{
+    let dice = PcgDice::new(settings.dice);
+    let Sides { receiver, ticker } = sides;
+    work_beside(
+        shared,
+        settings.follow,
+        lookers,
+        status,
+        writer,
+        move || -> Both<L, A>
+            requires { shared.now.bound ≤ MAX_TURNS }
+            ensures received { Lasted receives L.tells shared.entry.now.bound shared.entry.now.endless
+                (line (L.log receiver.entry.link) (L.failed receiver.entry.link))
+                (line (L.log result.0.link) (L.failed result.0.link)) receiver.entry.pass result.0.spent
+                result.0.end
+                ⊎ (HadNoThread receives L.tells shared.entry.now.bound shared.entry.now.endless
+                (line (L.log receiver.entry.link) (L.failed receiver.entry.link))
+                (line (L.log result.0.link) (L.failed result.0.link)) receiver.entry.pass result.0.spent
+                result.0.end
+                × (result.1.end ≡ record { why = Stopped; dropped = 0; unsent = 0; turns = 0 })) }
+            ensures ticked { Ticking DrawsEight dice plan.entry.now L.tells shared.entry.now.bound
+                shared.entry.now.endless (line (L.log ticker.entry.link) (L.failed ticker.entry.link))
+                (line (L.log result.1.link) (L.failed result.1.link)) ticker.entry.pass result.1.spent
+                result.1.end }
+        { run_loops(shared, receiver, ticker, dice, plan) },
+    )
+}

@@ -1,0 +1,3 @@
+-- What only carries proofs.
+pub mod Later
+pub mod Showing

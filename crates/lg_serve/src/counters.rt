@@ -1,0 +1,194 @@
+//! What the loops of a node count while they run.
+//!
+//! Defined in: this file.
+//! Tested in: `lg_command_tests/src/showing.rt`, `cases/status`.
+
+ghost use Rattle.std.specs.Prelude.{◌≡◌, ◌<◌};
+
+use crate::tally::Tally;
+use lg_detector::Reply;
+use lg_packet::Fault;
+use lg_rules::Name;
+use lg_status::{Counts, Drops};
+use lg_timing::Moment;
+use std::alloc::{AllocError, Global};
+use std::sync::atomic::AtomicU64;
+use std::sync::atomic::Ordering::Relaxed;
+
+/// How many faults the bytes of a packet can have.
+pub(crate) const FAULTS: usize = 9;
+
+/// Each of them by its name, in the order of their numbers.
+const FAULT_NAMES: [&str; FAULTS] = [
+    "Short",
+    "Magic",
+    "Version",
+    "Kind",
+    "Name",
+    "Count",
+    "ClaimKind",
+    "Incarnation",
+    "Trailing",
+];
+
+/// What a node counts from its start on. Threads share it by reference. No call waits, and none allocates but
+/// [`Counters::drops`]. A count that has come to 2^64 - 1 goes on from 0.
+#[derive(Drop)]
+pub struct Counters {
+    name: Name,
+    received: AtomicU64,
+    sent: AtomicU64,
+    unsent: AtomicU64,
+    probes_begun: AtomicU64,
+    probes_failed: AtomicU64,
+    probes_helped: AtomicU64,
+    suspicions_raised: AtomicU64,
+    suspicions_refuted: AtomicU64,
+    entries: AtomicU64,
+    rotations: AtomicU64,
+    refused: AtomicU64,
+    last_event: AtomicU64,
+    dropped: [AtomicU64; FAULTS],
+}
+
+/// Adds to a count. An event mostly adds nothing to most of them, and then nothing is written.
+fn add(count: &AtomicU64, more: u64) {
+    if more > 0 {
+        count.fetch_add(more, Relaxed);
+    }
+}
+
+impl Counters {
+    /// The counts of a node whose member has this name. The opening is its first event.
+    pub fn new(name: Name, opened: Moment) -> Counters {
+        Counters {
+            name,
+            received: AtomicU64::new(0),
+            sent: AtomicU64::new(0),
+            unsent: AtomicU64::new(0),
+            probes_begun: AtomicU64::new(0),
+            probes_failed: AtomicU64::new(0),
+            probes_helped: AtomicU64::new(0),
+            suspicions_raised: AtomicU64::new(0),
+            suspicions_refuted: AtomicU64::new(0),
+            entries: AtomicU64::new(1),
+            rotations: AtomicU64::new(0),
+            refused: AtomicU64::new(0),
+            last_event: AtomicU64::new(opened.milliseconds()),
+            dropped: [
+                AtomicU64::new(0),
+                AtomicU64::new(0),
+                AtomicU64::new(0),
+                AtomicU64::new(0),
+                AtomicU64::new(0),
+                AtomicU64::new(0),
+                AtomicU64::new(0),
+                AtomicU64::new(0),
+                AtomicU64::new(0),
+            ],
+        }
+    }
+
+    /// The name of the node's member.
+    pub fn name(&self) -> Name
+        ensures { result ≡ self.now.name }
+    {
+        self.name
+    }
+
+    /// A datagram was received.
+    pub fn note_received(&self) {
+        add(&self.received, 1);
+    }
+
+    /// A datagram was dropped, since its bytes have this fault.
+    pub fn note_dropped(&self, fault: Fault) {
+        add(&self.dropped[index_of(fault)], 1);
+    }
+
+    /// A call was refused, for another reason than the bytes of a datagram.
+    pub fn note_refused(&self) {
+        add(&self.refused, 1);
+    }
+
+    /// The history was rotated.
+    pub fn note_rotated(&self) {
+        add(&self.rotations, 1);
+    }
+
+    /// A call was answered at a moment by this reply. So many of its packets weren't sent.
+    pub fn note_reply(&self, now: Moment, reply: &Reply, unsent: u64) {
+        let tally = Tally::of(&self.name, reply);
+        add(&self.entries, 1);
+        add(
+            &self.sent,
+            (reply.sends.len() as u64).saturating_sub(unsent),
+        );
+        add(&self.unsent, unsent);
+        add(&self.probes_begun, u64::from(tally.probe_begun));
+        add(&self.probes_failed, u64::from(tally.probe_failed));
+        add(&self.probes_helped, u64::from(tally.probe_helped));
+        add(&self.suspicions_raised, tally.suspicions_raised as u64);
+        add(&self.suspicions_refuted, u64::from(tally.refuted));
+        self.last_event.store(now.milliseconds(), Relaxed);
+    }
+
+    /// The counts as they are now, each read by itself.
+    pub fn counts(&self) -> Counts {
+        Counts {
+            received: self.received.load(Relaxed),
+            sent: self.sent.load(Relaxed),
+            unsent: self.unsent.load(Relaxed),
+            probes_begun: self.probes_begun.load(Relaxed),
+            probes_failed: self.probes_failed.load(Relaxed),
+            probes_helped: self.probes_helped.load(Relaxed),
+            suspicions_raised: self.suspicions_raised.load(Relaxed),
+            suspicions_refuted: self.suspicions_refuted.load(Relaxed),
+            history_entries: self.entries.load(Relaxed),
+            history_rotations: self.rotations.load(Relaxed),
+            calls_refused: self.refused.load(Relaxed),
+        }
+    }
+
+    /// The moment of the last event, in milliseconds.
+    pub fn last_event(&self) -> u64 {
+        self.last_event.load(Relaxed)
+    }
+
+    /// A row for each fault, in the order of their numbers, with how many datagrams were dropped for it. Allocates the
+    /// list. The only error is that memory was refused.
+    pub fn drops(&self, alloc: Global) -> Result<Vec<Drops>, AllocError> {
+        FAULT_NAMES
+            .iter()
+            .zip(&self.dropped)
+            .map(|(fault, count)| Drops {
+                fault,
+                count: count.load(Relaxed),
+            })
+            .collect(alloc)
+    }
+
+    /// Brings such rows up to date. Allocates nothing.
+    pub fn read_drops(&self, rows: &mut [Drops]) {
+        for (row, count) in rows.iter_mut().zip(&self.dropped) {
+            row.count = count.load(Relaxed);
+        }
+    }
+}
+
+/// The index of a fault in the order of their numbers.
+fn index_of(fault: Fault) -> usize
+    ensures { result < FAULTS }
+{
+    match fault {
+        Fault::Short => 0,
+        Fault::Magic => 1,
+        Fault::Version => 2,
+        Fault::Kind => 3,
+        Fault::Name => 4,
+        Fault::Count => 5,
+        Fault::ClaimKind => 6,
+        Fault::Incarnation => 7,
+        Fault::Trailing => 8,
+    }
+}
