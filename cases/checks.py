@@ -10,7 +10,8 @@ NOTES = []
 
 
 def outcome(check, program):
-    """Whether a check failed, and its line: what is wrong, how long it took, and what it noted."""
+    """Whether a check failed, and its line: what is wrong, how long it took, and what it noted. `./test` shows the lines
+    that begin with FAILED once more at its end."""
     NOTES.clear()
     begun = time.monotonic()
     try:
@@ -18,7 +19,8 @@ def outcome(check, program):
     except Exception as error:
         fault = repr(error)
     notes = "; ".join([f"{time.monotonic() - begun:.0f} s", *NOTES])
-    return fault is not None, f"{check.__name__}: {fault or 'passed'} ({notes})"
+    has_failed = fault is not None
+    return has_failed, f"{'FAILED ' if has_failed else ''}{check.__name__}: {fault or 'passed'} ({notes})"
 
 
 def shown(ended):

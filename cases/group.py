@@ -1,6 +1,7 @@
 """Groups of nodes that run."""
 
-from running import LIFE_MS, Node, file_of, free_ports, statuses, wait_for
+from packets import HOST
+from running import LIFE_MS, Node, file_of, free_ports, free_status_ports, statuses, wait_for
 
 # How many members each node knows from the start.
 SEEDS = 2
@@ -21,9 +22,13 @@ class Group:
         self.seeds = [(name, outer[name]) for name in list(own)[:SEEDS]]
         self.nodes = {name: self.started(name) for name in own}
 
+    def keys_of(self, name):
+        """The lines of further keys in the configuration of a name."""
+        return self.keys
+
     def started(self, name):
         """The node of a name, which was just started."""
-        keys = f"{self.keys}dice = {1 + list(self.own).index(name)}\n"
+        keys = f"{self.keys_of(name)}dice = {1 + list(self.own).index(name)}\n"
         seeds = [seed for seed in self.seeds if seed[0] != name]
         how = {"output": self.outputs[name]} if self.outputs else {}
         return Node(self.program, file_of(name, self.own[name], seeds, keys), *self.options,
@@ -55,6 +60,19 @@ class Group:
     def __exit__(self, *_):
         for node in self.nodes.values():
             node.kill()
+
+
+class AskedGroup(Group):
+    """A group without a network between its nodes, of which each has a status server, at the port of its name in
+    `status`."""
+
+    def __init__(self, program, names, keys, options=()):
+        self.status = dict(zip(names, free_status_ports(len(names))))
+        ports = dict(zip(names, free_ports(len(names))))
+        super().__init__(program, ports, ports, keys, options)
+
+    def keys_of(self, name):
+        return f'{self.keys}status = "{HOST}:{self.status[name]}"\n'
 
 
 def own_group(program, names, keys, options=(), outputs=None, variables=None):

@@ -51,6 +51,8 @@ class Record:
     status: str
     incarnation: int
     port: int
+    # Who accuses a suspect.
+    accuser: str | None = None
 
     def rank(self):
         """Which of two records of a member is the later one: the one of the greater rank."""
@@ -89,8 +91,6 @@ def read(data):
         member, place = name_at(data, place + 1)
         ports.append(place + 4)
         port, incarnation = (int.from_bytes(data[place + start:place + end], "big") for start, end in ((4, 6), (6, 10)))
-        records.append(Record(member, STATUSES[kind], incarnation, port))
-        place += 10
-        if kind == 2:
-            _, place = name_at(data, place)
+        accuser, place = name_at(data, place + 10) if kind == 2 else (None, place + 10)
+        records.append(Record(member, STATUSES[kind], incarnation, port, accuser))
     return records, ports

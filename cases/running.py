@@ -1,6 +1,6 @@
 """Nodes of the built program that run, what they answer to a stranger, and the lines that they write.
 
-All sockets are UDP ports of 127.0.0.1.
+All sockets are UDP ports of 127.0.0.1, and TCP ports for status servers.
 """
 
 import ctypes
@@ -23,7 +23,7 @@ ANY = (HOST, 0)
 
 LIBC = ctypes.CDLL(None)
 PR_SET_PDEATHSIG = 1
-# The TCP ports that stand for the UDP ports which this process has taken.
+# The sockets that stand for the ports which this process has taken.
 HELD = []
 
 
@@ -37,38 +37,57 @@ def bound_socket(place=ANY):
     return opened
 
 
-def is_taken(port):
-    """Whether a socket is bound to a port."""
+def socket_at(port, kind):
+    """A socket of a kind that is bound to a port. None if the port is taken."""
+    opened = socket.socket(socket.AF_INET, kind)
     try:
-        bound_socket((HOST, port)).close()
+        opened.bind((HOST, port))
     except OSError:
-        return True
-    return False
+        opened.close()
+        return None
+    return opened
 
 
-def is_reserved(port):
-    """Takes a port for this process until its end, and says so, unless another process of these tests has taken it.
+def is_taken(port, kind=socket.SOCK_DGRAM):
+    """Whether a socket of a kind is bound to a port."""
+    opened = socket_at(port, kind)
+    if opened:
+        opened.close()
+    return opened is None
 
-    The TCP port of the same number stands for it: what is tested uses UDP alone.
+
+def is_reserved(port, kind):
+    """Takes a port of a kind for this process until its end, and says so, unless it is taken.
+
+    The port of the same number and of the other kind stands for it: of the ports of these tests none of UDP has the
+    number of one of TCP.
     """
-    holder = socket.socket(socket.AF_INET, socket.SOCK_STREAM)
-    try:
-        holder.bind((HOST, port))
-    except OSError:
-        holder.close()
+    other = socket.SOCK_STREAM if kind == socket.SOCK_DGRAM else socket.SOCK_DGRAM
+    holder = socket_at(port, other)
+    if not holder:
         return False
     HELD.append(holder)
-    return not is_taken(port)
+    return not is_taken(port, kind)
+
+
+def reserved(count, kind, least, most):
+    """Ports of a kind that are free, all different, from the least number on and below the greatest."""
+    found = []
+    while len(found) < count:
+        port = random.randrange(least, most)
+        if port not in found and is_reserved(port, kind):
+            found.append(port)
+    return found
 
 
 def free_ports(count):
-    """Ports that are free, all different, and that the machine hands out to nobody: those are from 32768 on."""
-    found = []
-    while len(found) < count:
-        port = random.randrange(20_000, 32_000)
-        if port not in found and is_reserved(port):
-            found.append(port)
-    return found
+    """UDP ports that are free, all different, and that the machine hands out to nobody: those are from 32768 on."""
+    return reserved(count, socket.SOCK_DGRAM, 20_000, 32_000)
+
+
+def free_status_ports(count):
+    """The same of TCP, for status servers."""
+    return reserved(count, socket.SOCK_STREAM, 12_000, 16_000)
 
 
 # ---- Nodes
@@ -179,8 +198,8 @@ def statuses(port):
 
 def record_of(words):
     """The record that the words `NAME STATUS INCARNATION ADDRESS` of a line tell, and perhaps `by ACCUSER`."""
-    name, status, incarnation, address = words[:4]
-    return Record(name, status, int(incarnation), int(address.rpartition(":")[2]))
+    name, status, incarnation, address, *by = words
+    return Record(name, status, int(incarnation), int(address.rpartition(":")[2]), by[1] if by else None)
 
 
 def told(text):

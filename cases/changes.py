@@ -1,0 +1,225 @@
+"""Checks of what changes of a node a client gets, and of long polls for them, while a stranger changes records."""
+
+import http.client
+import selectors
+import statistics
+import time
+
+from asking import Link, changes_after, on_connection, request
+from checks import NOTES
+from packets import HOST, IN_A_PACKET, claim, ping
+from running import LIFE_MS, Node, bound_socket, file_of, free_ports, free_status_ports, table_of, wait_for
+from unread import Stranger
+
+# Rounds are so rare that only strangers change anything.
+QUIET = "interval_ms = 60000\n"
+KEPT = 1024
+TOLD = 200
+PARKED = 192
+
+
+class Lone:
+    """A node b without others, which has a status server unless it is to have none."""
+
+    def __init__(self, program, *options, has_status=True):
+        [self.port], [self.status] = free_ports(1), free_status_ports(1)
+        keys = f'{QUIET}status = "{HOST}:{self.status}"\n' if has_status else QUIET
+        text = file_of("b", self.port, keys=keys)
+        self.node = Node(program, text, "--for-ms", str(LIFE_MS), *options)
+        self.silent = bound_socket()
+        if wait_for("b", self.port) is None:
+            raise RuntimeError(f"the node doesn't answer: {self.node.kill()}")
+
+    def tell(self, incarnation, count=1):
+        """Tells it that the members t000 to the last of so many are alive at an incarnation. What it sends to them
+        stays unread."""
+        place = self.silent.getsockname()[1]
+        claims = [claim(1, f"t{number:03}", place, incarnation) for number in range(count)]
+        with bound_socket() as sender:
+            for start in range(0, count, IN_A_PACKET):
+                sender.sendto(ping(5, "nobody", claims[start:start + IN_A_PACKET]), (HOST, self.port))
+                time.sleep(0.0005)
+
+    def __enter__(self):
+        return self
+
+    def __exit__(self, *_):
+        self.node.kill()
+        self.silent.close()
+
+
+def incarnations(changes):
+    """The names of changes with their incarnations, in order."""
+    return [(it["name"], it["incarnation"]) for it in changes["changes"]]
+
+
+# ---- Changes
+
+
+def fault_of_a_change(node, version, incarnation):
+    """Waits for what is behind a version, and tells the node of t000 meanwhile. Gives what is wrong, the version of the
+    answer, and how long it came behind the stranger's packet."""
+    with Link(node.status, request(f"/v1/changes?after={version}&wait_ms=10000")) as link:
+        time.sleep(0.02)
+        begun = time.monotonic()
+        node.tell(incarnation)
+        answer = link.answer()
+        took = time.monotonic() - begun
+    if answer is None or answer.code != 200:
+        return f"a poll that waited got {answer}", version, took
+    answer = answer.value()
+    wanted = [("t000", incarnation)]
+    fault = None if incarnations(answer) == wanted and not answer["missed"] else f"got {answer}, wanted {wanted}"
+    if answer["version"] <= version or answer["changes"][0]["version"] <= version:
+        fault = f"{answer} came for what is behind {version}"
+    return fault, answer["version"], took
+
+
+def changes_come(program, *options):
+    """A client asks for all changes and gets the node itself; waits for a change that doesn't come and gets none; and
+    waits for twenty that come, each within half a second of a stranger's packet (the median)."""
+    with Lone(program, *options) as node:
+        first = changes_after(node.status, 0)
+        if incarnations(first) != [("b", 0)] or first["missed"]:
+            return f"the first changes are {first}"
+        version, begun = first["version"], time.monotonic()
+        none = changes_after(node.status, version, 700)
+        waited = time.monotonic() - begun
+        if none["changes"] or none["missed"] or not 0.7 <= waited < 3:
+            return f"got {none} after {waited:.2f} s, wanted none after 0.7 s"
+        times = []
+        for incarnation in range(1, 21):
+            fault, version, took = fault_of_a_change(node, version, incarnation)
+            if fault:
+                return fault
+            times.append(took)
+        NOTES.append(f"a change came after {statistics.median(times) * 1000:.1f} ms, the median of {len(times)}")
+        return None if statistics.median(times) < 0.5 else f"the times were {times}"
+
+
+def changes_come_of_a_followed_node(program):
+    """So they do from a node that is followed."""
+    return changes_come(program, "--follow")
+
+
+def fault_of_a_round(node, incarnation, version):
+    """Changes the records of all told members at once, and waits for all these changes. Gives what is wrong, and the
+    version of the last answer."""
+    node.tell(incarnation, TOLD)
+    seen, limit = [], time.monotonic() + 10
+    while len(seen) < TOLD and time.monotonic() < limit:
+        answer = changes_after(node.status, version, 500)
+        seen, version = seen + incarnations(answer), answer["version"]
+    wanted = [(f"t{number:03}", incarnation) for number in range(TOLD)]
+    return None if sorted(seen) == wanted else f"got {seen}, wanted {wanted}", version
+
+
+def old_changes_are_forgotten(program):
+    """A stranger changes the records of 200 members again and again. As long as 1,024 changes have come at most, those
+    behind an early version are all there, the oldest first. Once there are more, some are missed, and the whole table
+    comes."""
+    with Lone(program) as node:
+        start = version = changes_after(node.status, 0)["version"]
+        for incarnation in range(1, KEPT // TOLD + 2):
+            fault, version = fault_of_a_round(node, incarnation, version)
+            changes = changes_after(node.status, start)
+            versions = [it["version"] for it in changes["changes"]]
+            count, missed = incarnation * TOLD, incarnation * TOLD > KEPT
+            wanted = sorted((it.member, it.incarnation) for it in table_of(node.port).values()) if missed else None
+            if fault or versions != sorted(versions) or changes["missed"] != missed:
+                return fault or f"behind {count} changes got {changes['missed']} with the versions {versions}"
+            if missed and sorted(incarnations(changes)) != wanted:
+                return f"got {changes} and not the table {wanted}"
+            if not missed and len(versions) != count:
+                return f"got {len(versions)} changes of {count}"
+        return None if missed else "nothing was missed"
+
+
+# ---- Versions
+
+
+def fault_of_versions(node):
+    """What goes back while a client asks 200 times on one connection."""
+    connection = http.client.HTTPConnection(HOST, node.status, timeout=10)
+    version, latest, sockets, before = 0, {}, set(), changes_after(node.status, 0)["version"]
+    for turn in range(200):
+        target = ["/v1/members", "/v1/members/t007", f"/v1/changes?after={version}"][turn % 3]
+        answer = on_connection(connection, target)
+        sockets.add(connection.sock)
+        if answer.code != 200:
+            return f"{target} got {answer}"
+        value = answer.value()
+        members = value.get("members") or value.get("changes", [value] if "name" in value else [])
+        older = [it for it in members if it["incarnation"] < latest.get(it["name"], 0)]
+        if value["version"] < version or older:
+            return f"version {value['version']} came behind {version}, and {older} behind {latest}"
+        version = value["version"]
+        latest |= {it["name"]: it["incarnation"] for it in members}
+    connection.close()
+    if len(sockets) != 1 or version <= before or latest["t007"] < 2:
+        return f"{len(sockets)} connections, versions {before} to {version}, {latest}"
+    NOTES.append(f"versions {before} to {version}")
+    return None
+
+
+def versions_never_go_back(program):
+    """A client asks 200 times on one connection while a stranger changes 200 members ten times a second: neither the
+    version nor the incarnation of a member ever goes back."""
+    with Lone(program) as node:
+        node.tell(0, TOLD)
+        stranger = Stranger(node.port)
+        try:
+            return fault_of_versions(node)
+        finally:
+            stranger.end()
+
+
+# ---- Many long polls
+
+
+def answers_to(links):
+    """The answers of all links that have one within ten seconds, in the order in which they come, without waiting for
+    more than a second for the next."""
+    with selectors.DefaultSelector() as selector:
+        for link in links:
+            selector.register(link.socket, selectors.EVENT_READ, link)
+        while selector.get_map():
+            ready = selector.select(1)
+            if not ready:
+                return
+            for key, _ in ready:
+                selector.unregister(key.fileobj)
+                yield key.data, key.data.answer()
+
+
+def fault_of_the_others(node, version, turned_away):
+    """What is wrong with those that were turned away: they were told when to ask again, and then get the change."""
+    for answer in turned_away:
+        if answer is None or answer.code != 503 or list(answer.value()) != ["error"]:
+            return f"got {answer} while {PARKED} polls waited"
+    time.sleep(max(int(it.fields["retry-after"]) for it in turned_away))
+    for _ in turned_away:
+        got = incarnations(changes_after(node.status, version, 10_000))
+        if got != [("t000", 1)]:
+            return f"got {got} when asked again"
+    return None
+
+
+def three_hundred_polls_wait(program):
+    """Of 300 clients that wait at once, 192 get the next change. The others are told at once to ask again, and then get
+    it too."""
+    with Lone(program) as node:
+        version = changes_after(node.status, 0)["version"]
+        data = request(f"/v1/changes?after={version}&wait_ms=30000")
+        links = [Link(node.status, data) for _ in range(300)]
+        try:
+            early = dict(answers_to(links))
+            node.tell(1)
+            waiting = [link for link in links if link not in early]
+            late = [answer and incarnations(answer.value()) for _, answer in answers_to(waiting)]
+            if late != PARKED * [[("t000", 1)]]:
+                return f"{len(late)} of {len(waiting)} that waited got an answer: {late[:3]}"
+            return fault_of_the_others(node, version, early.values())
+        finally:
+            for link in links:
+                link.close()

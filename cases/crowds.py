@@ -1,0 +1,269 @@
+"""Checks of a node whose status server many clients ask, or clients that do harm: the node answers its group as
+before."""
+
+import json
+import pathlib
+import random
+import resource
+import socket
+import threading
+import time
+from concurrent.futures import ThreadPoolExecutor
+from multiprocessing import Process
+
+from asking import Link, by_python, is_answering, request
+from changes import Lone
+from checks import NOTES
+from exposition import metrics_in
+from group import AskedGroup
+from packets import ping
+from running import PATIENCE, asked, table_of, wait_until
+
+STAYING = 1000
+# How long a client may take for a part of a request or of an answer, and two seconds for a busy machine.
+DEADLINE = 5 + 2
+DAMAGED = 10_000
+DAMAGING = 4
+MEGABYTES = 64
+PIPELINED = 200
+
+
+# ---- What the node does meanwhile
+
+
+class Witness:
+    """It pings a node b twenty times a second and asks four times a second for its health, until its end."""
+
+    def __init__(self, node):
+        self.node, self.is_on = node, True
+        self.pings = self.acks = self.questions = self.answers = 0
+        self.threads = [threading.Thread(target=it) for it in (self.ping, self.ask)]
+        for thread in self.threads:
+            thread.start()
+
+    def ping(self):
+        while self.is_on:
+            self.pings += 1
+            self.acks += bool(asked(ping(9, "b"), self.node.port))
+            time.sleep(0.05)
+
+    def ask(self):
+        """A connection that is closed at once, since all slots are taken, may ask again for two seconds."""
+        while self.is_on:
+            self.questions += 1
+            self.answers += wait_until(lambda: is_answering(self.node.status), 2) is not None
+            time.sleep(0.25)
+
+    def fault(self):
+        """Ends it, and gives what was missing."""
+        self.is_on = False
+        for thread in self.threads:
+            thread.join()
+        NOTES.append(f"{self.acks} Acks and {self.answers} answers about the health meanwhile")
+        if (self.acks, self.answers) == (self.pings, self.questions):
+            return None
+        return f"{self.acks} of {self.pings} Pings and {self.answers} of {self.questions} questions were answered"
+
+
+def megabytes(node):
+    """The most memory that a node had so far."""
+    text = pathlib.Path(f"/proc/{node.node.process.pid}/status").read_text(encoding="utf-8")
+    [line] = [line for line in text.splitlines() if line.startswith("VmHWM:")]
+    return int(line.split()[1]) / 1024
+
+
+def descriptors(node):
+    """How many files and sockets a node has open."""
+    return len(list(pathlib.Path(f"/proc/{node.node.process.pid}/fd").iterdir()))
+
+
+# ---- Clients that do harm
+
+
+def staying(port):
+    """Connections that have sent one byte each."""
+    links = []
+    for _ in range(STAYING):
+        try:
+            links.append(Link(port, b"G"))
+        except ConnectionError:
+            # It was closed before the byte was sent.
+            pass
+    return links
+
+
+def never_reading(port):
+    """A connection that asked for as many pages as it could, and reads none."""
+    link = Link(port)
+    link.socket.setblocking(False)
+    try:
+        while True:
+            link.socket.send(100 * request("/"))
+    except BlockingIOError:
+        return link
+
+
+def is_ended(link):
+    """Whether the server has closed a connection: what came before that is read."""
+    link.socket.setblocking(False)
+    try:
+        while link.socket.recv(65_536):
+            pass
+    except BlockingIOError:
+        return False
+    except OSError:
+        pass
+    return True
+
+
+def damaged(dice):
+    """A request with some bytes changed, cut off, left out or put in."""
+    whole = request(dice.choice(["/v1/members", "/v1/changes?after=1", "/metrics", "/"]),
+                    dice.choice(["GET", "HEAD", "POST"]), dice.choice(["", "content-length: 3\r\n", "a: b\r\n"]))
+    place = dice.randrange(len(whole))
+    middle = dice.choice([b"", dice.randbytes(1), dice.randbytes(dice.randrange(200)), b"\0", b"\r\n", b" "])
+    return dice.choice([whole[:place], whole[:place] + middle + whole[place + dice.randrange(3):]])
+
+
+def fault_of_damaged(port, data):
+    """What is wrong with all that comes for damaged bytes: nothing, if there were none, or answers, of which each has
+    a code, and JSON if it refuses something."""
+    with Link(port, data) as link:
+        link.socket.shutdown(socket.SHUT_WR)
+        received = link.file.read()
+    head, _, body = received.partition(b"\r\n\r\n")
+    code = head[9:12]
+    if code == b"200" or not received and not data:
+        return None
+    if code not in (b"400", b"404", b"405", b"413", b"414", b"431", b"501"):
+        return f"{data} got {received[:200]}"
+    return None if data.startswith(b"HEAD") or "error" in json.loads(body.partition(b"HTTP/1.1")[0]) else f"{received}"
+
+
+def fault_of_many_damaged(port, seed):
+    """What is wrong with the answers to some of the damaged requests, by a seed."""
+    dice = random.Random(seed)
+    faults = (fault_of_damaged(port, damaged(dice)) for _ in range(DAMAGED // DAMAGING))
+    return next(filter(None, faults), None)
+
+
+def fault_of_pipelined(port):
+    """What is wrong with the answers to requests that are sent at once: they come in their order."""
+    targets = ["/v1/members/b", "/v1/members/nobody", "/v1/members/%", "/v1/health"]
+    codes = [200, 404, 400, 200]
+    with Link(port, b"".join(request(it) for it in targets) * PIPELINED) as link:
+        got = [link.answer() for _ in range(len(targets) * PIPELINED)]
+    wrong = [it for it, code in zip(got, codes * PIPELINED) if it is None or it.code != code]
+    return f"pipelined requests got {wrong[:1]}" if wrong else None
+
+
+def fault_of_a_body(port):
+    """What is wrong with the answer to a body that is too large."""
+    for method in ("POST", "GET"):
+        answer = by_python(port, "/v1/members", method, bytes(1024 * 1024))
+        if answer.code != 413 or answer.value() != {"error": "body too large"}:
+            return f"{method} with a body of a mebibyte got {answer}"
+    return None
+
+
+def fault_of_harm(port):
+    """What is wrong while and after clients stay, don't read, and send what is damaged or too large."""
+    begun = time.monotonic()
+    links = [never_reading(port), *staying(port)]
+    # A slot that was taken just now isn't given to another client.
+    time.sleep(0.5)
+    with ThreadPoolExecutor(DAMAGING) as pool:
+        faults = list(pool.map(lambda seed: fault_of_many_damaged(port, seed), range(DAMAGING)))
+    faults += [fault_of_pipelined(port), fault_of_a_body(port)]
+    NOTES.append(f"{DAMAGED} damaged requests and the others took {time.monotonic() - begun:.1f} s")
+    time.sleep(max(0.0, begun + DEADLINE - time.monotonic()))
+    open_still = [place for place, link in enumerate(links) if not is_ended(link)]
+    for link in links:
+        link.close()
+    faults.append(f"still open after {DEADLINE} s: {open_still[:5]}, of which 0 doesn't read" if open_still else None)
+    return next(filter(None, faults), None)
+
+
+def harmful_clients_harm_nobody(program):
+    """A client that never reads, 1,000 that send one byte and stay, 10,000 damaged requests, pipelined ones, and bodies
+    that are too large: meanwhile each Ping is answered, and each question about the health. At the end those that
+    stayed are closed, and the node has all its sockets again, and had 64 MB at most."""
+    _, most = resource.getrlimit(resource.RLIMIT_NOFILE)
+    resource.setrlimit(resource.RLIMIT_NOFILE, (most, most))
+    with Lone(program) as node:
+        before, witness = descriptors(node), Witness(node)
+        try:
+            fault = fault_of_harm(node.status)
+        finally:
+            missing = witness.fault()
+        if fault or missing:
+            return fault or missing
+        if wait_until(lambda: descriptors(node) == before, 5) is None:
+            return f"{descriptors(node)} descriptors are open, and were {before}"
+        NOTES.append(f"{megabytes(node):.1f} MB at most")
+        return None if megabytes(node) < MEGABYTES else f"{megabytes(node)} MB"
+
+
+# ---- A flood of a whole group
+
+GROUP = [f"m{place:02}" for place in range(8)]
+FLOODED_SECONDS = 5
+FLOODS = 5
+
+
+def flood(ports):
+    """Asks servers in turn, 50 requests at once on a connection to each, until this process is killed."""
+    links = [Link(port) for port in ports]
+    while True:
+        for link in links:
+            link.socket.sendall(50 * request("/v1/members"))
+        for link in links:
+            for _ in range(50):
+                link.answer()
+
+
+def suspicions(group):
+    """How many suspicions the members of a group have raised so far, and the incarnation of each."""
+    raised = [metrics_in(by_python(port, "/metrics").body).samples["lg_suspicions_raised_total"]
+              for port in group.status.values()]
+    own = {name: table_of(port)[name].incarnation for name, port in group.own.items()}
+    return sum(raised), own
+
+
+def answered(group):
+    """How many datagrams the members have sent so far."""
+    return sum(metrics_in(by_python(port, "/metrics").body).samples["lg_datagrams_sent_total"]
+               for port in group.status.values())
+
+
+def fault_of_a_flood(group):
+    """What is wrong with a group whose status servers are asked for some seconds as fast as two clients can."""
+    if wait_until(group.is_whole, PATIENCE) is None:
+        return group.difference(dict.fromkeys(GROUP, "alive"))
+    before, sent = suspicions(group), answered(group)
+    floods = [Process(target=flood, args=(list(group.status.values()),), daemon=True) for _ in range(2)]
+    for it in floods:
+        it.start()
+    time.sleep(FLOODED_SECONDS)
+    were_running = all(it.is_alive() for it in floods)
+    after = suspicions(group)
+    for it in floods:
+        it.kill()
+        it.join()
+    NOTES.append(f"{(answered(group) - sent) / FLOODED_SECONDS:.0f} datagrams a second")
+    if after != before or not were_running or not group.is_whole():
+        return f"suspicions and incarnations {before} became {after}; the flood went on: {were_running}"
+    return None
+
+
+def flood_raises_no_suspicion(program):
+    """Eight members whose rounds take 100 ms suspect nobody while their status servers are asked as fast as two clients
+    can. A machine that is busy with something else makes members late, flood or not. So one flood of several that
+    raises no suspicion is enough."""
+    with AskedGroup(program, GROUP, "interval_ms = 100\ntimeout_ms = 50\npull_ms = 1000\n") as group:
+        for tried in range(FLOODS):
+            fault = fault_of_a_flood(group)
+            if not fault:
+                NOTES.append(f"flood {tried + 1} of at most {FLOODS}")
+                return None
+        return f"after {FLOODS} floods: {fault}"

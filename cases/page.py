@@ -1,0 +1,156 @@
+"""Checks of who reads what a node answers: the page in a browser, and the services of the examples."""
+
+import os
+import pathlib
+import shutil
+import subprocess
+import tempfile
+import time
+
+from asking import asked_for, by_python
+from browser import Browser, chromium
+from changes import Lone
+from checks import NOTES
+from group import AskedGroup
+from running import PATIENCE, end_with_parent, table_of, wait_until
+
+SERVICES = pathlib.Path(__file__).resolve().parent.parent / "examples" / "services"
+
+# Rounds and suspicions are short, so that a death is soon known.
+KEYS = "interval_ms = 200\ntimeout_ms = 100\nalpha = 3\npull_ms = 1000\n"
+NAMES = ["a", "b", "c"]
+# A variable of the environment: where a picture of the page with a dead member is to be kept.
+PICTURE = "LG_PICTURE"
+
+
+def status_at(group, name, member):
+    """The status of a member by the node of a name."""
+    return asked_for(group.status[name], f"/v1/members/{member}")["status"]
+
+
+# ---- The page
+
+ROWS = ("[...document.querySelectorAll('#members tr')]"
+        ".map((it) => it.cells[0].innerText + ' ' + it.cells[1].innerText).join(', ')")
+HEALTH = "document.getElementById('health').innerText"
+CHANGES = "document.querySelectorAll('#changes li').length"
+
+
+def fault_of_a_death(group, browser):
+    """What is wrong with the page of b while c dies: it shows this within two seconds from when b knows it."""
+    alive, failed = ("a alive, b alive, c " + it for it in ("alive", "failed"))
+    if browser.until(ROWS, alive, 20) is None:
+        return f"the page shows {browser.value(ROWS)}"
+    group.nodes["c"].kill()
+    if wait_until(lambda: status_at(group, "b", "c") == "failed", PATIENCE) is None:
+        return "b doesn't take c as failed"
+    known = time.monotonic()
+    shown = browser.until(ROWS, failed, 2)
+    is_counted = browser.until(f"{HEALTH}.includes('2 of 3 members live')", True, 2)
+    if shown is None or is_counted is None or browser.value(CHANGES) < 2:
+        return f"the page shows {[browser.value(it) for it in (ROWS, HEALTH, CHANGES)]}"
+    if path := os.environ.get(PICTURE):
+        browser.keep_picture(path)
+    NOTES.append(f"a death is shown {(shown - known) * 1000:.0f} ms after the node says it")
+    return None
+
+
+def fault_of_a_new_start(group, browser):
+    """What is wrong with the page of b when b ends and is started again: it says so, and follows it again."""
+    group.nodes["b"].kill()
+    if browser.until(HEALTH, "no answer", 10) is None:
+        return f"b has ended, and its page says {browser.value(HEALTH)!r}"
+    group.nodes |= {name: group.started(name) for name in ("b", "c")}
+    if wait_until(group.is_whole, PATIENCE) is None:
+        return group.difference(dict.fromkeys(NAMES, "alive"))
+    if browser.until(ROWS, "a alive, b alive, c alive", 10) is None:
+        return f"b runs again, and its page shows {[browser.value(it) for it in (ROWS, HEALTH, CHANGES)]}"
+    return f"the page's script fails: {browser.faults}" if browser.faults else None
+
+
+def page_follows_the_node(program):
+    """A Chromium shows the page of b: within two seconds that c has died, that b has ended, and what b knows once both
+    run again. Without a Chromium this isn't looked at."""
+    path = chromium()
+    if not path:
+        NOTES.append("there is no Chromium, so no page was shown")
+        return None
+    with AskedGroup(program, NAMES, KEYS) as group:
+        if wait_until(group.is_whole, PATIENCE) is None:
+            return group.difference(dict.fromkeys(NAMES, "alive"))
+        with Browser(path, f"http://127.0.0.1:{group.status['b']}/") as browser:
+            return fault_of_a_death(group, browser) or fault_of_a_new_start(group, browser)
+
+
+def page_reads_as_text(program):
+    """w3m, which runs no script, shows the members on the page. Without it this isn't looked at."""
+    if not shutil.which("w3m"):
+        NOTES.append("there is no w3m, so the page wasn't read as text")
+        return None
+    with Lone(program) as node:
+        node.tell(3, 2)
+        wait_until(lambda: len(table_of(node.port)) == 3, 10)
+        page = by_python(node.status, "/").body
+    ran = subprocess.run(["w3m", "-dump", "-T", "text/html"], input=page, capture_output=True, check=True)
+    rows = [line.split()[:3] for line in ran.stdout.decode().splitlines()]
+    missing = [it for it in (["b", "alive", "0"], ["t000", "alive", "3"], ["t001", "alive", "3"]) if it not in rows]
+    return f"{missing} aren't in {rows}" if missing else None
+
+
+# ---- Services
+
+
+class Service:
+    """A service that chooses a member for each line of its input."""
+
+    def __init__(self, words):
+        self.process = subprocess.Popen(words, stdin=subprocess.PIPE, stdout=subprocess.PIPE, stderr=subprocess.PIPE,
+                                        text=True, preexec_fn=end_with_parent)
+
+    def choices(self, count):
+        """Whom it chooses for so many calls."""
+        self.process.stdin.write(count * "\n")
+        self.process.stdin.flush()
+        return {self.process.stdout.readline().strip() for _ in range(count)}
+
+    def end(self):
+        """Its status, and what it told."""
+        _, errors = self.process.communicate(timeout=10)
+        return self.process.returncode, errors
+
+
+def fault_of_service(group, words):
+    """What is wrong with the choices of a service beside b: it chooses a or c; a alone once c has died; and a also when
+    b doesn't answer any more, which it tells."""
+    service = Service([*words, str(group.status["b"])])
+    both = service.choices(40)
+    group.nodes["c"].kill()
+    if wait_until(lambda: status_at(group, "b", "c") == "failed", PATIENCE) is None:
+        return "b doesn't take c as failed"
+    one = service.choices(40)
+    group.nodes["b"].kill()
+    last = service.choices(3)
+    status, told = service.end()
+    group.nodes |= {name: group.started(name) for name in ("b", "c")}
+    got = both, one, last, status, told.count("the last answer is used")
+    wanted = {"a at 127.0.0.1", "c at 127.0.0.1"}, {"a at 127.0.0.1"}, {"a at 127.0.0.1"}, 0, 3
+    return None if got == wanted else f"{words}: got {got}, wanted {wanted}; it told {told}"
+
+
+def services_choose_who_is_alive(program):
+    """The services of the examples choose among the other members that are alive: the one in Python, and the one in Go
+    if there is a go."""
+    with tempfile.TemporaryDirectory(prefix="lg-services-") as folder, AskedGroup(program, NAMES, KEYS) as group:
+        services = [["python3", f"{SERVICES}/choose.py"]]
+        if shutil.which("go"):
+            made = f"{folder}/choose"
+            subprocess.run(["go", "build", "-o", made, f"{SERVICES}/choose.go"], check=True)
+            services.append([made])
+        else:
+            NOTES.append("there is no go, so the service in Go wasn't run")
+        for words in services:
+            if wait_until(group.is_whole, PATIENCE) is None:
+                return group.difference(dict.fromkeys(NAMES, "alive"))
+            if fault := fault_of_service(group, words):
+                return fault
+    return None
