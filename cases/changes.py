@@ -1,6 +1,7 @@
 """Checks of what changes of a node a client gets, and of long polls for them, while a stranger changes records."""
 
 import http.client
+import itertools
 import selectors
 import statistics
 import time
@@ -8,7 +9,7 @@ import time
 from asking import Link, changes_after, on_connection, request
 from checks import NOTES
 from packets import HOST, IN_A_PACKET, claim, ping
-from running import LIFE_MS, Node, bound_socket, file_of, free_ports, free_status_ports, table_of, wait_for
+from running import LIFE_MS, PATIENCE, Node, bound_socket, file_of, free_ports, free_status_ports, table_of, wait_for
 from unread import Stranger
 
 # Rounds are so rare that only strangers change anything.
@@ -139,10 +140,11 @@ def old_changes_are_forgotten(program):
 
 
 def fault_of_versions(node):
-    """What goes back while a client asks 200 times on one connection."""
+    """What goes back while a client asks on one connection, at least 200 times, and until a member has changed twice."""
     connection = http.client.HTTPConnection(HOST, node.status, timeout=10)
     version, latest, sockets, before = 0, {}, set(), changes_after(node.status, 0)["version"]
-    for turn in range(200):
+    turns, last = itertools.count(), time.monotonic() + PATIENCE
+    while (turn := next(turns)) < 200 or latest.get("t007", 0) < 2 and time.monotonic() < last:
         target = ["/v1/members", "/v1/members/t007", f"/v1/changes?after={version}"][turn % 3]
         answer = on_connection(connection, target)
         sockets.add(connection.sock)
@@ -156,15 +158,15 @@ def fault_of_versions(node):
         version = value["version"]
         latest |= {it["name"]: it["incarnation"] for it in members}
     connection.close()
-    if len(sockets) != 1 or version <= before or latest["t007"] < 2:
+    if len(sockets) != 1 or version <= before or latest.get("t007", 0) < 2:
         return f"{len(sockets)} connections, versions {before} to {version}, {latest}"
-    NOTES.append(f"versions {before} to {version}")
+    NOTES.append(f"versions {before} to {version} in {turn} answers")
     return None
 
 
 def versions_never_go_back(program):
-    """A client asks 200 times on one connection while a stranger changes 200 members ten times a second: neither the
-    version nor the incarnation of a member ever goes back."""
+    """A client asks on one connection, 200 times and more, while a stranger changes 200 members ten times a second:
+    neither the version nor the incarnation of a member ever goes back."""
     with Lone(program) as node:
         node.tell(0, TOLD)
         stranger = Stranger(node.port)
