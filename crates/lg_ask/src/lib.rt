@@ -1,0 +1,26 @@
+//! Asks a running node over HTTP: who its members are, how it is, and what changes.
+//!
+//! [`tell_answer`] asks once and writes what the node answers. [`watch_changes`] asks again and again. Contracts of
+//! other crates cite `TellsAnswer` (`specs/Meaning/Telling.antt`) and `WatchesChanges` (`Watching.antt`).
+#![tactic(auto)]
+
+mod address;
+mod asking;
+mod changes;
+mod fault;
+mod fields;
+mod health;
+mod heard;
+mod json;
+mod lines;
+mod members;
+mod question;
+mod receiving;
+mod telling;
+mod told;
+mod watching;
+
+pub use fault::AskFault;
+pub use question::Question;
+pub use telling::tell_answer;
+pub use watching::watch_changes;

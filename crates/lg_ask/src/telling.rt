@@ -1,0 +1,125 @@
+//! Asks a node a question, and tells what it answers.
+//!
+//! Defined in: `specs/Meaning/Telling.antt`, `specs/Meaning/Told.antt`.
+//! Tested in: `cases/ask.case`, `lg_ask_tests/src/asking.rt`, `lg_ask_tests/src/damaged.rt`.
+ghost use Rattle.std.specs.Prelude.{◌≡◌};
+ghost use Rattle.lg_text.specs.Meaning.Running.{AppendsFront};
+ghost use Rattle.lg_ask.specs.Meaning.Faults.{ask_fault_status, ask_fault_text};
+ghost use Rattle.lg_ask.specs.Meaning.Questions.{codes_of};
+ghost use Rattle.lg_ask.specs.Meaning.Telling.{IsTold, TellsAnswer, told_status};
+ghost use Rattle.lg_ask.specs.Meaning.Told.{question_told};
+ghost use Rattle.lg_ask.specs.Support.Reading.{told_shown};
+ghost use Rattle.lg_ask.specs.Support.Receiving.{IsFetched};
+ghost use Rattle.lg_ask.specs.Support.Asking.{AnswersQuestion, IsToldAt};
+
+use crate::address::address_in;
+use crate::asking::{Node, PATIENCE_MS, fetch};
+use crate::fault::AskFault;
+use crate::question::Question;
+use crate::receiving::Answer;
+use crate::told::{Told, told_in};
+use lg_text::{report, write_whole};
+use std::alloc::Global;
+use std::io::Write;
+use std::net::Net;
+
+/// Reports a fault, and gives its status.
+pub(crate) fn tell<F: Write>(fault: AskFault, faults: &mut F) -> u8
+    ensures line { AppendsFront (F.contents faults.old) (F.contents faults.new) (ask_fault_text fault) }
+    ensures status { result ≡ ask_fault_status fault }
+{
+    report(faults, fault.text());
+    fault.status()
+}
+
+/// What an answer tells, if one came.
+#[tactic(auto, using(crate::proofs::AskLaws::answers_from, crate::proofs::AskLaws::unheard_from))]
+fn told_from(
+    alloc: Global,
+    question: Question,
+    json: bool,
+    fetched: Result<Answer, AskFault>,
+) -> Result<Told, AskFault>
+    requires { IsFetched (codes_of question) fetched }
+    ensures { AnswersQuestion (codes_of question) told_shown (question_told question json) result }
+{
+    match fetched {
+        Ok(answer) => told_in(alloc, question, json, answer.body()),
+        Err(fault) => Err(fault),
+    }
+}
+
+/// What the node at an address answers.
+#[tactic(auto, using(crate::proofs::AskLaws::told_at, crate::proofs::AskLaws::unasked_at))]
+fn told_at<M: Net>(
+    rt: &M,
+    alloc: Global,
+    at: &str,
+    question: Question,
+    json: bool,
+) -> Result<Told, AskFault>
+    ensures { IsToldAt at.now (codes_of question) told_shown (question_told question json) result }
+{
+    let address = match address_in(at) {
+        Ok(address) => address,
+        Err(fault) => return Err(fault),
+    };
+    let node = Node {
+        at,
+        address,
+        patience_ms: PATIENCE_MS,
+    };
+    let fetched = fetch(rt, alloc, &node, question.target(), question.codes());
+    told_from(alloc, question, json, fetched)
+}
+
+/// The status of what is told.
+fn told_status(is_ousted: bool) -> u8
+    ensures { result ≡ told_status is_ousted }
+{
+    if is_ousted { 4 } else { 0 }
+}
+
+/// Writes what an answer tells, and gives the status.
+fn write_told<W: Write, F: Write>(told: &Told, writer: &mut W, faults: &mut F) -> u8
+    ensures { IsTold (W.contents writer.old) (W.contents writer.new) (F.contents faults.old) (F.contents faults.new)
+        (told_shown told.now) result }
+{
+    match write_whole(writer, &told.text) {
+        Ok(()) => told_status(told.is_ousted),
+        Err(_) => tell(AskFault::Write, faults),
+    }
+}
+
+/// Asks the node at an address a question, and writes what it answers: its members or its health, as lines, or with
+/// `json` as the body came, with a newline behind it. Gives the exit status.
+///
+/// The text of the address is A.B.C.D:PORT. The request is `GET /v1/members` or `GET /v1/health`, on a connection of
+/// its own. The answer has at most 1,048,576 bytes with its head, and the status code 200; that of a health may be 503
+/// too. Its body is read as JSON, and fields that aren't known are passed over. The whole text is made before its first
+/// byte is written.
+///
+/// The status is 0, or 4 if the node says that it was ousted. If nothing can be told, that is reported in a line, and
+/// the status is that of the fault ([`AskFault::status`]): 3 if the text spells no address, 7 if nobody takes the
+/// connection within 2 seconds, or it ends or is silent for 10 seconds before the answer is whole, 8 if what came is no
+/// answer of a node, 1 if memory is refused. Then nothing is written. If the text isn't written whole, the status is 1.
+/// A line that `faults` doesn't take is dropped.
+///
+/// Memory is allocated in proportion to the answer. Which bytes come is up to the network: no contract says it.
+pub fn tell_answer<M: Net, W: Write, F: Write>(
+    rt: &M,
+    alloc: Global,
+    at: &str,
+    question: Question,
+    json: bool,
+    writer: &mut W,
+    faults: &mut F,
+) -> u8
+    ensures { TellsAnswer at.now question json writer.old writer.new (W.contents writer.old) (W.contents writer.new)
+        (F.contents faults.old) (F.contents faults.new) result }
+{
+    match told_at(rt, alloc, at, question, json) {
+        Ok(told) => write_told(&told, writer, faults),
+        Err(fault) => tell(fault, faults),
+    }
+}
