@@ -9,9 +9,13 @@ use Rattle.lg_launch.specs.Meaning.Running.{RunsFile}
 use Rattle.lg_commands.specs.Meaning.Choosing.{order_text}
 use Rattle.lg_commands.specs.Meaning.Running.{FailsBy, RunsAnswer, RunsOrder, RunsSim, RunsTimeouts}
 use Rattle.lg_commands.specs.declared.timeouts.Numbers.{Numbers}
-use Rattle.lg_command_line.specs.Meaning.Commands.{Request, answer, check, node, order, sim, timeouts, asked, line_faults}
-use Rattle.lg_command_line.specs.Meaning.Commands.{IfAnswer, IfCheck, IfNode, IfOrder, IfSim, IfTimeouts, RefusesLine}
+use Rattle.lg_command_line.specs.declared.asked.Question.{Question}
+use Rattle.lg_command_line.specs.Meaning.Commands.{Request, answer, ask, check, node, order, sim, timeouts}
+use Rattle.lg_command_line.specs.Meaning.Commands.{asked, line_faults}
+use Rattle.lg_command_line.specs.Meaning.Commands.{IfAnswer, IfAsk, IfCheck, IfNode, IfOrder, IfSim, IfTimeouts}
+use Rattle.lg_command_line.specs.Meaning.Commands.{RefusesLine}
 use Rattle.lg_cli.specs.Meaning.Running.{Streams, RunsNamed, RunsLists, RunsNumbers, RunsScript, RunsNodeFile, RunsCheck}
+use Rattle.lg_cli.specs.Meaning.Running.{AsksNode, RunsAsking}
 use Rattle.lg_cli.specs.Meaning.Running.{RunsRequest, LacksUnread, LeavesUnread, RunsLine}
 
 abbrev IsCons : {X : Type 0} → List X → Type 0
@@ -30,6 +34,7 @@ NeedsNoMachine (timeouts numbers) = Unit {0}
 NeedsNoMachine sim = Unit {0}
 NeedsNoMachine (node file for_ms follow until_input_ends) = ⊥
 NeedsNoMachine (check file) = ⊥
+NeedsNoMachine (ask question at json) = ⊥
 
 module _ (R W : Type 0) (before after : Streams R W) (status : ℕ) where
   of_answer : (P : List ℕ → Type 0) (r : Request) → RunsRequest before after r status
@@ -40,6 +45,7 @@ module _ (R W : Type 0) (before after : Streams R W) (status : ℕ) where
   of_answer P sim run give = tt
   of_answer P (node file for_ms follow until_input_ends) run give = tt
   of_answer P (check file) run give = tt
+  of_answer P (ask question at json) run give = tt
 
   of_order : (P : List ℕ → List ℕ → Type 0) (r : Request) → RunsRequest before after r status
       → ((names words : List ℕ) → RunsLists before after names words status → P names words) → IfOrder r P
@@ -49,6 +55,7 @@ module _ (R W : Type 0) (before after : Streams R W) (status : ℕ) where
   of_order P sim run give = tt
   of_order P (node file for_ms follow until_input_ends) run give = tt
   of_order P (check file) run give = tt
+  of_order P (ask question at json) run give = tt
 
   of_timeouts : (P : Numbers → Type 0) (r : Request) → RunsRequest before after r status
       → ((numbers : Numbers) → RunsNumbers before after numbers status → P numbers) → IfTimeouts r P
@@ -58,6 +65,7 @@ module _ (R W : Type 0) (before after : Streams R W) (status : ℕ) where
   of_timeouts P sim run give = tt
   of_timeouts P (node file for_ms follow until_input_ends) run give = tt
   of_timeouts P (check file) run give = tt
+  of_timeouts P (ask question at json) run give = tt
 
   of_sim : (P : Type 0) (r : Request) → RunsRequest before after r status
       → (RunsScript before after status → P) → IfSim r P
@@ -67,6 +75,7 @@ module _ (R W : Type 0) (before after : Streams R W) (status : ℕ) where
   of_sim P sim run give = give run
   of_sim P (node file for_ms follow until_input_ends) run give = tt
   of_sim P (check file) run give = tt
+  of_sim P (ask question at json) run give = tt
 
   of_node : (P : List ℕ → Option ℕ → Bool → Type 0) (r : Request) → RunsRequest before after r status
       → ((file : List ℕ) (for_ms : Option ℕ) (follow : Bool) → RunsNodeFile before after file for_ms follow status → P file for_ms follow)
@@ -77,6 +86,7 @@ module _ (R W : Type 0) (before after : Streams R W) (status : ℕ) where
   of_node P sim run give = tt
   of_node P (node file for_ms follow until_input_ends) run give = give file for_ms follow run
   of_node P (check file) run give = tt
+  of_node P (ask question at json) run give = tt
 
   of_check : (P : Type 0) (r : Request) → RunsRequest before after r status
       → (RunsCheck before after status → P) → IfCheck r (λ file. P)
@@ -86,8 +96,21 @@ module _ (R W : Type 0) (before after : Streams R W) (status : ℕ) where
   of_check P sim run give = tt
   of_check P (node file for_ms follow until_input_ends) run give = tt
   of_check P (check file) run give = give run
+  of_check P (ask question at json) run give = tt
 
-  -- a run that failed, of a command other than `node` and `check`
+  of_ask : (P : Question → List ℕ → Bool → Type 0) (r : Request) → RunsRequest before after r status
+      → ((question : Question) (at : List ℕ) (json : Bool) → RunsAsking before after question at json status
+      → P question at json)
+      → IfAsk r P
+  of_ask P (answer text) run give = tt
+  of_ask P (order names words) run give = tt
+  of_ask P (timeouts numbers) run give = tt
+  of_ask P sim run give = tt
+  of_ask P (node file for_ms follow until_input_ends) run give = tt
+  of_ask P (check file) run give = tt
+  of_ask P (ask question at json) run give = give question at json run
+
+  -- a run that failed, of a command that needs no machine
   run_fails : (r : Request) → NeedsNoMachine r → RunsRequest before after r status → status ≡ 1
       → FailsBy before.reported after.reported before.writer after.writer
   run_fails (answer text) other run one = run.failed one
@@ -96,6 +119,7 @@ module _ (R W : Type 0) (before after : Streams R W) (status : ℕ) where
   run_fails sim other run one = run.failed one
   run_fails (node file for_ms follow until_input_ends) other run one = absurd other
   run_fails (check file) other run one = absurd other
+  run_fails (ask question at json) other run one = absurd other
 
   -- such a run doesn't have the status of a refusal
   run_isnt_refused : (r : Request) → NeedsNoMachine r → RunsRequest before after r status → status ≢ 2
@@ -105,6 +129,7 @@ module _ (R W : Type 0) (before after : Streams R W) (status : ℕ) where
   run_isnt_refused sim other run = run.run
   run_isnt_refused (node file for_ms follow until_input_ends) other run = absurd other
   run_isnt_refused (check file) other run = absurd other
+  run_isnt_refused (ask question at json) other run = absurd other
 
   lacks_fails : LacksUnread before after status → FailsBy before.reported after.reported before.writer after.writer
   lacks_fails lacks = record { fault = Memory; line = lacks.1.told; unwritten = λ _. lacks.1.unwritten }
@@ -120,6 +145,7 @@ all_answer P (timeouts numbers) give = tt
 all_answer P sim give = tt
 all_answer P (node file for_ms follow until_input_ends) give = tt
 all_answer P (check file) give = tt
+all_answer P (ask question at json) give = tt
 
 all_order : (P : List ℕ → List ℕ → Type 0) (r : Request) → ((names words : List ℕ) → P names words) → IfOrder r P
 all_order P (answer text) give = tt
@@ -128,6 +154,7 @@ all_order P (timeouts numbers) give = tt
 all_order P sim give = tt
 all_order P (node file for_ms follow until_input_ends) give = tt
 all_order P (check file) give = tt
+all_order P (ask question at json) give = tt
 
 all_timeouts : (P : Numbers → Type 0) (r : Request) → ((numbers : Numbers) → P numbers) → IfTimeouts r P
 all_timeouts P (answer text) give = tt
@@ -136,6 +163,7 @@ all_timeouts P (timeouts numbers) give = give numbers
 all_timeouts P sim give = tt
 all_timeouts P (node file for_ms follow until_input_ends) give = tt
 all_timeouts P (check file) give = tt
+all_timeouts P (ask question at json) give = tt
 
 all_sim : (P : Type 0) (r : Request) → P → IfSim r P
 all_sim P (answer text) give = tt
@@ -144,6 +172,7 @@ all_sim P (timeouts numbers) give = tt
 all_sim P sim give = give
 all_sim P (node file for_ms follow until_input_ends) give = tt
 all_sim P (check file) give = tt
+all_sim P (ask question at json) give = tt
 
 all_node : (P : List ℕ → Option ℕ → Bool → Type 0) (r : Request) → ((file : List ℕ) (for_ms : Option ℕ) (follow : Bool) → P file for_ms follow)
     → IfNode r (λ file for_ms follow until_input_ends. P file for_ms follow)
@@ -153,6 +182,7 @@ all_node P (timeouts numbers) give = tt
 all_node P sim give = tt
 all_node P (node file for_ms follow until_input_ends) give = give file for_ms follow
 all_node P (check file) give = tt
+all_node P (ask question at json) give = tt
 
 all_check : (P : Type 0) (r : Request) → P → IfCheck r (λ file. P)
 all_check P (answer text) give = tt
@@ -161,6 +191,17 @@ all_check P (timeouts numbers) give = tt
 all_check P sim give = tt
 all_check P (node file for_ms follow until_input_ends) give = tt
 all_check P (check file) give = give
+all_check P (ask question at json) give = tt
+
+all_ask : (P : Question → List ℕ → Bool → Type 0) (r : Request)
+    → ((question : Question) (at : List ℕ) (json : Bool) → P question at json) → IfAsk r P
+all_ask P (answer text) give = tt
+all_ask P (order names words) give = tt
+all_ask P (timeouts numbers) give = tt
+all_ask P sim give = tt
+all_ask P (node file for_ms follow until_input_ends) give = tt
+all_ask P (check file) give = tt
+all_ask P (ask question at json) give = give question at json
 
 module _ (R W : Type 0) (before after : Streams R W) (line : List (List ℕ)) (status : ℕ) (runs : RunsLine before after line status) where
   -- the command's run, where memory wasn't refused for reading the line
@@ -312,7 +353,34 @@ module _ (R W : Type 0) (before after : Streams R W) (line : List (List ℕ)) (s
     ]
   ]
 
-  -- unless `node` or `check` is run, a refusal writes nothing
+  -- a node is asked, unless memory was refused for reading the line
+  pub asks : line_faults line ≡ [] → IfAsk (asked line) (λ question at json.
+      AsksNode question at json before.writer after.writer before.held after.held before.reported after.reported status
+      ⊎ ((status ≡ 1) × FailsBy before.reported after.reported before.writer after.writer))
+  asks none = elim (runs.taken none) [
+    | inl run ↦ of_ask R W before after status (λ question at json.
+        AsksNode question at json before.writer after.writer before.held after.held before.reported after.reported status
+        ⊎ ((status ≡ 1) × FailsBy before.reported after.reported before.writer after.writer)) (asked line) run
+        (λ question at json r. inl r.asked)
+    | inr lacks ↦ all_ask (λ question at json.
+        AsksNode question at json before.writer after.writer before.held after.held before.reported after.reported status
+        ⊎ ((status ≡ 1) × FailsBy before.reported after.reported before.writer after.writer)) (asked line)
+        (λ question at json. inr (lacks.1.is, lacks_fails R W before after status lacks))
+  ]
+
+  pub asks_unread : IfAsk (asked line) (λ question at json. after.reader ≡ before.reader)
+  asks_unread = elim (nil_or (line_faults line)) [
+    | inl none ↦ elim (runs.taken none) [
+      | inl run ↦ of_ask R W before after status (λ question at json. after.reader ≡ before.reader) (asked line) run (λ question at json r. r.unread)
+      | inr lacks ↦ all_ask (λ question at json. after.reader ≡ before.reader) (asked line) (λ question at json. lacks.0)
+    ]
+    | inr some ↦ elim (runs.left some) [
+      | inl leaves ↦ all_ask (λ question at json. after.reader ≡ before.reader) (asked line) (λ question at json. leaves.0)
+      | inr lacks ↦ all_ask (λ question at json. after.reader ≡ before.reader) (asked line) (λ question at json. lacks.0)
+    ]
+  ]
+
+  -- unless `node` or `check` is run, or a node is asked, a refusal writes nothing
   pub unwritten : (line_faults line ≡ [] → NeedsNoMachine (asked line)) → status ≡ 2
       → after.writer ≡ before.writer
   unwritten other two = elim (nil_or (line_faults line)) [

@@ -1,6 +1,7 @@
 //! The program `lg`: a SWIM failure detector with Lifeguard's extensions, on a command line.
 #![tactic(auto)]
 
+mod ask;
 mod node;
 mod program;
 

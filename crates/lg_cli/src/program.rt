@@ -2,7 +2,7 @@
 //!
 //! Defined in: `specs/Meaning/Running.antt`, `specs/Meaning/Faults.antt`,
 //! `lg_command_line/specs/Meaning/Commands.antt`, `Leaving.antt`.
-//! Tested in: `cases/command_line.case`, `cases/node.case`, `cases/node_command.case`.
+//! Tested in: `cases/command_line.case`, `cases/node.case`, `cases/node_command.case`, `cases/ask.case`.
 ghost use Rattle.std.specs.Prelude.{◌≡◌, ◌≢◌, ◌≤◌, IfSome, map, true};
 ghost use Rattle.std.specs.IoError.{error_kind};
 ghost use Rattle.lg_text.specs.Meaning.Faults.{run_fault_text};
@@ -13,6 +13,7 @@ ghost use Rattle.lg_command_line.specs.Support.Requests.{request_of};
 ghost use Rattle.lg_cli.specs.Meaning.Faults.{foreign_text};
 ghost use Rattle.lg_cli.specs.Meaning.Running.{streams, RunsLine, RunsRequest};
 
+use crate::ask::ask_node;
 use crate::node::run_node;
 use lg_command_line::{Asked, MAX_RUN_MS, take_words};
 use lg_commands::{FAILED, USAGE, answer_named, order_lists, simulate, timeouts_of};
@@ -33,9 +34,11 @@ use std::{io, rt};
 ///
 /// `reader`, `writer` and `faults` stand for standard input, output and error. Only `answer` and `sim` read. `input`
 /// is standard input too, for the thread of `node --until-input-ends`. A line that `faults` doesn't take is dropped.
-/// `node` and `check` alone use the machine `rt`. Both read their file. `node` takes sockets, a clock and threads,
-/// writes its members, and tells its end, with the statuses of [`run_file`](lg_launch::run_file); `check` has those of
-/// [`check_file`]. The statuses of all other command lines are:
+/// `node`, `check`, `members`, `status` and `watch` alone use the machine `rt`. The first two read their file. `node`
+/// takes sockets, a clock and threads, writes its members, and tells its end, with the statuses of
+/// [`run_file`](lg_launch::run_file); `check` has those of [`check_file`]. The other three ask a running node, with the
+/// statuses of [`tell_answer`](lg_ask::tell_answer) and [`watch_changes`](lg_ask::watch_changes). The statuses of all
+/// other command lines are:
 ///
 /// - 0 if all was done. This includes help and the version, if they were asked for and written.
 /// - 1 if memory, a read or a write failed. That is reported as `lg: memory`, `lg: read` or `lg: write`.
@@ -104,6 +107,9 @@ where
         Asked::Sim => simulate(alloc, reader, writer, faults),
         Asked::Timeouts { numbers } => timeouts_of(alloc, &numbers, writer, faults),
         Asked::Check { file } => check_file(rt, alloc, file, writer, faults),
+        Asked::Ask { question, at, json } => {
+            ask_node(rt, alloc, question, at, json, writer, faults)
+        }
         Asked::Node {
             file,
             for_ms,

@@ -11,6 +11,21 @@ use lg_commands::Numbers;
 /// The longest run of a node that is given an end, one day, in milliseconds (this project's choice).
 pub const MAX_RUN_MS: u64 = 86_400_000;
 
+/// The text of the address at which a running node is asked if the command line has no `--at` (this project's choice).
+/// It is an IPv4 address on loopback and a port, the one that the documents give a node's status server.
+pub const DEFAULT_AT: &str = "127.0.0.1:8946";
+
+/// What a running node is asked.
+#[derive(Clone, Copy, Debug)]
+pub enum Question {
+    /// The question of the command `members`: whom it knows.
+    Members,
+    /// The question of the command `status`: how it is.
+    Status,
+    /// The question of the command `watch`: what changes of whom it knows, again and again.
+    Watch,
+}
+
 /// What a command line asks for.
 #[derive(Clone, Copy, Debug)]
 pub enum Asked<'a> {
@@ -42,6 +57,16 @@ pub enum Asked<'a> {
         /// The path, which may name no file.
         file: &'a str,
     },
+    /// One of the commands `members`, `status` and `watch`, which ask a running node.
+    Ask {
+        /// What the node is asked, which says which of the commands it is.
+        question: Question,
+        /// The text that should be the address of the node's status server, which may be no address. If the command
+        /// line has none, it is [`DEFAULT_AT`].
+        at: &'a str,
+        /// Whether the answers are written as they come.
+        json: bool,
+    },
     /// The command `sim`.
     Sim,
     /// The command `timeouts`.
@@ -66,6 +91,7 @@ impl Asked<'_> {
             | Asked::Answer { .. }
             | Asked::Order { .. }
             | Asked::Check { .. }
+            | Asked::Ask { .. }
             | Asked::Sim => true,
         }
     }

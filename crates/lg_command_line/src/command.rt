@@ -5,11 +5,11 @@
 ghost use Rattle.std.specs.Prelude.{◌≡◌, IfOk, decimal, false};
 ghost use Rattle.clap.specs.Simple.{app_of};
 ghost use Rattle.clap.specs.declared.builder.command.Command.TheViews.{out-Command as fields_of};
-ghost use Rattle.lg_command_line.specs.Meaning.Commands.{answer_app, check_app, lg_app, node_app, order_app};
-ghost use Rattle.lg_command_line.specs.Meaning.Commands.{sim_app, timeouts_app};
+ghost use Rattle.lg_command_line.specs.Meaning.Commands.{answer_app, ask_app, check_app, lg_app, node_app};
+ghost use Rattle.lg_command_line.specs.Meaning.Commands.{order_app, sim_app, timeouts_app, with_questions};
 
-use crate::asked::MAX_RUN_MS;
-use crate::options::{flag_option, key_option, number_option, text_option};
+use crate::asked::{DEFAULT_AT, MAX_RUN_MS};
+use crate::options::{default_text_option, flag_option, key_option, number_option, text_option};
 use crate::version::VERSION;
 use clap::Command;
 use lg_rules::MAX_MEMBERS;
@@ -121,6 +121,36 @@ fn check_command<'a>(alloc: Global) -> Result<Command<'a>, AllocError>
         ))
 }
 
+/// A command that asks a running node, `NAME --at A.B.C.D:PORT --json`. Neither option has to be given.
+fn ask_command<'a>(alloc: Global, name: &'a str, about: &'a str) -> Result<Command<'a>, AllocError>
+    ensures app { IfOk result (λ command. app_of command ≡ ask_app name.entry.now) }
+    ensures local { IfOk result (λ command. (fields_of command).has_globals ≡ false) }
+{
+    let at = "The address at which the node's status server listens";
+    let json = "Writes each answer as it comes";
+    Command::new(alloc, name)
+        .about(about)
+        .arg(default_text_option(alloc, "at", "A.B.C.D:PORT", DEFAULT_AT, at))?
+        .arg(flag_option(alloc, "json", json))
+}
+
+/// The program with the commands that ask a running node, behind those that it has.
+fn with_questions<'a>(alloc: Global, lg: Command<'a>) -> Result<Command<'a>, AllocError>
+    ensures { IfOk result (λ command. app_of command ≡ with_questions (app_of lg.entry)) }
+{
+    let members = ask_command(alloc, "members", "Writes whom a running node knows")?;
+    let with_members = lg.subcommand(members)?;
+    let status = ask_command(alloc, "status", "Writes the health of a running node")?;
+    let with_status = with_members.subcommand(status)?;
+    let watch = ask_command(
+        alloc,
+        "watch",
+        "Writes each change of a member that a running node tells, until the node ends",
+    )?;
+    let with_watch = with_status.subcommand(watch)?;
+    Ok(with_watch)
+}
+
 /// The program with its commands, one of which has to be named.
 pub(crate) fn lg_command<'a>(alloc: Global) -> Result<Command<'a>, AllocError>
     ensures { IfOk result (λ command. app_of command ≡ lg_app) }
@@ -141,6 +171,6 @@ pub(crate) fn lg_command<'a>(alloc: Global) -> Result<Command<'a>, AllocError>
     let node = node_command(alloc)?;
     let with_node = with_sim.subcommand(node)?;
     let check = check_command(alloc)?;
-    let lg = with_node.subcommand(check)?;
-    Ok(lg)
+    let with_check = with_node.subcommand(check)?;
+    with_questions(alloc, with_check)
 }

@@ -3,7 +3,7 @@
 //! Where to read on:
 //! - which command a command line asks for, and why one is refused: `specs/Meaning/Commands.antt`;
 //! - what becomes of a command line that isn't run: `specs/Meaning/Leaving.antt`;
-//! - what the commands do: `lg_commands` and `lg_launch`, which `lg_cli` calls.
+//! - what the commands do: `lg_commands`, `lg_launch` and `lg_ask`, which `lg_cli` calls.
 #![tactic(auto)]
 
 mod asked;
@@ -13,5 +13,5 @@ mod taking;
 mod version;
 mod words;
 
-pub use asked::{Asked, MAX_RUN_MS};
+pub use asked::{Asked, DEFAULT_AT, MAX_RUN_MS, Question};
 pub use taking::take_words;

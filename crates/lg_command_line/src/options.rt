@@ -5,7 +5,8 @@
 ghost use Rattle.std.specs.Prelude.{◌≡◌, decimal, false};
 ghost use Rattle.clap.specs.Walk.{rule_of};
 ghost use Rattle.lg_timing.specs.Meaning.Keys.{row_of};
-ghost use Rattle.lg_command_line.specs.Meaning.Commands.{flag_rule, key_rule, number_rule, text_rule};
+ghost use Rattle.lg_command_line.specs.Meaning.Commands.{default_text_rule, flag_rule, key_rule};
+ghost use Rattle.lg_command_line.specs.Meaning.Commands.{number_rule, text_rule};
 
 use clap::builder::ValueParser;
 use clap::{Arg, ArgAction};
@@ -22,6 +23,25 @@ pub(crate) fn text_option<'a>(alloc: Global, id: &'a str, text: &'a str, help: &
         .value_name(text)
         .help(help)
         .required(true)
+        .action(ArgAction::Set)
+}
+
+/// The option `--ID TEXT`, which has a default, with its help.
+pub(crate) fn default_text_option<'a>(
+    alloc: Global,
+    id: &'a str,
+    text: &'a str,
+    default: &'a str,
+    help: &'a str,
+) -> Arg<'a>
+    ensures rule { rule_of result ≡ default_text_rule id.entry.now default.entry.now }
+    ensures local { result.global ≡ false }
+{
+    Arg::new(alloc, id)
+        .long(id)
+        .value_name(text)
+        .help(help)
+        .default_value(default)
         .action(ArgAction::Set)
 }
 

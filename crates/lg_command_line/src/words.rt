@@ -8,12 +8,13 @@ ghost use Rattle.clap.specs.Matches.{found_of};
 ghost use Rattle.clap.specs.Simple.{subcommand_rows_of};
 ghost use Rattle.clap.specs.Walk.{rows_of};
 ghost use Rattle.lg_commands.specs.Meaning.Timeouts.{are_good};
-ghost use Rattle.lg_command_line.specs.Meaning.Commands.{asked, has_good_numbers, line_faults, request_faults};
+ghost use Rattle.lg_command_line.specs.Meaning.Commands.{ask_of_rows, asked, has_good_numbers, line_faults};
 ghost use Rattle.lg_command_line.specs.Meaning.Commands.{flag_in, number_given, number_in, numbers_in};
-ghost use Rattle.lg_command_line.specs.Meaning.Commands.{request_of_rows, text_in, IfNode, IfTimeouts};
+ghost use Rattle.lg_command_line.specs.Meaning.Commands.{request_faults, request_of_rows, text_in};
+ghost use Rattle.lg_command_line.specs.Meaning.Commands.{IfNode, IfTimeouts};
 ghost use Rattle.lg_command_line.specs.Support.Requests.{request_of};
 
-use crate::asked::{Asked, MAX_RUN_MS};
+use crate::asked::{Asked, MAX_RUN_MS, Question};
 use crate::command::lg_command;
 use clap::error::ErrorKind;
 use clap::{ArgMatches, Command, Error};
@@ -77,10 +78,24 @@ fn asked_in<'a>(matches: &ArgMatches<'a>) -> Asked<'a>
             names: text_in(found, "names"),
             words: text_in(found, "words"),
         },
+        Some(("members", found)) => ask_in(Question::Members, found),
+        Some(("status", found)) => ask_in(Question::Status, found),
+        Some(("watch", found)) => ask_in(Question::Watch, found),
         Some((_, found)) => Asked::Answer {
             name: text_in(found, "name"),
         },
         None => Asked::Answer { name: "" },
+    }
+}
+
+/// A question to a running node, with the options of its command.
+fn ask_in<'a>(question: Question, found: &ArgMatches<'a>) -> Asked<'a>
+    ensures { request_of result ≡ ask_of_rows question (rows_of (found_of found.now)) }
+{
+    Asked::Ask {
+        question,
+        at: text_in(found, "at"),
+        json: flag_in(found, "json"),
     }
 }
 

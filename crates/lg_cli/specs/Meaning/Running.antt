@@ -8,7 +8,12 @@ use Rattle.lg_commands.specs.Meaning.Running.{FailsBy, RunsAnswer, RunsOrder, Ru
 use Rattle.lg_commands.specs.declared.timeouts.Numbers.{Numbers}
 use Rattle.lg_launch.specs.Meaning.Checking.{ChecksFile}
 use Rattle.lg_launch.specs.Meaning.Running.{RunsFile}
-use Rattle.lg_command_line.specs.Meaning.Commands.{Request, answer, check, node, order, sim, timeouts}
+use Rattle.lg_ask.specs.declared.question.Question.TheVariants.{Health, Members as KnownMembers}
+use Rattle.lg_ask.specs.Meaning.Telling.{TellsAnswer}
+use Rattle.lg_ask.specs.Meaning.Watching.{WatchesChanges}
+use Rattle.lg_command_line.specs.declared.asked.Question.{Question}
+use Rattle.lg_command_line.specs.declared.asked.Question.TheVariants.{Members, Status, Watch}
+use Rattle.lg_command_line.specs.Meaning.Commands.{Request, answer, ask, check, node, order, sim, timeouts}
 use Rattle.lg_command_line.specs.Meaning.Commands.{asked, line_faults}
 use Rattle.lg_command_line.specs.Meaning.Leaving.{LacksMemory, LeavesLine}
 
@@ -78,6 +83,25 @@ pub record RunsCheck {R W : Type 0} (before after : Streams R W) (status : ℕ) 
       ChecksFile before.writer after.writer before.held after.held before.reported after.reported status
   pub unread : after.reader ≡ before.reader
 
+-- The node at an address is asked what a command asks for, and its answer is told, or each of its answers.
+abbrev pub AsksNode :
+    {W : Type 0} → Question → (at : List ℕ) (json : Bool) (before after : W)
+    (held holds reported reports : Option (List ℕ)) (status : ℕ) → Type 0
+AsksNode Members at json before after held holds reported reports status =
+    TellsAnswer at KnownMembers json before after held holds reported reports status
+AsksNode Status at json before after held holds reported reports status =
+    TellsAnswer at Health json before after held holds reported reports status
+AsksNode Watch at json before after held holds reported reports status =
+    WatchesChanges at json before after held holds reported reports status
+
+-- `members`, `status` or `watch` is run. Nothing is read from the reader.
+pub record RunsAsking
+    {R W : Type 0} (before after : Streams R W) (question : Question) (at : List ℕ) (json : Bool) (status : ℕ)
+    : Type 0 where
+  pub asked : AsksNode question at json before.writer after.writer before.held after.held
+      before.reported after.reported status
+  pub unread : after.reader ≡ before.reader
+
 -- The command line isn't run, and nothing is read.
 abbrev pub LacksUnread : {R W : Type 0} → (before after : Streams R W) → ℕ → Type 0
 LacksUnread before after status = (after.reader ≡ before.reader)
@@ -96,6 +120,7 @@ RunsRequest before after sim status = RunsScript before after status
 RunsRequest before after (node file for_ms follow until_input_ends) status =
     RunsNodeFile before after file for_ms follow status
 RunsRequest before after (check file) status = RunsCheck before after status
+RunsRequest before after (ask question at json) status = RunsAsking before after question at json status
 
 -- A command line that is taken runs its command, and any other is left; or memory was refused for reading it. Nothing
 -- is read for a line that isn't run.

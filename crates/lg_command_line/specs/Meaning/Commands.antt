@@ -18,7 +18,9 @@ use Rattle.lg_rules.specs.Meaning.Bounds.{most_members}
 use Rattle.lg_timing.specs.Meaning.Keys.{is_within, row_of}
 use Rattle.lg_timing.specs.declared.keys.Key.{Key}
 use Rattle.lg_timing.specs.declared.keys.Key.TheVariants.{Alpha, Beta, Confirmations, IntervalMs}
-use Rattle.lg_command_line.specs.Meaning.Ranges.{most_run_ms}
+use Rattle.lg_command_line.specs.Meaning.Ranges.{default_at, most_run_ms}
+use Rattle.lg_command_line.specs.declared.asked.Question.{Question}
+use Rattle.lg_command_line.specs.declared.asked.Question.TheVariants.{Members, Status, Watch}
 use Rattle.lg_commands.specs.Meaning.Timeouts.{are_good}
 use Rattle.lg_commands.specs.declared.timeouts.Numbers.{Numbers}
 
@@ -90,13 +92,32 @@ node_app =
 abbrev pub check_app : App
 check_app = with_rule (new_app (codes "check")) (text_rule (codes "config"))
 
--- The program has the commands `answer`, `order`, `timeouts`, `sim`, `node` and `check`, and one of them has to be
--- named. It has a version, which `--version` and `-V` ask for.
+-- an option `--ID TEXT` that has a default
+abbrev pub default_text_rule : Text → Text → Rule
+default_text_rule id value =
+    default_rule (record (new_rule id) { long = Some id; value_names = 1; action = Some Set }) value
+
+-- where the status server of a running node listens
+abbrev pub at_rule : Rule
+at_rule = default_text_rule (codes "at") default_at
+
+-- a command of this name that asks a running node, whose options needn't be given
+abbrev pub ask_app : Text → App
+ask_app name = with_rule (with_rule (new_app name) at_rule) (flag_rule (codes "json"))
+
+-- a program with the commands that ask a running node, behind those that it has
+abbrev pub with_questions : App → App
+with_questions lg =
+    let members = with_subcommand lg (ask_app (codes "members")).top in
+    with_subcommand (with_subcommand members (ask_app (codes "status")).top) (ask_app (codes "watch")).top
+
+-- The program has the commands `answer`, `order`, `timeouts`, `sim`, `node` and `check`, and `members`, `status` and
+-- `watch`, which ask a running node. One of them has to be named. It has a version, which `--version` and `-V` ask for.
 abbrev pub lg_app : App
 lg_app =
     let lg = on_top (λ s. record s { has_version = true; subcommand_required = true }) (new_app (codes "lg")) in
     let others = with_subcommand (with_subcommand (with_subcommand lg answer_app.top) order_app.top) timeouts_app.top in
-    with_subcommand (with_subcommand (with_subcommand others sim_app.top) node_app.top) check_app.top
+    with_questions (with_subcommand (with_subcommand (with_subcommand others sim_app.top) node_app.top) check_app.top)
 
 -- the text of an option, or an empty text if it has none
 abbrev pub text_in : List Row → Text → Text
@@ -129,7 +150,8 @@ numbers_in rows = record {
 }
 
 -- What a command line asks for: a command with its options. For `node` these are its file, for how many milliseconds
--- it runs if it was said, whether it follows what changes, and whether it ends with its input.
+-- it runs if it was said, whether it follows what changes, and whether it ends with its input. For a question to a
+-- running node they are the text of its address, and whether the answers are written as they come.
 pub data Request : Type 0 where
   answer : Text → Request
   order : Text → Text → Request
@@ -137,6 +159,7 @@ pub data Request : Type 0 where
   sim : Request
   node : Text → Option ℕ → Bool → Bool → Request
   check : Text → Request
+  ask : Question → Text → Bool → Request
 
 -- whether the command of this name was met
 abbrev pub is_met : Text → Option (Text × List Row) → Bool
@@ -151,6 +174,10 @@ abbrev pub node_of_rows : List Row → Request
 node_of_rows rows = node (text_in rows (codes "config")) (number_given rows (codes "for-ms"))
     (flag_in rows (codes "follow")) (flag_in rows (codes "until-input-ends"))
 
+-- a question to a running node, with the options of its command
+abbrev pub ask_of_rows : Question → List Row → Request
+ask_of_rows question rows = ask question (text_in rows (codes "at")) (flag_in rows (codes "json"))
+
 -- the command that was met, with its options
 abbrev pub request_of_rows : Option (Text × List Row) → Request
 request_of_rows met =
@@ -160,6 +187,9 @@ request_of_rows met =
     else if is_met (codes "check") met then check (text_in rows (codes "config"))
     else if is_met (codes "timeouts") met then timeouts (numbers_in rows)
     else if is_met (codes "order") met then order (text_in rows (codes "names")) (text_in rows (codes "words"))
+    else if is_met (codes "members") met then ask_of_rows Members rows
+    else if is_met (codes "status") met then ask_of_rows Status rows
+    else if is_met (codes "watch") met then ask_of_rows Watch rows
     else answer (text_in rows (codes "name"))
 
 -- what a command line asks for, if it is taken
@@ -174,6 +204,7 @@ has_good_numbers (timeouts numbers) = are_good numbers
 has_good_numbers sim = true
 has_good_numbers (node file for_ms follow until_input_ends) = option_map_or (is_within 1 most_run_ms) for_ms true
 has_good_numbers (check file) = true
+has_good_numbers (ask question at json) = true
 
 -- the fault of numbers that aren't good
 abbrev pub request_faults : Request → Kinds
@@ -191,6 +222,7 @@ IfAnswer (timeouts numbers) P = Unit {0}
 IfAnswer sim P = Unit {0}
 IfAnswer (node file for_ms follow until_input_ends) P = Unit {0}
 IfAnswer (check file) P = Unit {0}
+IfAnswer (ask question at json) P = Unit {0}
 
 -- a fact about the two texts of `order`: its names and its words
 abbrev pub IfOrder : Request → (Text → Text → Type 0) → Type 0
@@ -200,6 +232,7 @@ IfOrder (timeouts numbers) P = Unit {0}
 IfOrder sim P = Unit {0}
 IfOrder (node file for_ms follow until_input_ends) P = Unit {0}
 IfOrder (check file) P = Unit {0}
+IfOrder (ask question at json) P = Unit {0}
 
 -- a fact about the numbers of `timeouts`
 abbrev pub IfTimeouts : Request → (Numbers → Type 0) → Type 0
@@ -209,6 +242,7 @@ IfTimeouts (timeouts numbers) P = P numbers
 IfTimeouts sim P = Unit {0}
 IfTimeouts (node file for_ms follow until_input_ends) P = Unit {0}
 IfTimeouts (check file) P = Unit {0}
+IfTimeouts (ask question at json) P = Unit {0}
 
 -- a fact that holds if `sim` is asked for
 abbrev pub IfSim : Request → Type 0 → Type 0
@@ -218,6 +252,7 @@ IfSim (timeouts numbers) P = Unit {0}
 IfSim sim P = P
 IfSim (node file for_ms follow until_input_ends) P = Unit {0}
 IfSim (check file) P = Unit {0}
+IfSim (ask question at json) P = Unit {0}
 
 -- a fact about the options of `node`: its file, its time, whether it follows, and whether it ends with its input
 abbrev pub IfNode : Request → (Text → Option ℕ → Bool → Bool → Type 0) → Type 0
@@ -227,6 +262,7 @@ IfNode (timeouts numbers) P = Unit {0}
 IfNode sim P = Unit {0}
 IfNode (node file for_ms follow until_input_ends) P = P file for_ms follow until_input_ends
 IfNode (check file) P = Unit {0}
+IfNode (ask question at json) P = Unit {0}
 
 -- a fact about the file of `check`
 abbrev pub IfCheck : Request → (Text → Type 0) → Type 0
@@ -236,6 +272,17 @@ IfCheck (timeouts numbers) P = Unit {0}
 IfCheck sim P = Unit {0}
 IfCheck (node file for_ms follow until_input_ends) P = Unit {0}
 IfCheck (check file) P = P file
+IfCheck (ask question at json) P = Unit {0}
+
+-- a fact about a question to a running node, the text of its address, and whether the answers are written as they come
+abbrev pub IfAsk : Request → (Question → Text → Bool → Type 0) → Type 0
+IfAsk (answer text) P = Unit {0}
+IfAsk (order names words) P = Unit {0}
+IfAsk (timeouts numbers) P = Unit {0}
+IfAsk sim P = Unit {0}
+IfAsk (node file for_ms follow until_input_ends) P = Unit {0}
+IfAsk (check file) P = Unit {0}
+IfAsk (ask question at json) P = P question at json
 
 -- the status of a command line that isn't run: 0 if it asks for help or for the version
 abbrev pub status_of_kind : ErrorKind → ℕ

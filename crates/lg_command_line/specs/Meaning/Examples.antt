@@ -3,7 +3,8 @@ use Rattle.std.specs.Prelude.{◌≡◌, [], ◌∷◌, None, Some, codes, false
 use Rattle.std.specs.Fmt.{digits}
 use Rattle.clap.proofs.OnLiterals.{clap_on_literals}
 use Rattle.clap.specs.declared.error.kind.ErrorKind.TheVariants as kind
-use Rattle.lg_command_line.specs.Meaning.Commands.{answer, check, node, order, timeouts, asked, line_faults}
+use Rattle.lg_command_line.specs.Meaning.Commands.{answer, ask, check, node, order, timeouts, asked, line_faults}
+use Rattle.lg_command_line.specs.declared.asked.Question.TheVariants.{Members, Status, Watch}
 
 taken : line_faults (codes "lg" ∷ codes "answer" ∷ codes "--name" ∷ codes "b" ∷ []) ≡ []
 unfolding line_faults asked clap_on_literals
@@ -157,3 +158,44 @@ names-twice :
     ≡ kind.ArgumentConflict ∷ []
 unfolding line_faults asked clap_on_literals
 names-twice = refl
+
+-- the address has a default, and without `--json` the answer is written in lines
+default-address : asked (codes "lg" ∷ codes "members" ∷ []) ≡ ask Members (codes "127.0.0.1:8946") false
+unfolding asked clap_on_literals
+default-address = refl
+
+health-as-it-comes : asked (codes "lg" ∷ codes "status" ∷ codes "--json" ∷ []) ≡ ask Status (codes "127.0.0.1:8946") true
+unfolding asked clap_on_literals
+health-as-it-comes = refl
+
+watched-elsewhere : asked (codes "lg" ∷ codes "watch" ∷ codes "--json" ∷ codes "--at" ∷ codes "10.0.0.7:80" ∷ [])
+    ≡ ask Watch (codes "10.0.0.7:80") true
+unfolding asked clap_on_literals
+watched-elsewhere = refl
+
+nothing-given : line_faults (codes "lg" ∷ codes "watch" ∷ []) ≡ []
+unfolding line_faults asked clap_on_literals
+nothing-given = refl
+
+-- the address is judged after the command line is taken
+any-address : line_faults (codes "lg" ∷ codes "members" ∷ codes "--at=x" ∷ []) ≡ []
+unfolding line_faults asked clap_on_literals
+any-address = refl
+
+-- an empty text isn't the default
+empty-address : asked (codes "lg" ∷ codes "members" ∷ codes "--at=" ∷ []) ≡ ask Members [] false
+unfolding asked clap_on_literals
+empty-address = refl
+
+two-addresses : line_faults (codes "lg" ∷ codes "status" ∷ codes "--at=x" ∷ codes "--at=x" ∷ [])
+    ≡ kind.ArgumentConflict ∷ []
+unfolding line_faults asked clap_on_literals
+two-addresses = refl
+
+json-with-a-value : line_faults (codes "lg" ∷ codes "members" ∷ codes "--json=1" ∷ []) ≡ kind.TooManyValues ∷ []
+unfolding line_faults asked clap_on_literals
+json-with-a-value = refl
+
+no-such-question : line_faults (codes "lg" ∷ codes "watch" ∷ codes "b" ∷ []) ≡ kind.UnknownArgument ∷ []
+unfolding line_faults asked clap_on_literals
+no-such-question = refl

@@ -54,3 +54,6 @@ returns-in-Node g c =
           c.in-Node.file.now until c.in-Node.follow c.run_node.result) c.end_after-until.ensures c.run_node.ensures;
       unread = refl {a = c.args.reader.now};
     })
+
+pub returns-in-Ask : goal.returns-in-Ask
+returns-in-Ask g c = rw (c.in-Ask.is) (record { asked = c.ask_node.ensures; unread = refl {a = c.args.reader.now} })

@@ -1,5 +1,7 @@
 use Rattle.std.proofs.Common.{◌≡◌, ◌∙◌, ap, ap₂, true}
+use Rattle.std.proofs.lemmas.Result.{IfOk-weaker}
 use Rattle.clap.specs.Simple.{App, Shape, app_of, app_of_fields, on_top, with_subcommand}
+use Rattle.lg_command_line.specs.Meaning.Commands.{with_questions}
 use Rattle.lg_command_line.proofs.command.lg_command.Goals as goal
 
 abbrev versioned : App → App
@@ -24,4 +26,6 @@ returns c =
     ∙ ap₂ with_subcommand with_timeouts (ap (λ (a : App). a.top) c.sim_command-sim.ensures.app) in
     let with_node = c.in_ok-with_node.ensures.shape c.in_ok-node.ensures.local
     ∙ ap₂ with_subcommand with_sim (ap (λ (a : App). a.top) c.in_ok-node.ensures.app) in
-    c.in_ok-lg.ensures.shape c.in_ok-check.ensures.local ∙ ap₂ with_subcommand with_node (ap (λ (a : App). a.top) c.in_ok-check.ensures.app)
+    let with_check = c.in_ok-with_check.ensures.shape c.in_ok-check.ensures.local
+    ∙ ap₂ with_subcommand with_node (ap (λ (a : App). a.top) c.in_ok-check.ensures.app) in
+    IfOk-weaker c.with_questions.result _ _ (λ command is. is ∙ ap with_questions with_check) c.with_questions.ensures

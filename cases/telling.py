@@ -1,0 +1,259 @@
+"""Checks of the commands that ask a running node and write lines: `members`, `status` and `watch`."""
+
+import json
+import socket
+import subprocess
+import threading
+from contextlib import suppress
+
+from asking import asked_for, by_python
+from changes import Lone
+from group import AskedGroup
+from packets import HOST
+from running import PATIENCE, end_with_parent, free_status_ports, wait_until
+
+NAMES = ["a", "b", "c"]
+# A suspicion of three members lasts three seconds, so that a suspect can be told.
+KEYS = "interval_ms = 200\ntimeout_ms = 100\nalpha = 15\npull_ms = 1000\n"
+UPTIME = "uptime_ms"
+
+
+# ---- The commands
+
+
+def words_of(program, command, port, *more):
+    """The command line that asks the server at a port."""
+    return [program, command, "--at", f"{HOST}:{port}", *more]
+
+
+def told_by(words, **how):
+    """The status of a command, what it wrote, and what it told on standard error."""
+    ran = subprocess.run(words, stdin=subprocess.DEVNULL, stderr=subprocess.PIPE, timeout=PATIENCE, text=True,
+                         **{"stdout": subprocess.PIPE, **how})
+    return ran.returncode, ran.stdout, ran.stderr
+
+
+class Watcher:
+    """A `watch` that runs, with the lines that it has written so far."""
+
+    def __init__(self, program, port, *more):
+        self.process = subprocess.Popen(words_of(program, "watch", port, *more), stdin=subprocess.DEVNULL,
+                                        stdout=subprocess.PIPE, stderr=subprocess.PIPE, text=True,
+                                        preexec_fn=end_with_parent)
+        self.lines = []
+        self.reading = threading.Thread(target=lambda: self.lines.extend(iter(self.process.stdout.readline, "")))
+        self.reading.start()
+
+    def end(self, seconds=10):
+        """Its status, its lines, and what it told on standard error. One that doesn't end is killed."""
+        try:
+            self.process.wait(seconds)
+        except subprocess.TimeoutExpired:
+            self.process.kill()
+            self.process.wait()
+        self.reading.join()
+        told = self.process.stderr.read()
+        self.process.stdout.close()
+        self.process.stderr.close()
+        return self.process.returncode, self.lines, told
+
+
+# ---- What is wanted
+
+
+def record_wanted(member):
+    """The line of a member, without its newline."""
+    by = f" by {member['accuser']}" if member["accuser"] else ""
+    words = [member["name"], member["status"], str(member["incarnation"]), f"{member['address']}:{member['port']}"]
+    return f"record {' '.join(words)}{by}"
+
+
+def change_wanted(change):
+    """The line of a change."""
+    return f"{change['moment_ms']} {record_wanted(change)}\n"
+
+
+def members_wanted(port):
+    """The lines of the members of the node at a port."""
+    return "".join(record_wanted(it) + "\n" for it in asked_for(port, "/v1/members")["members"])
+
+
+def health_wanted(health):
+    """The lines of a health, but for its uptime."""
+    spelled = {True: "true", False: "false"}
+    return [f"{key} {spelled[it] if isinstance(it, bool) else it}" for key, it in health.items() if key != UPTIME]
+
+
+# ---- Members and health
+
+
+def fault_of_members(program, port):
+    """What is wrong with what `members` writes: the members of the answer, asked again if they change meanwhile."""
+    for _ in range(10):
+        before = members_wanted(port)
+        got = told_by(words_of(program, "members", port))
+        if got == (0, before, ""):
+            return None
+        if members_wanted(port) == before:
+            break
+    return f"members: got {got}, wanted {before!r}"
+
+
+def fault_of_health(program, port):
+    """What is wrong with what `status` writes: the health of the answer."""
+    for _ in range(10):
+        before = asked_for(port, "/v1/health")
+        status, output, told = told_by(words_of(program, "status", port))
+        lines = output.splitlines()
+        uptimes = [it for it in lines if it.startswith(f"{UPTIME} ")]
+        rest = [it for it in lines if it not in uptimes]
+        if (status, told, rest) == (0, "", health_wanted(before)) and len(uptimes) == 1:
+            return None
+    return f"status: got {(status, output, told)}, wanted {health_wanted(before)}"
+
+
+def fault_of_json(program, port):
+    """What is wrong with what the commands write with `--json`: the answer as it came."""
+    for command, target in [("members", "/v1/members"), ("status", "/v1/health")]:
+        status, output, told = told_by(words_of(program, command, port, "--json"))
+        wanted = by_python(port, target).value()
+        if (status, told, list(json.loads(output))) != (0, "", list(wanted)) or output.count("\n") != 1:
+            return f"{command} --json: got {(status, output, told)}, wanted {wanted}"
+    return None
+
+
+def fault_of_telling(program, port):
+    """What is wrong with any of them."""
+    return fault_of_members(program, port) or fault_of_health(program, port) or fault_of_json(program, port)
+
+
+def members_and_health_are_told(program):
+    """`members` and `status` write what the nodes of a group answer: while all are alive, while c is suspected, and
+    once it has failed."""
+    with AskedGroup(program, NAMES, KEYS) as group:
+        if wait_until(group.is_whole, PATIENCE) is None:
+            return group.difference(dict.fromkeys(NAMES, "alive"))
+        port = group.status["b"]
+        if fault := fault_of_telling(program, port):
+            return f"all alive: {fault}"
+        group.nodes["c"].kill()
+        for status in ("suspect", "failed"):
+            if wait_until(lambda: f"record c {status} " in members_wanted(port), PATIENCE) is None:
+                return f"c isn't {status}"
+            if fault := fault_of_telling(program, port):
+                return f"c {status}: {fault}"
+    return None
+
+
+# ---- Changes
+
+
+def changes_are_watched(program):
+    """`watch` writes the node itself at first, and then each change as it comes. With `--json` it writes the answers.
+    It ends once its node has."""
+    with Lone(program) as node:
+        watchers = [Watcher(program, node.status), Watcher(program, node.status, "--json")]
+        first = [change_wanted(it) for it in asked_for(node.status, "/v1/changes")["changes"]]
+        if wait_until(lambda: watchers[0].lines == first and len(watchers[1].lines) == 1, 10) is None:
+            return f"got {[it.lines for it in watchers]}, wanted {first}"
+        for incarnation in (1, 2, 3):
+            node.tell(incarnation)
+            came = wait_until(lambda: all(len(it.lines) == 1 + incarnation for it in watchers), 10)
+            wanted = [change_wanted(it) for it in asked_for(node.status, "/v1/changes")["changes"]]
+            if came is None or watchers[0].lines != wanted:
+                return f"got {watchers[0].lines}, wanted {wanted}"
+        answers = [json.loads(it)["changes"] for it in watchers[1].lines]
+        if [change_wanted(it) for part in answers for it in part] != wanted:
+            return f"got {answers}, wanted {wanted}"
+    ends = [it.end() for it in watchers]
+    got = [(status, told) for status, _, told in ends]
+    return None if got == 2 * [(7, "lg: no answer\n")] else f"once the node had ended, they ended with {ends}"
+
+
+def watch_ends_with_its_reader(program):
+    """A `watch` whose lines nobody takes any more ends at the next one."""
+    with Lone(program) as node:
+        watcher = subprocess.Popen(words_of(program, "watch", node.status), stdin=subprocess.DEVNULL,
+                                   stdout=subprocess.PIPE, stderr=subprocess.PIPE, preexec_fn=end_with_parent)
+        watcher.stdout.readline()
+        watcher.stdout.close()
+        node.tell(1)
+        try:
+            _, told = watcher.communicate(timeout=10)
+        except subprocess.TimeoutExpired:
+            watcher.kill()
+            return "it didn't end"
+        got = watcher.returncode, told
+    return None if got == (1, b"lg: write\n") else f"got {got}"
+
+
+# ---- No answer, and bad ones
+
+
+def fault_of_silence(program, port):
+    """What is wrong with what a command tells if nobody listens at a port."""
+    for command in ("members", "status", "watch"):
+        got = told_by(words_of(program, command, port))
+        if got != (7, "", "lg: no answer\n"):
+            return f"{command}: got {got}"
+    return None
+
+
+def answering(listener, data):
+    """Answers the next client of a listener by some bytes, once its request has come. It may close before it has taken
+    all of them."""
+    with listener.accept()[0] as client, suppress(OSError):
+        client.recv(4096)
+        client.sendall(data)
+
+
+def told_of(program, command, data):
+    """What a command tells of an answer."""
+    with socket.create_server((HOST, 0)) as listener:
+        server = threading.Thread(target=answering, args=(listener, data), daemon=True)
+        server.start()
+        got = told_by(words_of(program, command, listener.getsockname()[1]))
+        server.join(10)
+        return got
+
+
+def answer_of(body, code="200 OK"):
+    """The bytes of an answer with a body."""
+    return f"HTTP/1.1 {code}\r\ncontent-length: {len(body)}\r\nconnection: close\r\n\r\n{body}".encode()
+
+
+WELL = '"live":3,"known":3,"ousted":false,"uptime_ms":5120,"stood_still_ms":0}'
+HEALTH = '{"name":"b","score":0,"incarnation":0,' + WELL
+OUSTED = HEALTH.replace("false", "true")
+BAD = [(answer_of("nothing"), "no JSON"), (answer_of("{}"), "without its members"), (b"220 mail\r\n\r\n", "no HTTP"),
+       (answer_of('{"version":1,"moment_ms":1,"name":"b","members":[{}]}'), "an empty member"),
+       (answer_of('{"error":"no such thing"}', "404 Not Found"), "404"), (answer_of("x" * 2_000_000), "too long")]
+
+
+def answers_of_others_are_told(program):
+    """An answer that isn't one of a node's is told as bad, and one that doesn't come as none. A node that was ousted
+    is well told, with a status of its own."""
+    if fault := fault_of_silence(program, free_status_ports(1)[0]):
+        return f"nobody listens: {fault}"
+    rows = [("members", data, (8, "", "lg: bad answer\n"), what) for data, what in BAD]
+    rows += [("members", answer_of(HEALTH)[:-5], (7, "", "lg: no answer\n"), "cut off"),
+             ("members", b"", (7, "", "lg: no answer\n"), "closed"),
+             ("status", answer_of(OUSTED, "503 Service Unavailable"),
+              (4, "".join(f"{key} {value}\n" for key, value in zip(
+                  json.loads(OUSTED), ["b", 0, 0, 3, 3, "true", 5120, 0])), ""), "ousted")]
+    for command, data, wanted, what in rows:
+        got = told_of(program, command, data)
+        if got != wanted:
+            return f"{what}: got {got}, wanted {wanted}"
+    return None
+
+
+def full_outputs_are_told(program):
+    """If the output takes nothing, that is told."""
+    with Lone(program) as node:
+        for command in ("members", "status", "watch"):
+            with open("/dev/full", "w", encoding="utf-8") as output:
+                got = told_by(words_of(program, command, node.status), stdout=output)
+            if got != (1, None, "lg: write\n"):
+                return f"{command}: got {got}"
+    return None
