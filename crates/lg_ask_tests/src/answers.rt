@@ -1,6 +1,7 @@
 //! The bytes of answers.
 
 use std::alloc::{AllocError, Global};
+use std::str;
 
 /// A head of an answer: what stands before the length of the body, and what stands behind it.
 pub(crate) type Head = (&'static str, &'static str);
@@ -38,4 +39,9 @@ pub(crate) fn edited(
         return Ok(None);
     };
     Ok(Some(format!(in alloc; "{before}{new}{behind}")?))
+}
+
+/// Bytes as a failed test shows them.
+pub(crate) fn shown(bytes: &[u8]) -> &str {
+    str::from_utf8(bytes).unwrap_or("bytes that are no text")
 }

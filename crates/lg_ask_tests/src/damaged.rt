@@ -1,6 +1,6 @@
 //! Answers that are none of a node: each is told as bad, and nothing is written.
 
-use crate::answers::{FINE, Head, UNAVAILABLE, answer};
+use crate::answers::{FINE, Head, UNAVAILABLE, answer, shown};
 use crate::bodies::{CHANGE, HEALTH, SUSPECT};
 use crate::playing::{Asking, COMMANDS, Command, played};
 use crate::server::Reply;
@@ -81,13 +81,14 @@ const BYTES: &[&[u8]] = &[
 /// Each row of bytes.
 #[test]
 fn no_answers(rt: HostRuntime) {
-    for bytes in BYTES {
+    for (i, bytes) in BYTES.iter().enumerate() {
         for json in [false, true] {
             let asking = Asking::by(Command::Members, json);
             let met = is_bad(&rt, rt.alloc(), bytes, &asking);
             assert!(rt;
                 met.as_ref().is_ok_and(|met| *met),
-                "{bytes:?}, json {json}: {met:?}"
+                "{i}, {:?}, json {json}: {met:?}",
+                shown(bytes)
             );
         }
     }
@@ -201,12 +202,13 @@ const BODIES: &[&[u8]] = &[
 /// Each of them, to each command.
 #[test]
 fn no_objects(rt: HostRuntime) {
-    for body in BODIES {
+    for (i, body) in BODIES.iter().enumerate() {
         for command in COMMANDS {
             let met = is_bad_body(&rt, rt.alloc(), FINE, body, &Asking::by(command, true));
             assert!(rt;
                 met.as_ref().is_ok_and(|met| *met),
-                "{body:?}, {command:?}: {met:?}"
+                "{i}, {:?}, {command:?}: {met:?}",
+                shown(body)
             );
         }
     }

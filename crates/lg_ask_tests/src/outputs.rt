@@ -1,9 +1,10 @@
 //! A writer of fixed size that fails as a test says. It allocates no memory.
 ghost use Rattle.std.specs.Prelude.{◌≤◌, length};
 
+use crate::answers::shown;
 use std::fmt::{Debug, Formatter};
 use std::io::{ErrorKind, Write};
-use std::{fmt, io, str};
+use std::{fmt, io};
 
 /// The size of a writer in bytes, which is enough for each text of the tests.
 pub(crate) const ROOM: usize = 2_048;
@@ -78,6 +79,6 @@ impl Write for Room {
 
 impl Debug for Room {
     fn fmt<W: fmt::Write>(&self, f: &mut Formatter<W>) -> fmt::Result {
-        f.write_str(str::from_utf8(self.text()).unwrap_or("no text"))
+        f.write_str(shown(self.text()))
     }
 }
