@@ -1,7 +1,7 @@
 //! What a node wants of a clock.
 //!
 //! Defined in: this file.
-//! Tested in: `lg_command_tests/src/node/clocks.rt`, `lg_command_tests/src/clock.rt`.
+//! Tested in: `lg_node_tests/src/node/clocks.rt`, `lg_node_tests/src/clock.rt`.
 
 use lg_timing::Moment;
 

@@ -1,7 +1,7 @@
 //! The last turns of a node's loops.
 //!
 //! Defined in: `specs/Meaning/Steady.antt`, `specs/Support/Steady.antt`.
-//! Tested in: `lg_command_tests/src/clock.rt`.
+//! Tested in: `lg_node_tests/src/clock.rt`.
 ghost use Rattle.std.specs.Prelude.{◌≡◌};
 ghost use Rattle.lg_clock.specs.Meaning.Steady.{older_turn};
 ghost use Rattle.lg_clock.specs.Support.Steady.{turns_with};

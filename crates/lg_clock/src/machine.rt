@@ -1,7 +1,7 @@
 //! The machine's clock.
 //!
 //! Defined in: this file.
-//! Tested in: `lg_command_tests/src/node/machine.rt`.
+//! Tested in: `lg_node_tests/src/node/machine.rt`.
 
 use crate::clock::Clock;
 use lg_timing::{MAX_MOMENT, Moment};

@@ -1,7 +1,7 @@
 //! The steady clock as a value: it is handed the moments of the machine's clock, and gives its own.
 //!
 //! Defined in: `specs/Meaning/Steady.antt`, `specs/Meaning/Keeping.antt`, `specs/Support/Steady.antt`.
-//! Tested in: `lg_command_tests/src/clock.rt`.
+//! Tested in: `lg_node_tests/src/clock.rt`.
 ghost use Rattle.std.specs.Prelude.{◌≡◌, ◌≤◌, ◌+◌, ◌-◌, ℕ, List, [], ◌∷◌, Some, None};
 ghost use Rattle.lg_clock.specs.Meaning.Keeping.{AreSteady, IsWithinStall};
 ghost use Rattle.lg_clock.specs.Meaning.Steady.{Handed, readings, steady_after, held_back};

@@ -1,7 +1,7 @@
 //! The steady clock over the machine's own.
 //!
 //! Defined in: `specs/Meaning/Steady.antt`.
-//! Tested in: `lg_command_tests/src/clock.rt`.
+//! Tested in: `lg_node_tests/src/clock.rt`.
 
 use crate::clock::{Clock, Loop};
 use crate::machine::MachineClock;

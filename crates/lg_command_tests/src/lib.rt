@@ -1,8 +1,6 @@
-//! Tests of the commands over values and streams in memory, and of the node. They show what only such a call can show.
+//! Tests of the commands over values and streams in memory. They show what only such a call can show.
 #![tactic(auto)]
 
-#[cfg(test)]
-mod clock;
 #[cfg(test)]
 mod config;
 #[cfg(test)]
@@ -11,8 +9,6 @@ mod launch;
 mod limits;
 #[cfg(test)]
 mod messages;
-#[cfg(test)]
-mod node;
 #[cfg(test)]
 mod plays;
 #[cfg(test)]
@@ -24,10 +20,6 @@ mod refused_memory;
 #[cfg(test)]
 mod replies;
 #[cfg(test)]
-mod showing;
-#[cfg(test)]
 mod streams;
-#[cfg(test)]
-mod watching;
 #[cfg(test)]
 mod writers;

@@ -1,6 +1,7 @@
 //! Writers that fail.
 use crate::plays::{OTHERS, Play, READING};
-use crate::streams::{ROOM, Streams};
+use crate::streams::Streams;
+use lg_testing::ROOM;
 use std::process::Abort;
 
 /// Runs a play in which each write call fails in turn, and the flush too.

@@ -101,9 +101,9 @@ where
 /// The node is run by [`run_node`](lg_node::run_node), and [`Told::of`] says what is told of it. If it follows, its
 /// watcher writes what it sees, and nothing else is written. Otherwise, if both loops stopped or the node was ousted,
 /// the members are written as [`put_table`](lg_report::put_table) does, a line each. In all other cases nothing is
-/// written. A socket that can't be bound has a second line, which says to which address and why; so has a status server,
-/// and one that ended before the node. A line that `faults` doesn't take is dropped. The configuration has to be checked. Apart from what the node allocates, memory is
-/// allocated only for these texts.
+/// written. A socket that can't be bound has a second line, which says to which address and why. So has a status
+/// server, and one that ended before the node. A line that `faults` doesn't take is dropped. The configuration has to
+/// be checked. Apart from what the node allocates, memory is allocated only for these texts.
 ///
 /// What is said of bytes holds for writers that tell their bytes, as those over memory do.
 pub fn run_config<R, W, F>(

@@ -1,7 +1,7 @@
 //! When the ticking loop asks seeds and members for their tables.
 //!
 //! Defined in: `specs/Meaning/Pulling.antt`, `specs/Support/Acted.antt`.
-//! Tested in: `lg_command_tests/src/node/finding.rt`, `cases/groups`.
+//! Tested in: `lg_node_tests/src/node/finding.rt`, `cases/groups`.
 ghost use Rattle.std.specs.Prelude.{◌≡◌, ◌≤◌, ◌<◌, ◌+◌, ◌⊎◌, ℕ, [], length, if◌then◌else◌};
 ghost use Rattle.lg_node.specs.Meaning.Turns.{Turn};
 ghost use Rattle.lg_node.specs.Support.Acted.{IsAgenda, IsDuty, IsNoLook, IsNoChoice};

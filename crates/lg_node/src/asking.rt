@@ -1,7 +1,7 @@
 //! The seeds are asked for their tables.
 //!
 //! Defined in: `specs/Meaning/Nodes.antt`, `specs/Meaning/Turns.antt`.
-//! Tested in: `lg_command_tests/src/node/asking.rt`.
+//! Tested in: `lg_node_tests/src/node/asking.rt`.
 ghost use Rattle.std.specs.Prelude.{◌≤◌, ◌*◌, length, IfOk, IfErr};
 ghost use mathlib.Core.List.{IsPrefix};
 ghost use Rattle.lg_agent.specs.Meaning.Values.{PassValue};

@@ -2,7 +2,7 @@
 //! An answered call writes its reply over the one that the loop keeps, and returns the position of its entry.
 //!
 //! Defined in: `lg_agent/specs/Meaning/Calls.antt`, `specs/Meaning/Turns.antt`.
-//! Tested in: `lg_command_tests/src/node/rotating.rt`.
+//! Tested in: `lg_node_tests/src/node/rotating.rt`.
 ghost use Rattle.std.specs.Prelude.{◌≡◌, ◌⊎◌, ℕ, Ok, Err, MatchResult, IfOk, IfErr, OnErr};
 ghost use Rattle.lg_packet.specs.declared.fault.Fault.{Fault as Broken};
 ghost use Rattle.lg_packet.specs.declared.packet.Packet.{Packet as Read};

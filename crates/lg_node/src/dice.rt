@@ -1,7 +1,7 @@
 //! Random words.
 //!
 //! Defined in: `specs/Meaning/Words.antt`.
-//! Tested in: `lg_command_tests/src/node/dice.rt`.
+//! Tested in: `lg_node_tests/src/node/dice.rt`.
 ghost use Rattle.std.specs.Prelude.{◌≡◌};
 ghost use Rattle.lg_node.specs.Meaning.Words.{seeded, DrawsEight};
 

@@ -1,7 +1,7 @@
 //! How a loop ends.
 //!
 //! Defined in: this file.
-//! Tested in: `lg_command_tests/src/node/receiving.rt`, `lg_command_tests/src/node/ticking.rt`.
+//! Tested in: `lg_node_tests/src/node/receiving.rt`, `lg_node_tests/src/node/ticking.rt`.
 ghost use Rattle.std.specs.Prelude.{◌≡◌, true, MatchBool};
 ghost use Rattle.lg_node.specs.declared.ending.Why.TheVariants.{ReadBound};
 

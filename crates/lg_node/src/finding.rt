@@ -1,7 +1,7 @@
 //! The ticking loop finds its group: it asks seeds and members for their tables.
 //!
 //! Defined in: `specs/Meaning/Pulling.antt`, `specs/Meaning/Turns.antt`, `specs/Support/Acted.antt`.
-//! Tested in: `lg_command_tests/src/node/finding.rt`, `cases/groups`.
+//! Tested in: `lg_node_tests/src/node/finding.rt`, `cases/groups`.
 ghost use Rattle.std.specs.Prelude.{◌≡◌, ◌<◌, [], true, length, MatchOption};
 ghost use Rattle.std.specs.List.{list_all};
 ghost use Rattle.lg_detector.specs.Meaning.Step.{view_after};

@@ -1,7 +1,7 @@
 //! A link: datagrams come over it, and are handed to it.
 //!
 //! Defined in: `specs/Meaning/Links.antt`.
-//! Tested in: `lg_command_tests/src/node/receiving.rt`.
+//! Tested in: `lg_node_tests/src/node/receiving.rt`.
 
 use lg_rules::Addr;
 

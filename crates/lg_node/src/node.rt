@@ -1,7 +1,7 @@
 //! A node: an agent whose two loops run over UDP. `start.rt` has what it does, in order.
 //!
 //! Defined in: `specs/Meaning/Nodes.antt`, `specs/Meaning/Turns.antt`, `specs/Meaning/Words.antt`.
-//! Tested in: `lg_command_tests/src/node/asking.rt`, `cases/nodes`.
+//! Tested in: `lg_node_tests/src/node/asking.rt`, `cases/nodes`.
 ghost use Rattle.std.specs.Prelude.{◌≡◌, false, is_some, IfOk, IfErr, OnErr};
 ghost use Rattle.lg_timing.specs.Meaning.Config.{IsChecked};
 ghost use Rattle.lg_node.specs.Meaning.Nodes.{IsRun, IsEarly};
@@ -112,8 +112,9 @@ pub enum NodeFault {
 /// stop flag.
 ///
 /// The configuration has to be checked. The error says why there were no loops: [`NodeFault::Socket`],
-/// [`NodeFault::Status`], [`NodeFault::Clock`], or [`NodeFault::Refused`] if memory was refused or there was no reader for a pass. If a seed's
-/// call was refused, it may also be [`Refusal::HistoryFull`] or [`Refusal::Behind`], but neither should ever happen.
+/// [`NodeFault::Status`], [`NodeFault::Clock`], or [`NodeFault::Refused`] if memory was refused or there was no reader
+/// for a pass. If a seed's call was refused, it may also be [`Refusal::HistoryFull`] or [`Refusal::Behind`], but
+/// neither should ever happen.
 pub fn run_node<'n, R, W>(
     rt: &R,
     alloc: Global,

@@ -1,7 +1,7 @@
 //! What a ticking loop does besides its ticks.
 //!
 //! Defined in: `specs/Meaning/Pulling.antt`.
-//! Tested in: `lg_command_tests/src/node/finding.rt`, `cases/groups`.
+//! Tested in: `lg_node_tests/src/node/finding.rt`, `cases/groups`.
 
 ghost use Rattle.std.specs.Prelude.{◌≡◌};
 ghost use Rattle.lg_node.specs.Meaning.Pulling.{plan_of};

@@ -1,7 +1,7 @@
 //! The receiving loop.
 //!
 //! Defined in: `specs/Meaning/Turns.antt`, `specs/Support/Took.antt`.
-//! Tested in: `lg_command_tests/src/node/receiving.rt`.
+//! Tested in: `lg_node_tests/src/node/receiving.rt`.
 ghost use Rattle.std.specs.Prelude.{◌≡◌, ◌≤◌, ◌+◌, ◌∷◌, ◌++◌, [], List, length, true};
 ghost use Rattle.lg_node.specs.Meaning.Links.{LinkEvent};
 ghost use Rattle.lg_node.specs.Meaning.Links.LinkEvent.{Received};

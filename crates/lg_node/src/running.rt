@@ -1,7 +1,7 @@
 //! Both loops at once, in two threads.
 //!
 //! Defined in: `specs/Meaning/Turns.antt`.
-//! Tested in: `lg_command_tests/src/node/both.rt`.
+//! Tested in: `lg_node_tests/src/node/both.rt`.
 ghost use Rattle.std.specs.Prelude.{◌≡◌, ◌≤◌, ◌⊎◌};
 ghost use Rattle.lg_node.specs.declared.ending.Why.TheVariants.{Stopped};
 ghost use Rattle.lg_node.specs.Meaning.Pulling.{Ticking};

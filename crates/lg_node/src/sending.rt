@@ -1,7 +1,7 @@
 //! The packets of a reply are handed to a link.
 //!
 //! Defined in: `specs/Meaning/Links.antt`.
-//! Tested in: `lg_command_tests/src/node/receiving.rt`.
+//! Tested in: `lg_node_tests/src/node/receiving.rt`.
 ghost use Rattle.std.specs.Prelude.{◌≤◌, length};
 ghost use Rattle.lg_node.specs.Meaning.Links.{WereHanded};
 

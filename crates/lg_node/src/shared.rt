@@ -1,7 +1,7 @@
 //! What a loop takes: what the loops of a node share, and its own side.
 //!
 //! Defined in: this file.
-//! Tested in: `lg_command_tests/src/node/both.rt`.
+//! Tested in: `lg_node_tests/src/node/both.rt`.
 
 use left_right::Absorb;
 use lg_agent::{AgentName, Pass};

@@ -1,10 +1,10 @@
 //! The start of a node, from its clock to its loops, and its end. Its sockets are bound by then.
 //!
-//! [`open_and_serve`] reads the clock, opens the agent and closes it. Between these [`serve`] hands out the passes, asks
-//! the seeds, runs both loops and what is beside them, and reads the members.
+//! [`open_and_serve`] reads the clock, opens the agent and closes it. Between these [`serve`] hands out the passes,
+//! asks the seeds, runs both loops and what is beside them, and reads the members.
 //!
 //! Defined in: `specs/Meaning/Nodes.antt`, `specs/Meaning/Turns.antt`, `specs/Meaning/Words.antt`.
-//! Tested in: `lg_command_tests/src/node/asking.rt`, `cases/nodes`.
+//! Tested in: `lg_node_tests/src/node/asking.rt`, `cases/nodes`.
 ghost use Rattle.std.specs.Prelude.{◌≡◌, ◌≤◌, ◌⊎◌, ◌∷◌, [], ℕ, false, true};
 ghost use Rattle.std.specs.Prelude.{All, IfOk, IfErr, IfSome, MatchResult, OnErr, is_some, length};
 ghost use Rattle.std.specs.Vec.{vec_capacity};
@@ -16,7 +16,8 @@ ghost use Rattle.lg_agent.specs.declared.refusal.Refusal.TheVariants.{NoMemory, 
 ghost use Rattle.lg_agent.specs.Meaning.Values.{PassValue};
 ghost use Rattle.lg_agent.specs.Meaning.Calls.{IsLook};
 ghost use Rattle.lg_agent.specs.Meaning.Closing.{IsClosed, IsRefusedClosing};
-ghost use Rattle.lg_node.specs.Meaning.Nodes.{HasServed, ServesIf, WatchesIf, IsRun, IsRefusedEarly, IsEarly, fresh_own};
+ghost use Rattle.lg_node.specs.Meaning.Nodes.{HasServed, ServesIf, WatchesIf, IsRun, IsRefusedEarly, IsEarly};
+ghost use Rattle.lg_node.specs.Meaning.Nodes.{fresh_own};
 ghost use Rattle.lg_node.specs.Meaning.Turns.{LinkValue};
 ghost use Rattle.lg_node.specs.Meaning.Words.{seeded, DrawsEight};
 

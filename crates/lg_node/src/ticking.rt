@@ -1,7 +1,7 @@
 //! The ticking loop.
 //!
 //! Defined in: `specs/Meaning/Turns.antt`, `specs/Meaning/Pulling.antt`, `specs/Support/Acted.antt`.
-//! Tested in: `lg_command_tests/src/node/ticking.rt`, `cases/groups`.
+//! Tested in: `lg_node_tests/src/node/ticking.rt`, `cases/groups`.
 ghost use Rattle.std.specs.Prelude.{◌≡◌, ◌≤◌, ◌<◌, IfSome, [], ℕ};
 ghost use Rattle.lg_agent.specs.Meaning.Values.{PassValue};
 ghost use Rattle.lg_node.specs.declared.plan.Plan.{Plan as Planned};

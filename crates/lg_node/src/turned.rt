@@ -1,7 +1,7 @@
 //! What one turn reports to its loop.
 //!
 //! Defined in: `specs/Meaning/Links.antt`.
-//! Tested in: `lg_command_tests/src/node/receiving.rt`.
+//! Tested in: `lg_node_tests/src/node/receiving.rt`.
 ghost use Rattle.std.specs.Prelude.{◌≡◌, ◌≤◌, None, Some, if◌then◌else◌};
 ghost use Rattle.lg_node.specs.declared.ending.Why.TheVariants.{Ousted};
 ghost use Rattle.lg_node.specs.Meaning.Links.{WereHanded};

@@ -1,7 +1,7 @@
 //! A link over a UDP socket.
 //!
 //! Defined in: `specs/Meaning/Turns.antt`.
-//! Tested in: `lg_command_tests/src/node/asking.rt`, `cases/nodes`.
+//! Tested in: `lg_node_tests/src/node/asking.rt`, `cases/nodes`.
 ghost use Rattle.std.specs.Prelude.{◌≡◌, ◌+◌, MatchBool};
 
 use crate::link::{Link, LinkFault, MAX_DATAGRAM};

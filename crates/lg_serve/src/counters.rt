@@ -1,7 +1,7 @@
 //! What the loops of a node count while they run.
 //!
 //! Defined in: this file.
-//! Tested in: `lg_command_tests/src/showing.rt`, `cases/status`.
+//! Tested in: `lg_status_tests/src/showing.rt`, `cases/status`.
 
 ghost use Rattle.std.specs.Prelude.{◌≡◌, ◌<◌};
 

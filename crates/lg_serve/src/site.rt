@@ -1,7 +1,7 @@
 //! The site of a node: what its status server shows, from looks at the agent.
 //!
 //! Defined in: `specs/Meaning/Shown.antt`, `specs/Support/Showing.antt`, `lg_status/specs/Meaning/Answers.antt`.
-//! Tested in: `lg_command_tests/src/showing.rt`, `cases/status`.
+//! Tested in: `lg_status_tests/src/showing.rt`, `cases/status`.
 ghost use Rattle.std.specs.Prelude.{◌≡◌, ◌++◌, ◌∷◌, [], ℕ, List, length, map, IfOk, MatchResult};
 ghost use Rattle.lg_rules.specs.Meaning.Claim.{name_of};
 ghost use Rattle.lg_rules.specs.Meaning.Rows.{name_cmp, Rises};

@@ -1,7 +1,7 @@
 //! What one reply counts for the metrics of a node.
 //!
 //! Defined in: `specs/Meaning/Tally.antt`.
-//! Tested in: `lg_command_tests/src/showing.rt`.
+//! Tested in: `lg_status_tests/src/showing.rt`.
 ghost use Rattle.std.specs.Prelude.{◌≡◌, count_by};
 ghost use Rattle.std.specs.List.{list_any};
 ghost use Rattle.lg_serve.specs.Meaning.Tally.{is_of_member, is_ping, is_suspected, is_start, is_direct};

@@ -1,5 +1,5 @@
-//! Tests of what a node answers over HTTP. They call what `lg_status` has to offer, and show what only such a call can
-//! show.
+//! Tests of what a node answers over HTTP. They call what `lg_status` and `lg_serve` have to offer, and show what only
+//! such a call can show.
 #![tactic(auto)]
 
 #[cfg(test)]
@@ -18,5 +18,7 @@ mod refused_memory;
 mod ring;
 #[cfg(test)]
 mod route;
+#[cfg(test)]
+mod showing;
 #[cfg(test)]
 mod target;

@@ -1,7 +1,7 @@
 //! The lines of a watcher, as text.
 //!
 //! Defined in: `specs/Meaning/Lines.antt`, `lg_rules/specs/Meaning/View.antt`.
-//! Tested in: `lg_command_tests/src/watching.rt`.
+//! Tested in: `lg_node_tests/src/watching.rt`.
 ghost use Rattle.std.specs.Prelude.{◌≡◌, ◌++◌, OnOk, map};
 ghost use Rattle.lg_rules.specs.Meaning.Claim.{name_of};
 ghost use Rattle.lg_rules.specs.Meaning.Rows.{name_cmp, row_at, Rises};

@@ -1,7 +1,7 @@
 //! How a watcher ended.
 //!
 //! Defined in: `specs/Meaning/Sights.antt`.
-//! Tested in: `lg_command_tests/src/watching.rt`.
+//! Tested in: `lg_node_tests/src/watching.rt`.
 use lg_agent::Refusal;
 
 /// How a watcher ended. This also says how one of its turns went.

@@ -1,7 +1,7 @@
 //! What a watcher keeps from turn to turn, and one turn.
 //!
 //! Defined in: `specs/Meaning/Sights.antt`, `specs/Support/Telling.antt`.
-//! Tested in: `lg_command_tests/src/watching.rt`.
+//! Tested in: `lg_node_tests/src/watching.rt`.
 ghost use Rattle.std.specs.Prelude.{◌≡◌, ◌⊎◌, ◌≤◌, ℕ, List, [], length, map, Option, Some, None};
 ghost use Rattle.std.specs.Prelude.{MatchOption, MatchResult, OnErr, OnOk};
 ghost use Rattle.std.specs.Io.KnownBytes.{Appends};

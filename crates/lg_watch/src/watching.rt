@@ -1,7 +1,7 @@
 //! Watches an agent from its start until it is told to stop.
 //!
 //! Defined in: `specs/Meaning/Sights.antt`, `specs/Support/Telling.antt`.
-//! Tested in: `lg_command_tests/src/watching.rt`.
+//! Tested in: `lg_node_tests/src/watching.rt`.
 ghost use Rattle.lg_watch.specs.Meaning.Sights.{HasWatched};
 ghost use Rattle.lg_watch.specs.Support.Telling.{FinishedAs};
 

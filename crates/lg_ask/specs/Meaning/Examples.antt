@@ -20,8 +20,8 @@ use Rattle.lg_ask.specs.Meaning.Watching.{bodies_told, next_version}
 
 -- what the rows have to unfold
 unfoldable by_reading : ⊤
-unfolding digits chars is_utf8 serde_json_on_literals before behind table_text change_said news_said health_said health_lines
-    news_text pair_line addr_said member_said octets_said request_text changes_told question_told
+unfolding digits chars is_utf8 serde_json_on_literals before behind table_text change_said news_said health_said
+    health_lines news_text pair_line addr_said member_said octets_said request_text changes_told question_told
 by_reading = tt
 
 -- some lines, each with its newline

@@ -164,7 +164,8 @@ default-address : asked (codes "lg" ∷ codes "members" ∷ []) ≡ ask Members 
 unfolding asked clap_on_literals
 default-address = refl
 
-health-as-it-comes : asked (codes "lg" ∷ codes "status" ∷ codes "--json" ∷ []) ≡ ask Status (codes "127.0.0.1:8946") true
+health-as-it-comes :
+    asked (codes "lg" ∷ codes "status" ∷ codes "--json" ∷ []) ≡ ask Status (codes "127.0.0.1:8946") true
 unfolding asked clap_on_literals
 health-as-it-comes = refl
 

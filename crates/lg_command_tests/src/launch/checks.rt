@@ -1,6 +1,6 @@
 //! Checks of files, over writers that fail and while memory is refused.
-use crate::streams::Room;
 use lg_launch::{check_bytes, check_file};
+use lg_testing::Room;
 use std::alloc::Global;
 
 /// What is checked; which call of the output fails, counted from 1, or 0 if none does; then the status, what is written

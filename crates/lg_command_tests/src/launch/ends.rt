@@ -1,8 +1,7 @@
 //! Runs of nodes and of files, over writers that fail.
 use crate::ports::{free_port, with_port};
-use crate::streams::Room;
 use lg_launch::{Wishes, run_bytes, run_file};
-use lg_testing::at;
+use lg_testing::{Room, at};
 use std::alloc::{AllocError, Global};
 use std::net::Net;
 use std::random::RandomSource;

@@ -1,12 +1,11 @@
 //! What is told of a node's end, and what is told first.
 ghost use Rattle.lg_timing.specs.Meaning.Config.{IsChecked};
 
-use crate::streams::Room;
 use lg_agent::{CloseFault, Refusal};
 use lg_launch::Told;
 use lg_node::{NodeEnd, NodeFault, Settings, Why, run_node};
 use lg_rules::{Addr, Name};
-use lg_testing::at;
+use lg_testing::{Room, at};
 use lg_text::RunFault;
 use lg_timing::Config;
 use std::alloc::Global;

@@ -1,8 +1,7 @@
 //! What is announced of a node before it starts.
 use crate::ports::{free_port, with_port};
-use crate::streams::Room;
 use lg_launch::{Wishes, run_bytes};
-use lg_testing::at;
+use lg_testing::{Room, at};
 use std::alloc::Global;
 use std::net::Net;
 use std::random::RandomSource;

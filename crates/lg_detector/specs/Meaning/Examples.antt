@@ -31,7 +31,8 @@ use Rattle.lg_detector.specs.declared.reply.Answer.TheVariants.{Status as OfStat
 use Rattle.lg_detector.specs.declared.reply.Outgoing.{Outgoing}
 use Rattle.lg_detector.specs.declared.reply.Reply.{Reply}
 use Rattle.lg_detector.specs.Meaning.Log.{Log, moment, group_log}
-use Rattle.lg_detector.specs.Meaning.Step.{log_of, reply_after, view_after, deadline_after, own_standing_after, is_accepted}
+use Rattle.lg_detector.specs.Meaning.Step.{log_of, reply_after, view_after, deadline_after, own_standing_after}
+use Rattle.lg_detector.specs.Meaning.Step.{is_accepted}
 
 -- What has to be unfolded to compute a worked event.
 unfoldable pub by_computing : Unit {0}
@@ -269,7 +270,8 @@ one_that_is_ousted_keeps_its_number = refl
 abbrev accused_at_the_bound : List Event
 accused_at_the_bound = opening 0 ∷ pings 0 1 b (suspect b 1000000000 a ∷ []) ∷ []
 
-it_knows_its_score : own_standing_after (opening 0 ∷ accused_twice ∷ []) ≡ record { score = 1; number = 1; ousted = false }
+it_knows_its_score :
+    own_standing_after (opening 0 ∷ accused_twice ∷ []) ≡ record { score = 1; number = 1; ousted = false }
 unfolding by_computing
 it_knows_its_score = refl
 

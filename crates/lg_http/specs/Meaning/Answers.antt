@@ -84,9 +84,9 @@ pub record IsSiteOrder {S : Type 0} (later : SiteOrder S) : Type 0 where
   pub same : (site : S) → later site site
   pub both : (first second third : S) → later first second → later second third → later first third
 
--- The calls were answered one after another, and never from an earlier state of the site than the call before: the first
--- from the first state or a later one, each from the state of the call before or a later one, and the last state is that
--- of the last call or a later one.
+-- The calls were answered one after another, and never from an earlier state of the site than the call before: the
+-- first from the first state or a later one, each from the state of the call before or a later one, and the last state
+-- is that of the last call or a later one.
 abbrev pub AreAnswered : {S : Type 0} → SiteAnswers S → SiteOrder S → S → List Call → S → Type 0
 AreAnswered answers later first [] last = later first last
 AreAnswered {S} answers later first (call ∷ calls) last =

@@ -44,8 +44,9 @@ own_length Own.Internal = codes "26"
 -- the whole response
 abbrev pub own_text : OwnRefusal → List ℕ
 own_text why =
-    codes "HTTP/1.1 " ++ own_status why ++ codes "\r\nconnection: close\r\ncontent-type: application/json\r\ncontent-length: "
-    ++ own_length why ++ codes "\r\n\r\n" ++ own_body why
+    codes "HTTP/1.1 " ++ own_status why
+    ++ codes "\r\nconnection: close\r\ncontent-type: application/json\r\ncontent-length: " ++ own_length why
+    ++ codes "\r\n\r\n" ++ own_body why
 
 abbrev pub own_of_read : ReadError → OwnRefusal
 own_of_read UriTooLong = Own.TargetTooLong

@@ -6,7 +6,8 @@ use Rattle.lg_detector.specs.Meaning.Examples.{a, b, c, d, at, alive, failed, su
 use Rattle.lg_agent.specs.declared.receipt.Receipt.{Receipt}
 use Rattle.lg_node.specs.declared.plan.Plan.{Plan}
 use Rattle.lg_node.specs.Meaning.Turns.Turn.{Paused, Looked, Unlooked, AskedSeed, FoundNobody, Unfound}
-use Rattle.lg_node.specs.Meaning.Pulling.{others_of, is_alone, next_look, next_choice, waiting_after, IsChosen, AreTimely}
+use Rattle.lg_node.specs.Meaning.Pulling.{others_of, is_alone, next_look, next_choice, waiting_after}
+use Rattle.lg_node.specs.Meaning.Pulling.{IsChosen, AreTimely}
 
 abbrev plan : Plan
 plan = record {
@@ -52,7 +53,8 @@ abbrev receipt : Receipt
 receipt = record { place = 1; reply = nothing 0 }
 
 -- A look says that the seeds are to be asked. When one was, the other waits.
-one_waits : waiting_after plan (Looked 1000 (seeded ∷ []) true ∷ AskedSeed 1001 (at 7000) receipt [] ∷ []) ≡ at 7001 ∷ []
+one_waits :
+    waiting_after plan (Looked 1000 (seeded ∷ []) true ∷ AskedSeed 1001 (at 7000) receipt [] ∷ []) ≡ at 7001 ∷ []
 one_waits = refl
 
 none_waits : waiting_after plan (Looked 1000 (seeded ∷ []) false ∷ []) ≡ []

@@ -5,7 +5,8 @@ use Rattle.lg_rules.specs.declared.claim.Claim.{Claim}
 use Rattle.lg_packet.specs.declared.packet.Body.TheVariants.{PingReq, Ack}
 use Rattle.lg_detector.specs.declared.event.Event.{Event}
 use Rattle.lg_detector.specs.declared.reply.Reply.{Reply}
-use Rattle.lg_detector.specs.Meaning.Examples.{by_computing, a, b, c, at, alive, failed, suspect, opening, pings, says, ticks}
+use Rattle.lg_detector.specs.Meaning.Examples.{by_computing, a, b, c, at, alive, failed, suspect}
+use Rattle.lg_detector.specs.Meaning.Examples.{opening, pings, says, ticks}
 use Rattle.lg_detector.specs.Meaning.Step.{reply_after}
 use Rattle.lg_watch.specs.Meaning.Sights.{Sight}
 use Rattle.lg_status.specs.declared.ring.Change.{Change}

@@ -1,4 +1,4 @@
-use Rattle.lg_command_tests.proofs.node.playing.told.Given as goal
+use Rattle.lg_node_tests.proofs.node.playing.told.Given as goal
 
 abbrev pub ghosts-play_case-A-PairName : goal.ghosts-play_case-A-PairName
 ghosts-play_case-A-PairName g a = record { book = a.book.seen.book }

@@ -1,4 +1,4 @@
-use Rattle.lg_command_tests.proofs.watching.run.Given as goal
+use Rattle.lg_node_tests.proofs.watching.run.Given as goal
 
 abbrev pub ghosts-run_in-A-PairName : goal.ghosts-run_in-A-PairName
 ghosts-run_in-A-PairName g a = record { book = a.book.seen.book }

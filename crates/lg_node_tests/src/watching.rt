@@ -2,7 +2,6 @@
 //! the pauses of the watcher's clock.
 ghost use Rattle.std.specs.Prelude.{◌≡◌};
 
-use crate::streams::Room;
 use arrayvec::ArrayVec;
 use left_right::Absorb;
 use lg_agent::{Agent, AgentName, Pass};
@@ -10,7 +9,7 @@ use lg_clock::Clock;
 use lg_detector::Event;
 use lg_packet::encode;
 use lg_rules::Claim;
-use lg_testing::{alive, at, failed, letter, local, packet, ping, suspect};
+use lg_testing::{Room, alive, at, failed, letter, local, packet, ping, suspect};
 use lg_timing::{Config, Moment};
 use lg_view::{Published, UnnamedBook, Update};
 use lg_watch::{WATCH_MS, Watched, watch};

@@ -1,11 +1,10 @@
 //! A node over UDP asks its seeds before its loops run. The ticking loop ends at once. The ports are free ones that the
 //! system gives, so two runs on one machine don't meet.
-use crate::streams::Room;
 use lg_agent::{CloseFault, Closed};
 use lg_detector::Event;
 use lg_node::{End, Settings, Why, run_node};
 use lg_rules::Addr;
-use lg_testing::{at, letter, local};
+use lg_testing::{Room, at, letter, local};
 use lg_timing::{Config, Seed};
 use std::alloc::Global;
 use std::io;
