@@ -1,4 +1,3 @@
-pub mod AddressLaws
 pub mod KeptLaws
 pub mod RingLaws
 pub mod SameRecords

@@ -1,6 +1,7 @@
 //! Writes the configuration as JSON.
 //!
-//! Defined in: `specs/Meaning/Bodies.antt`, `lg_timing/specs/Meaning/Keys.antt`, `lg_report/specs/Meaning/Records.antt`.
+//! Defined in: `specs/Meaning/Bodies.antt`, `lg_timing/specs/Meaning/Keys.antt`;
+//! `lg_report/specs/Meaning/Records.antt`.
 //! Tested in: `lg_status_tests/src/answer.rt`.
 ghost use Rattle.std.specs.Prelude.{◌≡◌, ◌++◌, IfOk, OnOk, codes, string_bytes};
 ghost use Rattle.std.specs.List.{flat_map};

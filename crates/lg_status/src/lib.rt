@@ -2,8 +2,8 @@
 //! input, no output and no threads: plain values are handed in, and an answer is handed out.
 //!
 //! [`answer_to`] makes the answer to a request, from a [`Snapshot`], the [`Changes`] that were recorded, and the
-//! [`ShownConfig`]. [`route_of`] says which route a request has, and [`wait_of`] what it waits for. `specs/Meaning` defines
-//! each route and each body, and the files there whose names end in `Examples` have worked ones.
+//! [`ShownConfig`]. [`route_of`] says which route a request has, and [`wait_of`] what it waits for. `specs/Meaning`
+//! defines each route and each body, and the files there whose names end in `Examples` have worked ones.
 #![tactic(auto)]
 
 mod answer;

@@ -5,9 +5,9 @@
 //!
 //! Defined in: `specs/Meaning/Members.antt`.
 //! Tested in: `lg_status_tests/src/answer.rt`.
-ghost use Rattle.std.specs.Prelude.{◌≡◌, ◌++◌, IfOk, OnOk, string_bytes};
+ghost use Rattle.std.specs.Prelude.{◌≡◌, ◌++◌, IfOk, OnOk, decimal, string_bytes};
 ghost use Rattle.std.specs.List.{flat_map};
-ghost use Rattle.lg_report.specs.Meaning.Records.{status_text};
+ghost use Rattle.lg_report.specs.Meaning.Records.{dotted, status_text};
 ghost use Rattle.lg_status.specs.Meaning.Members.{accuser_value, address_fields, behind_address, behind_comma};
 ghost use Rattle.lg_status.specs.Meaning.Members.{comma_separated, member_body, member_fields, member_json};
 ghost use Rattle.lg_status.specs.Meaning.Members.{members_asked, members_body, members_front_of, moment_front};
@@ -15,9 +15,16 @@ ghost use Rattle.lg_status.specs.Meaning.Members.{standing_fields};
 
 use crate::route::StatusKind;
 use crate::snapshot::Snapshot;
+use itoa::Buffer;
 use lg_check::text_of_name;
 use lg_rules::{Addr, Record, Status};
 use std::alloc::{AllocError, Global};
+
+/// The most bytes of a member with its comma.
+const MEMBER_BYTES: usize = 174;
+
+/// The most bytes of what stands around the members.
+const AROUND_BYTES: usize = 128;
 
 /// The word for a status.
 pub(crate) fn status_word(status: &Status) -> &'static str
@@ -30,26 +37,57 @@ pub(crate) fn status_word(status: &Status) -> &'static str
     }
 }
 
+/// Appends a number in decimal. A table has six for each member, and `write!` takes longer for them.
+fn put_number(number: u64, text: &mut String) -> Result<(), AllocError>
+    ensures { OnOk result (string_bytes text.new ≡ string_bytes text.old ++ decimal number) }
+{
+    let mut digits = Buffer::new();
+    text.push_str(digits.format(number))
+}
+
+/// Appends words and a number behind them.
+fn put_numbered(words: &str, number: u64, text: &mut String) -> Result<(), AllocError>
+    ensures { OnOk result (string_bytes text.new ≡ string_bytes text.old ++ (words.now ++ decimal number)) }
+{
+    text.push_str(words)?;
+    put_number(number, text)
+}
+
+/// Appends words and a text behind them.
+fn put_text(words: &str, behind: &str, text: &mut String) -> Result<(), AllocError>
+    ensures { OnOk result (string_bytes text.new ≡ string_bytes text.old ++ (words.now ++ behind.now)) }
+{
+    text.push_str(words)?;
+    text.push_str(behind)
+}
+
 /// Appends the name, the status and the incarnation of a member.
 fn put_standing(member: &Record, text: &mut String) -> Result<(), AllocError>
     ensures { OnOk result (string_bytes text.new ≡ string_bytes text.old ++ standing_fields member.now) }
 {
-    let name = text_of_name(&member.name);
-    let status = status_word(&member.status);
-    let incarnation = member.incarnation.number();
-    write!(
-        text,
-        "\"name\":\"{name}\",\"status\":\"{status}\",\"incarnation\":{incarnation}"
-    )
+    put_text("\"name\":\"", text_of_name(&member.name), text)?;
+    put_text("\",\"status\":\"", status_word(&member.status), text)?;
+    let incarnation = u64::from(member.incarnation.number());
+    put_numbered("\",\"incarnation\":", incarnation, text)
+}
+
+/// Appends the octets of an address, with points between them.
+fn put_dotted(octets: &[u8; 4], text: &mut String) -> Result<(), AllocError>
+    ensures { OnOk result (string_bytes text.new ≡ string_bytes text.old ++ dotted octets.now) }
+{
+    let [a, b, c, d] = *octets;
+    put_number(u64::from(a), text)?;
+    put_numbered(".", u64::from(b), text)?;
+    put_numbered(".", u64::from(c), text)?;
+    put_numbered(".", u64::from(d), text)
 }
 
 /// Appends an address and a port, behind the first key.
 fn put_behind_address(addr: &Addr, text: &mut String) -> Result<(), AllocError>
     ensures { OnOk result (string_bytes text.new ≡ string_bytes text.old ++ behind_address addr.now) }
 {
-    let [a, b, c, d] = addr.octets;
-    let port = addr.port;
-    write!(text, "{a}.{b}.{c}.{d}\",\"port\":{port}")
+    put_dotted(&addr.octets, text)?;
+    put_numbered("\",\"port\":", u64::from(addr.port), text)
 }
 
 /// Appends an address and a port.
@@ -67,8 +105,9 @@ fn put_accuser(status: &Status, text: &mut String) -> Result<(), AllocError>
 {
     match status {
         Status::Suspect(accuser) => {
-            let accuser = text_of_name(accuser);
-            write!(text, "\"{accuser}\"")
+            text.push_str("\"")?;
+            text.push_str(text_of_name(accuser))?;
+            text.push_str("\"")
         }
         Status::Alive | Status::Failed => text.push_str("null"),
     }
@@ -157,7 +196,7 @@ fn put_members_front(name: &str, text: &mut String) -> Result<(), AllocError>
 }
 
 /// The body of the members of a look: all, or those of one status, in the order of names. Memory is allocated for the
-/// text, of 174 bytes at most for each member, and for a copy of the records if a status is asked for.
+/// text, once, 174 bytes for each record, and for a copy of the records if a status is asked for.
 #[tactic(auto, unfolding(crate::specs::Meaning::Members::members_body))]
 pub(crate) fn members_body(
     alloc: Global,
@@ -166,7 +205,8 @@ pub(crate) fn members_body(
 ) -> Result<String, AllocError>
     ensures { IfOk result (λ body. string_bytes body ≡ members_body snapshot.now kind) }
 {
-    let mut text = String::new(alloc);
+    let room = snapshot.records.len().saturating_mul(MEMBER_BYTES);
+    let mut text = String::with_capacity(alloc, room.saturating_add(AROUND_BYTES))?;
     put_moment(snapshot.version, snapshot.moment.milliseconds(), &mut text)?;
     put_members_front(text_of_name(&snapshot.name), &mut text)?;
     match kind {
