@@ -6,7 +6,7 @@ use crate::detector::Due::{
 };
 use crate::detector::timer_of;
 use lg_testing::at;
-use lg_timers::{MAX_TIMERS, TimerId, Timers};
+use lg_timers::{MAX_STEPS, MAX_TIMERS, Steps, TimerId, Timers};
 
 /// A step of a play, with what it should give.
 #[derive(Clone, Copy)]
@@ -222,6 +222,37 @@ fn four_hundred_timers(rt: HostRuntime) {
             fire_next(&mut timers, deadline),
             "at {deadline}: {timers:?}"
         );
+    }
+    assert_eq!(rt; timers.least(), None);
+}
+
+/// Whether the timer with this number is cancelled, with few comparisons.
+fn cancels_soon(timers: &mut Timers, number: u32) -> bool {
+    let mut steps = Steps::new();
+    let was_set = timers.cancel_counted(&TimerId::RelayEnd(number), &mut steps);
+    was_set && steps.count() <= MAX_STEPS
+}
+
+/// Whether a timer is due and taken, with few comparisons.
+fn takes_soon(timers: &mut Timers) -> bool {
+    let mut steps = Steps::new();
+    let taken = timers.take_due_counted(at(30), &mut steps);
+    taken.is_some() && steps.count() <= MAX_STEPS
+}
+
+/// As many timers as there is room for. No call needs more comparisons of them than it may.
+#[test]
+fn comparisons_are_few(rt: HostRuntime) {
+    let mut rows = [Nothing; 400];
+    for number in 0..400u32 {
+        rows[number as usize] = end_of(399 - number);
+    }
+    let mut timers = all_set(&rows);
+    for third in 0..134u32 {
+        assert!(rt; cancels_soon(&mut timers, third * 3), "{third}");
+    }
+    for taken in 0..266u32 {
+        assert!(rt; takes_soon(&mut timers), "{taken}");
     }
     assert_eq!(rt; timers.least(), None);
 }

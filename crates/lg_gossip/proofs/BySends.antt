@@ -57,13 +57,13 @@ module _ (q x : Queued) (lesser : name_cmp (queued_name x) (queued_name q) ≡ L
   later l = rw (le-ltb x.sends q.sends (omega arith), ne_eqb x.sends q.sends (omega arith)) refl
 
 -- what the turns of two rows say of their sends
-no_more : (x r : Queued) → is_sooner x r ≡ true → x.sends ≤ r.sends
+pub no_more : (x r : Queued) → is_sooner x r ≡ true → x.sends ≤ r.sends
 no_more x r s = elim (cases_lt r.sends x.sends) [
   | inl l ↦ (let not : is_sooner x r ≡ false = rw (le-ltb x.sends r.sends (omega arith), ne_eqb x.sends r.sends (omega arith)) refl in absurd (false≢true (sym not ∙ s)))
   | inr g ↦ g
 ]
 
-not_sooner : (x r : Queued) → is_sooner x r ≡ false → r.sends ≤ x.sends
+pub not_sooner : (x r : Queued) → is_sooner x r ≡ false → r.sends ≤ x.sends
 not_sooner x r n = elim (cases_lt x.sends r.sends) [
   | inl l ↦ (let is : is_sooner x r ≡ true = rw (lt-ltb x.sends r.sends l) refl in absurd (false≢true (sym n ∙ is)))
   | inr g ↦ g

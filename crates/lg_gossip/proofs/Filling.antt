@@ -1,13 +1,13 @@
 -- A packet filled from the fields of a queue.
-use Rattle.std.proofs.Common.{◌≡◌, ℕ, ◌++◌, List, length, map, Option, sym, ◌∙◌, ap}
-use Rattle.std.specs.List.{refill}
+use Rattle.std.proofs.Common.{◌≡◌, ℕ, ◌++◌, List, length, map, Option, sym, ◌∙◌, ap, subst}
+use Rattle.std.specs.List.{AllByRecursion, refill}
 use Rattle.std.proofs.lemmas.List.{length-map}
 use Rattle.std.specs.Option.{option_to_list}
 use Rattle.lg_rules.specs.declared.claim.Claim.{Claim}
 use Rattle.lg_gossip.specs.declared.choice.TakenRow.{TakenRow}
 use Rattle.lg_gossip.specs.declared.queued.Queued.{Queued}
 use Rattle.lg_gossip.specs.Meaning.Queue.{QueueValue, queued_claim, buddy_of, limit_of, rows_taken, taken_of, fill_of, sent_once, filled}
-use Rattle.lg_gossip.specs.Support.Places.{rows_at}
+use Rattle.lg_gossip.specs.Support.Places.{IsRowOf, rows_at}
 use Rattle.lg_gossip.proofs.Counting.{refill-whole}
 
 -- the rows at the places that were chosen, whichever slices they are read through
@@ -15,6 +15,9 @@ pub taken-at : (rows read again : List Queued) (places shown : List TakenRow) (b
     → rows_at read places ≡ rows_taken buddy limit read → rows_at again shown ≡ rows_taken buddy limit rows
 taken-at rows read again places shown buddy limit r a s t =
     ap (λ rs. rows_at rs shown) (a ∙ sym r) ∙ ap (rows_at read) s ∙ t ∙ ap (rows_taken buddy limit) r
+
+pub places-at : (rows read : List Queued) (places shown : List TakenRow) → read ≡ rows → shown ≡ places → AllByRecursion (IsRowOf read) places → AllByRecursion (IsRowOf rows) shown
+places-at rows read places shown r s a = subst (λ ts. AllByRecursion (IsRowOf rows) ts) (sym s) (subst (λ rs. AllByRecursion (IsRowOf rs) places) r a)
 
 -- a packet is counted over all rows
 pub counted-whole : (rows again read after : List Queued) (places shown : List TakenRow) (buddy : Option Claim) (limit : ℕ) → read ≡ rows → shown ≡ places

@@ -3,6 +3,7 @@ pub mod Digits
 pub mod Distinct
 pub mod Each
 pub mod Choosing
+pub mod Fewest
 pub mod Filling
 pub mod Passed
 pub mod Places

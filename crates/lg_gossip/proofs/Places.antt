@@ -17,6 +17,13 @@ module _ (rows : List Queued) where
   length-at [] a = refl
   length-at (t ∷ ts) a = rw a.0.stands (ap suc (length-at ts a.1))
 
+  -- sent as often,
+  pub sends-at : (k : ℕ) (d : Queued) (t : TakenRow) (ts : List TakenRow) → k < length ts → AllByRecursion (IsRowOf rows) ts
+      → (get_or (rows_at rows ts) k d).sends ≡ (get_or ts k t).sends
+  sends-at k d t [] l a = absurd (omega arith)
+  sends-at zero d t (x ∷ xs) l a = rw a.0.stands (sym a.0.sends)
+  sends-at (suc k) d t (x ∷ xs) l a = rw a.0.stands (sends-at k d t xs (omega arith) a.1)
+
   -- as many in front that were sent no more often than so,
   pub prefix-at : (sends : ℕ) (ts : List TakenRow) → AllByRecursion (IsRowOf rows) ts
       → prefix_len (λ r. nat_le r.sends sends) (rows_at rows ts) ≡ prefix_len (λ t. nat_le t.sends sends) ts

@@ -4,18 +4,17 @@ use Rattle.std.specs.List.{AllByRecursion}
 use Rattle.lg_rules.specs.declared.claim.Claim.{Claim}
 use Rattle.lg_rules.specs.Meaning.Claim.{name_of}
 use Rattle.lg_rules.specs.Meaning.Rows.{name_cmp, is_among, put_row, put_key, Rises}
-use Rattle.lg_rules.proofs.Tests.{both}
-use Rattle.std.proofs.lemmas.Bool.{cases_Bool, ltb-true}
-use Rattle.std.specs.Prelude.{nat_lt}
+use Rattle.std.proofs.lemmas.Bool.{cases_Bool}
 use Rattle.lg_rules.proofs.Cases.{Below, Tied, Above, compared}
 use Rattle.lg_rules.proofs.KeyOrder.{names_order}
 use Rattle.lg_rules.proofs.Rises.{rises-put}
 use Rattle.lg_gossip.specs.declared.limit.TheConstants.{MAX_DIGITS}
 use Rattle.lg_gossip.specs.declared.queued.Queued.{Queued}
-use Rattle.lg_gossip.specs.Meaning.Queue.{queued_name, queued_claim, fresh, is_beside, may_go, rows_taken, sent_once}
+use Rattle.lg_gossip.specs.Meaning.Queue.{queued_name, queued_claim, fresh, rows_taken, sent_once}
 use Rattle.lg_gossip.proofs.Each.{all-both}
-use Rattle.lg_gossip.proofs.Taken.{may_when_taken}
-use Rattle.lg_gossip.specs.Support.Sound.{IsSound}
+use Rattle.lg_gossip.proofs.Fewest.{sent-none}
+use Rattle.lg_gossip.proofs.Taken.{below_limit, may_when_taken}
+use Rattle.lg_gossip.specs.Support.Sound.{AreSent, IsSound}
 
 -- the names of rows with one put
 names-put : (r : Queued) (rows : List Queued) → map queued_name (put_row name_cmp queued_name r rows) ≡ put_key name_cmp (queued_name r) (map queued_name rows)
@@ -34,21 +33,18 @@ within-put most r (x ∷ xs) l w = elim (compared (name_cmp (queued_name r) (que
   | Above e ↦ rw e (w.0, within-put most r xs l w.1)
 ]
 
-pub sound-put : (lambda : ℕ) (c : Claim) (rows : List Queued) → IsSound lambda rows → IsSound lambda (put_row name_cmp queued_name (fresh c) rows)
-sound-put lambda c rows s = record {
+pub sound-put : (lambda fewest : ℕ) (c : Claim) (rows : List Queued) → IsSound lambda fewest rows → IsSound lambda 0 (put_row name_cmp queued_name (fresh c) rows)
+sound-put lambda fewest c rows s = record {
   often = s.often;
   in_order = subst (Rises name_cmp) (sym (names-put (fresh c) rows)) (rises-put names_order c.name (map queued_name rows) s.in_order);
   within = within-put (lambda * MAX_DIGITS) (fresh c) rows (omega arith) s.within;
+  least = sent-none (put_row name_cmp queued_name (fresh c) rows);
 }
 
 -- the names of rows after a packet
 names-sent : (taken : List Claim) (rows : List Queued) → map queued_name (map (sent_once taken) rows) ≡ map queued_name rows
 names-sent taken [] = refl
 names-sent taken (q ∷ qs) = ap (λ ns. queued_name q ∷ ns) (names-sent taken qs)
-
--- a row that may go was sent fewer times than the limit
-below_limit : (buddy : Option Claim) (limit : ℕ) (q : Queued) → may_go buddy limit q ≡ true → q.sends < limit
-below_limit buddy limit q e = ltb-true q.sends limit (both (nat_lt q.sends limit) (is_beside buddy q) e).0
 
 within-sent : (taken : List Claim) (limit most : ℕ) (rows : List Queued) → limit ≤ most
     → AllByRecursion (λ q. q.sends ≤ most) rows → AllByRecursion (λ q. is_among name_cmp (queued_name q) (map name_of taken) ≡ true → q.sends < limit) rows
@@ -62,12 +58,14 @@ within-sent taken limit most (q ∷ qs) l w t = (here, within-sent taken limit m
       | inr n ↦ rw n w.0
     ]
 
-pub sound-sent : (lambda limit : ℕ) (buddy : Option Claim) (rows : List Queued) → limit ≤ lambda * MAX_DIGITS → IsSound lambda rows
-    → IsSound lambda (map (sent_once (map queued_claim (rows_taken buddy limit rows))) rows)
-sound-sent lambda limit buddy rows l s =
+pub sound-sent : (lambda limit fewest now : ℕ) (buddy : Option Claim) (rows : List Queued) → limit ≤ lambda * MAX_DIGITS → IsSound lambda fewest rows
+    → AreSent now (map (sent_once (map queued_claim (rows_taken buddy limit rows))) rows)
+    → IsSound lambda now (map (sent_once (map queued_claim (rows_taken buddy limit rows))) rows)
+sound-sent lambda limit fewest now buddy rows l s least =
     let taken = map queued_claim (rows_taken buddy limit rows) in
     record {
       often = s.often;
       in_order = subst (Rises name_cmp) (sym (names-sent taken rows)) s.in_order;
       within = within-sent taken limit (lambda * MAX_DIGITS) rows l s.within (all-both _ _ _ rows (λ q w m a. below_limit buddy limit q (m a)) s.within (may_when_taken buddy limit rows s.in_order));
+      least = least;
     }

@@ -1,17 +1,18 @@
 -- What a packet takes of a queue.
-use Rattle.std.proofs.Common.{◌≡◌, ℕ, Bool, true, List, [], ◌∷◌, map, Option, Some, inl, inr, refl, sym, ◌∙◌, subst}
-use Rattle.std.specs.Prelude.{filter}
+use Rattle.std.proofs.Common.{◌≡◌, ℕ, ◌<◌, Bool, true, List, [], ◌∷◌, map, Option, Some, inl, inr, refl, sym, ◌∙◌, subst}
+use Rattle.std.specs.Prelude.{filter, nat_lt}
 use Rattle.std.specs.List.{AllByRecursion}
 use Rattle.std.specs.declared.cmp.Ordering.TheVariants.{Less}
-use Rattle.std.proofs.lemmas.Bool.{cases_Bool, false≢true}
+use Rattle.std.proofs.lemmas.Bool.{cases_Bool, false≢true, ltb-true}
 use Rattle.lg_rules.specs.declared.claim.Claim.{Claim}
 use Rattle.lg_rules.specs.Meaning.Claim.{name_of}
 use Rattle.lg_rules.specs.Meaning.Rows.{name_cmp, is_among, row_at, AreAbove}
 use Rattle.lg_rules.proofs.KeyOrder.{names_order, tied, turned, cases_key}
 use Rattle.lg_rules.proofs.Cases.{held_once}
 use Rattle.lg_rules.proofs.Rises.{among-cons_other}
+use Rattle.lg_rules.proofs.Tests.{both}
 use Rattle.lg_gossip.specs.declared.queued.Queued.{Queued}
-use Rattle.lg_gossip.specs.Meaning.Queue.{queued_name, queued_claim, by_sends, may_go, room_beside, rows_taken}
+use Rattle.lg_gossip.specs.Meaning.Queue.{queued_name, queued_claim, by_sends, is_beside, may_go, room_beside, rows_taken}
 use Rattle.lg_gossip.proofs.Each.{all-filter, all-by_sends, all-take, all-both, passed}
 use Rattle.lg_gossip.specs.Support.Sound.{AreInOrder}
 
@@ -57,6 +58,10 @@ are_taken buddy limit rows o =
     all-take (IsTaken buddy limit rows) (room_beside buddy) (by_sends open_rows)
     (all-by_sends (IsTaken buddy limit rows) open_rows
     (all-both _ _ (IsTaken buddy limit rows) open_rows (λ q a b. record { its_own = a; may = b }) (all-filter _ p rows (its_own rows o)) (passed p rows)))
+
+-- a row that may go was sent fewer times than the limit
+pub below_limit : (buddy : Option Claim) (limit : ℕ) (q : Queued) → may_go buddy limit q ≡ true → q.sends < limit
+below_limit buddy limit q e = ltb-true q.sends limit (both (nat_lt q.sends limit) (is_beside buddy q) e).0
 
 -- what the queue holds of a name among those taken
 record Found (buddy : Option Claim) (limit : ℕ) (rows : List Queued) (n : List ℕ) : Type 0 where

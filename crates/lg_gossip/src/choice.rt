@@ -3,15 +3,15 @@
 //! Defined in: `specs/Meaning/Queue.antt`.
 //! Tested in: `lg_detector_tests/src/gossip.rt`.
 ghost use Rattle.std.specs.Prelude.{◌≡◌, ◌≤◌, ◌<◌, ◌+◌};
-ghost use Rattle.std.specs.Prelude.{◌++◌, ℕ, not, length, map, take, insert};
+ghost use Rattle.std.specs.Prelude.{◌++◌, ℕ, List, not, length, map, take, insert};
 ghost use Rattle.std.specs.Prelude.{if◌then◌else◌, nat_eq, nat_le, nat_lt, option_copied, slice_index_or};
 ghost use Rattle.std.specs.List.{AllByRecursion, prefix_len};
 ghost use Rattle.std.specs.Option.{option_to_list};
 ghost use Rattle.arrayvec.specs.ArrayVec.{array_vec_len};
 ghost use Rattle.lg_gossip.specs.declared.queued.Queued.{Queued as Row};
 ghost use Rattle.lg_gossip.specs.Meaning.Queue.{buddy_of, is_beside, queued_claim, room_beside, rows_taken, sent_once};
-ghost use Rattle.lg_gossip.specs.Support.Sound.{AreInOrder};
-ghost use Rattle.lg_gossip.specs.Support.Places.{IsRowOf, rows_at};
+ghost use Rattle.lg_gossip.specs.Support.Sound.{AreInOrder, AreSent};
+ghost use Rattle.lg_gossip.specs.Support.Places.{HasTaken, IsRowOf, rows_at};
 
 use crate::limit::MAX_TIMES_SENT;
 use crate::queue::MAX_QUEUED;
@@ -103,26 +103,36 @@ fn take_row(
 }
 
 /// The rows that a packet takes beside its buddy: of those below the retransmit limit, the first by their sends and
-/// then by their names. The rows have to be in the order of their names.
+/// then by their names. The rows have to be in the order of their names, and none was sent less often than `fewest`.
 pub(crate) fn rows_taken(
     rows: &[Queued],
     buddy: &Option<Claim>,
     limit: u64,
+    fewest: u64,
 ) -> ArrayVec<TakenRow, MAX_CLAIMS>
-    requires { AreInOrder rows.now }
+    requires order { AreInOrder rows.now }
+    requires least { AreSent fewest rows.now }
     ensures rows { rows_at rows.now result.items ≡ rows_taken buddy.now limit rows.now }
     ensures places { AllByRecursion (IsRowOf rows.now) result.items }
     ensures few { array_vec_len result ≤ room_beside buddy.now }
 {
+    let mut first = ArrayVec::new();
+    // Mostly no row may be sent any more, and then none is looked at.
+    if limit <= fewest {
+        return first;
+    }
     let room = room_beside(buddy);
     let passed_over = index_of_buddy(rows, buddy);
-    let mut first = ArrayVec::new();
     // No row that was sent this often, or more often, is among the first.
     let mut bound = limit;
     for (index, row) in rows.iter().enumerate() {
         let sends = row.sends;
         if u64::from(sends) < bound && index != passed_over {
             bound = take_row(&mut first, TakenRow { index, sends }, room, bound);
+            // Each row was sent as often as the bound, so no later one is among the first.
+            if bound <= fewest {
+                break;
+            }
         }
     }
     first
@@ -167,5 +177,31 @@ pub(crate) fn count_sends(rows: &mut [Queued], taken: &[TakenRow])
 {
     for row in taken {
         rows[row.index].sends = row.sends + 1;
+    }
+}
+
+/// How often each row was sent at least, once a packet took some of them. `fewest` is how often each was sent at least
+/// before. It isn't the greatest such number, which only a pass over all rows would find.
+pub(crate) fn fewest_after(
+    taken: &[TakenRow],
+    buddy: &Option<Claim>,
+    limit: u64,
+    fewest: u64,
+) -> u64
+    ensures { (rows : List Row) → AreInOrder rows → HasTaken buddy.now limit rows taken.now → AreSent fewest rows
+        → AreSent result (map (sent_once (map queued_claim (rows_taken buddy.now limit rows))) rows) }
+{
+    // Of the row about a buddy's member nothing more is known. And with such a limit no row was taken.
+    if buddy.is_some() || limit <= fewest {
+        return fewest;
+    }
+    // Each row that was taken has one more. If there was no room for further ones, the others were sent as often as the
+    // last that was taken, or more often. Else they were sent as often as the limit, or more often.
+    match taken {
+        [] => limit,
+        [first, .., last] if taken.len() == MAX_CLAIMS => {
+            u64::from(last.sends).min(u64::from(first.sends) + 1)
+        }
+        [first, ..] => u64::from(first.sends) + 1,
     }
 }

@@ -8,7 +8,7 @@ ghost use Rattle.lg_rules.specs.Meaning.Rows.{name_cmp, is_same, row_at};
 ghost use Rattle.lg_rules.specs.Meaning.Claim.{name_of};
 ghost use Rattle.lg_gossip.specs.Meaning.Queue.{queued_name, put_of, fill_of, filled};
 
-use crate::choice::{buddy_of, count_sends, rows_taken, write_claims};
+use crate::choice::{buddy_of, count_sends, fewest_after, rows_taken, write_claims};
 use crate::limit::send_limit;
 use crate::queued::Queued;
 use arrayvec::ArrayVec;
@@ -28,6 +28,8 @@ pub const MAX_QUEUED: usize = MAX_MEMBERS;
 #[derive(Debug, Drop)]
 pub struct Queue {
     lambda: u64,
+    /// No claim was sent less often than this, so that a packet needn't look at all of them.
+    fewest: u64,
     rows: ArrayVec<Queued, MAX_QUEUED>,
 }
 
@@ -40,7 +42,7 @@ impl Model for Queue {
 
     ghost view = { λ q. record { lambda = q.lambda; rows = q.rows.items } };
 
-    ghost invariant = { λ q. IsSound q.lambda q.rows.items };
+    ghost invariant = { λ q. IsSound q.lambda q.fewest q.rows.items };
 }
 
 impl Queue {
@@ -52,6 +54,7 @@ impl Queue {
     {
         Queue {
             lambda,
+            fewest: u64::MAX,
             rows: ArrayVec::new(),
         }
     }
@@ -64,6 +67,7 @@ impl Queue {
         rows.try_extend_from_slice(&self.rows).unwrap();
         Queue {
             lambda: self.lambda,
+            fewest: self.fewest,
             rows,
         }
     }
@@ -82,9 +86,11 @@ impl Queue {
     {
         let Queue {
             lambda: factor,
+            fewest,
             rows,
         } = self;
         *factor = lambda;
+        *fewest = u64::MAX;
         rows.clear();
     }
 
@@ -110,6 +116,7 @@ impl Queue {
             incarnation,
         };
         put_row(&mut self.rows, Queued::fresh(claim));
+        self.fewest = 0;
     }
 
     /// Replaces what `claims` holds by the claims of the next packet. `live` is the number of members that haven't
@@ -131,8 +138,9 @@ impl Queue {
     {
         let buddy = buddy_of(to);
         let limit = send_limit(self.lambda, live);
-        let taken = rows_taken(self.rows.as_slice(), &buddy, limit);
+        let taken = rows_taken(self.rows.as_slice(), &buddy, limit, self.fewest);
         write_claims(claims, &buddy, self.rows.as_slice(), taken.as_slice());
+        self.fewest = fewest_after(taken.as_slice(), &buddy, limit, self.fewest);
         count_sends(self.rows.as_mut_slice(), taken.as_slice());
     }
 

@@ -1,8 +1,16 @@
 pub mod CancelLaws
+pub mod HeapLaws
 pub mod KeyLaws
+pub mod Levels
 pub mod Parts
 pub mod Pending
+pub mod PlaceLaws
+pub mod ReplaceLaws
+pub mod RowLaws
 pub mod RowOrder
+pub mod SearchLaws
 pub mod SetLaws
+pub mod SiftLaws
+pub mod SlotLaws
 pub mod TimerSets
 pub mod TurnLaws

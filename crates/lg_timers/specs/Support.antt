@@ -1,2 +1,4 @@
 -- Definitions that only support the proofs.
+pub mod Heap
 pub mod InTurn
+pub mod Slots

@@ -1,8 +1,12 @@
 //! The timers that are set, and which of them fires next.
 #![tactic(auto)]
 
+mod by_id;
+mod heap;
+mod steps;
 mod timer;
 mod timers;
 
+pub use steps::{MAX_STEPS, Steps};
 pub use timer::{Timer, TimerId};
 pub use timers::{MAX_TIMERS, Timers};

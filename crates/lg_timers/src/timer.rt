@@ -3,6 +3,7 @@
 //! Defined in: `specs/Meaning/Timers.antt`.
 //! Tested in: `lg_detector_tests/src/timers.rt`.
 use lg_rules::Name;
+use std::cmp::Ordering;
 
 /// What a timer is for: its kind, and the member or the relay that it is about. At most one timer with an id is set.
 /// Ids are ordered by their kinds in the order in which these stand here, and then by the bytes of the name or by the
@@ -37,7 +38,15 @@ pub struct Timer {
 
 impl TimerId {
     ghost use Rattle.std.specs.Prelude.{◌≡◌};
-    ghost use Rattle.lg_timers.specs.Meaning.Timers.{kind_number};
+    ghost use Rattle.lg_rules.specs.Meaning.Rows.{name_cmp};
+    ghost use Rattle.lg_timers.specs.Meaning.Timers.{kind_number, id_key};
+
+    /// How it compares with another one in the order of ids.
+    pub(crate) fn compare(&self, other: &TimerId) -> Ordering
+        ensures { result ≡ name_cmp (id_key self.now) (id_key other.now) }
+    {
+        self.cmp(other)
+    }
 
     /// Its kind as a number, 1 to 6 in the order in which the kinds stand above.
     fn kind(&self) -> u8
@@ -57,7 +66,7 @@ impl TimerId {
 impl Timer {
     ghost use Rattle.std.specs.Prelude.{◌≡◌};
     ghost use Rattle.std.specs.Ordering.{is_lt};
-    ghost use Rattle.lg_timers.specs.Meaning.Timers.{kind_number, timer_cmp, has_id};
+    ghost use Rattle.lg_timers.specs.Meaning.Timers.{kind_number, timer_cmp};
 
     /// Its kind as a number: the end of a round 1, a suspicion 2, asking helpers 3, the nack of a relay 4, the end of
     /// a relay 5, the start of a round 6.
@@ -72,13 +81,5 @@ impl Timer {
         ensures { result ≡ is_lt (timer_cmp self.now other.now) }
     {
         self.cmp(other).is_lt()
-    }
-
-    /// Whether it has this id. A name is read only if the kinds are the same.
-    #[tactic(auto, using(lg_rules::proofs::KeyOrder::names_eq))]
-    pub(crate) fn has_id(&self, id: &TimerId) -> bool
-        ensures { result ≡ has_id id.now self.now }
-    {
-        self.id == *id
     }
 }

@@ -2,14 +2,14 @@
 //!
 //! Defined in: `specs/Meaning/Timers.antt`.
 //! Tested in: `lg_detector_tests/src/timers.rt`.
-ghost use Rattle.std.specs.Prelude.{◌≡◌, ◌<◌, ◌≤◌};
-ghost use Rattle.std.specs.Prelude.{false, List, [], length, position, slice_set};
-ghost use Rattle.std.specs.Option.{option_copied};
-ghost use Rattle.arrayvec.specs.ArrayVec.{array_vec_len};
-ghost use Rattle.lg_timers.specs.Meaning.Timers.{in_turn, has_id, is_set, with_timer, without_timer};
+ghost use Rattle.std.specs.Prelude.{◌≡◌, ◌<◌, ◌≤◌, ◌+◌, ◌^◌, false, [], length};
+ghost use Rattle.lg_timers.specs.Meaning.Timers.{is_set, with_timer, without_timer};
 ghost use Rattle.lg_timers.specs.Meaning.Timers.{least_of, due_of, timers_left};
-ghost use Rattle.lg_timers.specs.Support.InTurn.{IsTimerSet, earlier};
+ghost use Rattle.lg_timers.specs.Support.InTurn.{IsTimerSet};
 
+use crate::by_id::index_of;
+use crate::heap::Heap;
+use crate::steps::{MAX_STEPS, Steps};
 use crate::timer::{Timer, TimerId};
 use arrayvec::ArrayVec;
 use lg_timing::Moment;
@@ -20,24 +20,30 @@ pub const MAX_TIMERS: usize = 400;
 
 /// The timers that are set: at most one with each id, and at most [`MAX_TIMERS`].
 ///
-/// A contract sees them in the order in which they fire, whatever their order in the row is. No call allocates
-/// memory.
+/// A contract sees them in the order in which they fire, whatever their order in memory is. The first is found without
+/// a search. To set or to cancel one takes at most [`MAX_STEPS`] comparisons of timers, and a search by halving for its
+/// id. No call allocates memory.
 #[derive(Debug, Drop)]
 pub struct Timers {
-    timers: ArrayVec<Timer, MAX_TIMERS>,
+    // Each timer stays in its slot. What is in a slot that isn't in use doesn't count.
+    timers: [Timer; MAX_TIMERS],
+    // The slots in use, as a heap.
+    heap: Heap,
+    // The slots in use, in rising order of their timers' ids.
+    by_id: ArrayVec<u16, MAX_TIMERS>,
 }
 
 impl Model for Timers {
     ghost use Rattle.std.specs.Prelude.{List};
     ghost use Rattle.lg_timers.specs.declared.timer.Timer.{Timer as OneTimer};
     ghost use Rattle.lg_timers.specs.Meaning.Timers.{in_turn};
-    ghost use Rattle.lg_timers.specs.Support.InTurn.{AreTimersApart};
+    ghost use Rattle.lg_timers.specs.Support.Slots.{timers_in, AreBothRows};
 
     ghost Value = { List OneTimer };
 
-    ghost view = { λ t. in_turn t.timers.items };
+    ghost view = { λ t. in_turn (timers_in t.timers t.by_id.items) };
 
-    ghost invariant = { λ t. AreTimersApart t.timers.items };
+    ghost invariant = { λ t. AreBothRows t.timers t.heap.slots t.heap.places t.heap.count t.by_id.items };
 }
 
 impl Default for Timers {
@@ -50,42 +56,6 @@ impl Default for Timers {
     }
 }
 
-/// The one that fires first of `least`, if there is one, and `timer`.
-fn earlier<'a>(least: Option<&'a Timer>, timer: &'a Timer) -> &'a Timer
-    ensures { result.now ≡ earlier (option_copied least.entry) timer.now }
-{
-    match least {
-        Some(other) if other.is_before(timer) => other,
-        _ => timer,
-    }
-}
-
-/// The timer that fires first, if there is any.
-fn least_of(timers: &[Timer]) -> Option<Timer>
-    ensures { result ≡ least_of (in_turn timers.now) }
-{
-    let mut least = None;
-    for timer in timers {
-        least = Some(earlier(least, timer));
-    }
-    least.copied()
-}
-
-/// The index of the timer with this id, if there is one.
-fn index_of(timers: &[Timer], id: &TimerId) -> Option<usize>
-    ensures { result ≡ position (has_id id.now) timers.now }
-{
-    timers.iter().position(|timer| timer.has_id(id))
-}
-
-/// Replaces the timer at an index.
-fn put_at(timers: &mut ArrayVec<Timer, MAX_TIMERS>, index: usize, timer: Timer)
-    requires { index < array_vec_len timers.old }
-    ensures { timers.new.items ≡ slice_set timers.old.items index timer }
-{
-    timers[index] = timer;
-}
-
 impl Timers {
     /// An empty set of timers.
     #[tactic(auto, unfolding(crate::specs::Meaning::Timers::in_turn))]
@@ -93,7 +63,9 @@ impl Timers {
         ensures { result ≡ [] }
     {
         Timers {
-            timers: ArrayVec::new(),
+            timers: [Timer::default(); MAX_TIMERS],
+            heap: Heap::new(),
+            by_id: ArrayVec::new(),
         }
     }
 
@@ -101,9 +73,15 @@ impl Timers {
     pub fn copy(&self) -> Timers
         ensures { result ≡ self.now }
     {
-        let mut timers = ArrayVec::new();
-        timers.try_extend_from_slice(&self.timers).unwrap();
-        Timers { timers }
+        let mut timers = [Timer::default(); MAX_TIMERS];
+        timers.copy_from_slice(&self.timers);
+        let mut by_id = ArrayVec::new();
+        by_id.try_extend_from_slice(&self.by_id).unwrap();
+        Timers {
+            timers,
+            heap: self.heap.copy(),
+            by_id,
+        }
     }
 
     /// Adds a timer. Fewer than [`MAX_TIMERS`] have to be set, and none with its id.
@@ -112,9 +90,20 @@ impl Timers {
         requires apart { is_set timer.id self.old ≡ false }
         ensures { self.new ≡ with_timer timer self.old }
     {
-        // The checker finds no proof here if the parameter is pushed as a whole.
-        let Timer { deadline, id } = timer;
-        self.timers.push(Timer { deadline, id });
+        self.set_counted(timer, &mut Steps::new());
+    }
+
+    /// Adds a timer, as `set` does. Its comparisons raise the count by at most [`MAX_STEPS`], for which there has to
+    /// be room.
+    pub fn set_counted(&mut self, timer: Timer, steps: &mut Steps)
+        requires room { length self.old < MAX_TIMERS }
+        requires apart { is_set timer.id self.old ≡ false }
+        requires few { steps.old + MAX_STEPS < 2 ^ 64 }
+        ensures set { self.new ≡ with_timer timer self.old }
+        ensures rises { steps.old ≤ steps.new }
+        ensures counted { steps.new ≤ steps.old + MAX_STEPS }
+    {
+        self.reset_counted(timer, steps);
     }
 
     /// Sets a timer: replaces the one with its id, or adds it. If none with its id is set, fewer than [`MAX_TIMERS`]
@@ -123,9 +112,30 @@ impl Timers {
         requires { is_set timer.id self.old ≡ false → length self.old < MAX_TIMERS }
         ensures { self.new ≡ with_timer timer (without_timer timer.id self.old) }
     {
-        match index_of(&self.timers, &timer.id) {
-            Some(index) => put_at(&mut self.timers, index, timer),
-            None => self.timers.push(timer),
+        self.reset_counted(timer, &mut Steps::new());
+    }
+
+    /// Sets a timer, as `reset` does. Its comparisons raise the count by at most [`MAX_STEPS`], for which there has to
+    /// be room.
+    fn reset_counted(&mut self, timer: Timer, steps: &mut Steps)
+        requires room { is_set timer.id self.old ≡ false → length self.old < MAX_TIMERS }
+        requires few { steps.old + MAX_STEPS < 2 ^ 64 }
+        ensures set { self.new ≡ with_timer timer (without_timer timer.id self.old) }
+        ensures rises { steps.old ≤ steps.new }
+        ensures counted { steps.new ≤ steps.old + MAX_STEPS }
+    {
+        match index_of(&self.by_id, &self.timers, &timer.id) {
+            Ok(at) => {
+                let slot = self.by_id[at];
+                self.timers[usize::from(slot)] = timer;
+                self.heap.replace(&self.timers, slot, steps);
+            }
+            Err(at) => {
+                let slot = self.heap.free_slot();
+                self.timers[usize::from(slot)] = timer;
+                self.by_id.insert(at, slot);
+                self.heap.add(&self.timers, steps);
+            }
         }
     }
 
@@ -134,12 +144,25 @@ impl Timers {
         ensures was_set { result ≡ is_set id.now self.old }
         ensures others { self.new ≡ without_timer id.now self.old }
     {
-        match index_of(&self.timers, id) {
-            Some(index) => {
-                self.timers.swap_remove(index);
+        self.cancel_counted(id, &mut Steps::new())
+    }
+
+    /// Cancels the timer with this id, as `cancel` does. Its comparisons raise the count by at most [`MAX_STEPS`],
+    /// for which there has to be room.
+    pub fn cancel_counted(&mut self, id: &TimerId, steps: &mut Steps) -> bool
+        requires { steps.old + MAX_STEPS < 2 ^ 64 }
+        ensures was_set { result ≡ is_set id.now self.old }
+        ensures others { self.new ≡ without_timer id.now self.old }
+        ensures rises { steps.old ≤ steps.new }
+        ensures counted { steps.new ≤ steps.old + MAX_STEPS }
+    {
+        match index_of(&self.by_id, &self.timers, id) {
+            Ok(at) => {
+                let slot = self.by_id.remove(at);
+                self.heap.remove(&self.timers, slot, steps);
                 true
             }
-            None => false,
+            Err(_) => false,
         }
     }
 
@@ -148,7 +171,8 @@ impl Timers {
     pub fn clear(&mut self)
         ensures { self.new ≡ [] }
     {
-        self.timers.clear();
+        self.heap.clear();
+        self.by_id.clear();
     }
 
     /// The timer that fires first, if any is set.
@@ -156,7 +180,8 @@ impl Timers {
         ensures least { result ≡ least_of self.now }
         ensures set { IsTimerSet self.now }
     {
-        least_of(&self.timers)
+        let slot = self.heap.first()?;
+        Some(self.timers[usize::from(slot)])
     }
 
     /// The first of the timers that are due, or `None` if none is due. A timer is due if its deadline isn't after
@@ -177,8 +202,20 @@ impl Timers {
         ensures due { result ≡ due_of now self.old }
         ensures left { self.new ≡ timers_left result self.old }
     {
+        self.take_due_counted(now, &mut Steps::new())
+    }
+
+    /// Takes out the first of the timers that are due, as `take_due` does. Its comparisons raise the count by at most
+    /// [`MAX_STEPS`], for which there has to be room.
+    pub fn take_due_counted(&mut self, now: Moment, steps: &mut Steps) -> Option<Timer>
+        requires { steps.old + MAX_STEPS < 2 ^ 64 }
+        ensures due { result ≡ due_of now self.old }
+        ensures left { self.new ≡ timers_left result self.old }
+        ensures rises { steps.old ≤ steps.new }
+        ensures counted { steps.new ≤ steps.old + MAX_STEPS }
+    {
         let timer = self.due(now)?;
-        self.cancel(&timer.id);
+        self.cancel_counted(&timer.id, steps);
         Some(timer)
     }
 }

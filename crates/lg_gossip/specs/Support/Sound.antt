@@ -15,7 +15,12 @@ AreInOrder rows = Rises name_cmp (map queued_name rows)
 abbrev pub AreWithin : ℕ → List Queued → Type 0
 AreWithin lambda rows = AllByRecursion (λ q. q.sends ≤ lambda * MAX_DIGITS) rows
 
-pub record IsSound (lambda : ℕ) (rows : List Queued) : Type 0 where
+-- each of these was sent so often, or more often
+abbrev pub AreSent : ℕ → List Queued → Type 0
+AreSent fewest rows = AllByRecursion (λ q. fewest ≤ q.sends) rows
+
+pub record IsSound (lambda fewest : ℕ) (rows : List Queued) : Type 0 where
   pub often : lambda ≤ MAX_LAMBDA
   pub in_order : AreInOrder rows
   pub within : AreWithin lambda rows
+  pub least : AreSent fewest rows

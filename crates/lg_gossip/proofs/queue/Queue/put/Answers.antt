@@ -7,4 +7,4 @@ use Rattle.lg_gossip.proofs.queue.Queue.put.Goals as goal
 
 pub invariant_of-self : goal.invariant_of-self
 invariant_of-self c =
-    subst (IsSound c.self.inside.lambda) (sym (c.put_row.ensures ∙ ap (λ r. put_row name_cmp queued_name r c.self.inside.rows.items) c.fresh.ensures)) (sound-put c.self.inside.lambda c.args.claim c.self.inside.rows.items c.self.invariant)
+    subst (IsSound c.self.inside.lambda 0) (sym (c.put_row.ensures ∙ ap (λ r. put_row name_cmp queued_name r c.self.inside.rows.items) c.fresh.ensures)) (sound-put c.self.inside.lambda c.self.inside.fewest c.args.claim c.self.inside.rows.items c.self.invariant)
