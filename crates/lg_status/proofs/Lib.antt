@@ -1,4 +1,5 @@
 pub mod KeptLaws
+pub mod Pieces
 pub mod RingLaws
 pub mod SameRecords
 pub mod Writing

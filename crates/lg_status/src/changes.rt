@@ -23,8 +23,7 @@ fn put_change(change: &Change, text: &mut String) -> Result<(), AllocError>
     ensures { OnOk result (string_bytes text.new ≡ string_bytes text.old ++ change_json change.now) }
 {
     put_moment(change.version, change.moment.milliseconds(), text)?;
-    put_fields(&change.member, text)?;
-    text.push_str("}")
+    put_fields(&change.member, text)
 }
 
 /// Appends changes, each behind a comma.

@@ -29,11 +29,12 @@ fn put_name(name: &Name, text: &mut String) -> Result<(), AllocError>
 }
 
 /// Appends the name and the address.
+#[tactic(auto, unfolding(crate::specs::Meaning::Members::address_fields))]
 fn put_front(config: &Config, text: &mut String) -> Result<(), AllocError>
     ensures { OnOk result (string_bytes text.new ≡ string_bytes text.old ++ config_front config.now) }
 {
     put_name(&config.name, text)?;
-    put_address(&config.addr, text)
+    put_address("\"address\":\"", &config.addr, text)
 }
 
 /// Appends a number with its key.
@@ -104,12 +105,12 @@ fn put_open_field(is_open: bool, text: &mut String) -> Result<(), AllocError>
 }
 
 /// Appends a seed.
-#[tactic(auto, unfolding(crate::specs::Meaning::Bodies::seed_json))]
+#[tactic(auto, unfolding(crate::specs::Meaning::Bodies::seed_json, crate::specs::Meaning::Members::address_fields))]
 fn put_seed(seed: &Seed, text: &mut String) -> Result<(), AllocError>
     ensures { OnOk result (string_bytes text.new ≡ string_bytes text.old ++ seed_json seed.now) }
 {
     put_name(&seed.name, text)?;
-    put_address(&seed.addr, text)?;
+    put_address("\"address\":\"", &seed.addr, text)?;
     text.push_str("}")
 }
 

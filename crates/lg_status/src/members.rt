@@ -5,13 +5,13 @@
 //!
 //! Defined in: `specs/Meaning/Members.antt`.
 //! Tested in: `lg_status_tests/src/answer.rt`.
-ghost use Rattle.std.specs.Prelude.{◌≡◌, ◌++◌, IfOk, OnOk, decimal, string_bytes};
+ghost use Rattle.std.specs.Prelude.{◌≡◌, ◌++◌, IfOk, OnOk, codes, decimal, string_bytes};
 ghost use Rattle.std.specs.List.{flat_map};
 ghost use Rattle.lg_report.specs.Meaning.Records.{dotted, status_text};
-ghost use Rattle.lg_status.specs.Meaning.Members.{accuser_value, address_fields, behind_address, behind_comma};
-ghost use Rattle.lg_status.specs.Meaning.Members.{comma_separated, member_body, member_fields, member_json};
-ghost use Rattle.lg_status.specs.Meaning.Members.{members_asked, members_body, members_front_of, moment_front};
-ghost use Rattle.lg_status.specs.Meaning.Members.{standing_fields};
+ghost use Rattle.lg_status.specs.Meaning.Members.{behind_address, behind_comma, comma_separated, member_body};
+ghost use Rattle.lg_status.specs.Meaning.Members.{member_fields, member_json, members_asked, members_body};
+ghost use Rattle.lg_status.specs.Meaning.Members.{members_front_of, moment_front};
+ghost use Rattle.lg_status.specs.Support.Pieces.{accuser_end, behind_front, behind_name, standing_words};
 
 use crate::route::StatusKind;
 use crate::snapshot::Snapshot;
@@ -61,14 +61,25 @@ fn put_text(words: &str, behind: &str, text: &mut String) -> Result<(), AllocErr
     text.push_str(behind)
 }
 
-/// Appends the name, the status and the incarnation of a member.
-fn put_standing(member: &Record, text: &mut String) -> Result<(), AllocError>
-    ensures { OnOk result (string_bytes text.new ≡ string_bytes text.old ++ standing_fields member.now) }
+/// What stands between a name and an incarnation.
+fn standing_words(status: &Status) -> &'static str
+    ensures { result.now ≡ standing_words status.now }
 {
-    put_text("\"name\":\"", text_of_name(&member.name), text)?;
-    put_text("\",\"status\":\"", status_word(&member.status), text)?;
+    match status {
+        Status::Alive => "\",\"status\":\"alive\",\"incarnation\":",
+        Status::Suspect(_) => "\",\"status\":\"suspect\",\"incarnation\":",
+        Status::Failed => "\",\"status\":\"failed\",\"incarnation\":",
+    }
+}
+
+/// Appends words, and the name, the status and the incarnation of a member behind them.
+fn put_standing(words: &str, member: &Record, text: &mut String) -> Result<(), AllocError>
+    ensures { OnOk result (string_bytes text.new
+        ≡ string_bytes text.old ++ (words.now ++ behind_name member.now)) }
+{
+    put_text(words, text_of_name(&member.name), text)?;
     let incarnation = u64::from(member.incarnation.number());
-    put_numbered("\",\"incarnation\":", incarnation, text)
+    put_numbered(standing_words(&member.status), incarnation, text)
 }
 
 /// Appends the octets of an address, with points between them.
@@ -82,57 +93,61 @@ fn put_dotted(octets: &[u8; 4], text: &mut String) -> Result<(), AllocError>
     put_numbered(".", u64::from(d), text)
 }
 
-/// Appends an address and a port, behind the first key.
-fn put_behind_address(addr: &Addr, text: &mut String) -> Result<(), AllocError>
-    ensures { OnOk result (string_bytes text.new ≡ string_bytes text.old ++ behind_address addr.now) }
+/// Appends words, and an address and a port behind them.
+pub(crate) fn put_address(words: &str, addr: &Addr, text: &mut String) -> Result<(), AllocError>
+    ensures { OnOk result (string_bytes text.new
+        ≡ string_bytes text.old ++ (words.now ++ behind_address addr.now)) }
 {
+    text.push_str(words)?;
     put_dotted(&addr.octets, text)?;
     put_numbered("\",\"port\":", u64::from(addr.port), text)
 }
 
-/// Appends an address and a port.
-#[tactic(auto, unfolding(crate::specs::Meaning::Members::address_fields))]
-pub(crate) fn put_address(addr: &Addr, text: &mut String) -> Result<(), AllocError>
-    ensures { OnOk result (string_bytes text.new ≡ string_bytes text.old ++ address_fields addr.now) }
-{
-    text.push_str("\"address\":\"")?;
-    put_behind_address(addr, text)
-}
-
-/// Appends the accuser of a member that is suspected, or `null`.
+/// Appends the accuser of a member that is suspected, or `null`, and the end of the member.
 fn put_accuser(status: &Status, text: &mut String) -> Result<(), AllocError>
-    ensures { OnOk result (string_bytes text.new ≡ string_bytes text.old ++ accuser_value status.now) }
+    ensures { OnOk result (string_bytes text.new ≡ string_bytes text.old ++ accuser_end status.now) }
 {
     match status {
         Status::Suspect(accuser) => {
-            text.push_str("\"")?;
-            text.push_str(text_of_name(accuser))?;
-            text.push_str("\"")
+            put_text(",\"accuser\":\"", text_of_name(accuser), text)?;
+            text.push_str("\"}")
         }
-        Status::Alive | Status::Failed => text.push_str("null"),
+        Status::Alive | Status::Failed => text.push_str(",\"accuser\":null}"),
     }
 }
 
-/// Appends the fields of a member.
-#[tactic(auto, unfolding(crate::specs::Meaning::Members::member_fields))]
-pub(crate) fn put_fields(member: &Record, text: &mut String) -> Result<(), AllocError>
-    ensures { OnOk result (string_bytes text.new ≡ string_bytes text.old ++ member_fields member.now) }
+/// Appends words and a member behind them, from its name on. Constant words that follow one another are one literal,
+/// since a table has hundreds of members, and each piece takes its time.
+#[tactic(auto, unfolding(crate::specs::Support::Pieces::behind_front))]
+fn put_behind(words: &str, member: &Record, text: &mut String) -> Result<(), AllocError>
+    ensures { OnOk result (string_bytes text.new
+        ≡ string_bytes text.old ++ (words.now ++ behind_front member.now)) }
 {
-    put_standing(member, text)?;
-    text.push_str(",")?;
-    put_address(&member.addr, text)?;
-    text.push_str(",\"accuser\":")?;
+    put_standing(words, member, text)?;
+    put_address(",\"address\":\"", &member.addr, text)?;
     put_accuser(&member.status, text)
 }
 
+/// Appends the fields of a member, and the brace behind them.
+pub(crate) fn put_fields(member: &Record, text: &mut String) -> Result<(), AllocError>
+    ensures { OnOk result (string_bytes text.new
+        ≡ string_bytes text.old ++ (member_fields member.now ++ codes "}")) }
+{
+    put_behind("\"name\":\"", member, text)
+}
+
 /// Appends a member.
-#[tactic(auto, unfolding(crate::specs::Meaning::Members::member_json))]
 fn put_member(member: &Record, text: &mut String) -> Result<(), AllocError>
     ensures { OnOk result (string_bytes text.new ≡ string_bytes text.old ++ member_json member.now) }
 {
-    text.push_str("{")?;
-    put_fields(member, text)?;
-    text.push_str("}")
+    put_behind("{\"name\":\"", member, text)
+}
+
+/// Appends a comma and a member.
+fn put_other(member: &Record, text: &mut String) -> Result<(), AllocError>
+    ensures { OnOk result (string_bytes text.new ≡ string_bytes text.old ++ behind_comma member_json member.now) }
+{
+    put_behind(",{\"name\":\"", member, text)
 }
 
 /// Appends members, each behind a comma.
@@ -141,8 +156,7 @@ fn put_others(members: &[Record], text: &mut String) -> Result<(), AllocError>
         (string_bytes text.new ≡ string_bytes text.old ++ flat_map (behind_comma member_json) members.now) }
 {
     for member in members {
-        text.push_str(",")?;
-        put_member(member, text)?;
+        put_other(member, text)?;
     }
     Ok(())
 }
@@ -229,6 +243,5 @@ pub(crate) fn member_body(
     let mut text = String::new(alloc);
     write!(text, "{{\"version\":{version},")?;
     put_fields(member, &mut text)?;
-    text.push_str("}")?;
     Ok(text)
 }
