@@ -1,0 +1,14 @@
+pub mod Below
+pub mod BitLaws
+pub mod Closing
+pub mod FilterLaws
+pub mod NthLaws
+pub mod NumberLaws
+pub mod Numbers
+pub mod Opening
+pub mod EntryLaws
+pub mod SameSets
+pub mod SetFlags
+pub mod TestLaws
+pub mod Without
+pub mod WordFlags

@@ -1,0 +1,3 @@
+-- What only carries the proofs.
+pub mod Steps
+pub mod Words

@@ -1,0 +1,80 @@
+//! Each call on numbers at the borders of the words.
+use crate::{BitSet, NUMBERS};
+
+const BORDERS: [u8; 7] = [0, 63, 64, 127, 128, 191, 255];
+
+fn set_of(numbers: &[u8]) -> BitSet {
+    let mut set = BitSet::default();
+    for number in numbers {
+        set.insert(*number);
+    }
+    set
+}
+
+#[test]
+fn holds_what_was_inserted(rt: HostRuntime) {
+    let mut set = set_of(&BORDERS);
+    assert_eq!(rt; set.len(), BORDERS.len());
+    assert_eq!(rt; set.nth(BORDERS.len()), None);
+    for (index, number) in BORDERS.iter().enumerate() {
+        assert!(rt;
+            set.contains(*number) && !set.contains(*number ^ 2),
+            "{number}"
+        );
+        assert_eq!(rt; set.nth(index), Some(*number));
+    }
+    for number in BORDERS {
+        assert_eq!(rt; set.first(), Some(number));
+        set.remove(number);
+    }
+    assert!(rt; set.is_empty());
+}
+
+#[test]
+fn opens_and_closes_places(rt: HostRuntime) {
+    let rows: [(u8, [u8; 3], [u8; 3]); 4] = [
+        (0, [1, 64, 65], [62, 63, 254]),
+        (63, [0, 64, 65], [0, 63, 254]),
+        (64, [0, 63, 65], [0, 63, 254]),
+        (255, [0, 63, 64], [0, 63, 64]),
+    ];
+    for (number, opened, closed) in rows {
+        let mut wider = set_of(&[0, 63, 64, 255]);
+        let mut narrower = wider;
+        wider.open(number);
+        narrower.close(number);
+        for index in 0..4 {
+            assert_eq!(rt;
+                wider.nth(index),
+                opened.get(index).copied(),
+                "open {number}"
+            );
+            assert_eq!(rt;
+                narrower.nth(index),
+                closed.get(index).copied(),
+                "close {number}"
+            );
+        }
+    }
+}
+
+#[test]
+fn takes_one_set_from_another(rt: HostRuntime) {
+    for count in [0, 1, 63, 64, 65, 128, 255, 256, 1000] {
+        let all = BitSet::below(count);
+        assert_eq!(rt; all.len(), count.min(NUMBERS));
+        let mut rest = all.without(&set_of(&BORDERS));
+        assert_eq!(rt;
+            rest.nth(61),
+            if count > 62 { Some(62) } else { None },
+            "{count}"
+        );
+        assert_eq!(rt;
+            rest.nth(62),
+            if count > 65 { Some(65) } else { None },
+            "{count}"
+        );
+        rest.clear();
+        assert!(rt; rest.is_empty());
+    }
+}
