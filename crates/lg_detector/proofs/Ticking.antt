@@ -1,6 +1,5 @@
 -- What a tick changes of the records.
-use Rattle.std.proofs.Common.{◌≡◌, ℕ, List, [], ◌∷◌, Option, sym, Some, None, refl, ◌∙◌, ap}
-use Rattle.lg_rules.specs.declared.claim.Claim.{Claim}
+use Rattle.std.proofs.Common.{◌≡◌, ℕ, List, [], ◌∷◌, Option, arith, sym, Some, None, refl, ◌∙◌, ap}
 use Rattle.lg_rules.specs.Meaning.View.{changed}
 use Rattle.lg_packet.specs.declared.packet.Body.{Body}
 use Rattle.lg_packet.specs.declared.packet.Body.TheVariants.{Ping, PingReq, Ack, Nack, Pull, Page}
@@ -11,8 +10,10 @@ use Rattle.lg_detector.specs.declared.message.Message.{Message}
 use Rattle.lg_detector.specs.Support.State.{State, come_state, apply_all_state}
 use Rattle.lg_detector.specs.Support.Step.{view_state}
 use Rattle.lg_detector.specs.Support.Send.{send_state, send_all_state}
-use Rattle.lg_detector.specs.Support.Tick.{due_state, fire_due, claims_by, messages_by, said_by, expire_state}
+use Rattle.lg_detector.specs.Support.Reached.{IsReached}
+use Rattle.lg_detector.specs.Support.Tick.{due_state, fire_due, claims_said_state, messages_by, said_by, expire_state}
 use Rattle.lg_detector.specs.Support.Tick.{tick_state}
+use Rattle.lg_detector.proofs.Applying.{begins, all_differing}
 use Rattle.lg_detector.proofs.Reaching.{membership-fire}
 
 -- a timer that fires changes no record by itself, and nor do packets
@@ -32,12 +33,20 @@ pub view-send_all : (ms : List Message) (s : State) → view_state (send_all_sta
 view-send_all [] s = refl
 view-send_all (m ∷ ms) s = view-send_all ms (send_state m.body s) ∙ view-send m.body s
 
-pub tick_differing : (s here fired : State) (now : ℕ) (words : List ℕ) (o : Option Timer) (claims : List Claim) → here ≡ come_state now s → o ≡ due_state here → fired ≡ fire_due o words here
-    → claims ≡ claims_by o here → changed (view_state fired) (view_state (apply_all_state Group claims fired)) ≡ changed (view_state s) (view_state (tick_state now words s))
-tick_differing s here fired now words o claims came is fires says =
-    let back : view_state fired ≡ view_state s = ap view_state fires ∙ view-fire_due o words here ∙ ap view_state came in
-    let said : view_state (apply_all_state Group claims fired) ≡ view_state (said_by (due_state here) words here) =
-    (λ i. view_state (apply_all_state Group (says i) (fires i))) ∙ (λ i. view_state (said_by (is i) words here)) in
-    let state : view_state (apply_all_state Group claims fired) ≡ view_state (tick_state now words s) =
-    said ∙ sym (view-send_all (messages_by (due_state here) words here) (said_by (due_state here) words here)) ∙ ap (λ (t : State). view_state (expire_state (due_state t) words t)) came in
-    λ i. changed (back i) (state i)
+-- without a claim no record differs
+nothing_differs : (s : State) → IsReached s → [] ≡ changed (view_state s) (view_state s)
+nothing_differs s reached = all_differing s s [] 0 [] reached (begins s [] [] reached refl) (omega arith)
+
+pub silent_differing : (s : State) (timer : Timer) (words : List ℕ) → IsReached s → claims_said_state timer.id s ≡ []
+    → [] ≡ changed (view_state s) (view_state (expire_state (Some timer) words s))
+silent_differing s timer words reached none =
+    let fired = fire_due (Some timer) words s in
+    let said : view_state (said_by (Some timer) words s) ≡ view_state fired = ap (λ cs. view_state (apply_all_state Group cs fired)) none in
+    nothing_differs s reached
+    ∙ ap (λ rows. changed (view_state s) rows) (sym (view-send_all (messages_by (Some timer) words s) (said_by (Some timer) words s) ∙ said ∙ view-fire_due (Some timer) words s))
+
+pub idle_differing : (s here : State) (now : ℕ) (words : List ℕ) → IsReached s → here ≡ come_state now s → None ≡ due_state here
+    → [] ≡ changed (view_state s) (view_state (tick_state now words s))
+idle_differing s here now words reached came none =
+    let idle : None ≡ due_state (come_state now s) = none ∙ ap due_state came in
+    nothing_differs s reached ∙ ap (λ o. changed (view_state s) (view_state (expire_state o words (come_state now s)))) idle

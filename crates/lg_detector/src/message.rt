@@ -2,12 +2,8 @@
 //!
 //! Defined in: `specs/Meaning/Send.antt`.
 //! Tested in: `lg_detector_tests/src/detector/probing.rt`.
-ghost use Rattle.std.specs.Prelude.{◌≡◌, [], ◌∷◌};
-
-use crate::reply::MAX_SENDS;
-use arrayvec::ArrayVec;
 use lg_packet::Body;
-use lg_rules::{Addr, Name};
+use lg_rules::Addr;
 
 /// Where a packet goes, and what it asks for or answers.
 #[derive(Clone, Copy, Debug, PartialEq, Eq)]
@@ -32,15 +28,4 @@ impl Default for Message {
             body: Body::Ack { number: 0 },
         }
     }
-}
-
-/// A row of one message to an address, with this body.
-pub(crate) fn one(to: Addr, body: Body) -> ArrayVec<Message, MAX_SENDS>
-    ensures { result.items ≡ record { to = to; body = body } ∷ [] }
-{
-    // The checker follows a message into a row only if the types of its parts are named.
-    let _part: Option<Name> = None;
-    let mut messages = ArrayVec::new();
-    messages.push(Message { to, body });
-    messages
 }

@@ -5,6 +5,7 @@
 //! Defined in: `specs/Meaning/Apply.antt`, `specs/Support/State.antt`, `specs/Meaning/Timing.antt`.
 //! Tested in: `lg_detector_tests/src/detector/hear.rt`, `lg_detector_tests/src/detector/ask.rt`.
 ghost use Rattle.std.specs.Prelude.{◌≡◌, ◌<◌, ◌≤◌, length, map};
+ghost use Rattle.std.specs.Option.{option_to_list};
 ghost use Rattle.arrayvec.specs.ArrayVec.{array_vec_len};
 ghost use Rattle.lg_rules.specs.Meaning.Claim.{name_of};
 ghost use Rattle.lg_rules.specs.Meaning.Rows.{name_cmp, put_key, Rises};
@@ -142,7 +143,30 @@ impl Detector {
         applied.changed
     }
 
-    /// Applies the claims of a packet or a timer, one after another. Overwrites `differing` with the records that
+    /// Applies the claim of a timer, if it makes one. Overwrites `differing` with the record that changed by it, if one
+    /// did.
+    pub(super) fn say_one(
+        &mut self,
+        claim: &Option<Claim>,
+        differing: &mut ArrayVec<Record, MAX_CHANGED>,
+    )
+        ensures state { self.new ≡ apply_all_state Group (option_to_list claim.now) self.old }
+        ensures differing { differing.new.items
+            ≡ changed (view_state self.old) (view_state (apply_all_state Group (option_to_list claim.now) self.old)) }
+    {
+        // The proof needs what the invariant says of the state at the start.
+        let _ = &self.parts;
+        differing.clear();
+        match claim {
+            Some(claim) => {
+                let changed = self.apply(Origin::Group, claim);
+                put_changed(differing, changed);
+            }
+            None => {}
+        }
+    }
+
+    /// Applies the claims of a packet, one after another. Overwrites `differing` with the records that
     /// changed by them, in the order of names.
     pub(super) fn say(&mut self, claims: &[Claim], differing: &mut ArrayVec<Record, MAX_CHANGED>)
         requires { length claims.now ≤ MAX_CLAIMS }

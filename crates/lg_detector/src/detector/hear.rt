@@ -15,9 +15,10 @@
 //! Tested in: `lg_detector_tests/src/detector/hear.rt`, `lg_detector_tests/src/detector/acks.rt`.
 ghost use Rattle.std.specs.Prelude.{◌≡◌, ◌<◌, ◌≤◌, [], ◌∷◌};
 ghost use Rattle.std.specs.Prelude.{◌==◌, None, Some, length, option_map};
+ghost use Rattle.std.specs.Option.{option_to_list};
 ghost use Rattle.lg_rules.specs.Meaning.Rows.{name_cmp, is_same};
 ghost use Rattle.lg_rules.specs.Meaning.View.{changed};
-ghost use Rattle.lg_packet.specs.declared.packet.Body.TheVariants.{Ping, PingReq};
+ghost use Rattle.lg_packet.specs.declared.packet.Body.TheVariants.{Ack, Ping, PingReq};
 ghost use Rattle.lg_probe.specs.Meaning.Relays.{ended_asker};
 ghost use Rattle.lg_detector.specs.Meaning.Hear.{pass_on};
 ghost use Rattle.lg_detector.specs.Support.Hear.{hear_state, hear_claims_state, note_state, respond_state};
@@ -26,13 +27,23 @@ ghost use Rattle.lg_detector.specs.Support.State.{hear_ack, hear_nack};
 ghost use Rattle.lg_detector.specs.Support.Step.{view_state};
 
 use super::{Detector, MAX_EVENTS, relay, round};
-use crate::message::{Message, one};
+use crate::message::Message;
 use crate::reply::{MAX_SENDS, Outgoing, Reply};
 use arrayvec::ArrayVec;
 use lg_packet::{Body, Packet};
 use lg_probe::MAX_RELAYS;
 use lg_rules::{Addr, Name};
 use lg_timing::Moment;
+
+/// An Ack with this number, to where a packet came from.
+fn ack(to: Addr, number: u32) -> Message
+    ensures { result ≡ record { to = to; body = Ack number } }
+{
+    Message {
+        to,
+        body: Body::Ack { number },
+    }
+}
 
 impl Detector {
     /// Hears a packet from a source: applies its claims, and handles its body.
@@ -65,8 +76,8 @@ impl Detector {
     {
         match &packet.body {
             Body::Ping { .. } | Body::PingReq { .. } | Body::Ack { .. } | Body::Nack { .. } => {
-                let messages = self.respond(source, &packet.sender, &packet.body);
-                self.send_all(messages.as_slice(), sends);
+                let message = self.respond(source, &packet.sender, &packet.body);
+                self.send_one(&message, sends);
             }
             Body::Pull { after } => self.send_page(source, after, sends),
             Body::Page => self.send_next_pull(source, packet.claims.as_slice(), sends),
@@ -75,10 +86,10 @@ impl Detector {
 
     /// Notes what a body means for the probe that runs and for the relays. Returns the packet that responds to it, if
     /// there is one.
-    fn respond(&mut self, source: Addr, sender: &Name, body: &Body) -> ArrayVec<Message, MAX_SENDS>
+    fn respond(&mut self, source: Addr, sender: &Name, body: &Body) -> Option<Message>
         requires { self.old.number ≤ self.old.events }
         ensures state { self.new ≡ note_state source sender.now body.now self.old }
-        ensures messages { result.items ≡ response_state source sender.now body.now self.old }
+        ensures message { option_to_list result ≡ response_state source sender.now body.now self.old }
     {
         match body {
             Body::Ping { number, target } => self.hear_ping(source, *number, target),
@@ -90,9 +101,9 @@ impl Detector {
             Body::Ack { number } => self.hear_ack(*number, sender),
             Body::Nack { number } => {
                 self.hear_nack(*number, sender);
-                ArrayVec::new()
+                None
             }
-            Body::Pull { .. } | Body::Page => ArrayVec::new(),
+            Body::Pull { .. } | Body::Page => None,
         }
     }
 
@@ -104,13 +115,13 @@ impl Detector {
     }
 
     /// Acks a Ping for this member.
-    fn hear_ping(&self, source: Addr, number: u32, target: &Name) -> ArrayVec<Message, MAX_SENDS>
-        ensures { result.items ≡ response_state source [] (Ping number target.now) self.now }
+    fn hear_ping(&self, source: Addr, number: u32, target: &Name) -> Option<Message>
+        ensures { option_to_list result ≡ response_state source [] (Ping number target.now) self.now }
     {
         if self.is_own(target) {
-            one(source, Body::Ack { number })
+            Some(ack(source, number))
         } else {
-            ArrayVec::new()
+            None
         }
     }
 
@@ -122,33 +133,36 @@ impl Detector {
         number: u32,
         target: &Name,
         addr: Addr,
-    ) -> ArrayVec<Message, MAX_SENDS>
+    ) -> Option<Message>
         requires { self.old.number ≤ self.old.events }
         ensures state { self.new ≡ note_state source [] (PingReq number target.now addr) self.old }
-        ensures messages { result.items ≡ response_state source [] (PingReq number target.now addr) self.old }
+        ensures message { option_to_list result ≡ response_state source [] (PingReq number target.now addr) self.old }
     {
         if self.is_own(target) {
-            one(source, Body::Ack { number })
-        } else if self.parts.relays.len() == MAX_RELAYS {
-            one(source, Body::Nack { number })
-        } else {
-            let relayed = self.parts.number;
-            self.open_relay(target, source, number);
-            one(
-                addr,
-                Body::Ping {
-                    number: relayed,
-                    target: *target,
-                },
-            )
+            return Some(ack(source, number));
         }
+        if self.parts.relays.len() == MAX_RELAYS {
+            return Some(Message {
+                to: source,
+                body: Body::Nack { number },
+            });
+        }
+        let relayed = self.parts.number;
+        self.open_relay(target, source, number);
+        Some(Message {
+            to: addr,
+            body: Body::Ping {
+                number: relayed,
+                target: *target,
+            },
+        })
     }
 
     /// Takes an Ack: for the probe that runs, or for a relay, whose asker then gets an Ack.
     #[tactic(auto, unfolding(crate::specs::Support::State::hear_ack))]
-    fn hear_ack(&mut self, number: u32, sender: &Name) -> ArrayVec<Message, MAX_SENDS>
+    fn hear_ack(&mut self, number: u32, sender: &Name) -> Option<Message>
         ensures state { self.new ≡ hear_ack number sender.now self.old }
-        ensures messages { result.items ≡ pass_on (ended_asker number sender.now self.old.relays) }
+        ensures message { option_to_list result ≡ pass_on (ended_asker number sender.now self.old.relays) }
     {
         let parts = &mut *self.parts;
         round::take_ack(

@@ -8,7 +8,8 @@
 //!
 //! Defined in: `specs/Meaning/Relaying.antt`, `specs/Support/State.antt`, `specs/Meaning/Timing.antt`.
 //! Tested in: `lg_detector_tests/src/detector/relaying.rt`.
-ghost use Rattle.std.specs.Prelude.{◌≡◌, ◌<◌, ◌≤◌, ◌+◌, []};
+ghost use Rattle.std.specs.Prelude.{◌≡◌, ◌<◌, ◌≤◌, ◌+◌};
+ghost use Rattle.std.specs.Option.{option_to_list};
 ghost use Rattle.std.specs.Prelude.{◌∷◌, length, option_copied, is_some};
 ghost use Rattle.lg_timers.specs.Meaning.Timers.{with_timer, without_timer};
 ghost use Rattle.lg_probe.specs.Meaning.Relays.{asker_at, ended_asker, TargetAcked};
@@ -21,9 +22,7 @@ ghost use Rattle.lg_detector.specs.Support.State.{close_relay, open_relay, with_
 ghost use Rattle.lg_detector.specs.Support.State.{nack_relay};
 
 use super::Detector;
-use crate::message::{Message, one};
-use crate::reply::MAX_SENDS;
-use arrayvec::ArrayVec;
+use crate::message::Message;
 use lg_packet::Body;
 use lg_probe::{MAX_RELAYS, Relays};
 use lg_rules::{Addr, Name};
@@ -98,22 +97,28 @@ pub(super) fn take_ack(
 }
 
 /// The Ack that is passed on to an asker when its target acked, with the asker's number.
-pub(super) fn pass_on(asker: Option<(Addr, u32)>) -> ArrayVec<Message, MAX_SENDS>
-    ensures { result.items ≡ pass_on asker }
+pub(super) fn pass_on(asker: Option<(Addr, u32)>) -> Option<Message>
+    ensures { option_to_list result ≡ pass_on asker }
 {
     match asker {
-        Some((to, number)) => one(to, Body::Ack { number }),
-        None => ArrayVec::new(),
+        Some((to, number)) => Some(Message {
+            to,
+            body: Body::Ack { number },
+        }),
+        None => None,
     }
 }
 
 /// The Nack that an asker gets when no Ack has come so far, with the asker's number.
-fn nack_to(asker: Option<(Addr, u32)>) -> ArrayVec<Message, MAX_SENDS>
-    ensures { result.items ≡ nack_to asker }
+fn nack_to(asker: Option<(Addr, u32)>) -> Option<Message>
+    ensures { option_to_list result ≡ nack_to asker }
 {
     match asker {
-        Some((to, number)) => one(to, Body::Nack { number }),
-        None => ArrayVec::new(),
+        Some((to, number)) => Some(Message {
+            to,
+            body: Body::Nack { number },
+        }),
+        None => None,
     }
 }
 
@@ -136,9 +141,9 @@ impl Detector {
     }
 
     /// Returns the Nack for the asker of a relay, since no Ack has come so far. The relay stays open.
-    pub(super) fn nack_relay(&mut self, number: u32) -> ArrayVec<Message, MAX_SENDS>
+    pub(super) fn nack_relay(&mut self, number: u32) -> Option<Message>
         ensures state { self.new ≡ nack_relay number self.old }
-        ensures messages { result.items ≡ nack_to (asker_at number self.old.relays) }
+        ensures message { option_to_list result ≡ nack_to (asker_at number self.old.relays) }
     {
         let parts = &mut *self.parts;
         parts.timers.cancel(&TimerId::RelayNack(number));

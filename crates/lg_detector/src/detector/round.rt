@@ -14,6 +14,7 @@
 ghost use Rattle.std.specs.Prelude.{◌≡◌, ◌<◌, ◌≤◌, ◌+◌, []};
 ghost use Rattle.std.specs.Prelude.{◌∷◌, length, option_copied, option_map};
 ghost use Rattle.std.specs.List.{filter_map};
+ghost use Rattle.std.specs.Option.{option_to_list};
 ghost use Rattle.lg_probe.specs.Meaning.Round.{Asked, Acked, Nacked, round_with};
 ghost use Rattle.lg_membership.specs.Support.Reached.{IsGood};
 ghost use Rattle.lg_detector.specs.Meaning.Timing.{scaled_interval, scaled_timeout, is_first};
@@ -32,7 +33,7 @@ use crate::reply::MAX_SENDS;
 use arrayvec::ArrayVec;
 use lg_packet::Body;
 use lg_probe::{Helpers, MAX_HELPERS, Round};
-use lg_rules::{Claim, MAX_CLAIMS, Name, Record, Status};
+use lg_rules::{Claim, Name, Record, Status};
 use lg_timers::{MAX_TIMERS, Timer, TimerId, Timers};
 use lg_timing::{Config, MAX_SCALED_MS, Score};
 
@@ -186,69 +187,66 @@ fn ask(round: &mut Option<Round>, helpers: &Helpers)
 }
 
 /// The Ping of a member at the address of its record, with this sequence number.
-fn ping(number: u32, current: &Option<Record>) -> ArrayVec<Message, MAX_SENDS>
-    ensures { result.items ≡ ping_at number current.now }
+fn ping(number: u32, current: &Option<Record>) -> Option<Message>
+    ensures { option_to_list result ≡ ping_at number current.now }
 {
-    let mut messages = ArrayVec::new();
-    if let Some(current) = current {
-        messages.push(Message {
-            to: current.addr,
-            body: Body::Ping {
-                number,
-                target: current.name,
-            },
-        });
-    }
-    messages
+    let Some(current) = current else {
+        return None;
+    };
+    Some(Message {
+        to: current.addr,
+        body: Body::Ping {
+            number,
+            target: current.name,
+        },
+    })
 }
 
 /// The claim that this member suspects another one, unless that one has failed.
-fn accusation(me: &Name, current: &Record) -> ArrayVec<Claim, MAX_CLAIMS>
-    ensures { result.items ≡ accusation me.now current.now.status current.now }
+fn accusation(me: &Name, current: &Record) -> Option<Claim>
+    ensures { option_to_list result ≡ accusation me.now current.now.status current.now }
 {
-    let mut claims = ArrayVec::new();
-    if !matches!(current.status, Status::Failed) {
-        claims.push(Claim {
+    match current.status {
+        Status::Alive | Status::Suspect(_) => Some(Claim {
             status: Status::Suspect(*me),
             ..*current
-        });
+        }),
+        Status::Failed => None,
     }
-    claims
 }
 
 impl Detector {
     /// The claim that the end of the round makes if no Ack counted: its target is suspected.
-    pub(super) fn failure(&self) -> ArrayVec<Claim, MAX_CLAIMS>
-        ensures { result.items ≡ failure_of self.now.membership.own.name self.now.round (view_state self.now) }
+    pub(super) fn failure(&self) -> Option<Claim>
+        ensures { option_to_list result ≡ failure_of self.now.membership.own.name self.now.round (view_state self.now) }
     {
         match &self.parts.round {
             Some(round) if !round.is_acked() => self.suspicion_of(&round.target()),
-            _ => ArrayVec::new(),
+            _ => None,
         }
     }
 
     /// The claim that a member is suspected, if it has a record that isn't Failed.
-    fn suspicion_of(&self, member: &Name) -> ArrayVec<Claim, MAX_CLAIMS>
-        ensures { result.items ≡ suspect_of self.now.membership.own.name (found member.now (view_state self.now)) }
+    fn suspicion_of(&self, member: &Name) -> Option<Claim>
+        ensures { option_to_list result
+            ≡ suspect_of self.now.membership.own.name (found member.now (view_state self.now)) }
     {
         match self.record_of(member) {
             Some(record) => accusation(&self.name(), &record),
-            None => ArrayVec::new(),
+            None => None,
         }
     }
 
     /// Starts a round. Returns the Ping of the member that it chooses.
-    pub(super) fn start_round(&mut self, words: &[u32; 8]) -> ArrayVec<Message, MAX_SENDS>
+    pub(super) fn start_round(&mut self, words: &[u32; 8]) -> Option<Message>
         requires { self.old.number ≤ self.old.events }
         ensures state { self.new ≡ start_round words.now self.old }
-        ensures messages { result.items
+        ensures message { option_to_list result
             ≡ ping_to self.old.number (view_state self.old) (chosen_state words.now self.old) }
     {
         let number = self.parts.number;
-        match self.choose(words) {
-            Some(target) => ping(number, &self.record_of(&target)),
-            None => ArrayVec::new(),
-        }
+        let target = self.choose(words)?;
+        ping(number, &self.record_of(&target))
     }
 
     /// Lets the order choose, and sets the timers of the round anew.

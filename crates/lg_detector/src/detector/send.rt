@@ -7,6 +7,7 @@
 //! Defined in: `specs/Meaning/Send.antt`, `specs/Support/Send.antt`.
 //! Tested in: `lg_detector_tests/src/detector/hear.rt`.
 ghost use Rattle.std.specs.Prelude.{◌≡◌, ◌≤◌, [], length, option_copied};
+ghost use Rattle.std.specs.Option.{option_to_list};
 ghost use Rattle.arrayvec.specs.ArrayVec.{array_vec_len};
 ghost use Rattle.lg_detector.specs.Meaning.Send.{version_sent};
 ghost use Rattle.lg_detector.specs.Support.Send.{outgoing_state, packets_state, send_state, send_all_state};
@@ -53,6 +54,24 @@ impl Detector {
         make_places(sends, messages.len());
         for (index, message) in messages.iter().enumerate() {
             self.put_packet(message, &mut sends[index]);
+        }
+    }
+
+    /// Sends one packet, or none. Overwrites what `sends` held.
+    pub(super) fn send_one(
+        &mut self,
+        message: &Option<Message>,
+        sends: &mut ArrayVec<Outgoing, MAX_SENDS>,
+    )
+        ensures state { self.new ≡ send_all_state (option_to_list message.now) self.old }
+        ensures sends { sends.new.items ≡ packets_state (option_to_list message.now) self.old }
+    {
+        match message {
+            Some(message) => {
+                make_places(sends, 1);
+                self.put_packet(message, &mut sends[0]);
+            }
+            None => sends.clear(),
         }
     }
 

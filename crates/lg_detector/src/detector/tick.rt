@@ -17,35 +17,32 @@
 //!
 //! Defined in: `specs/Meaning/Tick.antt`, `specs/Support/Tick.antt`, `specs/Meaning/Timing.antt`.
 //! Tested in: `lg_detector_tests/src/detector/tick.rt`.
-ghost use Rattle.std.specs.Prelude.{◌≡◌, ◌<◌, ◌≤◌, [], None};
+ghost use Rattle.std.specs.Prelude.{◌≡◌, ◌<◌, ◌≤◌, None, Some};
+ghost use Rattle.std.specs.Option.{option_to_list};
 ghost use Rattle.lg_rules.specs.Meaning.View.{changed};
 ghost use Rattle.lg_detector.specs.Meaning.Tick.{failed_of};
-ghost use Rattle.lg_detector.specs.Support.State.{come_state, fire_state};
+ghost use Rattle.lg_detector.specs.Support.State.{come_state};
 ghost use Rattle.lg_detector.specs.Support.Step.{view_state};
-ghost use Rattle.lg_detector.specs.Support.Tick.{due_state, fire_due, claims_by, claims_said_state, messages_state};
-ghost use Rattle.lg_detector.specs.Support.Tick.{messages_by};
-ghost use Rattle.lg_detector.specs.Support.Tick.{tick_state, sends_at_state};
+ghost use Rattle.lg_detector.specs.Support.Tick.{due_state, expire_sends_state, expire_state, sends_at_state, tick_state};
 
 use super::{Detector, MAX_EVENTS};
-use crate::message::Message;
-use crate::reply::{MAX_SENDS, Reply};
+use crate::reply::{MAX_CHANGED, MAX_SENDS, Outgoing, Reply};
 use arrayvec::ArrayVec;
-use lg_rules::{Claim, MAX_CLAIMS, Record, Status};
+use lg_rules::{Claim, Record, Status};
 use lg_timers::{Timer, TimerId};
 use lg_timing::Moment;
 
 /// The claim that a member has failed, if it has a record.
-fn failed_claims(current: &Option<Record>) -> ArrayVec<Claim, MAX_CLAIMS>
-    ensures { result.items ≡ failed_of current.now }
+fn failed_claim(current: &Option<Record>) -> Option<Claim>
+    ensures { option_to_list result ≡ failed_of current.now }
 {
-    let mut claims = ArrayVec::new();
-    if let Some(current) = current {
-        claims.push(Claim {
-            status: Status::Failed,
-            ..*current
-        });
-    }
-    claims
+    let Some(current) = current else {
+        return None;
+    };
+    Some(Claim {
+        status: Status::Failed,
+        ..*current
+    })
 }
 
 impl Detector {
@@ -59,13 +56,18 @@ impl Detector {
             ≡ changed (view_state self.old) (view_state (tick_state now words.now self.old)) }
         ensures answer { reply.new.answer ≡ None }
     {
+        // The proof needs what the invariant says of the state at the start.
+        let _ = &self.parts;
         reply.answer = None;
         self.come(now);
         reply.fired = self.due();
-        let claims = self.claims_by(&reply.fired);
-        let messages = self.fire_due(&reply.fired, words);
-        self.say(claims.as_slice(), &mut reply.changed);
-        self.send_all(messages.as_slice(), &mut reply.sends);
+        match &reply.fired {
+            Some(timer) => self.fire(timer, words, &mut reply.changed, &mut reply.sends),
+            None => {
+                reply.changed.clear();
+                reply.sends.clear();
+            }
+        }
     }
 
     /// The first of the timers that are due, if one is.
@@ -75,60 +77,56 @@ impl Detector {
         self.parts.timers.due(self.parts.moment)
     }
 
-    /// The claims that a timer makes, if one is due. A member whose suspicion runs out has failed (SWIM, section
-    /// 4.2). The target of a round that ends without an Ack that counts is suspected.
-    fn claims_by(&self, fired: &Option<Timer>) -> ArrayVec<Claim, MAX_CLAIMS>
-        ensures { result.items ≡ claims_by fired.now self.now }
-    {
-        match fired {
-            Some(timer) => self.claims_said(&timer.id),
-            None => ArrayVec::new(),
-        }
-    }
-
-    /// The claims that a timer makes when it fires.
-    fn claims_said(&self, id: &TimerId) -> ArrayVec<Claim, MAX_CLAIMS>
-        ensures { result.items ≡ claims_said_state id.now self.now }
-    {
-        match id {
-            TimerId::RoundEnd => self.failure(),
-            TimerId::Suspicion(member) => failed_claims(&self.record_of(member)),
-            _ => ArrayVec::new(),
-        }
-    }
-
-    /// Fires a timer, if one is due. Returns the packets that it sends. The caller applies the claims that it makes.
-    fn fire_due(&mut self, fired: &Option<Timer>, words: &[u32; 8]) -> ArrayVec<Message, MAX_SENDS>
-        requires { self.old.number ≤ self.old.events }
-        ensures state { self.new ≡ fire_due fired.now words.now self.old }
-        ensures messages { result.items ≡ messages_by fired.now words.now self.old }
-    {
-        match fired {
-            Some(timer) => self.fire(timer, words),
-            None => ArrayVec::new(),
-        }
-    }
-
-    /// Fires a timer. Returns the packets that it sends.
+    /// Fires a timer. Overwrites `differing` with the records that its claim changed, and `sends` with its packets. A
+    /// timer that makes a claim sends nothing.
     #[tactic(auto, unfolding(crate::specs::Support::State::fire_state))]
-    fn fire(&mut self, timer: &Timer, words: &[u32; 8]) -> ArrayVec<Message, MAX_SENDS>
+    fn fire(
+        &mut self,
+        timer: &Timer,
+        words: &[u32; 8],
+        differing: &mut ArrayVec<Record, MAX_CHANGED>,
+        sends: &mut ArrayVec<Outgoing, MAX_SENDS>,
+    )
         requires { self.old.number ≤ self.old.events }
-        ensures state { self.new ≡ fire_state timer.now words.now self.old }
-        ensures messages { result.items ≡ messages_state timer.now.id words.now self.old }
+        ensures state { self.new ≡ expire_state (Some timer.now) words.now self.old }
+        ensures sends { sends.new.items ≡ expire_sends_state (Some timer.now) words.now self.old }
+        ensures differing { differing.new.items
+            ≡ changed (view_state self.old) (view_state (expire_state (Some timer.now) words.now self.old)) }
     {
+        // The proof needs what the invariant says of the state at the start.
+        let _ = &self.parts;
         match &timer.id {
             TimerId::RoundEnd => {
+                let claim = self.failure();
                 self.end_round();
-                ArrayVec::new()
+                self.say_one(&claim, differing);
+                sends.clear();
             }
-            TimerId::Suspicion(_) => ArrayVec::new(),
-            TimerId::Direct => self.ask_helpers(words),
-            TimerId::RelayNack(number) => self.nack_relay(*number),
+            TimerId::Suspicion(member) => {
+                let claim = failed_claim(&self.record_of(member));
+                self.say_one(&claim, differing);
+                sends.clear();
+            }
+            TimerId::Direct => {
+                let requests = self.ask_helpers(words);
+                differing.clear();
+                self.send_all(requests.as_slice(), sends);
+            }
+            TimerId::RelayNack(number) => {
+                let nack = self.nack_relay(*number);
+                differing.clear();
+                self.send_one(&nack, sends);
+            }
             TimerId::RelayEnd(number) => {
                 self.close_relay(*number);
-                ArrayVec::new()
+                differing.clear();
+                sends.clear();
             }
-            TimerId::RoundStart => self.start_round(words),
+            TimerId::RoundStart => {
+                let ping = self.start_round(words);
+                differing.clear();
+                self.send_one(&ping, sends);
+            }
         }
     }
 }

@@ -1,12 +1,10 @@
-use Rattle.std.proofs.Common.{◌∙◌}
-use Rattle.lg_detector.proofs.Ticking.{tick_differing}
+use Rattle.std.proofs.Common.{subst, sym, ◌∙◌}
+use Rattle.lg_detector.specs.Support.Reached.{IsReached}
+use Rattle.lg_detector.proofs.Ticking.{idle_differing}
 use Rattle.lg_detector.proofs.detector.Detector.tick.Goals as goal
 
-pub fire_due-messages-requires : goal.fire_due-messages-requires
-fire_due-messages-requires c = c.come.ensures.numbered
-
-pub returns-clause-differing : goal.returns-clause-differing
-returns-clause-differing c =
-    c.say.ensures.differing
-    ∙ tick_differing c.args.self.now c.come.new.self c.fire_due-messages.new.self c.args.now c.args.words.now c.due-reply.result c.as_slice.result.now c.come.ensures.state c.due-reply.ensures
-    c.fire_due-messages.ensures.state (c.as_slice.ensures.value ∙ c.claims_by-claims.ensures)
+pub returns-in-None-clause-differing : goal.returns-in-None-clause-differing
+returns-in-None-clause-differing c =
+    let s = c.args.self.now in
+    let reached : IsReached s = subst IsReached c.self.view_is c.self.invariant in
+    c.clear.ensures ∙ idle_differing s c.come.new.self c.args.now c.args.words.now reached c.come.ensures.state (sym c.in-None.is ∙ c.due-reply.ensures)
