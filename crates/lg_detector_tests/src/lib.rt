@@ -2,6 +2,8 @@
 #![tactic(auto)]
 
 #[cfg(test)]
+mod bit_set;
+#[cfg(test)]
 mod detector;
 #[cfg(test)]
 mod gossip;

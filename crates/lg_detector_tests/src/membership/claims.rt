@@ -67,7 +67,7 @@ const RAISED_TO_32000: Did = Did {
 };
 
 /// Alive at the record's incarnation clears no suspicion. A second accuser moves the deadline; among two members none
-/// does.
+/// does. One who becomes a member between two accusations counts once.
 const SUSPICIONS: &[Case] = &[
     (
         "alive at the number",
@@ -86,6 +86,32 @@ const SUSPICIONS: &[Case] = &[
             ),
             Known("c", Some(Alive("c", 5))),
             Hears(2300, Alive("c", 5), NOTHING),
+        ],
+    ),
+    (
+        "an accuser who becomes a member",
+        &[
+            Opens("b"),
+            Seeds(&[Alive("a", 0), Alive("c", 0), Alive("d", 0), Alive("e", 0)]),
+            Hears(2000, Suspect("c", 0, "d"), RAISED_TO_32000),
+            Hears(
+                2100,
+                Suspect("c", 0, "z"),
+                Did {
+                    deadline: Deadline::Stands(19_500),
+                    ..NOTHING
+                },
+            ),
+            Hears(2200, Alive("z", 0), JOINED),
+            Hears(2300, Suspect("c", 0, "z"), NOTHING),
+            Hears(
+                2400,
+                Suspect("c", 0, "e"),
+                Did {
+                    deadline: Deadline::Stands(12_200),
+                    ..NOTHING
+                },
+            ),
         ],
     ),
     (

@@ -1,5 +1,5 @@
-//! Each call on numbers at the borders of the words.
-use crate::{BitSet, NUMBERS};
+//! Sets of numbers: each call on numbers at the borders of the words.
+use lg_bit_set::{BitSet, NUMBERS};
 
 const BORDERS: [u8; 7] = [0, 63, 64, 127, 128, 191, 255];
 
