@@ -1,9 +1,12 @@
 pub mod NameRows
 pub mod OrderLaws
+pub mod Entries
+pub mod Parts
 pub mod Candidates
+pub mod Keeping
+pub mod Picking
 pub mod Joining
 pub mod RoundLaws
-pub mod Picking
 pub mod OpenRelays
 pub mod RelayLaws
 pub mod WindowLaws

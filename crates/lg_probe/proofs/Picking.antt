@@ -1,53 +1,128 @@
--- Helpers that are picked word by word.
-use Rattle.std.proofs.Common.{◌≡◌, ℕ, zero, suc, ◌+◌, ◌≤◌, ◌<◌, List, [], ◌∷◌, ◌++◌, length, drop, get_or, Option, Some, None, refl, sym, ◌∙◌, ap, append_assoc, append-nil, length-append, arith}
+-- Picks by random words, among the entries of a row whose numbers are in a set.
+use Rattle.std.proofs.Common.{◌≡◌, ℕ, zero, suc, ◌%◌, ◌≤◌, ◌<◌, Bool, true, false, List, [], ◌∷◌, ◌++◌, length, set, take, drop, get_or, Option, Some, None, refl, sym, ◌∙◌, ap, inl, inr, append_assoc, append-nil, length-append, arith}
 use Rattle.std.specs.Prelude.{slice_get, remove}
-use Rattle.std.specs.Option.{option_to_list}
+use Rattle.std.specs.Option.{option_to_list, option_and_then}
+use Rattle.std.proofs.Math.Nat.{mod-lt}
+use Rattle.std.proofs.lemmas.Bool.{cases_lt, false≢true}
+use Rattle.std.proofs.lemmas.List.Edits.{length-remove}
+use Rattle.std.proofs.lemmas.Option.{slice_get-get_or}
+use Rattle.lg_bit_set.specs.Meaning.Flags.{count_set, entries_in, nth_number, numbers_of}
+use Rattle.lg_bit_set.proofs.Numbers.{count_set-set, count_set-clear}
+use Rattle.lg_bit_set.proofs.NumberLaws.{IsNthNumber, IsNthNumber-from, nth_number-within}
+use Rattle.lg_bit_set.proofs.EntryLaws.{slice_get-entries_in}
 use Rattle.lg_probe.specs.Meaning.Order.{candidate}
 use Rattle.lg_probe.specs.Meaning.Helpers.{left_by, picked_by}
-use Rattle.lg_probe.specs.Support.Helpers.{left_at}
+use Rattle.lg_probe.specs.Support.Helpers.{AreOfRow}
+use Rattle.lg_probe.specs.Support.Order.{IsPart}
+use Rattle.lg_probe.proofs.Candidates.{none_in}
 use Rattle.lg_probe.proofs.Joining.{drop-next, dropped}
+use Rattle.lg_probe.proofs.Parts.{part_is, part_count}
 
--- what stands at a place once one was taken out
-pub get-before : {A : Type 0} (xs : List A) (t i : ℕ) → i < t → slice_get (remove xs t) i ≡ slice_get xs i
-get-before [] zero i l = absurd (omega arith)
-get-before [] (suc t) i l = refl
-get-before (x ∷ xs) zero i l = absurd (omega arith)
-get-before (x ∷ xs) (suc t) zero l = refl
-get-before (x ∷ xs) (suc t) (suc i) l = get-before xs t i (omega arith)
+-- flags that say some of the row's names have no other numbers
+pub of_row : {row names : List (List ℕ)} {flags : List Bool} → IsPart row names flags → AreOfRow flags row
+of_row part = part_count part ∙ ap length (sym (part_is part))
 
-pub get-behind : {A : Type 0} (xs : List A) (t i : ℕ) → t ≤ i → slice_get (remove xs t) i ≡ slice_get xs (suc i)
-get-behind [] zero i l = refl
-get-behind [] (suc t) i l = refl
-get-behind (x ∷ xs) zero i l = refl
-get-behind (x ∷ xs) (suc t) zero l = absurd (omega arith)
-get-behind (x ∷ xs) (suc t) (suc i) l = get-behind xs t i (omega arith)
+-- a number is taken out of a set: the set has one fewer, and the entry at its index is gone
+count_out : (flags : List Bool) (number : ℕ) → get_or flags number false ≡ true
+    → count_set flags ≡ suc (count_set (set flags number false))
+count_out [] number there = absurd (false≢true there)
+count_out (true ∷ flags) zero there = omega (arith, count_set-set flags, count_set-clear flags)
+count_out (false ∷ flags) zero there = absurd (false≢true there)
+count_out (true ∷ flags) (suc number) there =
+    omega (arith, count_set-set flags, count_set-set (set flags number false), count_out flags number there)
+count_out (false ∷ flags) (suc number) there =
+    omega (arith, count_set-clear flags, count_set-clear (set flags number false), count_out flags number there)
 
--- the place of one iteration
-at_place : (places : List ℕ) (k t : ℕ) → k < length places → t ≡ get_or places k 0 → drop k places ≡ t ∷ drop (suc k) places
-at_place places k t l e = drop-next places k 0 l ∙ ap (λ j. j ∷ drop (suc k) places) (sym e)
+entries_out : (flags : List Bool) (row : List (List ℕ)) (number : ℕ) → number < length row
+    → get_or flags number false ≡ true
+    → entries_in (set flags number false) row ≡ remove (entries_in flags row) (count_set (take number flags))
+entries_out [] row number within there = absurd (false≢true there)
+entries_out (flag ∷ flags) [] number within there = absurd (omega arith)
+entries_out (true ∷ flags) (x ∷ row) zero within there = refl
+entries_out (false ∷ flags) (x ∷ row) zero within there = absurd (false≢true there)
+entries_out (true ∷ flags) (x ∷ row) (suc number) within there =
+    ap (λ l. x ∷ l) (entries_out flags row number (omega arith) there)
+    ∙ ap (remove (x ∷ entries_in flags row))
+    (let one : suc (count_set (take number flags)) ≡ count_set (true ∷ take number flags) =
+    omega (arith, count_set-set (take number flags)) in one)
+entries_out (false ∷ flags) (x ∷ row) (suc number) within there =
+    entries_out flags row number (omega arith) there
+    ∙ ap (remove (entries_in flags row))
+    (let none : count_set (take number flags) ≡ count_set (false ∷ take number flags) =
+    omega (arith, count_set-clear (take number flags)) in none)
 
--- Behind the first of some places, a place stands for one among those left.
-pub record HavePassed (places : List ℕ) (from k place : ℕ) : Type 0 where
-  pub same : (names : List (List ℕ)) → slice_get (left_at (drop k places) names) place ≡ slice_get (left_at places names) from
-  pub near : place ≤ from + k
+module _ (flags : List Bool) (row : List (List ℕ)) (of : AreOfRow flags row) (word : ℕ) where
+  by_count : word % count_set flags ≡ word % length (entries_in flags row)
+  by_count = ap (λ n. word % n) of
 
-pub none_passed : (places : List ℕ) (from : ℕ) → HavePassed places from 0 from
-none_passed places from = record { same = λ names. refl; near = omega arith }
+  -- no number is chosen if there is none
+  pub nothing_left : nth_number flags (word % count_set flags) ≡ None → entries_in flags row ≡ []
+  nothing_left none =
+      elim (cases_lt 0 (count_set flags)) [
+        | inl some ↦ (
+            let one = nth_number-within flags (word % count_set flags) (mod-lt word some) in
+            absurd (let no : None ≡ Some (get_or (numbers_of flags) (word % count_set flags) 0) = sym none ∙ one in cc))
+        | inr few ↦ none_in (entries_in flags row) (omega (arith, few, of))
+      ]
 
-pub next_before : (places : List ℕ) (from k m place same t : ℕ) → m ≡ suc k → same ≡ place → k < length places → t ≡ get_or places k 0 → place < t → HavePassed places from k place → HavePassed places from m same
-next_before places from k m place same t next one l e below have = record {
-  same = λ names. (λ i. slice_get (left_at (drop (next i) places) names) (one i)) ∙ sym (get-before (left_at (drop (suc k) places) names) t place below) ∙ ap (λ ts. slice_get (left_at ts names) place) (sym (at_place places k t l e)) ∙ have.same names;
-  near = omega (arith, next, one, have.near);
-}
+  module _ (number : ℕ) (picks : nth_number flags (word % count_set flags) ≡ Some number) where
+    nth : IsNthNumber flags (word % count_set flags) number
+    nth = IsNthNumber-from flags (word % count_set flags) number picks
 
-pub next_behind : (places : List ℕ) (from k m place more t : ℕ) → m ≡ suc k → more ≡ suc place → k < length places → t ≡ get_or places k 0 → t ≤ place → HavePassed places from k place → HavePassed places from m more
-next_behind places from k m place more t next one l e behind have = record {
-  same = λ names. (λ i. slice_get (left_at (drop (next i) places) names) (one i)) ∙ sym (get-behind (left_at (drop (suc k) places) names) t place behind) ∙ ap (λ ts. slice_get (left_at ts names) place) (sym (at_place places k t l e)) ∙ have.same names;
-  near = omega (arith, next, one, have.near);
-}
+    some : 0 < count_set flags
+    some = omega (arith, count_out flags number nth.set)
 
-pub all_passed : (places : List ℕ) (from k place : ℕ) → length places ≤ k → HavePassed places from k place → (names : List (List ℕ)) → slice_get names place ≡ slice_get (left_at places names) from
-all_passed places from k place l have names = ap (λ ts. slice_get (left_at ts names) place) (sym (dropped places k l)) ∙ have.same names
+    at : slice_get (entries_in flags row) (word % count_set flags) ≡ slice_get row number
+    at =
+        slice_get-entries_in flags row (word % count_set flags) ∙ ap (option_and_then (slice_get row)) picks
+
+    pub picked_within : number < length row
+    picked_within = in_row row number at
+      where
+        in_row : (xs : List (List ℕ)) (k : ℕ) → slice_get (entries_in flags row) (word % count_set flags) ≡ slice_get xs k → k < length xs
+        in_row [] k e =
+            let there = slice_get-get_or (entries_in flags row) (word % count_set flags) [] (omega (arith, of, mod-lt word some)) in
+            absurd (let no : Some (get_or (entries_in flags row) (word % count_set flags) []) ≡ None = sym there ∙ e in cc)
+        in_row (x ∷ xs) zero e = omega arith
+        in_row (x ∷ xs) (suc k) e = omega (arith, in_row xs k e)
+
+    pub picked_is : (n : List ℕ) → n ≡ get_or row number n → Some n ≡ candidate word (entries_in flags row)
+    picked_is n is =
+        ap Some is ∙ sym (slice_get-get_or row number n picked_within) ∙ sym at
+        ∙ ap (slice_get (entries_in flags row)) by_count
+
+    pub picked_left : entries_in (set flags number false) row ≡ left_by word (entries_in flags row)
+    picked_left =
+        entries_out flags row number picked_within nth.set
+        ∙ ap (remove (entries_in flags row)) (nth.below ∙ by_count)
+
+    pub picked_of : AreOfRow (set flags number false) row
+    picked_of =
+        let index : word % count_set flags < length (entries_in flags row) = omega (arith, of, mod-lt word some) in
+        omega (
+          arith,
+          of,
+          count_out flags number nth.set,
+          ap length (entries_out flags row number picked_within nth.set ∙ ap (remove (entries_in flags row)) nth.below),
+          length-remove (entries_in flags row) (word % count_set flags) index,
+        )
+
+-- if nothing is left, nothing more is taken
+pub left_none : (names : List (List ℕ)) (word : ℕ) → names ≡ [] → names ≡ left_by word names
+left_none [] word e = nothing (word % 0)
+  where
+    nothing : (i : ℕ) → [] ≡ remove (let none : List (List ℕ) = [] in none) i
+    nothing zero = refl
+    nothing (suc i) = refl
+left_none (n ∷ names) word e = absurd (let no : n ∷ names ≡ [] = e in cc)
+
+pub candidate_none : (names : List (List ℕ)) (word : ℕ) → names ≡ [] → None ≡ candidate word names
+candidate_none [] word e = nothing (word % 0)
+  where
+    nothing : (i : ℕ) → None ≡ slice_get (let none : List (List ℕ) = [] in none) i
+    nothing zero = refl
+    nothing (suc i) = refl
+candidate_none (n ∷ names) word e = absurd (let no : n ∷ names ≡ [] = e in cc)
 
 -- the first words have picked these helpers, and left these names
 pub record HavePicked (words : List ℕ) (names helpers left : List (List ℕ)) (k : ℕ) : Type 0 where

@@ -4,6 +4,7 @@
 mod helpers;
 mod names;
 mod order;
+mod picks;
 mod relays;
 mod round;
 

@@ -1,43 +1,29 @@
-//! Rows of names: whether a name is among them, putting one in, and taking one out.
+//! Rows of names, and sets of the numbers of their entries.
 //!
-//! Defined in: `lg_rules/specs/Meaning/Rows.antt`, `specs/Meaning/Order.antt`.
+//! Defined in: `lg_rules/specs/Meaning/Rows.antt`, `lg_bit_set/specs/Meaning/Flags.antt`.
 //! Tested in: `lg_detector_tests/src/probe.rt`.
-ghost use Rattle.std.specs.Prelude.{◌≡◌, ◌+◌, ◌≤◌, ◌<◌, false, ◌++◌, length};
+ghost use Rattle.std.specs.Prelude.{◌≡◌, ◌+◌, ◌≤◌, ◌++◌, length};
 ghost use Rattle.arrayvec.specs.ArrayVec.{array_vec_len};
-ghost use Rattle.lg_rules.specs.Meaning.Rows.{name_cmp, is_among, put_key, Rises};
+ghost use Rattle.lg_bit_set.specs.Meaning.Flags.{entries_in};
+ghost use Rattle.lg_rules.specs.Meaning.Rows.{name_cmp, is_among};
 ghost use Rattle.lg_probe.specs.Meaning.Order.{without};
 
 use arrayvec::ArrayVec;
-use lg_rules::{MAX_OTHERS, Name, index_of, put_row};
+use lg_bit_set::BitSet;
+use lg_rules::{MAX_OTHERS, Name};
 
-/// Whether a name is among names in rising order.
-pub(crate) fn is_among(names: &[Name], name: &Name) -> bool
-    requires { Rises name_cmp names.now }
-    ensures { result ≡ is_among name_cmp name.now names.now }
+/// The names of a row whose numbers are in a set, in the order of the row.
+pub(crate) fn entries(row: &[Name], numbers: &BitSet) -> ArrayVec<Name, MAX_OTHERS>
+    requires { length row.now ≤ MAX_OTHERS }
+    ensures { result.items ≡ entries_in numbers.now row.now }
 {
-    match index_of(names, name) {
-        Ok(_) => true,
-        Err(_) => false,
+    let mut names = ArrayVec::new();
+    for (number, name) in row.iter().enumerate() {
+        if numbers.contains(number as u8) {
+            names.push(*name);
+        }
     }
-}
-
-/// Puts a name among names in rising order, unless it is among them already.
-pub(crate) fn put(names: &mut ArrayVec<Name, MAX_OTHERS>, name: &Name)
-    requires rises { Rises name_cmp names.old.items }
-    requires room { is_among name_cmp name.now names.old.items ≡ false → array_vec_len names.old < MAX_OTHERS }
-    ensures { names.new.items ≡ put_key name_cmp name.now names.old.items }
-{
-    put_row(names, *name);
-}
-
-/// Takes a name out of names in rising order, if it is among them.
-pub(crate) fn take_out(names: &mut ArrayVec<Name, MAX_OTHERS>, name: &Name)
-    requires { Rises name_cmp names.old.items }
-    ensures { names.new.items ≡ without name.now names.old.items }
-{
-    if let Ok(at) = index_of(names.as_slice(), name) {
-        names.remove(at);
-    }
+    names
 }
 
 /// Takes a name out of names in any order, if it is among them.

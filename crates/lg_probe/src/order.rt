@@ -5,68 +5,21 @@
 ghost use Rattle.std.specs.Prelude.{◌≡◌, ◌≤◌, true, ℕ, List, [], ◌∷◌, ◌++◌, length};
 ghost use Rattle.std.specs.Prelude.{IfOk, OnOk};
 ghost use Rattle.std.specs.Option.{option_to_list};
+ghost use Rattle.arrayvec.specs.ArrayVec.{array_vec_len};
 ghost use Rattle.lg_rules.specs.Meaning.Rows.{name_cmp, is_among, put_key, Rises};
-ghost use Rattle.lg_probe.specs.Meaning.Order.{candidate, candidates, current_cycle, choice, put_choice};
+ghost use Rattle.lg_probe.specs.Meaning.Order.{current_cycle, choice, without};
 ghost use Rattle.lg_probe.specs.Meaning.Order.{choice_after, ever_joined, known_names, picks, then_joined};
 ghost use Rattle.lg_probe.specs.Meaning.Order.{OrderFact, Joined, Left, Chose, order_after, order_with};
 ghost use Rattle.lg_probe.specs.Meaning.Order.{EachInWindows, choices_after, names_after, window};
-ghost use Rattle.lg_probe.specs.Meaning.Helpers.{left_by};
-ghost use Rattle.lg_probe.specs.Support.Order.{IsOrderKept};
+ghost use Rattle.lg_probe.specs.Meaning.Helpers.{picked_by};
 
-use crate::names::{is_among, push_all, put, take_out};
+use crate::names::entries;
+use crate::picks::{number_by, others_than, pick_all};
 use arrayvec::ArrayVec;
-use lg_rules::{MAX_OTHERS, Name};
+use lg_bit_set::BitSet;
+use lg_rules::{MAX_OTHERS, Name, RANDOM_WORDS, index_of};
 use std::alloc::{AllocError, Global};
 use std::marker::Model;
-
-/// Takes out the name that a random word chooses among some names, if there are any.
-fn take_one(names: &mut ArrayVec<Name, MAX_OTHERS>, word: u32) -> Option<Name>
-    ensures name { result ≡ candidate word names.old.items }
-    ensures left { names.new.items ≡ left_by word names.old.items }
-{
-    let count = names.len();
-    if count == 0 {
-        return None;
-    }
-    names.pop_at(word as usize % count)
-}
-
-/// If no candidate remains, begins a new cycle, in which each name is a candidate.
-fn begin_cycle(
-    names: &[Name],
-    chosen: &mut ArrayVec<Name, MAX_OTHERS>,
-    remaining: &mut ArrayVec<Name, MAX_OTHERS>,
-)
-    requires few { length names.now ≤ MAX_OTHERS }
-    requires remaining { remaining.old.items ≡ candidates names.now chosen.old.items }
-    ensures chosen { chosen.new.items ≡ current_cycle names.now chosen.old.items }
-    ensures remaining { remaining.new.items ≡ candidates names.now (current_cycle names.now chosen.old.items) }
-{
-    if remaining.is_empty() {
-        chosen.clear();
-        push_all(remaining, names);
-    }
-}
-
-/// Chooses one of these names by a random word. From then on it counts as chosen, and is no candidate.
-fn choose_among(
-    names: &[Name],
-    chosen: &mut ArrayVec<Name, MAX_OTHERS>,
-    remaining: &mut ArrayVec<Name, MAX_OTHERS>,
-    word: u32,
-) -> Option<Name>
-    requires few { length names.now ≤ MAX_OTHERS }
-    requires kept { IsOrderKept names.now chosen.old.items remaining.old.items }
-    ensures chosen { result ≡ choice names.now chosen.old.items word }
-    ensures cycle { let named = choice names.now chosen.old.items word in
-        chosen.new.items ≡ put_choice named (current_cycle names.now chosen.old.items) }
-    ensures remaining { remaining.new.items ≡ candidates names.now chosen.new.items }
-{
-    begin_cycle(names, chosen, remaining);
-    let name = take_one(remaining, word)?;
-    put(chosen, &name);
-    Some(name)
-}
 
 /// The members that are probed, and those of them that were chosen in the current cycle (SWIM, section 4.3).
 ///
@@ -74,22 +27,23 @@ fn choose_among(
 /// allocates memory. A contract sees the two sets, each in the order of names.
 #[derive(Debug, Drop)]
 pub struct Order {
-    names: ArrayVec<Name, MAX_OTHERS>,
-    chosen: ArrayVec<Name, MAX_OTHERS>,
-    // The candidates: the names that aren't chosen. They are kept so that a choice needn't look for them.
-    remaining: ArrayVec<Name, MAX_OTHERS>,
+    // All known names, in their order. The two sets have indexes of this row, so that a choice moves no names.
+    known: ArrayVec<Name, MAX_OTHERS>,
+    // The names that have joined and not left.
+    joined: BitSet,
+    // The names that were chosen in the current cycle.
+    chosen: BitSet,
 }
 
 impl Model for Order {
     ghost use Rattle.lg_probe.specs.Meaning.Order.{OrderValue};
+    ghost use Rattle.lg_probe.specs.Support.Order.{order_in, IsOrderKept};
 
     ghost Value = { OrderValue };
 
-    ghost view = { λ o. record { names = o.names.items; chosen = o.chosen.items } };
+    ghost view = { λ o. order_in o.known.items o.joined o.chosen };
 
-    ghost use Rattle.lg_probe.specs.Support.Order.{IsOrderKept};
-
-    ghost invariant = { λ o. IsOrderKept o.names.items o.chosen.items o.remaining.items };
+    ghost invariant = { λ o. IsOrderKept o.known.items o.joined o.chosen };
 }
 
 impl Order {
@@ -98,9 +52,9 @@ impl Order {
         ensures { result ≡ order_after [] }
     {
         Order {
-            names: ArrayVec::new(),
-            chosen: ArrayVec::new(),
-            remaining: ArrayVec::new(),
+            known: ArrayVec::new(),
+            joined: BitSet::new(),
+            chosen: BitSet::new(),
         }
     }
 
@@ -108,34 +62,54 @@ impl Order {
     pub fn copy(&self) -> Order
         ensures { result ≡ self.now }
     {
-        let mut names = ArrayVec::new();
-        names.try_extend_from_slice(&self.names).unwrap();
-        let mut chosen = ArrayVec::new();
-        chosen.try_extend_from_slice(&self.chosen).unwrap();
-        let mut remaining = ArrayVec::new();
-        remaining.try_extend_from_slice(&self.remaining).unwrap();
+        let mut known = ArrayVec::new();
+        known.try_extend_from_slice(&self.known).unwrap();
         Order {
-            names,
-            chosen,
-            remaining,
+            known,
+            joined: self.joined,
+            chosen: self.chosen,
         }
     }
 
-    /// The names that have joined and not left, at most 255, in the order of names (SWIM, section 4.3).
-    pub fn names(&self) -> &[Name]
-        ensures names { result.now ≡ self.now.names }
-        ensures few { length result.now ≤ MAX_OTHERS }
-        ensures rises { Rises name_cmp result.now }
+    /// The names that have joined and not left, at most 255, in the order of names (SWIM, section 4.3). This goes over
+    /// all known names.
+    pub fn names(&self) -> ArrayVec<Name, MAX_OTHERS>
+        ensures names { result.items ≡ self.now.names }
+        ensures few { length result.items ≤ MAX_OTHERS }
+        ensures rises { Rises name_cmp result.items }
     {
-        self.names.as_slice()
+        entries(self.known.as_slice(), &self.joined)
     }
 
-    /// The names that were chosen in the current cycle, at most 255, in the order of names (SWIM, section 4.3).
-    pub fn chosen(&self) -> &[Name]
-        ensures chosen { result.now ≡ self.now.chosen }
-        ensures few { length result.now ≤ MAX_OTHERS }
+    /// The names that were chosen in the current cycle, at most 255, in the order of names (SWIM, section 4.3). This
+    /// goes over all known names.
+    pub fn chosen(&self) -> ArrayVec<Name, MAX_OTHERS>
+        ensures chosen { result.items ≡ self.now.chosen }
+        ensures few { length result.items ≤ MAX_OTHERS }
     {
-        self.chosen.as_slice()
+        entries(self.known.as_slice(), &self.chosen)
+    }
+
+    /// Begins a new cycle, in which each name is a candidate. The names that have left are forgotten, and only if
+    /// there are any is the row written again.
+    fn begin_cycle(&mut self)
+        ensures { self.new ≡ record { names = self.old.names; chosen = [] } }
+    {
+        self.chosen.clear();
+        if self.joined.len() < self.known.len() {
+            self.known = entries(self.known.as_slice(), &self.joined);
+            self.joined = BitSet::below(self.known.len());
+        }
+    }
+
+    /// Begins a new cycle if no candidate remains.
+    fn end_cycle_if_over(&mut self)
+        ensures { let cycle = current_cycle self.old.names self.old.chosen in
+            self.new ≡ record { names = self.old.names; chosen = cycle } }
+    {
+        if self.joined.without(&self.chosen).is_empty() {
+            self.begin_cycle();
+        }
     }
 
     /// Chooses whom to probe by a random word, or nobody if there are no names.
@@ -151,12 +125,10 @@ impl Order {
         ensures past { (past : List OrderFact) → self.old ≡ order_after past
             → (result ≡ choice_after past word) × (self.new ≡ order_after (Chose word ∷ past)) }
     {
-        choose_among(
-            self.names.as_slice(),
-            &mut self.chosen,
-            &mut self.remaining,
-            word,
-        )
+        self.end_cycle_if_over();
+        let number = number_by(&self.joined.without(&self.chosen), word)?;
+        self.chosen.insert(number);
+        Some(self.known[usize::from(number)])
     }
 
     /// Lets a member join. It is a candidate at once, unless it was chosen in the current cycle.
@@ -169,9 +141,14 @@ impl Order {
         ensures past { (past : List OrderFact) → self.old ≡ order_after past
             → self.new ≡ order_after (Joined name.now ∷ past) }
     {
-        put(&mut self.names, name);
-        if !is_among(self.chosen.as_slice(), name) {
-            put(&mut self.remaining, name);
+        match index_of(self.known.as_slice(), name) {
+            Ok(at) => self.joined.insert(at as u8),
+            Err(at) => {
+                self.known.insert(at, *name);
+                self.joined.open(at as u8);
+                self.joined.insert(at as u8);
+                self.chosen.open(at as u8);
+            }
         }
     }
 
@@ -182,8 +159,23 @@ impl Order {
         ensures past { (past : List OrderFact) → self.old ≡ order_after past
             → self.new ≡ order_after (Left name.now ∷ past) }
     {
-        take_out(&mut self.names, name);
-        take_out(&mut self.remaining, name);
+        if let Ok(at) = index_of(self.known.as_slice(), name) {
+            self.joined.remove(at as u8);
+            if !self.chosen.contains(at as u8) {
+                self.known.remove(at);
+                self.joined.close(at as u8);
+                self.chosen.close(at as u8);
+            }
+        }
+    }
+
+    /// Picks one of the names by each word, as long as any is left. The target is never picked.
+    pub(crate) fn pick(&self, target: &Name, words: &[u32]) -> ArrayVec<Name, RANDOM_WORDS>
+        requires { length words.now ≤ RANDOM_WORDS }
+        ensures { result.items ≡ picked_by words.now (without target.now self.now.names) }
+    {
+        let left = others_than(self.known.as_slice(), &self.joined, target);
+        pick_all(self.known.as_slice(), left, words)
     }
 }
 

@@ -1,11 +1,7 @@
--- The names of a row that are left, by the indices of those that were taken out of it.
-use Rattle.std.specs.Prelude.{ℕ, ◌≡◌, ◌+◌, List, [], ◌∷◌, length, remove}
+-- Numbers of the entries of a row.
+use Rattle.std.specs.Prelude.{ℕ, ◌≡◌, Bool, List, length}
+use Rattle.lg_bit_set.specs.Meaning.Flags.{count_set, entries_in}
 
--- The names left without those at some indices, the latest first. Each is an index among the names left before it.
-abbrev pub left_at : List ℕ → List (List ℕ) → List (List ℕ)
-left_at [] names = names
-left_at (place ∷ places) names = remove (left_at places names) place
-
--- each index took one name out
-abbrev pub AreTaken : List ℕ → List (List ℕ) → Type 0
-AreTaken places names = length (left_at places names) + length places ≡ length names
+-- each number in a set is that of an entry of the row
+abbrev pub AreOfRow : List Bool → List (List ℕ) → Type 0
+AreOfRow flags row = count_set flags ≡ length (entries_in flags row)
