@@ -1,9 +1,35 @@
 -- The rows that a packet takes are chosen one row after another.
-use Rattle.std.proofs.Common.{◌≡◌, ℕ, suc, zero, ◌+◌, ◌-◌, ◌<◌, ◌≤◌, true, false, List, [], ◌∷◌, length, take, get_or, Option, Some, ◌⊎◌, inl, inr, refl, sym, ◌∙◌, ap, subst, arith}
+use Rattle.std.proofs.Common.{
+  ◌≡◌,
+  ℕ,
+  suc,
+  ◌+◌,
+  ◌<◌,
+  ◌≤◌,
+  true,
+  false,
+  List,
+  [],
+  ◌∷◌,
+  length,
+  take,
+  get_or,
+  Option,
+  Some,
+  ◌⊎◌,
+  inl,
+  inr,
+  refl,
+  sym,
+  ◌∙◌,
+  ap,
+  subst,
+  arith,
+}
 use Rattle.std.specs.Prelude.{insert, filter, nat_le, nat_lt, slice_get, if◌then◌else◌}
 use Rattle.std.specs.List.{prefix_len, AllByRecursion}
 use Rattle.std.proofs.lemmas.Bool.{cases_Bool, cases_lt, lt-ltb, le-ltb, le-leb, lt-leb, ltb-true, false≢true}
-use Rattle.std.proofs.lemmas.List.{get_or_default, length-take, take_all}
+use Rattle.std.proofs.lemmas.List.{length-take, take_all}
 use Rattle.std.proofs.lemmas.List.Edits.{length-insert}
 use Rattle.std.proofs.lemmas.Option.{slice_get_read}
 use Rattle.lg_rules.specs.declared.claim.Claim.{Claim}
@@ -11,10 +37,10 @@ use Rattle.lg_rules.proofs.Tests.{both}
 use Rattle.lg_gossip.specs.declared.choice.TakenRow.{TakenRow}
 use Rattle.lg_gossip.specs.declared.queued.Queued.{Queued}
 use Rattle.lg_gossip.specs.Meaning.Queue.{by_sends, is_beside, may_go, room_beside, rows_taken}
-use Rattle.lg_gossip.specs.Support.Places.{IsRowOf, rows_at}
+use Rattle.lg_gossip.specs.Support.Places.{IsRowOf, HasTaken, rows_at}
 use Rattle.lg_gossip.specs.Support.Sound.{AreInOrder, AreSent}
 use Rattle.lg_gossip.proofs.BySends.{goes_in, stays_out}
-use Rattle.lg_gossip.proofs.Each.{all-insert, all-take, holds_at}
+use Rattle.lg_gossip.proofs.Each.{all-insert, all-take}
 use Rattle.lg_gossip.proofs.Places.{length-at, prefix-at, take-at, insert-at}
 
 -- a packet's rows are so many, and none was sent more often than this
@@ -125,29 +151,17 @@ module _ (buddy : Option Claim) (limit room k : ℕ) (q : Queued) (rows : List Q
           sym (ap (λ n. take room (insert (rows_at rows first) n q)) behind ∙ ap (λ n. take n (insert (rows_at rows first) (length (rows_at rows first)) q)) whole ∙ insert_behind q (rows_at rows first))
           ∙ goes_in (may_go buddy limit) room k q rows l read o (rows_at rows first) t h.chosen
 
--- If each row was sent as often as the bound, or more often, none of the further rows is taken.
-passes_all : (buddy : Option Claim) (limit room bound n k : ℕ) (d : Queued) (first : List TakenRow) (rows : List Queued) → AreInOrder rows → AreSent bound rows → k + n ≡ length rows
-    → IsChosen buddy limit room rows k bound first → IsChosen buddy limit room rows (length rows) bound first
-passes_all buddy limit room bound zero k d first rows o least e h = subst (λ j. IsChosen buddy limit room rows j bound first) (omega (arith, e)) h
-passes_all buddy limit room bound (suc n) k d first rows o least e h =
-    let q = get_or rows k d in
-    let within : k < length rows = omega (arith, e) in
-    let late = holds_at (λ r. bound ≤ r.sends) k d rows within least in
-    passes_all buddy limit room bound n (k + 1) d first rows o least (omega (arith, e))
-    (passes buddy limit room k q rows within (get_or_default rows k d q within) o bound first (inl late) h)
-
-pub stops : (buddy : Option Claim) (limit room bound k : ℕ) (first : List TakenRow) (rows : List Queued) → AreInOrder rows → AreSent bound rows → k ≤ length rows
-    → IsChosen buddy limit room rows k bound first → rows_at rows first ≡ take room (by_sends (filter (may_go buddy limit) rows))
-stops buddy limit room bound k first [] o least l h = h.chosen ∙ ap (λ rs. take room (by_sends (filter (may_go buddy limit) rs))) (take_all k [] (omega arith))
-stops buddy limit room bound k first (x ∷ xs) o least l h =
-    let rows = x ∷ xs in
-    let all = passes_all buddy limit room bound (length rows - k) k x first rows o least (omega (arith, l)) h in
-    all.chosen ∙ ap (λ rs. take room (by_sends (filter (may_go buddy limit) rs))) (take_all (length rows) rows (omega arith))
-
 -- If each row was sent as often as the limit, or more often, none is taken.
 none_may : (buddy : Option Claim) (limit : ℕ) (rows : List Queued) → AreSent limit rows → filter (may_go buddy limit) rows ≡ []
 none_may buddy limit [] least = refl
 none_may buddy limit (q ∷ qs) least = rw (le-ltb q.sends limit least.0) (none_may buddy limit qs least.1)
 
-pub takes_none : (buddy : Option Claim) (limit : ℕ) (rows : List Queued) → AreSent limit rows → rows_taken buddy limit rows ≡ []
+takes_none : (buddy : Option Claim) (limit : ℕ) (rows : List Queued) → AreSent limit rows
+    → rows_taken buddy limit rows ≡ []
 takes_none buddy limit rows least = ap (λ rs. take (room_beside buddy) (by_sends rs)) (none_may buddy limit rows least) ∙ take_all (room_beside buddy) [] (omega arith)
+
+pub taken_none : (buddy : Option Claim) (limit : ℕ) (rows : List Queued) (none : List TakenRow) → none ≡ []
+    → AreSent limit rows
+    → HasTaken buddy limit rows none
+taken_none buddy limit rows none e least = subst (HasTaken buddy limit rows) (sym e)
+    (record { places = tt; chosen = sym (takes_none buddy limit rows least) })

@@ -1,8 +1,40 @@
 -- What a packet counts in the queue.
-use Rattle.std.proofs.Common.{◌≡◌, ℕ, suc, zero, ◌+◌, ◌<◌, ◌≤◌, Bool, true, false, ◌||◌, List, [], ◌∷◌, ◌++◌, length, map, take, drop, get_or, set, refl, sym, ◌∙◌, ap, subst, arith}
+use Rattle.std.proofs.Common.{
+  ◌≡◌,
+  ◌≢◌,
+  inl,
+  inr,
+  ℕ,
+  suc,
+  zero,
+  ◌+◌,
+  ◌<◌,
+  ◌≤◌,
+  Bool,
+  true,
+  false,
+  ◌||◌,
+  List,
+  [],
+  ◌∷◌,
+  ◌++◌,
+  length,
+  map,
+  take,
+  drop,
+  get_or,
+  set,
+  refl,
+  sym,
+  ◌∙◌,
+  ap,
+  subst,
+  arith,
+}
 use Rattle.std.specs.declared.cmp.Ordering.TheVariants.{Less}
 use Rattle.std.specs.Prelude.{option_map}
 use Rattle.std.specs.List.{AllByRecursion, refill}
+use Rattle.std.proofs.lemmas.Bool.{cases_Bool}
 use Rattle.std.proofs.lemmas.List.{take-append-le, take_all}
 use Rattle.std.proofs.lemmas.Option.{slice_get_within, get_or_from_slice_get, slice_get-map}
 use Rattle.lg_rules.specs.declared.claim.Claim.{Claim}
@@ -65,6 +97,20 @@ pub sent-most : (most : ℕ) (rows : List Queued) (t : TakenRow) → AllByRecurs
 sent-most most rows t few one =
     let there = holds_at (λ r. r.sends ≤ most) t.index one.row rows (slice_get_within rows t.index one.row one.stands) few in
     omega (arith, one.sends, ap (λ r. r.sends) (get_or_from_slice_get rows t.index one.row one.row one.stands), there)
+
+-- what is there now of a row that is taken was sent as often as it says, or once more
+pub sent-either : (rows now : List Queued) (taken : List Claim) (q : Queued) (t : TakenRow) → IsRowOf rows t
+    → now ≡ map (sent_once taken) rows → q ≡ get_or now t.index q
+    → q.sends ≢ t.sends → q.sends ≡ t.sends + 1
+sent-either rows now taken q t one is read other =
+    let there : q ≡ sent_once taken one.row = read ∙ ap (λ rs. get_or rs t.index q) is
+    ∙ get_or_from_slice_get (map (sent_once taken) rows) t.index (sent_once taken one.row) q
+    (slice_get-map (sent_once taken) rows t.index ∙ ap (option_map (sent_once taken)) one.stands) in
+    let sends = ap (λ r. r.sends) there in
+    elim (cases_Bool (is_among name_cmp (queued_name one.row) (map name_of taken))) [
+      | inl a ↦ (let more = rw a at sends in omega (arith, more, one.sends))
+      | inr n ↦ (let same = rw n at sends in absurd (other (same ∙ sym one.sends)))
+    ]
 
 pub count-next : (rows now : List Queued) (k : ℕ) (d : TakenRow) (e : Queued) (ts : List TakenRow) → k < length ts → AllByRecursion (IsRowOf rows) ts → AreInOrder rows
     → now ≡ map (sent_once (map queued_claim (rows_at rows (take k ts)))) rows

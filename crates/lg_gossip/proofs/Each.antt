@@ -1,5 +1,23 @@
 -- What holds of each of some rows.
-use Rattle.std.proofs.Common.{◌≡◌, ℕ, suc, zero, ◌<◌, Bool, true, List, [], ◌∷◌, take, length, get_or, inl, inr, arith}
+use Rattle.std.proofs.Common.{
+  ◌≡◌,
+  ℕ,
+  suc,
+  zero,
+  ◌<◌,
+  Bool,
+  true,
+  List,
+  [],
+  ◌∷◌,
+  ◌++◌,
+  take,
+  length,
+  get_or,
+  inl,
+  inr,
+  arith,
+}
 use Rattle.std.specs.Prelude.{filter, insert}
 use Rattle.std.specs.List.{AllByRecursion}
 use Rattle.std.proofs.lemmas.Bool.{cases_Bool}
@@ -37,6 +55,12 @@ pub all-take : {A : Type 0} (P : A → Type 0) (k : ℕ) (rows : List A) → All
 all-take P zero rows a = tt
 all-take P (suc k) [] a = tt
 all-take P (suc k) (x ∷ xs) a = (a.0, all-take P k xs a.1)
+
+-- of these and others behind them
+pub all-append : {A : Type 0} (P : A → Type 0) (xs ys : List A) → AllByRecursion P xs → AllByRecursion P ys
+    → AllByRecursion P (xs ++ ys)
+all-append P [] ys a b = b
+all-append P (x ∷ xs) ys a b = (a.0, all-append P xs ys a.1 b)
 
 -- of these and one more at an index
 pub all-insert : {A : Type 0} (P : A → Type 0) (k : ℕ) (x : A) (rows : List A) → P x → AllByRecursion P rows → AllByRecursion P (insert rows k x)

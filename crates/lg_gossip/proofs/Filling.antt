@@ -19,13 +19,23 @@ taken-at rows read again places shown buddy limit r a s t =
 pub places-at : (rows read : List Queued) (places shown : List TakenRow) → read ≡ rows → shown ≡ places → AllByRecursion (IsRowOf read) places → AllByRecursion (IsRowOf rows) shown
 places-at rows read places shown r s a = subst (λ ts. AllByRecursion (IsRowOf rows) ts) (sym s) (subst (λ rs. AllByRecursion (IsRowOf rs) places) r a)
 
+-- a packet is counted at each row
+pub counted-each : (rows again read after : List Queued) (places shown : List TakenRow) (buddy : Option Claim)
+    (limit : ℕ) → read ≡ rows → shown ≡ places
+    → rows_at read places ≡ rows_taken buddy limit read → again ≡ rows
+    → after ≡ map (sent_once (map queued_claim (rows_at again shown))) again
+    → after ≡ map (sent_once (map queued_claim (rows_taken buddy limit rows))) rows
+counted-each rows again read after places shown buddy limit r s t a is =
+    is ∙ ap (λ rs. map (sent_once (map queued_claim (rows_at again shown))) rs) a
+    ∙ ap (λ ts. map (sent_once (map queued_claim ts)) rows) (taken-at rows read again places shown buddy limit r a s t)
+
 -- a packet is counted over all rows
 pub counted-whole : (rows again read after : List Queued) (places shown : List TakenRow) (buddy : Option Claim) (limit : ℕ) → read ≡ rows → shown ≡ places
-    → rows_at read places ≡ rows_taken buddy limit read → again ≡ rows → after ≡ map (sent_once (map queued_claim (rows_at again shown))) again
+    → rows_at read places ≡ rows_taken buddy limit read → again ≡ rows
+    → after ≡ map (sent_once (map queued_claim (rows_at again shown))) again
     → refill (length rows) rows after ≡ map (sent_once (map queued_claim (rows_taken buddy limit rows))) rows
 counted-whole rows again read after places shown buddy limit r s t a is =
-    let whole = is ∙ ap (λ rs. map (sent_once (map queued_claim (rows_at again shown))) rs) a
-    ∙ ap (λ ts. map (sent_once (map queued_claim ts)) rows) (taken-at rows read again places shown buddy limit r a s t) in
+    let whole = counted-each rows again read after places shown buddy limit r s t a is in
     refill-whole (length rows) rows after (ap length whole ∙ length-map rows (sent_once (map queued_claim (rows_taken buddy limit rows)))) ∙ whole
 
 -- what is chosen among the rows of a queue

@@ -11,3 +11,7 @@ pub mod RowsByName
 pub mod Soundness
 pub mod Taken
 pub mod BySends
+pub mod BySets
+pub mod Moving
+pub mod OfSet
+pub mod SetAfterSet

@@ -1,5 +1,26 @@
 -- A queue stays sound.
-use Rattle.std.proofs.Common.{◌≡◌, ℕ, true, Option, inl, inr, ◌*◌, ◌<◌, ◌≤◌, List, [], ◌∷◌, map, refl, sym, ap, subst, arith}
+use Rattle.std.proofs.Common.{
+  ◌≡◌,
+  ℕ,
+  Bool,
+  true,
+  Option,
+  inl,
+  inr,
+  ◌*◌,
+  ◌<◌,
+  ◌≤◌,
+  List,
+  [],
+  ◌∷◌,
+  map,
+  replicate,
+  refl,
+  sym,
+  ap,
+  subst,
+  arith,
+}
 use Rattle.std.specs.List.{AllByRecursion}
 use Rattle.lg_rules.specs.declared.claim.Claim.{Claim}
 use Rattle.lg_rules.specs.Meaning.Claim.{name_of}
@@ -11,9 +32,14 @@ use Rattle.lg_rules.proofs.Rises.{rises-put}
 use Rattle.lg_gossip.specs.declared.limit.TheConstants.{MAX_DIGITS}
 use Rattle.lg_gossip.specs.declared.queued.Queued.{Queued}
 use Rattle.lg_gossip.specs.Meaning.Queue.{queued_name, queued_claim, fresh, rows_taken, sent_once}
+use Rattle.lg_bit_set.specs.Meaning.Flags.{no_flags}
+use Rattle.lg_rules.specs.declared.claim.TheConstants.{MAX_LAMBDA}
+use Rattle.lg_gossip.specs.declared.sets.TheConstants.{SETS}
 use Rattle.lg_gossip.proofs.Each.{all-both}
+use Rattle.lg_gossip.proofs.Moving.{sets-none}
 use Rattle.lg_gossip.proofs.Fewest.{sent-none}
 use Rattle.lg_gossip.proofs.Taken.{below_limit, may_when_taken}
+use Rattle.lg_gossip.specs.Support.Sets.{AreSets}
 use Rattle.lg_gossip.specs.Support.Sound.{AreSent, IsSound}
 
 -- the names of rows with one put
@@ -33,12 +59,21 @@ within-put most r (x ∷ xs) l w = elim (compared (name_cmp (queued_name r) (que
   | Above e ↦ rw e (w.0, within-put most r xs l w.1)
 ]
 
-pub sound-put : (lambda fewest : ℕ) (c : Claim) (rows : List Queued) → IsSound lambda fewest rows → IsSound lambda 0 (put_row name_cmp queued_name (fresh c) rows)
-sound-put lambda fewest c rows s = record {
+-- a new queue has no rows, and no set has one
+pub sound-new : (lambda fewest : ℕ) (set : List Bool) → lambda ≤ MAX_LAMBDA → set ≡ no_flags
+    → IsSound lambda fewest (replicate SETS set) []
+sound-new lambda fewest set l e = record { often = l; in_order = tt; within = tt; least = tt; sets = sets-none set e }
+
+pub sound-put : (lambda fewest : ℕ) (c : Claim) (sent now : List (List Bool)) (rows : List Queued)
+    → IsSound lambda fewest sent rows
+    → AreSets now (put_row name_cmp queued_name (fresh c) rows)
+    → IsSound lambda 0 now (put_row name_cmp queued_name (fresh c) rows)
+sound-put lambda fewest c sent now rows s sets = record {
   often = s.often;
   in_order = subst (Rises name_cmp) (sym (names-put (fresh c) rows)) (rises-put names_order c.name (map queued_name rows) s.in_order);
   within = within-put (lambda * MAX_DIGITS) (fresh c) rows (omega arith) s.within;
   least = sent-none (put_row name_cmp queued_name (fresh c) rows);
+  sets = sets;
 }
 
 -- the names of rows after a packet
@@ -58,14 +93,18 @@ within-sent taken limit most (q ∷ qs) l w t = (here, within-sent taken limit m
       | inr n ↦ rw n w.0
     ]
 
-pub sound-sent : (lambda limit fewest now : ℕ) (buddy : Option Claim) (rows : List Queued) → limit ≤ lambda * MAX_DIGITS → IsSound lambda fewest rows
+pub sound-sent : (lambda limit fewest now : ℕ) (buddy : Option Claim) (sent after : List (List Bool))
+    (rows : List Queued) → limit ≤ lambda * MAX_DIGITS
+    → IsSound lambda fewest sent rows
     → AreSent now (map (sent_once (map queued_claim (rows_taken buddy limit rows))) rows)
-    → IsSound lambda now (map (sent_once (map queued_claim (rows_taken buddy limit rows))) rows)
-sound-sent lambda limit fewest now buddy rows l s least =
+    → AreSets after (map (sent_once (map queued_claim (rows_taken buddy limit rows))) rows)
+    → IsSound lambda now after (map (sent_once (map queued_claim (rows_taken buddy limit rows))) rows)
+sound-sent lambda limit fewest now buddy sent after rows l s least sets =
     let taken = map queued_claim (rows_taken buddy limit rows) in
     record {
       often = s.often;
       in_order = subst (Rises name_cmp) (sym (names-sent taken rows)) s.in_order;
       within = within-sent taken limit (lambda * MAX_DIGITS) rows l s.within (all-both _ _ _ rows (λ q w m a. below_limit buddy limit q (m a)) s.within (may_when_taken buddy limit rows s.in_order));
       least = least;
+      sets = sets;
     }

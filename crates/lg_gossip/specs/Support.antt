@@ -1,4 +1,5 @@
 -- Definitions that only support the proofs.
 pub mod Bounds
 pub mod Places
+pub mod Sets
 pub mod Sound

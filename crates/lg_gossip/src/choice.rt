@@ -12,11 +12,14 @@ ghost use Rattle.lg_gossip.specs.declared.queued.Queued.{Queued as Row};
 ghost use Rattle.lg_gossip.specs.Meaning.Queue.{buddy_of, is_beside, queued_claim, room_beside, rows_taken, sent_once};
 ghost use Rattle.lg_gossip.specs.Support.Sound.{AreInOrder, AreSent};
 ghost use Rattle.lg_gossip.specs.Support.Places.{HasTaken, IsRowOf, rows_at};
+ghost use Rattle.lg_gossip.specs.Support.Sets.{AreSets, places_of};
 
 use crate::limit::MAX_TIMES_SENT;
 use crate::queue::MAX_QUEUED;
 use crate::queued::Queued;
+use crate::sets::{SETS, move_row, without};
 use arrayvec::ArrayVec;
+use lg_bit_set::BitSet;
 use lg_rules::{Claim, MAX_CLAIMS, Record, Status, index_of};
 
 /// A row that a packet takes.
@@ -102,25 +105,64 @@ fn take_row(
     }
 }
 
-/// The rows that a packet takes beside its buddy: of those below the retransmit limit, the first by their sends and
-/// then by their names. The rows have to be in the order of their names, and none was sent less often than `fewest`.
-pub(crate) fn rows_taken(
+/// Takes rows of a set, those at the lowest indexes, until `room` rows are taken. Each of them was sent `sends` times.
+fn take_sent(taken: &mut ArrayVec<TakenRow, MAX_CLAIMS>, set: &BitSet, sends: u32, room: usize)
+    requires most { room ≤ MAX_CLAIMS }
+    requires fits { array_vec_len taken.old ≤ room }
+    ensures { taken.new.items ≡ take room (taken.old.items ++ places_of sends set.now) }
+{
+    for nth in 0..room - taken.len() {
+        let Some(number) = set.nth(nth) else {
+            return;
+        };
+        let index = usize::from(number);
+        taken.push(TakenRow { index, sends });
+    }
+}
+
+/// The rows that a packet takes beside its buddy, by one set of rows after another. There is a set for each number of
+/// sends below the limit. The rows have to be in the order of their names, and none was sent less often than `fewest`.
+fn rows_by_sets(
     rows: &[Queued],
+    sent: &[BitSet; SETS],
     buddy: &Option<Claim>,
     limit: u64,
     fewest: u64,
 ) -> ArrayVec<TakenRow, MAX_CLAIMS>
     requires order { AreInOrder rows.now }
     requires least { AreSent fewest rows.now }
-    ensures rows { rows_at rows.now result.items ≡ rows_taken buddy.now limit rows.now }
-    ensures places { AllByRecursion (IsRowOf rows.now) result.items }
+    requires most { length rows.now ≤ MAX_QUEUED }
+    requires sets { AreSets sent.now rows.now }
+    requires rises { fewest ≤ limit }
+    requires few { limit ≤ SETS }
+    ensures taken { HasTaken buddy.now limit rows.now result.items }
+    ensures few { array_vec_len result ≤ room_beside buddy.now }
+{
+    let room = room_beside(buddy);
+    let passed_over = index_of_buddy(rows, buddy);
+    let mut taken = ArrayVec::new();
+    for sends in fewest as u32..limit as u32 {
+        let set = without(&sent[sends as usize], passed_over);
+        take_sent(&mut taken, &set, sends, room);
+        if taken.len() == room {
+            break;
+        }
+    }
+    taken
+}
+
+/// The rows that a packet takes beside its buddy, by a walk over all rows. These have to be in the order of their
+/// names.
+fn rows_by_walk(
+    rows: &[Queued],
+    buddy: &Option<Claim>,
+    limit: u64,
+) -> ArrayVec<TakenRow, MAX_CLAIMS>
+    requires { AreInOrder rows.now }
+    ensures taken { HasTaken buddy.now limit rows.now result.items }
     ensures few { array_vec_len result ≤ room_beside buddy.now }
 {
     let mut first = ArrayVec::new();
-    // Mostly no row may be sent any more, and then none is looked at.
-    if limit <= fewest {
-        return first;
-    }
     let room = room_beside(buddy);
     let passed_over = index_of_buddy(rows, buddy);
     // No row that was sent this often, or more often, is among the first.
@@ -129,13 +171,36 @@ pub(crate) fn rows_taken(
         let sends = row.sends;
         if u64::from(sends) < bound && index != passed_over {
             bound = take_row(&mut first, TakenRow { index, sends }, room, bound);
-            // Each row was sent as often as the bound, so no later one is among the first.
-            if bound <= fewest {
-                break;
-            }
         }
     }
     first
+}
+
+/// The rows that a packet takes beside its buddy: of those below the retransmit limit, the first by their sends and
+/// then by their names. The rows have to be in the order of their names, and none was sent less often than `fewest`.
+pub(crate) fn rows_taken(
+    rows: &[Queued],
+    sent: &[BitSet; SETS],
+    buddy: &Option<Claim>,
+    limit: u64,
+    fewest: u64,
+) -> ArrayVec<TakenRow, MAX_CLAIMS>
+    requires order { AreInOrder rows.now }
+    requires least { AreSent fewest rows.now }
+    requires most { length rows.now ≤ MAX_QUEUED }
+    requires sets { AreSets sent.now rows.now }
+    ensures taken { HasTaken buddy.now limit rows.now result.items }
+    ensures few { array_vec_len result ≤ room_beside buddy.now }
+{
+    if limit <= fewest {
+        // Mostly no row may be sent any more, and then none is looked at.
+        ArrayVec::new()
+    } else if limit <= SETS as u64 {
+        rows_by_sets(rows, sent, buddy, limit, fewest)
+    } else {
+        // No group of up to 256 members has such a limit, but a caller may count more.
+        rows_by_walk(rows, buddy, limit)
+    }
 }
 
 /// Adds the claims of some rows to those that are there.
@@ -167,16 +232,20 @@ pub(crate) fn write_claims(
     push_claims(claims, rows, taken);
 }
 
-/// Counts one more send for each row that a packet takes.
-pub(crate) fn count_sends(rows: &mut [Queued], taken: &[TakenRow])
+/// Counts one more send for each row that a packet takes, and moves it to the next set.
+pub(crate) fn count_sends(rows: &mut [Queued], sent: &mut [BitSet; SETS], taken: &[TakenRow])
     requires order { AreInOrder rows.old }
     requires most { length rows.old ≤ MAX_QUEUED }
     requires few { AllByRecursion (λ r. r.sends ≤ MAX_TIMES_SENT) rows.old }
     requires places { AllByRecursion (IsRowOf rows.old) taken.now }
-    ensures { rows.new ≡ map (sent_once (map queued_claim (rows_at rows.old taken.now))) rows.old }
+    requires sets { AreSets sent.old rows.old }
+    ensures sends { rows.new ≡ map (sent_once (map queued_claim (rows_at rows.old taken.now))) rows.old }
+    ensures sets { AreSets sent.new rows.new }
 {
     for row in taken {
+        let sends = row.sends as usize;
         rows[row.index].sends = row.sends + 1;
+        move_row(sent, row.index as u8, sends, sends + 1);
     }
 }
 

@@ -5,6 +5,7 @@ mod choice;
 mod limit;
 mod queue;
 mod queued;
+mod sets;
 
 pub use lg_rules::MAX_LAMBDA;
 pub use limit::MAX_TIMES_SENT;

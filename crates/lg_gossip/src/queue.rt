@@ -11,8 +11,10 @@ ghost use Rattle.lg_gossip.specs.Meaning.Queue.{queued_name, put_of, fill_of, fi
 use crate::choice::{buddy_of, count_sends, fewest_after, rows_taken, write_claims};
 use crate::limit::send_limit;
 use crate::queued::Queued;
+use crate::sets::{SETS, clear_sets, put_fresh};
 use arrayvec::ArrayVec;
-use lg_rules::{Claim, MAX_CLAIMS, MAX_LAMBDA, MAX_MEMBERS, Record, put_row};
+use lg_bit_set::BitSet;
+use lg_rules::{Claim, MAX_CLAIMS, MAX_LAMBDA, MAX_MEMBERS, Record, index_of};
 use std::marker::Model;
 
 /// The most claims of a queue: 256, one for each member (this project's choice).
@@ -30,6 +32,8 @@ pub struct Queue {
     lambda: u64,
     /// No claim was sent less often than this, so that a packet needn't look at all of them.
     fewest: u64,
+    /// The indexes of the rows that were sent exactly so often: a set for each number of sends below 30.
+    sent: [BitSet; SETS],
     rows: ArrayVec<Queued, MAX_QUEUED>,
 }
 
@@ -42,7 +46,7 @@ impl Model for Queue {
 
     ghost view = { λ q. record { lambda = q.lambda; rows = q.rows.items } };
 
-    ghost invariant = { λ q. IsSound q.lambda q.fewest q.rows.items };
+    ghost invariant = { λ q. IsSound q.lambda q.fewest q.sent q.rows.items };
 }
 
 impl Queue {
@@ -55,6 +59,7 @@ impl Queue {
         Queue {
             lambda,
             fewest: u64::MAX,
+            sent: [BitSet::new(); SETS],
             rows: ArrayVec::new(),
         }
     }
@@ -68,6 +73,7 @@ impl Queue {
         Queue {
             lambda: self.lambda,
             fewest: self.fewest,
+            sent: self.sent,
             rows,
         }
     }
@@ -87,10 +93,12 @@ impl Queue {
         let Queue {
             lambda: factor,
             fewest,
+            sent,
             rows,
         } = self;
         *factor = lambda;
         *fewest = u64::MAX;
+        clear_sets(sent);
         rows.clear();
     }
 
@@ -102,20 +110,7 @@ impl Queue {
             → length self.old.rows < MAX_QUEUED }
         ensures { self.new ≡ put_of claim self.old }
     {
-        // Built anew from its parts, since the checker doesn't follow a whole claim into a generic call.
-        let Claim {
-            name,
-            addr,
-            status,
-            incarnation,
-        } = claim;
-        let claim = Claim {
-            name,
-            addr,
-            status,
-            incarnation,
-        };
-        put_row(&mut self.rows, Queued::fresh(claim));
+        put_fresh(&mut self.rows, &mut self.sent, claim);
         self.fewest = 0;
     }
 
@@ -138,10 +133,10 @@ impl Queue {
     {
         let buddy = buddy_of(to);
         let limit = send_limit(self.lambda, live);
-        let taken = rows_taken(self.rows.as_slice(), &buddy, limit, self.fewest);
+        let taken = rows_taken(self.rows.as_slice(), &self.sent, &buddy, limit, self.fewest);
         write_claims(claims, &buddy, self.rows.as_slice(), taken.as_slice());
         self.fewest = fewest_after(taken.as_slice(), &buddy, limit, self.fewest);
-        count_sends(self.rows.as_mut_slice(), taken.as_slice());
+        count_sends(self.rows.as_mut_slice(), &mut self.sent, taken.as_slice());
     }
 
     /// The claims of the next packet, as `fill_into` writes them.

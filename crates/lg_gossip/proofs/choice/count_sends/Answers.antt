@@ -1,13 +1,14 @@
-use Rattle.std.proofs.Common.{arith}
+use Rattle.std.proofs.Common.{◌<◌, length, get_or, refl, arith}
+use Rattle.std.proofs.lemmas.Option.{slice_get_within, slice_get_read}
 use Rattle.lg_gossip.specs.declared.limit.TheConstants.{MAX_TIMES_SENT}
 use Rattle.lg_gossip.specs.Support.Places.{IsRowOf}
-use Rattle.lg_gossip.proofs.Counting.{count-none, count-next, sent-most}
+use Rattle.lg_gossip.proofs.Counting.{count-none, count-next, sent-either, sent-most}
 use Rattle.lg_gossip.proofs.Each.{holds_at}
 use Rattle.lg_gossip.proofs.Places.{within-at}
 use Rattle.lg_gossip.proofs.choice.count_sends.Goals as goal
 
 pub loop-row-init : goal.loop-row-init
-loop-row-init c = count-none c.args.rows.now
+loop-row-init c = record { rows = count-none c.args.rows.now; sets = c.requires.sets }
 
 pub overflow_add-rows : goal.overflow_add-rows
 overflow_add-rows c = omega (arith, sent-most MAX_TIMES_SENT c.args.rows.now _ c.requires.few (holds_at (IsRowOf c.args.rows.now) c.loop-row.row-index record { index = 0; sends = 0 } c.args.taken.now c.loop-row-test.true c.requires.places))
@@ -22,4 +23,27 @@ pub bounds-rows-row-in-loop-row : goal.bounds-rows-row-in-loop-row
 bounds-rows-row-in-loop-row c = omega (arith, c.loop-row.auto.rows, within-at c.args.rows.now c.loop-row.row-index record { index = 0; sends = 0 } c.args.taken.now c.loop-row-test.true c.requires.places)
 
 pub loop-row-preserved : goal.loop-row-preserved
-loop-row-preserved c = count-next c.args.rows.now c.loop-row.rows c.loop-row.row-index record { index = 0; sends = 0 } c.index-rows-row.result c.args.taken.now c.loop-row-test.true c.requires.places c.requires.order c.loop-row.invariant
+loop-row-preserved c = record {
+  rows = count-next c.args.rows.now c.loop-row.rows c.loop-row.row-index record {
+    index = 0;
+    sends =
+        0;
+  } c.index-rows-row.result c.args.taken.now c.loop-row-test.true c.requires.places c.requires.order
+      c.loop-row.invariant.rows;
+  sets = (
+      let rows = c.args.rows.now in
+      let t = get_or c.args.taken.now c.loop-row.row-index record { index = 0; sends = 0 } in
+      let one = holds_at
+      (IsRowOf rows) c.loop-row.row-index record {
+        index = 0;
+        sends =
+            0;
+      } c.args.taken.now c.loop-row-test.true c.requires.places in
+      let within : t.index < length c.loop-row.rows =
+      omega (arith, c.loop-row.auto.rows, slice_get_within rows t.index one.row one.stands) in
+      c.move_row.ensures c.loop-row.rows c.index-rows-row.result _ c.loop-row.invariant.sets
+      (slice_get_read c.loop-row.rows
+      (length c.loop-row.rows) t.index c.index-rows-row.result refl within c.index-rows-row.is)
+      (sent-either rows c.loop-row.rows _ c.index-rows-row.result t one c.loop-row.invariant.rows c.index-rows-row.is)
+      refl);
+}

@@ -1,10 +1,13 @@
-use Rattle.std.proofs.Common.{sym, ◌∙◌, ap, subst}
-use Rattle.lg_rules.specs.Meaning.Rows.{name_cmp, put_row}
-use Rattle.lg_gossip.specs.Meaning.Queue.{queued_name}
+use Rattle.std.proofs.Common.{sym, subst}
+use Rattle.lg_gossip.specs.Support.Sets.{AreSets}
 use Rattle.lg_gossip.specs.Support.Sound.{IsSound}
 use Rattle.lg_gossip.proofs.Soundness.{sound-put}
 use Rattle.lg_gossip.proofs.queue.Queue.put.Goals as goal
 
 pub invariant_of-self : goal.invariant_of-self
 invariant_of-self c =
-    subst (IsSound c.self.inside.lambda 0) (sym (c.put_row.ensures ∙ ap (λ r. put_row name_cmp queued_name r c.self.inside.rows.items) c.fresh.ensures)) (sound-put c.self.inside.lambda c.self.inside.fewest c.args.claim c.self.inside.rows.items c.self.invariant)
+    let rows = c.put_fresh.ensures.rows in
+    let sets = subst (AreSets c.put_fresh.new.sent) rows c.put_fresh.ensures.sets in
+    subst (λ qs. IsSound c.self.inside.lambda 0 c.put_fresh.new.sent qs) (sym rows)
+    (sound-put c.self.inside.lambda c.self.inside.fewest c.args.claim c.self.inside.sent c.put_fresh.new.sent
+    c.self.inside.rows.items c.self.invariant sets)

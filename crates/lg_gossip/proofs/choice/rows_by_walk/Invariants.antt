@@ -1,5 +1,5 @@
 use Rattle.lg_gossip.proofs.Choosing.{IsChosen}
-use Rattle.lg_gossip.proofs.choice.rows_taken.Given as goal
+use Rattle.lg_gossip.proofs.choice.rows_by_walk.Given as goal
 
 abbrev pub invariant-loop-index : goal.invariant-loop-index
 invariant-loop-index l = IsChosen l.buddy l.limit l.room l.rows l.index l.bound l.first.items

@@ -1,0 +1,195 @@
+-- The sets of rows by their sends, once a row was moved or a new one has its place.
+use Rattle.std.proofs.Common.{
+  ◌≡◌,
+  ◌≢◌,
+  ℕ,
+  zero,
+  suc,
+  ◌<◌,
+  ◌≤◌,
+  Bool,
+  true,
+  false,
+  List,
+  [],
+  ◌∷◌,
+  length,
+  get_or,
+  set,
+  replicate,
+  Some,
+  inl,
+  inr,
+  refl,
+  sym,
+  ◌∙◌,
+  ap,
+  arith,
+}
+use Rattle.std.specs.Prelude.{insert, nat_eq, slice_get}
+use Rattle.std.proofs.lemmas.Bool.{cases_eq, eq-eqb, ne_eqb}
+use Rattle.std.proofs.lemmas.List.{
+  set-get_or,
+  set-set,
+  get_or-set_same,
+  get_or-set_other,
+  get_or-replicate,
+  length-set,
+  length-replicate,
+}
+use Rattle.std.proofs.lemmas.Option.{slice_get_within, get_or_from_slice_get}
+use Rattle.lg_bit_set.specs.Meaning.Flags.{no_flags, flags_by, opened_flags}
+use Rattle.lg_bit_set.proofs.FilterLaws.{get_or-flags_by}
+use Rattle.lg_bit_set.proofs.Opening.{get_or-opened_flags}
+use Rattle.lg_bit_set.proofs.TestLaws.{length-flags_by, no_flags-flags_by, opened_flags-flags_by, set-flags_by}
+use Rattle.lg_gossip.specs.declared.queue.TheConstants.{MAX_QUEUED}
+use Rattle.lg_gossip.specs.declared.queued.Queued.{Queued}
+use Rattle.lg_gossip.specs.declared.sets.TheConstants.{SETS}
+use Rattle.lg_gossip.specs.Support.Sets.{was_sent, AreSets}
+
+-- to write what is there changes nothing
+pub set_same : {X : Type 0} (xs : List X) (i : ℕ) (x d : X) → get_or xs i d ≡ x → set xs i x ≡ xs
+set_same xs i x d e = ap (set xs i) (sym e) ∙ set-get_or xs i d
+
+-- and neither does it to write behind all there is
+pub set_past : {X : Type 0} (xs : List X) (i : ℕ) (x : X) → length xs ≤ i → set xs i x ≡ xs
+set_past [] i x l = refl
+set_past (y ∷ ys) zero x l = absurd (omega arith)
+set_past (y ∷ ys) (suc i) x l = ap (λ zs. y ∷ zs) (set_past ys i x (omega arith))
+
+-- one flag is written in the set of the rows that were sent so often
+abbrev pub with_flag : List (List Bool) → ℕ → ℕ → Bool → List (List Bool)
+with_flag sent sends index flag = set sent sends (set (get_or sent sends []) index flag)
+
+flag-here : (sent : List (List Bool)) (sends index : ℕ) (flag : Bool) (d : List Bool) → sends < length sent
+    → get_or (with_flag sent sends index flag) sends d ≡ set (get_or sent sends []) index flag
+flag-here sent sends index flag d l = get_or-set_same sent sends (set (get_or sent sends []) index flag) d l
+
+flag-other : (sent : List (List Bool)) (sends other index : ℕ) (flag : Bool) (d : List Bool) → other ≢ sends
+    → get_or (with_flag sent sends index flag) other d ≡ get_or sent other d
+flag-other sent sends other index flag d n =
+    get_or-set_other sent sends other (set (get_or sent sends []) index flag) d n
+
+length-flag : (sent : List (List Bool)) (sends index : ℕ) (flag : Bool)
+    → length (with_flag sent sends index flag) ≡ length sent
+length-flag sent sends index flag = length-set sent sends (set (get_or sent sends []) index flag)
+
+module _ (sent : List (List Bool)) (rows : List Queued) (row next : Queued) (index from to : ℕ)
+    (sets : AreSets sent rows)
+    (stands : slice_get rows index ≡ Some row) (was : row.sends ≢ from → row.sends ≡ to) (now : next.sends ≡ to) where
+  abbrev taken_out : List (List Bool)
+  taken_out = with_flag sent from index false
+
+  abbrev added : List (List Bool)
+  added = with_flag taken_out to index true
+
+  -- the flag of the row is written in the set of those that are sent as often as it is now
+  written : (sends : ℕ) (flag : Bool) → flag ≡ nat_eq to sends
+      → set (flags_by (was_sent sends) rows) index flag ≡ flags_by (was_sent sends) (set rows index next)
+  written sends flag e =
+      ap (set (flags_by (was_sent sends) rows) index) (e ∙ ap (λ n. nat_eq n sends) (sym now))
+      ∙ set-flags_by (was_sent sends) rows index next (slice_get_within rows index row stands)
+
+  -- the row is in no other set
+  not_there : (sends : ℕ) → sends ≢ from → sends ≢ to → get_or (flags_by (was_sent sends) rows) index false ≡ false
+  not_there sends f t =
+      get_or-flags_by (was_sent sends) rows index row (slice_get_within rows index row stands)
+      ∙ ap (was_sent sends) (get_or_from_slice_get rows index row row stands)
+      ∙ ne_eqb row.sends sends (λ e. elim (cases_eq row.sends from) [
+        | inl s ↦ f (sym e ∙ s)
+        | inr n ↦ t (sym e ∙ was n)
+      ])
+
+  set_to : (d : List Bool) → to < SETS → get_or added to d ≡ flags_by (was_sent to) (set rows index next)
+  set_to d l = flag-here taken_out to index true d (omega (arith, length-flag sent from index false, sets.long))
+      ∙ elim (cases_eq to from) [
+        | inl e ↦
+            ap (λ n. set (get_or taken_out n []) index true) e
+            ∙ ap (λ s. set s index true) (flag-here sent from index false [] (omega (arith, sets.long, e)))
+            ∙ set-set (get_or sent from []) index false true
+            ∙ ap (λ n. set (get_or sent n []) index true) (sym e)
+            ∙ ap (λ s. set s index true) (sets.each to [] l)
+            ∙ written to true (sym (eq-eqb to to refl))
+        | inr n ↦
+            ap (λ s. set s index true) (flag-other sent from to index false [] n ∙ sets.each to [] l)
+            ∙ written to true (sym (eq-eqb to to refl))
+      ]
+
+  set_other : (sends : ℕ) (d : List Bool) → sends < SETS → sends ≢ to
+      → get_or added sends d ≡ flags_by (was_sent sends) (set rows index next)
+  set_other sends d l n = flag-other taken_out to sends index true d n
+      ∙ elim (cases_eq sends from) [
+        | inl e ↦
+            ap (λ n. get_or taken_out n d) e
+            ∙ flag-here sent from index false d (omega (arith, sets.long, e))
+            ∙ ap (λ n. set (get_or sent n []) index false) (sym e)
+            ∙ ap (λ s. set s index false) (sets.each sends [] l)
+            ∙ written sends false (sym (ne_eqb to sends (λ w. n (sym w))))
+        | inr f ↦
+            flag-other sent from sends index false d f
+            ∙ sets.each sends d l
+            ∙ sym (set_same (flags_by (was_sent sends) rows) index false false (not_there sends f n))
+            ∙ written sends false (sym (ne_eqb to sends (λ w. n (sym w))))
+      ]
+
+  pub sets-moved : AreSets added (set rows index next)
+  sets-moved = record {
+    long = length-flag taken_out to index true ∙ length-flag sent from index false ∙ sets.long;
+    each = λ sends d l. elim (cases_eq sends to) [
+      | inl e ↦ ap (λ n. get_or added n d) e ∙ set_to d (omega (
+        arith,
+        l,
+        e,
+      )) ∙ ap (λ n. flags_by (was_sent n) (set rows index next)) (sym e)
+      | inr n ↦ set_other sends d l n
+    ];
+  }
+
+module _ (sent opened : List (List Bool)) (rows : List Queued) (row : Queued) (index : ℕ) (sets : AreSets sent rows)
+    (long : length opened ≡ SETS)
+    (each : (sends : ℕ) (d : List Bool) → sends < SETS
+    → get_or opened sends d ≡ opened_flags index (get_or sent sends d))
+    (few : length rows < MAX_QUEUED) (within : index ≤ length rows) (none : row.sends ≡ 0) where
+  -- a place is open in the set of the rows that were sent so often
+  open_place : (sends : ℕ) (d : List Bool) → sends < SETS
+      → get_or opened sends d ≡ opened_flags index (flags_by (was_sent sends) rows)
+  open_place sends d l = each sends d l ∙ ap (opened_flags index) (sets.each sends d l)
+
+  filled_place : (sends : ℕ) (flag : Bool) → flag ≡ nat_eq 0 sends
+      → set (opened_flags index (flags_by (was_sent sends) rows)) index flag ≡ flags_by (was_sent sends)
+      (insert rows index row)
+  filled_place sends flag e =
+      ap (set (opened_flags index (flags_by (was_sent sends) rows)) index) (e ∙ ap (λ n. nat_eq n sends) (sym none))
+      ∙ opened_flags-flags_by (was_sent sends) rows index row few within
+
+  pub sets-opened : AreSets (with_flag opened 0 index true) (insert rows index row)
+  sets-opened = record {
+    long = length-flag opened 0 index true ∙ long;
+    each = λ sends d l. elim (cases_eq sends 0) [
+      | inl e ↦
+          ap (λ n. get_or (with_flag opened 0 index true) n d) e
+          ∙ flag-here opened 0 index true d (omega (arith, long, l))
+          ∙ ap (λ s. set s index true) (open_place 0 [] (omega (arith, l)))
+          ∙ filled_place 0 true refl
+          ∙ ap (λ n. flags_by (was_sent n) (insert rows index row)) (sym e)
+      | inr n ↦
+          let many = length-flags_by (was_sent sends) rows (omega (arith, few)) in
+          flag-other opened 0 sends index true d n
+          ∙ open_place sends d l
+          ∙ sym (set_same (opened_flags index (flags_by (was_sent sends) rows)) index false false
+          (get_or-opened_flags (flags_by (was_sent sends) rows) index (omega (arith, many, few, within))))
+          ∙ filled_place sends false (sym (ne_eqb 0 sends (λ e. n (sym e))))
+    ];
+  }
+
+-- where there are no rows, no set has one
+pub sets-none : (flags : List Bool) → flags ≡ no_flags → AreSets (replicate SETS flags) []
+sets-none flags e = record {
+  long = length-replicate SETS flags;
+  each = λ sends d l. get_or-replicate SETS sends flags d l ∙ e ∙ sym (no_flags-flags_by (was_sent sends));
+}
+
+pub sets-cleared : (sent : List (List Bool)) → length sent ≡ SETS
+    → ((sends : ℕ) (d : List Bool) → sends < SETS → get_or sent sends d ≡ no_flags) → AreSets sent []
+sets-cleared sent long clear =
+    record { long = long; each = λ sends d l. clear sends d l ∙ sym (no_flags-flags_by (was_sent sends)) }

@@ -1,0 +1,119 @@
+//! The rows of the queue by how often they were sent: a set of indexes for each number of sends.
+//!
+//! Defined in: `specs/Support/Sets.antt`.
+//! Tested in: `lg_detector_tests/src/gossip.rt`.
+ghost use Rattle.std.specs.Prelude.{◌≡◌, ◌≢◌, ◌≤◌, ◌<◌, ℕ, List, [], Bool, true, false, length, Some};
+ghost use Rattle.std.specs.Prelude.{None, slice_get, slice_index_or, slice_set, insert};
+ghost use Rattle.arrayvec.specs.ArrayVec.{array_vec_len};
+ghost use Rattle.lg_bit_set.specs.Meaning.Flags.{opened_flags};
+ghost use Rattle.lg_gossip.specs.declared.queued.Queued.{Queued as Row};
+ghost use Rattle.lg_rules.specs.Meaning.Rows.{name_cmp, put_row, row_at};
+ghost use Rattle.lg_gossip.specs.Meaning.Queue.{fresh, queued_name};
+ghost use Rattle.lg_gossip.specs.Support.Sets.{AreSets};
+ghost use Rattle.lg_gossip.specs.Support.Sound.{AreInOrder};
+
+use crate::queue::MAX_QUEUED;
+use crate::queued::Queued;
+use arrayvec::ArrayVec;
+use lg_bit_set::{BitSet, NUMBERS};
+use lg_rules::{Claim, index_of};
+
+/// How many sets of rows there are: 30, the greatest retransmit limit of a group of at most 256 members. The set at an
+/// index has the indexes of the rows that were sent exactly so often. A row that was sent more often is in no set.
+pub(crate) const SETS: usize = 30;
+
+/// Takes all rows out of the sets.
+pub(crate) fn clear_sets(sent: &mut [BitSet; SETS])
+    ensures { (rows : List Row) → AreSets sent.old rows → AreSets sent.new [] }
+{
+    for sends in 0..SETS {
+        sent[sends].clear();
+    }
+}
+
+/// A set without an index, which may be any number.
+pub(crate) fn without(set: &BitSet, index: usize) -> BitSet
+    requires { length set.now ≤ NUMBERS }
+    ensures { result ≡ slice_set set.now index false }
+{
+    let mut rest = *set;
+    if index < NUMBERS {
+        rest.remove(index as u8);
+    }
+    rest
+}
+
+/// Takes an index out of the set of the rows that were sent so often, if there is such a set.
+fn take_out(sent: &mut [BitSet; SETS], sends: usize, index: u8)
+    ensures { sent.new ≡ slice_set sent.old sends (slice_set (slice_index_or sent.old sends []) index false) }
+{
+    if sends < SETS {
+        sent[sends].remove(index);
+    }
+}
+
+/// Adds an index to the set of the rows that were sent so often, if there is such a set.
+fn add_to(sent: &mut [BitSet; SETS], sends: usize, index: u8)
+    ensures { sent.new ≡ slice_set sent.old sends (slice_set (slice_index_or sent.old sends []) index true) }
+{
+    if sends < SETS {
+        sent[sends].insert(index);
+    }
+}
+
+/// Moves the row at an index to the set of the rows that were sent `to` times. It was sent `from` times, or was moved
+/// there already.
+pub(crate) fn move_row(sent: &mut [BitSet; SETS], index: u8, from: usize, to: usize)
+    ensures { (rows : List Row) (row next : Row) → AreSets sent.old rows → slice_get rows index ≡ Some row
+        → (row.sends ≢ from → row.sends ≡ to) → next.sends ≡ to → AreSets sent.new (slice_set rows index next) }
+{
+    take_out(sent, from, index);
+    add_to(sent, to, index);
+}
+
+/// Opens the place of an index in each set.
+fn open_sets(sent: &mut [BitSet; SETS], index: u8)
+    ensures size { length sent.new ≡ length sent.old }
+    ensures flags { (sends : ℕ) (d : List Bool) → sends < SETS
+        → slice_index_or sent.new sends d ≡ opened_flags index (slice_index_or sent.old sends d) }
+{
+    for sends in 0..SETS {
+        sent[sends].open(index);
+    }
+}
+
+/// Makes room for a new row at an index, which no packet has taken yet.
+pub(crate) fn open_row(sent: &mut [BitSet; SETS], index: u8)
+    ensures { (rows : List Row) (row : Row) → AreSets sent.old rows → length rows < MAX_QUEUED → index ≤ length rows
+        → row.sends ≡ 0 → AreSets sent.new (insert rows index row) }
+{
+    open_sets(sent, index);
+    add_to(sent, 0, index);
+}
+
+/// Puts a claim with no sends among the rows, which have to be in the order of their names: replaces the row about its
+/// member, or inserts one if there is none.
+pub(crate) fn put_fresh(
+    rows: &mut ArrayVec<Queued, MAX_QUEUED>,
+    sent: &mut [BitSet; SETS],
+    claim: Claim,
+)
+    requires room { (row_at name_cmp queued_name claim.name rows.old.items ≡ None)
+        → array_vec_len rows.old < MAX_QUEUED }
+    requires order { AreInOrder rows.old.items }
+    requires sets { AreSets sent.old rows.old.items }
+    ensures rows { rows.new.items ≡ put_row name_cmp queued_name (fresh claim) rows.old.items }
+    ensures sets { AreSets sent.new rows.new.items }
+{
+    match index_of(rows.as_slice(), &claim.name) {
+        Ok(index) => {
+            let sends = rows[index].sends as usize;
+            rows[index] = Queued::fresh(claim);
+            move_row(sent, index as u8, sends, 0);
+        }
+        Err(index) => {
+            rows.insert(index, Queued::fresh(claim));
+            open_row(sent, index as u8);
+        }
+    }
+}
