@@ -163,7 +163,9 @@ take-found sends k number flags e =
     let at : slice_get ts k ≡ Some t = slice_get-map (place sends) (numbers_of flags) k
     ∙ ap (option_map (place sends)) e in
     let next : k + 1 ≡ suc k = omega arith in
-    rw next (ap (λ x. take k ts ++ x ∷ []) (sym (get_or_from_slice_get ts k t t at)) ∙ sym (take-suc ts k t (slice_get_within ts k t at)))
+    rw next
+    (ap (λ x. take k ts ++ x ∷ []) (sym (get_or_from_slice_get ts k t t at))
+    ∙ sym (take-suc ts k t (slice_get_within ts k t at)))
 
 -- The set has no more.
 pub places_end : (sends k : ℕ) (flags : List Bool) → slice_get (numbers_of flags) k ≡ None

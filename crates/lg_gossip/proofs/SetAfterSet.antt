@@ -19,21 +19,28 @@ use Rattle.std.proofs.Common.{
   ap,
   subst,
   arith,
+  ◌<◌,
+  get_or,
+  set,
+  not,
+  false,
 }
 use Rattle.std.specs.List.{AllByRecursion}
+use Rattle.std.specs.Prelude.{nat_eq}
 use Rattle.std.proofs.lemmas.List.{take_all, take-append-le}
 use Rattle.std.proofs.lemmas.List.Elements.{filter_map-append}
 use Rattle.lg_bit_set.specs.Meaning.Flags.{flags_by}
 use Rattle.lg_rules.specs.declared.claim.Claim.{Claim}
 use Rattle.lg_gossip.specs.declared.choice.TakenRow.{TakenRow}
 use Rattle.lg_gossip.specs.declared.queued.Queued.{Queued}
-use Rattle.lg_gossip.specs.Meaning.Queue.{room_beside, rows_taken}
+use Rattle.lg_gossip.specs.Meaning.Queue.{is_beside, room_beside, rows_taken}
 use Rattle.lg_gossip.specs.Support.Places.{IsRowOf, HasTaken, rows_at}
-use Rattle.lg_gossip.specs.Support.Sets.{places_of}
+use Rattle.lg_gossip.specs.declared.sets.TheConstants.{SETS}
+use Rattle.lg_gossip.specs.Support.Sets.{AreSets, places_of}
 use Rattle.lg_gossip.specs.Support.Sound.{AreInOrder}
 use Rattle.lg_gossip.proofs.BySets.{may_at, at_sends, fewer, exactly, one_more_set}
 use Rattle.lg_gossip.proofs.Each.{all-append, all-take}
-use Rattle.lg_gossip.proofs.OfSet.{places_of-flags_by, rows_at-flags_by}
+use Rattle.lg_gossip.proofs.OfSet.{places_of-flags_by, rows_at-flags_by, set_beside}
 use Rattle.lg_gossip.proofs.Places.{length-at, take-at}
 
 -- the first so many of the first so many with more behind them
@@ -61,8 +68,9 @@ module _ (buddy : Option Claim) (rows : List Queued) (o : AreInOrder rows) where
       let found_rows = rows_at-flags_by sends (may_at buddy sends) (at_sends buddy sends) rows in
       let all = all-append (IsRowOf rows) taken found h.places found_are in
       let next : suc sends ≡ sends + 1 = omega arith in
-      let same : now ≡ take (room_beside buddy) (taken ++ found) = is
-      ∙ ap (λ n. take n (taken ++ places_of sends set)) r ∙ ap (λ s. take (room_beside buddy) (taken ++ places_of sends s)) e in
+      let same : now ≡ take (room_beside buddy) (taken ++ found) =
+      is ∙ ap (λ n. take n (taken ++ places_of sends set)) r
+      ∙ ap (λ s. take (room_beside buddy) (taken ++ places_of sends s)) e in
       let shown : rows_at rows (taken ++ found) ≡ rows_taken buddy sends rows ++ exactly buddy sends rows =
       filter_map-append _ taken found
       ∙ ap (λ qs. qs ++ rows_at rows found) h.chosen ∙ ap (λ qs. rows_taken buddy sends rows ++ qs) found_rows in
@@ -75,6 +83,18 @@ module _ (buddy : Option Claim) (rows : List Queued) (o : AreInOrder rows) where
             ∙ next_rows sends
             ∙ ap (λ n. rows_taken buddy n rows) next;
       }
+
+  -- the same, if the set of all rows that were sent so often is read, and the index of the buddy's row is left out
+  pub takes_beside : (sends room passed_over : ℕ) (taken now : List TakenRow) (sent : List (List Bool))
+      (d left : List Bool)
+      → room ≡ room_beside buddy → sends < SETS → AreSets sent rows
+      → ((k : ℕ) (q : Queued) → k < length rows → is_beside buddy (get_or rows k q) ≡ not (nat_eq k passed_over))
+      → HasTaken buddy sends rows taken
+      → left ≡ set (get_or sent sends d) passed_over false
+      → now ≡ take room (taken ++ places_of sends left) → HasTaken buddy (sends + 1) rows now
+  takes_beside sends room passed_over taken now sent d left r within sets beside h rest is =
+      let flags = ap (λ s. set s passed_over false) (sets.each sends d within) in
+      takes_set sends room taken now left r h (rest ∙ flags ∙ set_beside buddy sends passed_over rows beside) is
 
   -- where there is no room for more, none of the further sets has a row that is taken
   pub takes_no_more : (more sends : ℕ) (taken : List TakenRow) → length taken ≡ room_beside buddy

@@ -14,7 +14,7 @@ use crate::queued::Queued;
 use crate::sets::{SETS, clear_sets, put_fresh};
 use arrayvec::ArrayVec;
 use lg_bit_set::BitSet;
-use lg_rules::{Claim, MAX_CLAIMS, MAX_LAMBDA, MAX_MEMBERS, Record, index_of};
+use lg_rules::{Claim, MAX_CLAIMS, MAX_LAMBDA, MAX_MEMBERS, Record};
 use std::marker::Model;
 
 /// The most claims of a queue: 256, one for each member (this project's choice).
@@ -32,7 +32,7 @@ pub struct Queue {
     lambda: u64,
     /// No claim was sent less often than this, so that a packet needn't look at all of them.
     fewest: u64,
-    /// The indexes of the rows that were sent exactly so often: a set for each number of sends below 30.
+    /// The indexes of the rows by how often they were sent: a set for each number of sends below 30.
     sent: [BitSet; SETS],
     rows: ArrayVec<Queued, MAX_QUEUED>,
 }

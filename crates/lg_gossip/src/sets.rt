@@ -16,11 +16,12 @@ use crate::queue::MAX_QUEUED;
 use crate::queued::Queued;
 use arrayvec::ArrayVec;
 use lg_bit_set::{BitSet, NUMBERS};
-use lg_rules::{Claim, index_of};
+use lg_rules::{Claim, MAX_LAMBDA, index_of};
 
-/// How many sets of rows there are: 30, the greatest retransmit limit of a group of at most 256 members. The set at an
-/// index has the indexes of the rows that were sent exactly so often. A row that was sent more often is in no set.
-pub(crate) const SETS: usize = 30;
+/// How many sets of rows there are: 30, the greatest retransmit limit of a group of up to 256 members, whose number has
+/// three digits (this project's choice). Each set has the indexes of the rows that were sent exactly as often as its
+/// own index says. A row that was sent 30 times or more is in no set.
+pub(crate) const SETS: usize = 3 * MAX_LAMBDA as usize;
 
 /// Takes all rows out of the sets.
 pub(crate) fn clear_sets(sent: &mut [BitSet; SETS])

@@ -48,6 +48,7 @@ returns-clause-taken c =
     record {
       places = c.loop-index.invariant.places;
       chosen = c.loop-index.invariant.chosen
-          ∙ ap (λ qs. take c.room_beside-room.result (by_sends (filter p qs))) (take_all c.loop-index.index rows c.loop-index-test.false)
+          ∙ ap (λ qs. take c.room_beside-room.result (by_sends (filter p qs)))
+          (take_all c.loop-index.index rows c.loop-index-test.false)
           ∙ ap (λ n. take n (by_sends (filter p rows))) c.room_beside-room.ensures.room;
     }

@@ -25,9 +25,10 @@ returns-in-Ok-clause-sets c =
 
 pub returns-in-Err-clause-sets : goal.returns-in-Err-clause-sets
 returns-in-Err-clause-sets c =
+    let read = c.as_slice.ensures.value in
+    let missing =
+    ap (λ qs. row_at name_cmp queued_name c.args.claim.name qs) (sym read) ∙ c.in-Err.ensures.missing in
     subst (AreSets c.open_row.new.sent) (sym c.insert.ensures.items)
-    (c.open_row.ensures c.args.rows.now.items c.fresh-in-Err.result c.requires.sets
-    (c.requires.room
-    (ap (λ qs. row_at name_cmp queued_name c.args.claim.name qs) (sym c.as_slice.ensures.value) ∙ c.in-Err.ensures.missing))
-    (omega (arith, c.in-Err.ensures.within, ap length c.as_slice.ensures.value))
+    (c.open_row.ensures c.args.rows.now.items c.fresh-in-Err.result c.requires.sets (c.requires.room missing)
+    (omega (arith, c.in-Err.ensures.within, ap length read))
     (ap (λ q. q.sends) c.fresh-in-Err.ensures))

@@ -27,13 +27,18 @@ invariant_of-self c =
           c.rows_taken-taken.ensures.taken.chosen;
     } in
     let least = c.fewest_after-self-inside.ensures rows c.self.invariant.in_order taken c.self.invariant.least in
-    subst (λ qs. IsSound c.self.inside.lambda now c.count_sends.new.sent qs) (sym (counted-whole rows c.as_mut_slice.result.now _ _ _ _ c.buddy_of-buddy.result c.send_limit-limit.result c.as_slice.ensures.value c.as_slice-5.ensures.value c.rows_taken-taken.ensures.taken.chosen c.as_mut_slice.ensures.value c.count_sends.ensures.sends))
-    (sound-sent c.self.inside.lambda limit c.self.inside.fewest now buddy c.self.inside.sent c.count_sends.new.sent
-    rows c.send_limit-limit.ensures.most c.self.invariant least
-    (subst (AreSets c.count_sends.new.sent)
-    (counted-each rows c.as_mut_slice.result.now _ _ _ _ buddy limit c.as_slice.ensures.value
-    c.as_slice-5.ensures.value c.rows_taken-taken.ensures.taken.chosen c.as_mut_slice.ensures.value
-    c.count_sends.ensures.sends) c.count_sends.ensures.sets))
+    let read = c.as_slice.ensures.value in
+    let shown = c.as_slice-5.ensures.value in
+    let written = c.as_mut_slice.ensures.value in
+    let chosen = c.rows_taken-taken.ensures.taken.chosen in
+    let counted = c.count_sends.ensures.sends in
+    let again = c.as_mut_slice.result.now in
+    let each = counted-each rows again _ _ _ _ buddy limit read shown chosen written counted in
+    let whole = counted-whole rows again _ _ _ _ buddy limit read shown chosen written counted in
+    let sets = subst (AreSets c.count_sends.new.sent) each c.count_sends.ensures.sets in
+    subst (λ qs. IsSound c.self.inside.lambda now c.count_sends.new.sent qs) (sym whole)
+    (sound-sent c.self.inside.lambda limit c.self.inside.fewest now buddy c.self.inside.sent c.count_sends.new.sent rows
+    c.send_limit-limit.ensures.most c.self.invariant least sets)
 
 pub returns-clause-apart : goal.returns-clause-apart
 returns-clause-apart c =
