@@ -20,12 +20,11 @@ use Rattle.std.proofs.Common.{
   ap,
   arith,
 }
-use Rattle.std.specs.Prelude.{filter, nat_eq, nat_lt}
+use Rattle.std.specs.Prelude.{Option, filter, nat_eq, nat_lt}
 use Rattle.std.specs.List.{AllByRecursion}
 use Rattle.std.specs.declared.cmp.Ordering.TheVariants.{Less}
 use Rattle.std.proofs.lemmas.Bool.{cases_Bool, cases_lt, lt-ltb, le-ltb, eq-eqb, ne_eqb}
 use Rattle.lg_rules.specs.declared.claim.Claim.{Claim}
-use Rattle.std.specs.Prelude.{Option}
 use Rattle.lg_rules.specs.Meaning.Rows.{name_cmp}
 use Rattle.lg_rules.proofs.Tests.{both}
 use Rattle.lg_gossip.specs.declared.queued.Queued.{Queued}
@@ -75,7 +74,7 @@ may_at buddy sends q = was_sent sends q && is_beside buddy q
 pub at_sends : (buddy : Option Claim) (sends : ℕ) (q : Queued) → may_at buddy sends q ≡ true → q.sends ≡ sends
 at_sends buddy sends q e = grind (arith, (both (was_sent sends q) (is_beside buddy q) e).0)
 
-and_false : (b : Bool) → (b && false) ≡ false
+pub and_false : (b : Bool) → (b && false) ≡ false
 and_false true = refl
 and_false false = refl
 
@@ -102,35 +101,25 @@ module _ (buddy : Option Claim) (sends : ℕ) where
       → by_sends (filter (may_go buddy (suc sends)) rows) ≡ fewer rows ++ exactly rows
   one_more_set [] o = refl
   one_more_set (q ∷ qs) o = elim (cases_Bool (is_beside buddy q)) [
-    | inr same ↦ rw (
-      same,
-      and_false (nat_lt q.sends (suc sends)),
-      and_false (nat_lt q.sends sends),
-      and_false
-          (nat_eq q.sends sends),
-    )
-        (one_more_set qs o.1)
+    | inr same ↦
+        let next = and_false (nat_lt q.sends (suc sends)) in
+        let before = and_false (nat_lt q.sends sends) in
+        let here = and_false (nat_eq q.sends sends) in
+        rw (same, next, before, here) (one_more_set qs o.1)
     | inl beside ↦ elim (cases_lt q.sends sends) [
-      | inl l ↦ rw (
-        beside,
-        lt-ltb q.sends sends l,
-        lt-ltb q.sends (suc sends) (omega arith),
-        ne_eqb q.sends sends
-            (omega arith),
-      )
+      | inl l ↦
+          let next = lt-ltb q.sends (suc sends) (omega arith) in
+          let here = ne_eqb q.sends sends (omega arith) in
+          rw (beside, lt-ltb q.sends sends l, next, here)
           (ap (put_by_sends q) (one_more_set qs o.1)
           ∙ put-front q (fewer qs) (exactly qs)
           (all-both _ _ _ (exactly qs)
           (λ r e _. sooner_sent q r (omega (arith, e, l))) (exactly_sent qs) (exactly_sent qs)))
       | inr g ↦ elim (cases_lt sends q.sends) [
-        | inl m ↦ rw (
-          beside,
-          le-ltb q.sends sends g,
-          le-ltb q.sends (suc sends) (omega arith),
-          ne_eqb q.sends sends
-              (omega arith),
-        )
-            (one_more_set qs o.1)
+        | inl m ↦
+            let next = le-ltb q.sends (suc sends) (omega arith) in
+            let here = ne_eqb q.sends sends (omega arith) in
+            rw (beside, le-ltb q.sends sends g, next, here) (one_more_set qs o.1)
         | inr h ↦
             let same : q.sends ≡ sends = omega arith in
             rw (beside, le-ltb q.sends sends g, lt-ltb q.sends (suc sends) (omega arith), eq-eqb q.sends sends same)

@@ -75,8 +75,8 @@ length-flag : (sent : List (List Bool)) (sends index : ℕ) (flag : Bool)
 length-flag sent sends index flag = length-set sent sends (set (get_or sent sends []) index flag)
 
 module _ (sent : List (List Bool)) (rows : List Queued) (row next : Queued) (index from to : ℕ)
-    (sets : AreSets sent rows)
-    (stands : slice_get rows index ≡ Some row) (was : row.sends ≢ from → row.sends ≡ to) (now : next.sends ≡ to) where
+    (sets : AreSets sent rows) (stands : slice_get rows index ≡ Some row)
+    (was : row.sends ≢ from → row.sends ≡ to) (now : next.sends ≡ to) where
   abbrev taken_out : List (List Bool)
   taken_out = with_flag sent from index false
 
@@ -136,11 +136,9 @@ module _ (sent : List (List Bool)) (rows : List Queued) (row next : Queued) (ind
   sets-moved = record {
     long = length-flag taken_out to index true ∙ length-flag sent from index false ∙ sets.long;
     each = λ sends d l. elim (cases_eq sends to) [
-      | inl e ↦ ap (λ n. get_or added n d) e ∙ set_to d (omega (
-        arith,
-        l,
-        e,
-      )) ∙ ap (λ n. flags_by (was_sent n) (set rows index next)) (sym e)
+      | inl e ↦
+          ap (λ n. get_or added n d) e ∙ set_to d (omega (arith, l, e))
+          ∙ ap (λ n. flags_by (was_sent n) (set rows index next)) (sym e)
       | inr n ↦ set_other sends d l n
     ];
   }
@@ -156,8 +154,8 @@ module _ (sent opened : List (List Bool)) (rows : List Queued) (row : Queued) (i
   open_place sends d l = each sends d l ∙ ap (opened_flags index) (sets.each sends d l)
 
   filled_place : (sends : ℕ) (flag : Bool) → flag ≡ nat_eq 0 sends
-      → set (opened_flags index (flags_by (was_sent sends) rows)) index flag ≡ flags_by (was_sent sends)
-      (insert rows index row)
+      → set (opened_flags index (flags_by (was_sent sends) rows)) index flag
+      ≡ flags_by (was_sent sends) (insert rows index row)
   filled_place sends flag e =
       ap (set (opened_flags index (flags_by (was_sent sends) rows)) index) (e ∙ ap (λ n. nat_eq n sends) (sym none))
       ∙ opened_flags-flags_by (was_sent sends) rows index row few within

@@ -51,9 +51,10 @@ use Rattle.lg_gossip.specs.declared.queued.Queued.{Queued}
 use Rattle.lg_gossip.specs.Meaning.Queue.{is_beside}
 use Rattle.lg_gossip.specs.Support.Places.{IsRowOf, rows_at}
 use Rattle.lg_gossip.specs.Support.Sets.{was_sent, places_of}
-use Rattle.lg_gossip.proofs.BySets.{may_at}
+use Rattle.lg_gossip.proofs.BySets.{may_at, and_false}
 use Rattle.lg_gossip.proofs.Moving.{set_same}
 
+-- the place of a row with this index that was sent so often
 abbrev pub place : ℕ → ℕ → TakenRow
 place sends n = record { index = n; sends = sends }
 
@@ -90,19 +91,14 @@ module _ (sends : ℕ) (test : Queued → Bool) (exact : (q : Queued) → test q
       let rest = has_places more xs in
       let flags = map test xs ++ replicate more false in
       let behind : numbers_from 1 flags ≡ map (λ n. 1 + n) (numbers_of flags) = numbers_from-add 1 0 flags in
+      let places = places_behind sends x xs (numbers_of flags) rest.places in
+      let shown = rows_behind sends x xs (numbers_of flags) ∙ rest.shown in
       elim (cases_Bool (test x)) [
-        | inl t ↦ rw (t, behind) (record {
-          places = (
-            record { row = x; stands = refl; sends = sym (exact x t) },
-            places_behind sends x xs
-                (numbers_of flags) rest.places,
-          );
-          shown = ap (λ rs. x ∷ rs) (rows_behind sends x xs (numbers_of flags) ∙ rest.shown);
-        })
-        | inr f ↦ rw (f, behind) (record {
-          places = places_behind sends x xs (numbers_of flags) rest.places;
-          shown = rows_behind sends x xs (numbers_of flags) ∙ rest.shown;
-        })
+        | inl t ↦
+            let first : IsRowOf (x ∷ xs) (place sends 0) =
+            record { row = x; stands = refl; sends = sym (exact x t) } in
+            rw (t, behind) (record { places = (first, places); shown = ap (λ rs. x ∷ rs) shown })
+        | inr f ↦ rw (f, behind) (record { places = places; shown = shown })
       ]
 
   pub places_of-flags_by : (rows : List Queued) → AllByRecursion (IsRowOf rows) (places_of sends (flags_by test rows))
@@ -117,10 +113,6 @@ module _ (sends : ℕ) (test : Queued → Bool) (exact : (q : Queued) → test q
 and_true : (b : Bool) → (b && true) ≡ b
 and_true true = refl
 and_true false = refl
-
-and_false : (b : Bool) → (b && false) ≡ false
-and_false true = refl
-and_false false = refl
 
 module _ (buddy : Option Claim) (sends passed_over : ℕ) where
   beside_others : (q : Queued) (k : ℕ) → is_beside buddy q ≡ not (nat_eq k passed_over) → (k ≡ passed_over → ⊥)
@@ -155,13 +147,12 @@ module _ (buddy : Option Claim) (sends passed_over : ℕ) where
 
 -- One more of some places.
 pub take-found : (sends k number : ℕ) (flags : List Bool) → slice_get (numbers_of flags) k ≡ Some number
-    → take k (places_of sends flags) ++ record { index = number; sends = sends } ∷ [] ≡ take (k + 1)
-    (places_of sends flags)
+    → take k (places_of sends flags) ++ place sends number ∷ [] ≡ take (k + 1) (places_of sends flags)
 take-found sends k number flags e =
     let ts = places_of sends flags in
-    let t : TakenRow = record { index = number; sends = sends } in
-    let at : slice_get ts k ≡ Some t = slice_get-map (place sends) (numbers_of flags) k
-    ∙ ap (option_map (place sends)) e in
+    let t = place sends number in
+    let at : slice_get ts k ≡ Some t =
+    slice_get-map (place sends) (numbers_of flags) k ∙ ap (option_map (place sends)) e in
     let next : k + 1 ≡ suc k = omega arith in
     rw next
     (ap (λ x. take k ts ++ x ∷ []) (sym (get_or_from_slice_get ts k t t at))
@@ -171,8 +162,9 @@ take-found sends k number flags e =
 pub places_end : (sends k : ℕ) (flags : List Bool) → slice_get (numbers_of flags) k ≡ None
     → length (places_of sends flags) ≤ k
 places_end sends k flags e = elim (cases_lt k (length (numbers_of flags))) [
-  | inl l ↦ (let found : None ≡ Some (get_or (numbers_of flags) k 0) = sym e
-      ∙ slice_get-get_or (numbers_of flags) k 0 l in absurd cc)
+  | inl l ↦
+      let found : None ≡ Some (get_or (numbers_of flags) k 0) = sym e ∙ slice_get-get_or (numbers_of flags) k 0 l in
+      absurd cc
   | inr g ↦ omega (arith, g, length-map (numbers_of flags) (place sends))
 ]
 

@@ -1,5 +1,6 @@
 use Rattle.std.proofs.Common.{◌<◌, length, get_or, refl, arith}
 use Rattle.std.proofs.lemmas.Option.{slice_get_within, slice_get_read}
+use Rattle.lg_gossip.specs.declared.choice.TakenRow.{TakenRow}
 use Rattle.lg_gossip.specs.declared.limit.TheConstants.{MAX_TIMES_SENT}
 use Rattle.lg_gossip.specs.Support.Places.{IsRowOf}
 use Rattle.lg_gossip.proofs.Counting.{count-none, count-next, sent-either, sent-most}
@@ -23,27 +24,21 @@ pub bounds-rows-row-in-loop-row : goal.bounds-rows-row-in-loop-row
 bounds-rows-row-in-loop-row c = omega (arith, c.loop-row.auto.rows, within-at c.args.rows.now c.loop-row.row-index record { index = 0; sends = 0 } c.args.taken.now c.loop-row-test.true c.requires.places)
 
 pub loop-row-preserved : goal.loop-row-preserved
-loop-row-preserved c = record {
-  rows = count-next c.args.rows.now c.loop-row.rows c.loop-row.row-index record {
-    index = 0;
-    sends =
-        0;
-  } c.index-rows-row.result c.args.taken.now c.loop-row-test.true c.requires.places c.requires.order
-      c.loop-row.invariant.rows;
-  sets = (
-      let rows = c.args.rows.now in
-      let t = get_or c.args.taken.now c.loop-row.row-index record { index = 0; sends = 0 } in
-      let one = holds_at
-      (IsRowOf rows) c.loop-row.row-index record {
-        index = 0;
-        sends =
-            0;
-      } c.args.taken.now c.loop-row-test.true c.requires.places in
-      let within : t.index < length c.loop-row.rows =
-      omega (arith, c.loop-row.auto.rows, slice_get_within rows t.index one.row one.stands) in
-      c.move_row.ensures c.loop-row.rows c.index-rows-row.result _ c.loop-row.invariant.sets
-      (slice_get_read c.loop-row.rows
-      (length c.loop-row.rows) t.index c.index-rows-row.result refl within c.index-rows-row.is)
-      (sent-either rows c.loop-row.rows _ c.index-rows-row.result t one c.loop-row.invariant.rows c.index-rows-row.is)
-      refl);
-}
+loop-row-preserved c =
+    let rows = c.args.rows.now in
+    let now = c.loop-row.rows in
+    let row = c.index-rows-row.result in
+    let places = c.args.taken.now in
+    let d : TakenRow = record { index = 0; sends = 0 } in
+    let t = get_or places c.loop-row.row-index d in
+    let one = holds_at (IsRowOf rows) c.loop-row.row-index d places c.loop-row-test.true c.requires.places in
+    let within : t.index < length now =
+    omega (arith, c.loop-row.auto.rows, slice_get_within rows t.index one.row one.stands) in
+    let stands = slice_get_read now (length now) t.index row refl within c.index-rows-row.is in
+    let either = sent-either rows now _ row t one c.loop-row.invariant.rows c.index-rows-row.is in
+    record {
+      rows =
+          count-next rows now c.loop-row.row-index d row places c.loop-row-test.true c.requires.places c.requires.order
+          c.loop-row.invariant.rows;
+      sets = c.move_row.ensures now row _ c.loop-row.invariant.sets stands either refl;
+    }

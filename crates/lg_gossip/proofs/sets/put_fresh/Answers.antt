@@ -15,9 +15,10 @@ returns-in-Ok-clause-sets c =
     let row = c.index-deref-index.result in
     let next = c.fresh.result in
     let within : index < length rows = omega (arith, c.in-Ok.ensures.within, ap length c.as_slice.ensures.value) in
-    let read : row ≡ get_or rows index row = c.index-deref-index.is
-    ∙ ap (λ qs. get_or qs index row) c.deref.ensures.0 in
-    let whole = refill-whole (length rows) rows (slice_set c.deref_mut.result.now index next)
+    let read : row ≡ get_or rows index row =
+    c.index-deref-index.is ∙ ap (λ qs. get_or qs index row) c.deref.ensures.0 in
+    let whole =
+    refill-whole (length rows) rows (slice_set c.deref_mut.result.now index next)
     (length-set c.deref_mut.result.now index next ∙ ap length c.deref_mut.ensures.value) in
     subst (AreSets c.move_row.new.sent) (sym (whole ∙ ap (λ qs. slice_set qs index next) c.deref_mut.ensures.value))
     (c.move_row.ensures rows row next c.requires.sets (slice_get_read rows (length rows) index row refl within read)
