@@ -1,5 +1,28 @@
 -- The entries of a row whose numbers are in a set, one after another.
-use Rattle.std.proofs.Common.{◌≡◌, ℕ, zero, suc, ◌+◌, ◌<◌, ◌≤◌, Bool, true, false, cond, List, [], ◌∷◌, ◌++◌, length, get_or, take, refl, ap, ◌∙◌, arith}
+use Rattle.std.proofs.Common.{
+  ◌≡◌,
+  ℕ,
+  zero,
+  suc,
+  ◌+◌,
+  ◌<◌,
+  ◌≤◌,
+  Bool,
+  true,
+  false,
+  cond,
+  List,
+  [],
+  ◌∷◌,
+  ◌++◌,
+  length,
+  get_or,
+  take,
+  refl,
+  ap,
+  ◌∙◌,
+  arith,
+}
 use Rattle.std.proofs.Math.Numerals.{add-one}
 use Rattle.lg_bit_set.specs.Meaning.Flags.{entries_in}
 use Rattle.lg_bit_set.proofs.EntryLaws.{entries_in-nil}

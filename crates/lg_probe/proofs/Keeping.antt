@@ -1,5 +1,35 @@
 -- What each step does to the row and the flags that an order keeps.
-use Rattle.std.proofs.Common.{◌≡◌, ◌≢◌, ℕ, ◌%◌, ◌<◌, ◌≤◌, Bool, true, false, not, cond, ◌&&◌, List, [], ◌∷◌, ◌++◌, length, get_or, set, Some, None, refl, sym, ap, ◌∙◌, subst, inl, inr, arith}
+use Rattle.std.proofs.Common.{
+  ◌≡◌,
+  ◌≢◌,
+  ℕ,
+  ◌%◌,
+  ◌<◌,
+  ◌≤◌,
+  Bool,
+  true,
+  false,
+  not,
+  cond,
+  ◌&&◌,
+  List,
+  [],
+  ◌∷◌,
+  ◌++◌,
+  length,
+  get_or,
+  set,
+  Some,
+  None,
+  refl,
+  sym,
+  ap,
+  ◌∙◌,
+  subst,
+  inl,
+  inr,
+  arith,
+}
 use Rattle.std.specs.Prelude.{filter, insert, remove, slice_get}
 use Rattle.std.proofs.lemmas.Bool.{cases_Bool, false≢true}
 use Rattle.std.proofs.lemmas.Option.{same_Some}
@@ -32,12 +62,36 @@ use Rattle.lg_rules.proofs.Rises.{
 }
 use Rattle.lg_rules.proofs.RowsFound.{filter-none}
 use Rattle.lg_rules.proofs.Tests.{both}
-use Rattle.lg_probe.specs.Meaning.Order.{OrderValue, Joined, Left, without, candidate, candidates, current_cycle, known_names, order_after, order_with}
+use Rattle.lg_probe.specs.Meaning.Order.{
+  OrderValue,
+  Joined,
+  Left,
+  without,
+  candidate,
+  candidates,
+  current_cycle,
+  known_names,
+  order_after,
+  order_with,
+}
 use Rattle.lg_probe.specs.Support.Order.{IsOrderKept, Keeps, order_in}
 use Rattle.lg_probe.proofs.NameRows.{among-append, among_missing}
 use Rattle.lg_probe.proofs.OrderLaws.{InEither, First, Second, in_either, first_of, second_of}
 use Rattle.lg_probe.proofs.Candidates.{taken_out, none_in, over-none, over-some}
-use Rattle.lg_probe.proofs.Parts.{part_is, part_count, part_flag, part_rises, part_within, part_none, part_all, part_put, part_out, part_opened, part_closed}
+use Rattle.lg_probe.proofs.Parts.{
+  filter_both,
+  part_is,
+  part_count,
+  part_flag,
+  part_rises,
+  part_within,
+  part_none,
+  part_all,
+  part_put,
+  part_out,
+  part_opened,
+  part_closed,
+}
 
 -- a name that is in a row, and one that isn't and would be inserted
 abbrev pub IsAt : List ℕ → List (List ℕ) → ℕ → Type 0
@@ -77,7 +131,8 @@ either_first k xs ys zs h a =
       | Second b ↦ in_second k ys zs b
     ]
 
-in_put : (k n : List ℕ) (ns : List (List ℕ)) → is_among name_cmp k ns ≡ true → is_among name_cmp k (put_key name_cmp n ns) ≡ true
+in_put : (k n : List ℕ) (ns : List (List ℕ)) → is_among name_cmp k ns ≡ true
+    → is_among name_cmp k (put_key name_cmp n ns) ≡ true
 in_put k n ns a = among-put names_order k n ns ∙ second_of (is_same name_cmp n k) (is_among name_cmp k ns) a
 
 -- no more pass a test than there are, and if as many do, all do
@@ -101,22 +156,12 @@ filter_all p (x ∷ xs) many =
           absurd (omega (arith, more, filter_few p xs)))
     ]
 
-filter_both : (p q : List ℕ → Bool) (xs : List (List ℕ)) → filter (λ x. p x && q x) xs ≡ filter q (filter p xs)
-filter_both p q [] = refl
-filter_both p q (x ∷ xs) =
-    elim (cases_Bool (p x)) [
-      | inl t ↦ elim (cases_Bool (q x)) [
-        | inl u ↦ rw (t, u) (ap (λ l. x ∷ l) (filter_both p q xs))
-        | inr v ↦ rw (t, v) (filter_both p q xs)
-      ]
-      | inr f ↦ rw f (filter_both p q xs)
-    ]
-
 -- the same by equations
 pub changed : {order other : OrderValue} {row known : List (List ℕ)} {first second joined chosen : List Bool}
     → order ≡ other → known ≡ row → joined ≡ first → chosen ≡ second
     → Keeps order row first second → Keeps other known joined chosen
-changed {order = order} {other = other} {row = row} {known = known} {first = first} {second = second} {joined = joined} {chosen = chosen}
+changed {order = order} {other = other} {row = row} {known = known} {first = first} {second = second} {joined =
+    joined} {chosen = chosen}
     a b c d keeps =
     subst (λ (o : OrderValue). Keeps o known joined chosen) a
     (subst (λ (l : List (List ℕ)). Keeps order l joined chosen) (sym b)
@@ -132,7 +177,8 @@ kept_first = record {
   used = λ k a. a;
 }
 
-module _ {order : OrderValue} {known : List (List ℕ)} {joined chosen : List Bool} (keeps : Keeps order known joined chosen) where
+module _ {order : OrderValue} {known : List (List ℕ)} {joined chosen : List Bool}
+    (keeps : Keeps order known joined chosen) where
   -- the flags say the order
   pub kept_is : order_in known joined chosen ≡ order
   kept_is = λ i. record { names = part_is keeps.names i; chosen = part_is keeps.cycle i }
@@ -143,9 +189,11 @@ module _ {order : OrderValue} {known : List (List ℕ)} {joined chosen : List Bo
   -- the row has the names that are known
   pub kept_known : known ≡ known_names order
   kept_known =
-      same_members names_order known (known_names order) keeps.rises (rises-in_order names_order (order.chosen ++ order.names))
+      same_members names_order known (known_names order) keeps.rises
+      (rises-in_order names_order (order.chosen ++ order.names))
       (λ k. same_bools (is_among name_cmp k known) (is_among name_cmp k (order.chosen ++ order.names)) (keeps.used k)
-      (λ a. elim (in_either (is_among name_cmp k order.chosen) (is_among name_cmp k order.names) (sym (among-append k order.chosen order.names) ∙ a)) [
+      (λ a. elim (in_either (is_among name_cmp k order.chosen) (is_among name_cmp k order.names)
+      (sym (among-append k order.chosen order.names) ∙ a)) [
         | First b ↦ part_within keeps.cycle k b
         | Second b ↦ part_within keeps.names k b
       ]) ∙ sym (among-in_order names_order k (order.chosen ++ order.names)))
@@ -154,40 +202,57 @@ module _ {order : OrderValue} {known : List (List ℕ)} {joined chosen : List Bo
   absent n i lacks = among_missing n known keeps.rises lacks.missing
 
   -- so the row has room for a name that it lacks
-  pub join_room : (n : List ℕ) (i m : ℕ) → WouldBeAt n known i → length (put_key name_cmp n (known_names order)) ≤ m → length known < m
+  pub join_room : (n : List ℕ) (i m : ℕ) → WouldBeAt n known i → length (put_key name_cmp n (known_names order)) ≤ m
+      → length known < m
   join_room n i m lacks few =
-      omega (arith, few, ap (λ l. length (put_key name_cmp n l)) kept_known, length-put names_order n known (absent n i lacks))
+      omega (
+        arith,
+        few,
+        ap (λ l. length (put_key name_cmp n l)) kept_known,
+        length-put names_order n known (absent n i lacks),
+      )
 
   -- a known name joins
-  pub joined_known : (n : List ℕ) (i : ℕ) → IsAt n known i → Keeps (order_with order (Joined n)) known (set joined i true) chosen
+  pub joined_known : (n : List ℕ) (i : ℕ) → IsAt n known i
+      → Keeps (order_with order (Joined n)) known (set joined i true) chosen
   joined_known n i has = record {
     rises = keeps.rises;
     names = part_put keeps.rises keeps.names i n has.within (has.named []);
     cycle = keeps.cycle;
-    used = λ k a. either_list k order.chosen order.names (put_key name_cmp n order.names) (in_put k n order.names) (keeps.used k a);
+    used = λ k a. either_list k order.chosen order.names (put_key name_cmp n order.names) (in_put k n order.names)
+        (keeps.used k a);
   }
 
   -- another name joins
   pub joined_new : (n : List ℕ) (i : ℕ) → length known < 255 → WouldBeAt n known i
-      → Keeps (order_with order (Joined n)) (insert known i n) (set (opened_flags i joined) i true) (opened_flags i chosen)
+      → Keeps (order_with order (Joined n)) (insert known i n) (set (opened_flags i joined) i true)
+      (opened_flags i chosen)
   joined_new n i room lacks =
       let put = lacks.insert n refl in
       let fresh = absent n i lacks in
-      let rises : Rises name_cmp (insert known i n) = subst (Rises name_cmp) (sym put) (rises-put names_order n known keeps.rises) in
+      let rises : Rises name_cmp (insert known i n) =
+      subst (Rises name_cmp) (sym put) (rises-put names_order n known keeps.rises) in
       let opened = part_opened keeps.rises keeps.names i n (omega (arith, room)) lacks.within put fresh in
       record {
         rises = rises;
-        names = part_put rises opened i n (omega (arith, lacks.within, length-insert known i n lacks.within)) (get_or-insert_at known i n [] lacks.within);
+        names = part_put rises opened i n (omega (arith, lacks.within, length-insert known i n lacks.within))
+            (get_or-insert_at known i n [] lacks.within);
         cycle = part_opened keeps.rises keeps.cycle i n (omega (arith, room)) lacks.within put fresh;
-        used = λ k a. used k (in_either (is_same name_cmp n k) (is_among name_cmp k known) (sym (among-put names_order k n known) ∙ sym (ap (is_among name_cmp k) put) ∙ a));
+        used = λ k a. used k
+            (in_either (is_same name_cmp n k) (is_among name_cmp k known)
+            (sym (among-put names_order k n known) ∙ sym (ap (is_among name_cmp k) put) ∙ a));
       }
     where
-      used : (k : List ℕ) → InEither (is_same name_cmp n k) (is_among name_cmp k known) → is_among name_cmp k (order.chosen ++ put_key name_cmp n order.names) ≡ true
-      used k (First s) = in_second k order.chosen (put_key name_cmp n order.names) (among-put names_order k n order.names ∙ first_of (is_same name_cmp n k) (is_among name_cmp k order.names) s)
-      used k (Second b) = either_list k order.chosen order.names (put_key name_cmp n order.names) (in_put k n order.names) (keeps.used k b)
+      used : (k : List ℕ) → InEither (is_same name_cmp n k) (is_among name_cmp k known)
+          → is_among name_cmp k (order.chosen ++ put_key name_cmp n order.names) ≡ true
+      used k (First s) = in_second k order.chosen (put_key name_cmp n order.names)
+          (among-put names_order k n order.names ∙ first_of (is_same name_cmp n k) (is_among name_cmp k order.names) s)
+      used k (Second b) = either_list k order.chosen order.names (put_key name_cmp n order.names)
+          (in_put k n order.names) (keeps.used k b)
 
   -- a name leaves that was chosen in the cycle
-  pub left_chosen : (n : List ℕ) (i : ℕ) → IsAt n known i → get_or chosen i false ≡ true → Keeps (order_with order (Left n)) known (set joined i false) chosen
+  pub left_chosen : (n : List ℕ) (i : ℕ) → IsAt n known i → get_or chosen i false ≡ true
+      → Keeps (order_with order (Left n)) known (set joined i false) chosen
   left_chosen n i has was = record {
     rises = keeps.rises;
     names = part_out keeps.rises keeps.names i n has.within (has.named []);
@@ -198,9 +263,13 @@ module _ {order : OrderValue} {known : List (List ℕ)} {joined chosen : List Bo
       there : is_among name_cmp n order.chosen ≡ true
       there = sym (part_flag keeps.cycle i n has.within (has.named [])) ∙ was
 
-      used : (k : List ℕ) (s : Bool) → is_same name_cmp k n ≡ s → is_among name_cmp k (order.chosen ++ order.names) ≡ true → is_among name_cmp k (order.chosen ++ without n order.names) ≡ true
-      used k true e a = in_first k order.chosen (without n order.names) (ap (λ m. is_among name_cmp m order.chosen) (key_is names_order k n e) ∙ there)
-      used k false e a = either_list k order.chosen order.names (without n order.names) (λ b. among-filter names_order (λ m. not (is_same name_cmp m n)) k order.names ∙ rw (e, b) refl) a
+      used : (k : List ℕ) (s : Bool) → is_same name_cmp k n ≡ s
+          → is_among name_cmp k (order.chosen ++ order.names) ≡ true
+          → is_among name_cmp k (order.chosen ++ without n order.names) ≡ true
+      used k true e a = in_first k order.chosen (without n order.names)
+          (ap (λ m. is_among name_cmp m order.chosen) (key_is names_order k n e) ∙ there)
+      used k false e a = either_list k order.chosen order.names (without n order.names)
+          (λ b. among-filter names_order (λ m. not (is_same name_cmp m n)) k order.names ∙ rw (e, b) refl) a
 
   -- a name leaves that wasn't: it is forgotten
   pub left_forgotten : (n : List ℕ) (i : ℕ) → length known ≤ 255 → IsAt n known i → get_or chosen i false ≡ false
@@ -209,22 +278,31 @@ module _ {order : OrderValue} {known : List (List ℕ)} {joined chosen : List Bo
       let p : List ℕ → Bool = λ m. not (is_same name_cmp m n) in
       let out : remove known i ≡ without n known = taken_out n known i keeps.rises has in
       let left = part_out keeps.rises keeps.names i n has.within (has.named []) in
-      let gone : is_among name_cmp n (without n order.names) ≡ false = among-filter names_order p n order.names ∙ ap (λ b. not b && is_among name_cmp n order.names) (same_key names_order n n refl) in
+      let gone : is_among name_cmp n (without n order.names) ≡ false =
+      among-filter names_order p n order.names
+      ∙ ap (λ b. not b && is_among name_cmp n order.names) (same_key names_order n n refl) in
       record {
         rises = subst (Rises name_cmp) (sym out) (rises-filter names_order p known keeps.rises);
         names = part_closed keeps.rises left i n (omega (arith, few)) has.within out gone;
-        cycle = part_closed keeps.rises keeps.cycle i n (omega (arith, few)) has.within out (sym (part_flag keeps.cycle i n has.within (has.named [])) ∙ was);
-        used = λ k a. used k (both (p k) (is_among name_cmp k known) (sym (among-filter names_order p k known) ∙ sym (ap (is_among name_cmp k) out) ∙ a));
+        cycle = part_closed keeps.rises keeps.cycle i n (omega (arith, few)) has.within out
+            (sym (part_flag keeps.cycle i n has.within (has.named [])) ∙ was);
+        used = λ k a. used k
+            (both (p k) (is_among name_cmp k known)
+            (sym (among-filter names_order p k known) ∙ sym (ap (is_among name_cmp k) out) ∙ a));
       }
     where
-      used : (k : List ℕ) → (not (is_same name_cmp k n) ≡ true) × (is_among name_cmp k known ≡ true) → is_among name_cmp k (order.chosen ++ without n order.names) ≡ true
-      used k parts = either_list k order.chosen order.names (without n order.names) (λ b. among-filter names_order (λ m. not (is_same name_cmp m n)) k order.names ∙ rw (parts.0, b) refl) (keeps.used k parts.1)
+      used : (k : List ℕ) → (not (is_same name_cmp k n) ≡ true) × (is_among name_cmp k known ≡ true)
+          → is_among name_cmp k (order.chosen ++ without n order.names) ≡ true
+      used k parts = either_list k order.chosen order.names (without n order.names)
+          (λ b. among-filter names_order (λ m. not (is_same name_cmp m n)) k order.names ∙ rw (parts.0, b) refl)
+          (keeps.used k parts.1)
 
   -- a name leaves that isn't known
   pub left_unknown : (n : List ℕ) (i : ℕ) → WouldBeAt n known i → order ≡ order_with order (Left n)
   left_unknown n i lacks =
       let fresh : is_among name_cmp n order.names ≡ false = either (is_among name_cmp n order.names) refl in
-      let same : order.names ≡ without n order.names = sym (filter-none (λ m. is_same name_cmp m n) order.names fresh) in
+      let same : order.names ≡ without n order.names =
+      sym (filter-none (λ m. is_same name_cmp m n) order.names fresh) in
       λ j. record { names = same j; chosen = order.chosen }
     where
       either : (b : Bool) → is_among name_cmp n order.names ≡ b → is_among name_cmp n order.names ≡ false
@@ -232,9 +310,12 @@ module _ {order : OrderValue} {known : List (List ℕ)} {joined chosen : List Bo
       either false e = e
 
   -- a new cycle begins, and nobody has left
-  pub begun : length known ≤ 255 → length known ≤ count_set joined → Keeps record { names = order.names; chosen = [] } known joined no_flags
+  pub begun : length known ≤ 255 → length known ≤ count_set joined
+      → Keeps record { names = order.names; chosen = [] } known joined no_flags
   begun few many =
-      let here : filter (λ n. is_among name_cmp n order.names) known ≡ known = filter_all (λ n. is_among name_cmp n order.names) known (omega (arith, many, part_count keeps.names, ap length keeps.names.all)) in
+      let here : filter (λ n. is_among name_cmp n order.names) known ≡ known =
+      filter_all (λ n. is_among name_cmp n order.names) known
+      (omega (arith, many, part_count keeps.names, ap length keeps.names.all)) in
       record {
         rises = keeps.rises;
         names = keeps.names;
@@ -243,13 +324,18 @@ module _ {order : OrderValue} {known : List (List ℕ)} {joined chosen : List Bo
       }
 
   -- a new cycle begins, and those that have left are forgotten
-  pub begun_anew : length known ≤ 255 → (row : List (List ℕ)) → row ≡ entries_in joined known → Keeps record { names = order.names; chosen = [] } row (flags_below (length row)) no_flags
+  pub begun_anew : length known ≤ 255 → (row : List (List ℕ)) → row ≡ entries_in joined known
+      → Keeps record { names = order.names; chosen = [] } row (flags_below (length row)) no_flags
   begun_anew few row is =
       let within : length order.names ≤ 256 =
       omega (arith, few, ap length keeps.names.all, filter_few (λ n. is_among name_cmp n order.names) known) in
-      subst (λ (l : List (List ℕ)). Keeps record { names = order.names; chosen = [] } l (flags_below (length l)) no_flags) (sym (is ∙ part_is keeps.names)) record {
+      subst (λ (l : List (List ℕ)). Keeps record {
+        names = order.names;
+        chosen =
+            [];
+      } l (flags_below (length l)) no_flags) (sym (is ∙ part_is keeps.names)) record {
         rises = part_rises keeps.rises keeps.names;
-        names = part_all order.names within (part_rises keeps.rises keeps.names);
+        names = part_all order.names within;
         cycle = part_none order.names within;
         used = λ k a. a;
       }
@@ -296,7 +382,9 @@ module _ {order : OrderValue} {known : List (List ℕ)} {joined chosen : List Bo
         ∙ no_entry_at is_free known (word % count_set (flags_without joined chosen))
         (sym (ap (λ f. nth_number f (word % count_set (flags_without joined chosen))) free) ∙ none)
 
-    module _ (number : ℕ) (chose : nth_number (flags_without joined chosen) (word % count_set (flags_without joined chosen)) ≡ Some number) where
+    module _ (number : ℕ)
+        (chose : nth_number (flags_without joined chosen) (word % count_set (flags_without joined chosen))
+        ≡ Some number) where
       entry : (d : List ℕ) → IsEntryAt is_free known d (word % count_set (flags_without joined chosen)) number
       entry d =
           IsEntryAt-from is_free known d (word % count_set (flags_without joined chosen)) number
@@ -305,16 +393,23 @@ module _ {order : OrderValue} {known : List (List ℕ)} {joined chosen : List Bo
       pub chosen_within : number < length known
       chosen_within = (entry []).within
 
-      pub chosen_is : (n : List ℕ) → n ≡ get_or known number n → Some n ≡ candidate word (candidates order.names order.chosen)
+      pub chosen_is : (n : List ℕ) → n ≡ get_or known number n
+          → Some n ≡ candidate word (candidates order.names order.chosen)
       chosen_is n is = ap Some is ∙ sym (entry n).entry ∙ sym by_count
 
       pub chosen_keeps : (n : List ℕ) → n ≡ get_or known number n
-          → Keeps record { names = order.names; chosen = put_key name_cmp n order.chosen } known joined (set chosen number true)
+          → Keeps record {
+            names = order.names;
+            chosen =
+                put_key name_cmp n order.chosen;
+          } known joined (set chosen number true)
       chosen_keeps n is =
-          let named : get_or known number [] ≡ n = same_Some (get_or known number []) n (sym (entry []).entry ∙ (entry n).entry ∙ ap Some (sym is)) in
+          let named : get_or known number [] ≡ n =
+          same_Some (get_or known number []) n (sym (entry []).entry ∙ (entry n).entry ∙ ap Some (sym is)) in
           record {
             rises = keeps.rises;
             names = keeps.names;
             cycle = part_put keeps.rises keeps.cycle number n chosen_within named;
-            used = λ k a. either_first k order.chosen (put_key name_cmp n order.chosen) order.names (in_put k n order.chosen) (keeps.used k a);
+            used = λ k a. either_first k order.chosen (put_key name_cmp n order.chosen) order.names
+                (in_put k n order.chosen) (keeps.used k a);
           }

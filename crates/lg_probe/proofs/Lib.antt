@@ -5,6 +5,7 @@ pub mod Parts
 pub mod Candidates
 pub mod Keeping
 pub mod Picking
+pub mod TakingOut
 pub mod Joining
 pub mod RoundLaws
 pub mod OpenRelays

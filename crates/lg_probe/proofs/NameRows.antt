@@ -38,7 +38,8 @@ among_missing n (m ∷ ms) r e = elim (compared (name_cmp n m)) [
       among-cons_other names_order n m ms d ∙ among_missing n ms r.1 (rw a at e))
 ]
 
-among_all : (xs ys : List (List ℕ)) → ((k : List ℕ) → is_among name_cmp k xs ≡ true → is_among name_cmp k ys ≡ true) → filter (λ x. is_among name_cmp x ys) xs ≡ xs
+-- names that are all among some
+pub among_all : (xs ys : List (List ℕ)) → ((k : List ℕ) → is_among name_cmp k xs ≡ true → is_among name_cmp k ys ≡ true) → filter (λ x. is_among name_cmp x ys) xs ≡ xs
 among_all [] ys h = refl
 among_all (x ∷ xs) ys h =
     rw (h x (among-cons_same names_order x x xs refl))

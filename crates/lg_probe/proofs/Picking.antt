@@ -1,5 +1,38 @@
 -- Picks by random words, among the entries of a row whose numbers are in a set.
-use Rattle.std.proofs.Common.{◌≡◌, ℕ, zero, suc, ◌%◌, ◌≤◌, ◌<◌, Bool, true, false, List, [], ◌∷◌, ◌++◌, length, set, take, drop, get_or, Option, Some, None, refl, sym, ◌∙◌, ap, inl, inr, append_assoc, append-nil, length-append, arith}
+use Rattle.std.proofs.Common.{
+  ◌≡◌,
+  ℕ,
+  zero,
+  suc,
+  ◌%◌,
+  ◌≤◌,
+  ◌<◌,
+  Bool,
+  true,
+  false,
+  List,
+  [],
+  ◌∷◌,
+  ◌++◌,
+  length,
+  set,
+  take,
+  drop,
+  get_or,
+  Option,
+  Some,
+  None,
+  refl,
+  sym,
+  ◌∙◌,
+  ap,
+  inl,
+  inr,
+  append_assoc,
+  append-nil,
+  length-append,
+  arith,
+}
 use Rattle.std.specs.Prelude.{slice_get, remove}
 use Rattle.std.specs.Option.{option_to_list, option_and_then}
 use Rattle.std.proofs.Math.Nat.{mod-lt}
@@ -79,10 +112,13 @@ module _ (flags : List Bool) (row : List (List ℕ)) (of : AreOfRow flags row) (
     pub picked_within : number < length row
     picked_within = in_row row number at
       where
-        in_row : (xs : List (List ℕ)) (k : ℕ) → slice_get (entries_in flags row) (word % count_set flags) ≡ slice_get xs k → k < length xs
+        in_row : (xs : List (List ℕ)) (k : ℕ)
+            → slice_get (entries_in flags row) (word % count_set flags) ≡ slice_get xs k → k < length xs
         in_row [] k e =
-            let there = slice_get-get_or (entries_in flags row) (word % count_set flags) [] (omega (arith, of, mod-lt word some)) in
-            absurd (let no : Some (get_or (entries_in flags row) (word % count_set flags) []) ≡ None = sym there ∙ e in cc)
+            let there = slice_get-get_or (entries_in flags row) (word % count_set flags) []
+            (omega (arith, of, mod-lt word some)) in
+            absurd (let no : Some (get_or (entries_in flags row) (word % count_set flags) []) ≡ None =
+            sym there ∙ e in cc)
         in_row (x ∷ xs) zero e = omega arith
         in_row (x ∷ xs) (suc k) e = omega (arith, in_row xs k e)
 
@@ -129,13 +165,18 @@ pub record HavePicked (words : List ℕ) (names helpers left : List (List ℕ)) 
   pub rest : helpers ++ picked_by (drop k words) left ≡ picked_by words names
   pub few : length helpers ≤ k
 
-pub none_picked : (words : List ℕ) (names helpers : List (List ℕ)) → helpers ≡ [] → HavePicked words names helpers names 0
-none_picked words names helpers e = record { rest = ap (λ hs. hs ++ picked_by words names) e; few = omega (arith, ap length e) }
+pub none_picked : (words : List ℕ) (names helpers : List (List ℕ)) → helpers ≡ []
+    → HavePicked words names helpers names 0
+none_picked words names helpers e =
+    record { rest = ap (λ hs. hs ++ picked_by words names) e; few = omega (arith, ap length e) }
 
-pub next_picked : (words : List ℕ) (names helpers left more after : List (List ℕ)) (k m word : ℕ) (one : Option (List ℕ)) → m ≡ suc k → k < length words → word ≡ get_or words k 0
-    → HavePicked words names helpers left k → one ≡ candidate word left → after ≡ left_by word left → more ≡ helpers ++ option_to_list one → HavePicked words names more after m
+pub next_picked : (words : List ℕ) (names helpers left more after : List (List ℕ)) (k m word : ℕ)
+    (one : Option (List ℕ)) → m ≡ suc k → k < length words → word ≡ get_or words k 0
+    → HavePicked words names helpers left k → one ≡ candidate word left → after ≡ left_by word left
+    → more ≡ helpers ++ option_to_list one → HavePicked words names more after m
 next_picked words names helpers left more after k m word one next l e have is gone put =
-    let now : drop k words ≡ word ∷ drop (suc k) words = drop-next words k 0 l ∙ ap (λ w. w ∷ drop (suc k) words) (sym e) in
+    let now : drop k words ≡ word ∷ drop (suc k) words =
+    drop-next words k 0 l ∙ ap (λ w. w ∷ drop (suc k) words) (sym e) in
     let first = option_to_list (candidate word left) in
     let others = picked_by (drop (suc k) words) (left_by word left) in
     record {
@@ -149,5 +190,7 @@ next_picked words names helpers left more after k m word one next l e have is go
     at_most_one None = omega arith
     at_most_one (Some n) = omega arith
 
-pub all_picked : (words : List ℕ) (names helpers left : List (List ℕ)) (k : ℕ) → length words ≤ k → HavePicked words names helpers left k → helpers ≡ picked_by words names
-all_picked words names helpers left k l have = sym (append-nil helpers) ∙ ap (λ ws. helpers ++ picked_by ws left) (sym (dropped words k l)) ∙ have.rest
+pub all_picked : (words : List ℕ) (names helpers left : List (List ℕ)) (k : ℕ) → length words ≤ k
+    → HavePicked words names helpers left k → helpers ≡ picked_by words names
+all_picked words names helpers left k l have =
+    sym (append-nil helpers) ∙ ap (λ ws. helpers ++ picked_by ws left) (sym (dropped words k l)) ∙ have.rest

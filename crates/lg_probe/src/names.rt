@@ -7,6 +7,7 @@ ghost use Rattle.arrayvec.specs.ArrayVec.{array_vec_len};
 ghost use Rattle.lg_bit_set.specs.Meaning.Flags.{entries_in};
 ghost use Rattle.lg_rules.specs.Meaning.Rows.{name_cmp, is_among};
 ghost use Rattle.lg_probe.specs.Meaning.Order.{without};
+ghost use Rattle.lg_probe.specs.Support.Order.{IsPart};
 
 use arrayvec::ArrayVec;
 use lg_bit_set::BitSet;
@@ -26,11 +27,22 @@ pub(crate) fn entries(row: &[Name], numbers: &BitSet) -> ArrayVec<Name, MAX_OTHE
     names
 }
 
-/// Takes a name out of names in any order, if it is among them.
-pub(crate) fn remove<const N: usize>(names: &mut ArrayVec<Name, N>, name: &Name)
-    ensures { names.new.items ≡ without name.now names.old.items }
+/// Takes the numbers of a name out of a set. Returns whether the set had one.
+pub(crate) fn take_out(row: &[Name], numbers: &mut BitSet, name: &Name) -> bool
+    requires few { length row.now ≤ MAX_OTHERS }
+    requires numbers { IsPart row.now (entries_in numbers.old row.now) numbers.old }
+    ensures found { result ≡ is_among name_cmp name.now (entries_in numbers.old row.now) }
+    ensures left { entries_in numbers.new row.now ≡ without name.now (entries_in numbers.old row.now) }
+    ensures numbers { IsPart row.now (entries_in numbers.new row.now) numbers.new }
 {
-    names.retain(|other| *other != *name);
+    let mut found = false;
+    for (number, other) in row.iter().enumerate() {
+        if *other == *name {
+            found = found || numbers.contains(number as u8);
+            numbers.remove(number as u8);
+        }
+    }
+    found
 }
 
 /// Whether a name is among some names in any order.

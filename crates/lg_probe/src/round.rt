@@ -7,8 +7,9 @@ ghost use Rattle.lg_probe.specs.Meaning.Round.{RoundFact, Asked, Acked, Nacked, 
 ghost use Rattle.lg_probe.specs.Meaning.Round.{is_acked, mark_of, round_of, round_with, silent_in};
 
 use crate::helpers::{Helpers, MAX_HELPERS};
-use crate::names::{is_listed, push_all, remove};
+use crate::names::{is_listed, push_all, take_out};
 use arrayvec::ArrayVec;
+use lg_bit_set::BitSet;
 use lg_rules::Name;
 use std::marker::Model;
 
@@ -19,13 +20,15 @@ pub struct Round {
     number: u32,
     target: Name,
     asked: ArrayVec<Name, MAX_HELPERS>,
-    // The asked helpers that have sent no nack yet.
-    silent: ArrayVec<Name, MAX_HELPERS>,
+    // The asked helpers that have sent no nack yet, by their indexes.
+    silent: BitSet,
     acked: bool,
 }
 
 impl Model for Round {
+    ghost use Rattle.lg_bit_set.specs.Meaning.Flags.{entries_in};
     ghost use Rattle.lg_probe.specs.Meaning.Round.{RoundValue};
+    ghost use Rattle.lg_probe.specs.Support.Order.{IsPart};
 
     ghost Value = { RoundValue };
 
@@ -33,9 +36,11 @@ impl Model for Round {
       number = r.number;
       target = r.target;
       asked = r.asked.items;
-      silent = r.silent.items;
+      silent = entries_in r.silent r.asked.items;
       acked = r.acked;
     } };
+
+    ghost invariant = { λ r. IsPart r.asked.items (entries_in r.silent r.asked.items) r.silent };
 }
 
 impl Round {
@@ -47,7 +52,7 @@ impl Round {
             number,
             target: *target,
             asked: ArrayVec::new(),
-            silent: ArrayVec::new(),
+            silent: BitSet::new(),
             acked: false,
         }
     }
@@ -58,13 +63,11 @@ impl Round {
     {
         let mut asked = ArrayVec::new();
         asked.try_extend_from_slice(&self.asked).unwrap();
-        let mut silent = ArrayVec::new();
-        silent.try_extend_from_slice(&self.silent).unwrap();
         Round {
             number: self.number,
             target: self.target,
             asked,
-            silent,
+            silent: self.silent,
             acked: self.acked,
         }
     }
@@ -107,8 +110,7 @@ impl Round {
     {
         self.asked.clear();
         push_all(&mut self.asked, helpers.names());
-        self.silent.clear();
-        push_all(&mut self.silent, helpers.names());
+        self.silent = BitSet::below(self.asked.len());
     }
 
     /// Whether an ack counts: it has the number of the round, and comes from the target or from an asked helper.
@@ -140,11 +142,10 @@ impl Round {
         ensures past { (past : List RoundFact) → let after = round_of self.old.number self.old.target in
             self.old ≡ after past → self.new ≡ after (Nacked number sender.now ∷ past) }
     {
-        let counts = number == self.number && is_listed(&self.silent, sender);
-        if counts {
-            remove(&mut self.silent, sender);
+        if number != self.number {
+            return false;
         }
-        counts
+        take_out(self.asked.as_slice(), &mut self.silent, sender)
     }
 
     /// Ends the round, and returns the mark that it earns: 0 if an ack counted, else 1, or 2 if an asked helper sent

@@ -17,7 +17,8 @@ turned order = record { names = order.names; chosen = current_cycle order.names 
 none : (c : goal.After-from_residual) → None ≡ choice c.args.self.now.names c.args.self.now.chosen c.args.word
 none c =
     let keeps = changed (c.self.view_is ∙ c.end_cycle_if_over.ensures) refl refl refl c.self.invariant in
-    sym (none_chosen keeps c.args.word (ap (number_of c.args.word) (sym c.without.ensures.flags) ∙ sym c.number_by.ensures ∙ c.in_err-number.was))
+    sym (none_chosen keeps c.args.word
+    (ap (number_of c.args.word) (sym c.without.ensures.flags) ∙ sym c.number_by.ensures ∙ c.in_err-number.was))
 
 pub returns-in_err-number-clause-chosen : goal.returns-in_err-number-clause-chosen
 returns-in_err-number-clause-chosen c = c.from_residual.ensures ∙ none c
@@ -30,7 +31,8 @@ returns-in_err-number-clause-order c =
 
 pub returns-in_err-number-clause-past : goal.returns-in_err-number-clause-past
 returns-in_err-number-clause-past c = λ past e. (
-  returns-in_err-number-clause-chosen c ∙ ap (λ (o : OrderValue). choice o.names o.chosen c.args.word) e ∙ choice_after-is past c.args.word,
+  returns-in_err-number-clause-chosen c ∙ ap (λ (o : OrderValue). choice o.names o.chosen c.args.word) e
+      ∙ choice_after-is past c.args.word,
   returns-in_err-number-clause-order c ∙ ap (λ o. order_with o (Chose c.args.word)) e ∙ chosen_after past c.args.word,
 )
 
@@ -38,7 +40,8 @@ returns-in_err-number-clause-past c = λ past e. (
 pub bounds-deref-from : goal.bounds-deref-from
 bounds-deref-from c =
     let keeps = changed (c.self.view_is ∙ c.end_cycle_if_over.ensures) refl refl refl c.self.invariant in
-    let chose = ap (number_of c.args.word) (sym c.without.ensures.flags) ∙ sym c.number_by.ensures ∙ c.in_ok-number.was in
+    let chose = ap (number_of c.args.word) (sym c.without.ensures.flags) ∙ sym c.number_by.ensures
+    ∙ c.in_ok-number.was in
     rw (c.from.ensures, c.deref.ensures.0) (chosen_within keeps c.args.word c.in_ok-number.number chose)
 
 module _ (c : goal.After-index-deref-from) where
@@ -54,10 +57,15 @@ module _ (c : goal.After-index-deref-from) where
   one : Some c.index-deref-from.result ≡ choice c.args.self.now.names c.args.self.now.chosen c.args.word
   one = chosen_is keeps c.args.word c.in_ok-number.number chose c.index-deref-from.result named
 
-  after : Keeps (order_with c.args.self.now (Chose c.args.word)) c.self.inside.known.items c.self.inside.joined c.insert.new.self
+  after : Keeps (order_with c.args.self.now
+      (Chose c.args.word)) c.self.inside.known.items c.self.inside.joined c.insert.new.self
   after =
       let before = c.args.self.now in
-      changed (λ i. record { names = before.names; chosen = put_choice (one i) (current_cycle before.names before.chosen) }) refl refl
+      changed (λ i. record {
+        names = before.names;
+        chosen =
+            put_choice (one i) (current_cycle before.names before.chosen);
+      }) refl refl
       c.insert.ensures.flags
       (chosen_keeps keeps c.args.word c.in_ok-number.number chose c.index-deref-from.result named)
 

@@ -6,7 +6,9 @@ use Rattle.lg_probe.proofs.Keeping.{IsAt, WouldBeAt, changed, kept, kept_is, joi
 use Rattle.lg_probe.proofs.order.Order.join.Goals as goal
 
 -- a known name
-known : (c : goal.After-insert) → Keeps (order_with c.args.self.now (Joined c.args.name.now)) c.self.inside.known.items c.insert.new.self c.self.inside.chosen
+known : (c : goal.After-insert)
+    → Keeps (order_with c.args.self.now
+    (Joined c.args.name.now)) c.self.inside.known.items c.insert.new.self c.self.inside.chosen
 known c =
     let name = c.args.name.now in
     let has = subst (λ xs. IsAt name xs c.in-Ok.at) c.as_slice.ensures.value c.in-Ok.ensures in
@@ -28,15 +30,19 @@ insert-requires-in-Err c =
     let name = c.args.name.now in
     let at = c.in-Err.at in
     let lacks = subst (λ xs. WouldBeAt name xs at) c.as_slice.ensures.value c.in-Err.ensures in
-    let few = subst (λ (o : OrderValue). length (put_key name_cmp name (known_names o)) ≤ 255) (sym c.self.view_is) c.requires in
+    let few = subst (λ (o : OrderValue). length (put_key name_cmp name (known_names o)) ≤ 255)
+    (sym c.self.view_is) c.requires in
     (lit< tt, (lacks.within, join_room c.self.invariant name at 255 lacks few))
 
-new : (c : goal.After-open-in-Err) → Keeps (order_with c.args.self.now (Joined c.args.name.now)) c.insert-in-Err.new.self.items c.insert-in-Err-2.new.self c.open-in-Err.new.self
+new : (c : goal.After-open-in-Err)
+    → Keeps (order_with c.args.self.now
+    (Joined c.args.name.now)) c.insert-in-Err.new.self.items c.insert-in-Err-2.new.self c.open-in-Err.new.self
 new c =
     let name = c.args.name.now in
     let at = c.in-Err.at in
     let has = subst (λ xs. WouldBeAt name xs at) c.as_slice.ensures.value c.in-Err.ensures in
-    let few = subst (λ (o : OrderValue). length (put_key name_cmp name (known_names o)) ≤ 255) (sym c.self.view_is) c.requires in
+    let few = subst (λ (o : OrderValue). length (put_key name_cmp name (known_names o)) ≤ 255)
+    (sym c.self.view_is) c.requires in
     let room = join_room c.self.invariant name at 255 has few in
     changed (ap (λ o. order_with o (Joined name)) c.self.view_is) c.insert-in-Err.ensures.items
     (c.insert-in-Err-2.ensures.flags ∙ ap (λ f. set f at true) c.open.ensures.flags) c.open-in-Err.ensures.flags
