@@ -15,3 +15,6 @@ pub mod Tests
 pub mod Views
 pub mod Words
 pub mod LiveLaws
+pub mod Naming
+pub mod Numbering
+pub mod SlotLaws

@@ -41,13 +41,13 @@ unfolding roster
 roster-own own c past e = ap (λ ns. in_order name_cmp (oldest 255 (distinct name_cmp ns))) (names-own own c past e)
 
 -- or about a name that was said before,
-abbrev different : List ℕ → List Claim → List (List ℕ)
+abbrev pub different : List ℕ → List Claim → List (List ℕ)
 different own past = distinct name_cmp (names_said own past)
 
-different-said : (own : List ℕ) (c : Claim) (past : List Claim) → c.name ≢ own → is_known c.name (names_said own past) ≡ true → different own (c ∷ past) ≡ different own past
+pub different-said : (own : List ℕ) (c : Claim) (past : List Claim) → c.name ≢ own → is_known c.name (names_said own past) ≡ true → different own (c ∷ past) ≡ different own past
 different-said own c past d a = ap (distinct name_cmp) (names-other own c past d) ∙ rw a
 
-different-new : (own : List ℕ) (c : Claim) (past : List Claim) → c.name ≢ own → is_known c.name (names_said own past) ≡ false → different own (c ∷ past) ≡ c.name ∷ different own past
+pub different-new : (own : List ℕ) (c : Claim) (past : List Claim) → c.name ≢ own → is_known c.name (names_said own past) ≡ false → different own (c ∷ past) ≡ c.name ∷ different own past
 different-new own c past d f = ap (distinct name_cmp) (names-other own c past d) ∙ rw f
 
 roster-said : (own : List ℕ) (c : Claim) (past : List Claim) → c.name ≢ own → is_known c.name (names_said own past) ≡ true → roster own (c ∷ past) ≡ roster own past
@@ -159,6 +159,11 @@ is_roster own (c ∷ past) =
 -- a known name was said
 pub roster_said : (own : List ℕ) (past : List Claim) (m : List ℕ) → is_known m (roster own past) ≡ true → is_known m (names_said own past) ≡ true
 roster_said own past m a = (is_roster own past).said m a
+
+-- a name that was said isn't known only if there was no room for it
+pub roster_missed : (own : List ℕ) (past : List Claim) (m : List ℕ) → is_known m (names_said own past) ≡ true
+    → is_known m (roster own past) ≡ false → 255 ≤ length (different own past)
+roster_missed own past m a b = (is_roster own past).missed m a b
 
 -- the own name isn't among the others
 pub own_unknown : (own : List ℕ) (past : List Claim) → is_known own (roster own past) ≡ false

@@ -195,6 +195,17 @@ heard_cases own c past d = elim (joined own c past d) [
       Out record { taken = takes_unknown own c past out ∙ le-ltb (length (table_of own past)) 255 many; names = names; out = out })
 ]
 
+-- a claim about a name that has no record is taken exactly if there is room
+pub takes-new : (table : List Claim) (c : Claim) → row_at name_cmp name_of c.name table ≡ None
+    → length table < 255 → takes table c ≡ true
+unfolding takes
+takes-new table c none few = ap (takes_over (length table) c) none ∙ lt-ltb (length table) 255 few
+
+pub takes-full : (table : List Claim) (c : Claim) → row_at name_cmp name_of c.name table ≡ None
+    → 255 ≤ length table → takes table c ≡ false
+unfolding takes
+takes-full table c none many = ap (takes_over (length table) c) none ∙ le-ltb (length table) 255 many
+
 -- whatever is heard, the table is that of the past
 pub heard_taken : (table : List Claim) (c : Claim) → takes table c ≡ true → heard table c ≡ put_row name_cmp name_of c table
 heard_taken table c t = ap (λ b. cond b (put_row name_cmp name_of c table) table) t

@@ -4,4 +4,5 @@ pub mod Padding
 pub mod Places
 pub mod Words
 pub mod Members
+pub mod Slots
 pub mod Standing

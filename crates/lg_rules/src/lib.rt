@@ -11,6 +11,7 @@ mod overriding;
 mod own;
 mod random;
 mod rows;
+mod slots;
 
 pub use addr::Addr;
 pub use claim::{Claim, MAX_CLAIMS, MAX_LAMBDA, Record, Status};
@@ -21,3 +22,4 @@ pub use overriding::beats;
 pub use own::{Own, OwnHeard};
 pub use random::RANDOM_WORDS;
 pub use rows::{Keyed, index_of, put_row};
+pub use slots::Slot;

@@ -3,7 +3,7 @@
 //! Defined in: `specs/Meaning/Table.antt`, `specs/Meaning/Rows.antt`.
 //! Tested in: `lg_detector_tests/src/rules.rt`.
 ghost use Rattle.std.specs.Prelude.{◌≡◌, ◌≢◌, ◌≤◌, ◌<◌, ◌+◌};
-ghost use Rattle.std.specs.Prelude.{List, [], ◌∷◌, length, map, slice_get};
+ghost use Rattle.std.specs.Prelude.{ℕ, List, [], ◌∷◌, length, map, slice_get};
 ghost use Rattle.std.specs.Prelude.{option_copied, None, Some};
 ghost use Rattle.lg_rules.specs.declared.claim.Claim.{Claim as Said};
 ghost use Rattle.lg_rules.specs.Meaning.Claim.{name_of};
@@ -12,11 +12,13 @@ ghost use Rattle.lg_rules.specs.Support.Members.{live_weight};
 ghost use Rattle.lg_rules.specs.Support.Places.{HasRow, LacksRow};
 ghost use Rattle.arrayvec.specs.ArrayVec.{array_vec_len};
 ghost use Rattle.lg_rules.specs.Meaning.Table.{heard, hearing_of, is_failed, known_of, live_in, standing_hearing};
+ghost use Rattle.lg_rules.specs.Meaning.Table.{names_heard, slot_in};
 
 use crate::claim::{Claim, Record, Status};
 use crate::name::Name;
 use crate::overriding::beats;
 use crate::rows::index_of;
+use crate::slots::{Slot, give_slot};
 use arrayvec::ArrayVec;
 use std::marker::Model;
 
@@ -46,11 +48,16 @@ pub enum Heard {
 ///
 /// The others that are known are the first 255 that were heard of. None is ever removed. The record of a member is
 /// the first claim about it that no claim about it overrides (SWIM, section 4.2). No call allocates memory. A
-/// contract sees this member's name and the list of the records.
+/// contract sees this member's name, the list of the records, and all names by order of appearance.
 #[derive(Debug, Drop)]
 pub struct Members {
     own: Name,
+    // The index of the record of each other name, by order of appearance. Fields lie in the order written here, so
+    // these bytes stand beside those of the own name.
+    indexes: [u8; MAX_OTHERS],
     records: ArrayVec<Record, MAX_OTHERS>,
+    // The slot of each record's name.
+    slots: ArrayVec<Slot, MAX_OTHERS>,
     // How many members haven't failed, this member included. The count is kept, since each suspicion that is raised
     // needs it.
     live: usize,
@@ -61,11 +68,19 @@ impl Model for Members {
 
     ghost Value = { MembersValue };
 
-    ghost view = { λ m. record { own = m.own; table = m.records.items } };
+    ghost use Rattle.std.specs.Prelude.{map};
+    ghost use Rattle.lg_rules.specs.Meaning.Claim.{name_of};
+    ghost use Rattle.lg_rules.specs.Support.Slots.{held_names};
 
-    ghost use Rattle.lg_rules.specs.Support.Members.{AreCounted};
+    ghost view = { λ m. record {
+      own = m.own;
+      table = m.records.items;
+      names = held_names m.own (map name_of m.records.items) m.indexes;
+    } };
 
-    ghost invariant = { λ m. AreCounted m.records.items m.live };
+    ghost use Rattle.lg_rules.specs.Support.Members.{AreKept};
+
+    ghost invariant = { λ m. AreKept m.own m.records.items m.live m.slots.items m.indexes };
 }
 
 /// Whether a status is Failed.
@@ -132,26 +147,26 @@ fn add(records: &mut ArrayVec<Record, MAX_OTHERS>, live: &mut usize, at: usize, 
     records.insert(at, *claim);
 }
 
-/// Hears a claim about another member, and updates the number of members that haven't failed.
+/// Hears a claim about a member whose record is at an index, and updates the number of members that haven't failed.
 #[tactic(auto, unfolding(crate::specs::Meaning::Table::takes))]
-fn hear_in(records: &mut ArrayVec<Record, MAX_OTHERS>, live: &mut usize, claim: &Claim) -> Heard
-    requires rises { Rises name_cmp (map name_of records.old.items) }
+fn hear_known(
+    records: &mut ArrayVec<Record, MAX_OTHERS>,
+    live: &mut usize,
+    at: usize,
+    claim: &Claim,
+) -> Heard
+    requires has { HasRow name_cmp name_of claim.now.name records.old.items at }
     requires counted { live.old ≡ live_in records.old.items }
     ensures hearing { result ≡ hearing_of records.old.items claim.now }
     ensures table { records.new.items ≡ heard records.old.items claim.now }
+    ensures names { map name_of records.new.items ≡ map name_of records.old.items }
     ensures counted { live.new ≡ live_in records.new.items }
 {
-    match index_of(records.as_slice(), &claim.name) {
-        Ok(at) if beats(claim, &records[at]) => {
-            replace(records, live, at, claim);
-            Heard::Overrode
-        }
-        Ok(at) => standing_hearing(claim, &records[at]),
-        Err(_) if records.is_full() => Heard::NoRoom,
-        Err(at) => {
-            add(records, live, at, claim);
-            Heard::Overrode
-        }
+    if beats(claim, &records[at]) {
+        replace(records, live, at, claim);
+        Heard::Overrode
+    } else {
+        standing_hearing(claim, &records[at])
     }
 }
 
@@ -162,9 +177,13 @@ impl Members {
     {
         let mut records = ArrayVec::new();
         records.try_extend_from_slice(&self.records).unwrap();
+        let mut slots = ArrayVec::new();
+        slots.try_extend_from_slice(&self.slots).unwrap();
         Members {
             own: self.own,
+            indexes: self.indexes,
             records,
+            slots,
             live: self.live,
         }
     }
@@ -175,23 +194,27 @@ impl Members {
     {
         Members {
             own: *own,
+            indexes: [0; MAX_OTHERS],
             records: ArrayVec::new(),
+            slots: ArrayVec::new(),
             live: 1,
         }
     }
 
     /// Forgets all that was heard, and starts over for a member with this name.
-    #[tactic(auto, unfolding(crate::specs::Meaning::Table::table_of, crate::specs::Meaning::Table::roster))]
     pub fn restart(&mut self, own: &Name)
         ensures { self.new ≡ known_of own.now [] }
     {
         let Members {
             own: name,
             records,
+            slots,
             live,
+            ..
         } = self;
         *name = *own;
         records.clear();
+        slots.clear();
         *live = 1;
     }
 
@@ -225,6 +248,40 @@ impl Members {
         self.records.as_slice().get(index)
     }
 
+    /// The slot of a known name, or `None` if the name isn't known. This member's own name has slot 0.
+    pub fn slot_of(&self, name: &Name) -> Option<Slot>
+        ensures slot { result ≡ slot_in name.now self.now.names }
+        ensures own { slot_in self.now.own self.now.names ≡ Some 0 }
+        // At the slot of a name stands the name,
+        ensures named { (slot : ℕ) → result ≡ Some slot → slice_get self.now.names slot ≡ Some name.now }
+        // and no other name has its slot.
+        ensures alone { (slot : ℕ) (other : List ℕ) → result ≡ Some slot → slot_in other self.now.names ≡ Some slot
+            → other ≡ name.now }
+    {
+        match index_of(self.records.as_slice(), name) {
+            Ok(at) => Some(self.slots[at]),
+            Err(_) if *name == self.own => Some(Slot::own()),
+            Err(_) => None,
+        }
+    }
+
+    /// The name that has a slot, or `None` if no name has it. It takes no search.
+    pub fn name_at(&self, slot: Slot) -> Option<&Name>
+        ensures name { option_copied result ≡ slice_get self.now.names slot }
+        // The name that is found has this slot.
+        ensures slot { (name : List ℕ) → option_copied result ≡ Some name → slot_in name self.now.names ≡ Some slot }
+    {
+        if slot == Slot::own() {
+            return Some(&self.own);
+        }
+        let other = usize::from(slot.number()) - 1;
+        if other < self.records.len() {
+            Some(&self.records[usize::from(self.indexes[other])].name)
+        } else {
+            None
+        }
+    }
+
     /// How many members haven't failed, this member included: 1 to 256.
     pub fn live(&self) -> usize
         ensures count { result ≡ live_in self.now.table }
@@ -238,12 +295,18 @@ impl Members {
     /// Hears a claim about another member.
     ///
     /// A claim about an unknown member becomes its record if fewer than 255 others are known. A claim that overrides
-    /// the record replaces it, with its address and its accuser.
+    /// the record replaces it, with its address and its accuser. A name that becomes known gets the next slot, and keeps
+    /// it until the restart.
+    #[tactic(auto, unfolding(crate::specs::Meaning::Table::takes))]
     pub fn hear(&mut self, claim: &Claim) -> Heard
         requires { claim.now.name ≢ self.old.own }
         ensures hearing { result ≡ hearing_of self.old.table claim.now }
         ensures own { self.new.own ≡ self.old.own }
         ensures table { self.new.table ≡ heard self.old.table claim.now }
+        ensures names { self.new.names ≡ names_heard self.old.names claim.now }
+        // A slot keeps its name.
+        ensures kept { (slot : ℕ) (name : List ℕ) → slice_get self.old.names slot ≡ Some name
+            → slice_get self.new.names slot ≡ Some name }
         // If the table was the one after some claims (the latest first), it is now the one after those and this one.
         ensures past { (past : List Said) → let after = known_of self.old.own in
             self.old ≡ after past → self.new ≡ after (claim.now ∷ past) }
@@ -251,6 +314,14 @@ impl Members {
         ensures oneself { (past : List Said) (c : Said) → let after = known_of self.old.own in
             c.name ≡ self.old.own → after (c ∷ past) ≡ after past }
     {
-        hear_in(&mut self.records, &mut self.live, claim)
+        match index_of(self.records.as_slice(), &claim.name) {
+            Ok(at) => hear_known(&mut self.records, &mut self.live, at, claim),
+            Err(_) if self.records.is_full() => Heard::NoRoom,
+            Err(at) => {
+                add(&mut self.records, &mut self.live, at, claim);
+                give_slot(&mut self.slots, &mut self.indexes, at);
+                Heard::Overrode
+            }
+        }
     }
 }

@@ -1,5 +1,5 @@
 -- Worked rows: what the definitions give for some claims.
-use Rattle.std.specs.Prelude.{◌≡◌, ℕ, ◌+◌, Bool, true, false, List, [], ◌∷◌, Some, refl}
+use Rattle.std.specs.Prelude.{◌≡◌, ℕ, ◌+◌, Bool, true, false, List, [], ◌∷◌, Some, None, refl}
 use Rattle.lg_rules.specs.declared.addr.Addr.{Addr}
 use Rattle.lg_rules.specs.declared.claim.Claim.{Claim}
 use Rattle.lg_rules.specs.declared.claim.Status.{Status}
@@ -10,6 +10,7 @@ use Rattle.lg_rules.specs.Meaning.Beats.{beats_of}
 use Rattle.lg_rules.specs.Meaning.Own.{OwnValue, own_hearing, own_of, own_record}
 use Rattle.lg_rules.specs.Meaning.View.{view_of, changed}
 use Rattle.lg_rules.specs.Meaning.Table.{record_of, roster, table_of, takes, hearing_of}
+use Rattle.lg_rules.specs.Meaning.Table.{names_by_slot, names_heard, slot_in}
 
 -- the letters that name the members
 abbrev pub a : ℕ
@@ -88,6 +89,35 @@ not_cleared = refl
 pub accused_again : hearing_of (on c (accused_by a) 4 ∷ []) (on c (accused_by e) 4) ≡ Accused
 unfolding takes
 accused_again = refl
+
+-- b hears of c, then of a, of c again, of itself, and of e: c has slot 1, a has 2, and e has 3
+abbrev pub names_of_b : List (List ℕ)
+names_of_b = (b ∷ []) ∷ (c ∷ []) ∷ (a ∷ []) ∷ (e ∷ []) ∷ []
+
+pub by_appearance :
+    names_by_slot (b ∷ [])
+    (on e Alive 0 ∷ on b (accused_by a) 0 ∷ on c (accused_by a) 4 ∷ on a Alive 0 ∷ on c Alive 4 ∷ [])
+    ≡ names_of_b
+unfolding names_by_slot
+by_appearance = refl
+
+pub own_slot : slot_in (b ∷ []) names_of_b ≡ Some 0
+own_slot = refl
+
+pub slot_of_the_first : slot_in (c ∷ []) names_of_b ≡ Some 1
+slot_of_the_first = refl
+
+pub slot_of_the_last : slot_in (e ∷ []) names_of_b ≡ Some 3
+slot_of_the_last = refl
+
+pub no_slot : slot_in (d ∷ []) names_of_b ≡ None
+no_slot = refl
+
+pub keeps_the_slots : names_heard names_of_b (on a Failed 0) ≡ names_of_b
+keeps_the_slots = refl
+
+pub gets_the_next_slot : slot_in (d ∷ []) (names_heard names_of_b (on d Alive 0)) ≡ Some 4
+gets_the_next_slot = refl
 
 -- b is at 127.0.0.1:7000
 abbrev pub b_at : Addr

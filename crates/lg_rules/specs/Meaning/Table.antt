@@ -1,6 +1,6 @@
 -- The table of members: of each other member that is known, the claim that stands. A past has the latest claim first.
-use Rattle.std.specs.Prelude.{ℕ, ◌+◌, ◌==◌, Bool, true, false, not, nat_lt, if◌then◌else◌}
-use Rattle.std.specs.Prelude.{List, length, map, filter, count_by, Option, Some, None}
+use Rattle.std.specs.Prelude.{ℕ, suc, ◌+◌, ◌==◌, Bool, true, false, not, nat_lt, if◌then◌else◌}
+use Rattle.std.specs.Prelude.{List, [], ◌∷◌, ◌++◌, length, map, filter, reverse, count_by, Option, Some, None}
 use Rattle.std.specs.List.{filter_map}
 use Rattle.lg_rules.specs.declared.claim.Claim.{Claim}
 use Rattle.lg_rules.specs.declared.claim.Status.{Status}
@@ -8,10 +8,10 @@ use Rattle.lg_rules.specs.declared.claim.Status.TheVariants.{Alive, Suspect, Fai
 use Rattle.lg_rules.specs.declared.members.Heard.{Heard}
 use Rattle.lg_rules.specs.declared.members.Heard.TheVariants.{Overrode, Accused, Same, Ignored, NoRoom}
 use Rattle.lg_rules.specs.Meaning.Beats.{beats_of}
-use Rattle.lg_rules.specs.Meaning.Bounds.{most_others}
+use Rattle.lg_rules.specs.Meaning.Bounds.{most_members, most_others}
 use Rattle.lg_rules.specs.Meaning.Claim.{name_of}
 use Rattle.lg_rules.specs.Meaning.Past.{earliest_unbeaten, oldest}
-use Rattle.lg_rules.specs.Meaning.Rows.{name_cmp, is_same, put_row, row_at, in_order, distinct}
+use Rattle.lg_rules.specs.Meaning.Rows.{name_cmp, is_same, is_among, put_row, row_at, in_order, distinct}
 
 -- the claims of a past about a member, and those about all members but this one
 abbrev pub about : List ℕ → List Claim → List Claim
@@ -37,13 +37,28 @@ roster own past = in_order name_cmp (oldest most_others (distinct name_cmp (name
 unfoldable pub table_of : List ℕ → List Claim → List Claim
 table_of own past = filter_map (record_of past) (roster own past)
 
--- what a member knows: its own name, and the records of the others
+-- The known names by order of appearance: this member's own name, and then each other name that is known, the first
+-- that was heard of first. The slot of a name is its index here, from 0 (this project's choice).
+unfoldable pub names_by_slot : List ℕ → List Claim → List (List ℕ)
+names_by_slot own past = own ∷ reverse (oldest most_others (distinct name_cmp (names_said own past)))
+
+-- the slot of a name among names, if it is one of them
+abbrev pub one_further : Option ℕ → Option ℕ
+one_further None = None
+one_further (Some slot) = Some (suc slot)
+
+abbrev pub slot_in : List ℕ → List (List ℕ) → Option ℕ
+slot_in n [] = None
+slot_in n (m ∷ ms) = if is_same name_cmp m n then Some 0 else one_further (slot_in n ms)
+
+-- what a member knows: its own name, the records of the others, and all names by order of appearance
 pub record MembersValue : Type 0 where
   pub own : List ℕ
   pub table : List Claim
+  pub names : List (List ℕ)
 
 abbrev pub known_of : List ℕ → List Claim → MembersValue
-known_of own past = record { own = own; table = table_of own past }
+known_of own past = record { own = own; table = table_of own past; names = names_by_slot own past }
 
 -- Whether a claim about another is taken. It is if it overrides the record, or if there is no record and fewer than
 -- 255 others are known.
@@ -57,6 +72,14 @@ takes table c = takes_over (length table) c (row_at name_cmp name_of c.name tabl
 -- the table once a claim about another is heard
 abbrev pub heard : List Claim → Claim → List Claim
 heard table c = if takes table c then put_row name_cmp name_of c table else table
+
+-- The names by order of appearance once a claim about another is heard. A name that isn't among them comes last, if
+-- fewer than 256 are known.
+abbrev pub names_heard : List (List ℕ) → Claim → List (List ℕ)
+names_heard names c =
+    if is_among name_cmp c.name names then names
+    else if nat_lt (length names) most_members then names ++ c.name ∷ []
+    else names
 
 -- What hearing a claim does if it isn't taken, and its member has a record:
 --     Accused    it accuses a member that is suspected already, at the record's incarnation

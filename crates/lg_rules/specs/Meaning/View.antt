@@ -1,6 +1,6 @@
 -- The member table, which has this member's own record among those of the others; and which of its records differ
 -- from an earlier table.
-use Rattle.std.specs.Prelude.{ℕ, Bool, true, false, ◌&&◌, ◌==◌, not, nat_eq}
+use Rattle.std.specs.Prelude.{Bool, true, false, ◌&&◌, ◌==◌, not, nat_eq}
 use Rattle.std.specs.Prelude.{List, filter, Option, Some, None}
 use Rattle.std.specs.Cmp.Lexicographic.{pointwise}
 use Rattle.lg_rules.specs.declared.addr.Addr.{Addr}

@@ -8,7 +8,7 @@ pub returns-clause-few : goal.returns-clause-few
 returns-clause-few c =
     omega (
       arith,
-      c.self.invariant.counted,
+      c.self.invariant.rows.counted,
       c.as_slice.ensures.fits,
       ap length c.as_slice.ensures.value,
       count_by-le-length (λ (r : Claim). not (is_failed r.status)) c.self.inside.records.items,
