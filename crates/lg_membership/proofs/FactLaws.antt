@@ -6,7 +6,8 @@ use Rattle.lg_rules.specs.Meaning.Rows.{name_cmp, is_same}
 use Rattle.lg_rules.specs.Meaning.Table.{known_of}
 use Rattle.lg_rules.proofs.KeyOrder.{names_order, cases_key, same_key, other_key}
 use Rattle.lg_rules.proofs.OwnLaws.{own-same, own-other, own_of_name}
-use Rattle.lg_rules.proofs.Tables.{heard-table, table-own}
+use Rattle.lg_rules.proofs.Naming.{heard-names, heard-oneself}
+use Rattle.lg_rules.proofs.Tables.{heard-table}
 use Rattle.lg_timing.specs.declared.config.Config.{Config}
 use Rattle.lg_membership.specs.declared.origin.Origin.{Origin}
 use Rattle.lg_membership.specs.Meaning.Log.{GroupLog, Opened, Said, Sent, config, me, said, own, opening_addr}
@@ -29,7 +30,7 @@ own-applied : (now : ℕ) (origin : Origin) (c : Claim) (log : GroupLog) → c.n
 own-applied now origin c log same = λ i. record {
   config = config log;
   own = sym (own-same (me log) (opening_addr (config log)) c (said log) same) i;
-  members = record { own = me log; table = sym (table-own (me log) c (said log) same) i };
+  members = sym (heard-oneself (me log) (said log) c same) i;
   suspicions = suspicions-own now origin log c same i;
   queue = queue-own now origin log c same i;
 }
@@ -38,7 +39,11 @@ other-applied : (now : ℕ) (origin : Origin) (c : Claim) (log : GroupLog) → c
 other-applied now origin c log other = λ i. record {
   config = config log;
   own = sym (own-other (me log) (opening_addr (config log)) c (said log) other) i;
-  members = record { own = me log; table = heard-table (me log) c (said log) other i };
+  members = record {
+    own = me log;
+    table = heard-table (me log) c (said log) other i;
+    names = heard-names (me log) c (said log) other i;
+  };
   suspicions = suspicions-other now origin log c other i;
   queue = queue-other now origin log c other i;
 }

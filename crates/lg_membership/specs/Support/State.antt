@@ -5,7 +5,7 @@ use Rattle.lg_rules.specs.declared.own.OwnHeard.{OwnHeard}
 use Rattle.lg_rules.specs.Meaning.Claim.{name_of}
 use Rattle.lg_rules.specs.Meaning.Own.{OwnValue, own_of, own_hearing, own_heard}
 use Rattle.lg_rules.specs.Meaning.Rows.{name_cmp, is_same, put_row}
-use Rattle.lg_rules.specs.Meaning.Table.{MembersValue, known_of, takes, heard, live_in}
+use Rattle.lg_rules.specs.Meaning.Table.{MembersValue, known_of, takes, heard, names_heard, live_in}
 use Rattle.lg_rules.specs.Support.Standing.{Standing}
 use Rattle.lg_timing.specs.declared.config.Config.{Config}
 use Rattle.lg_gossip.specs.Meaning.Queue.{QueueValue, put_of, sent_once, taken_of, fill_of}
@@ -97,7 +97,11 @@ apply_own c s = record s {
 
 abbrev pub apply_other : ℕ → Origin → Claim → GroupState → GroupState
 apply_other now origin c s = record s {
-  members = record { own = s.members.own; table = heard s.members.table c };
+  members = record {
+    own = s.members.own;
+    table = heard s.members.table c;
+    names = names_heard s.members.names c;
+  };
   suspicions = suspicions_after (change_in now c s) s.suspicions;
   queue = queue_with (put_of_other origin s.members.table s.suspicions c) s.queue;
 }

@@ -1,6 +1,6 @@
 use Rattle.std.proofs.Common.{◌≡◌, ◌≢◌, false, Option, ap, sym, subst, ◌∙◌}
 use Rattle.lg_rules.specs.declared.claim.Claim.{Claim}
-use Rattle.lg_rules.specs.Meaning.Table.{hearing_of, heard, live_in}
+use Rattle.lg_rules.specs.Meaning.Table.{MembersValue, hearing_of, heard, names_heard, live_in}
 use Rattle.lg_membership.specs.Meaning.Gossip.{put_if}
 use Rattle.lg_membership.specs.Support.Changes.{change_by, row_about, suspicions_after, deadline_of_change, is_override}
 use Rattle.lg_membership.specs.Support.Changes.{presence_by}
@@ -55,8 +55,17 @@ invariant_of-self c =
     let counts = c.is_to_be_passed_on-counts.ensures ∙ counts_for table inside.config c.args.now n row claim hearing deadline in
     let puts = c.put_of_other.ensures ∙ ap (λ b. put_if c.args.origin b claim) counts in
     let queue = c.put.ensures ∙ ap (λ (o : Option Claim). queue_with o inside.queue) puts in
-    let members : c.hear-heard.new.self ≡ record { own = inside.members.own; table = heard table claim } =
-    λ i. record { own = c.hear-heard.ensures.own i; table = c.hear-heard.ensures.table i } in
+    let heard-all : MembersValue = record {
+      own = inside.members.own;
+      table = heard table claim;
+      names = names_heard inside.members.names claim;
+    } in
+    let members : c.hear-heard.new.self ≡ heard-all =
+    λ i. record {
+      own = c.hear-heard.ensures.own i;
+      table = c.hear-heard.ensures.table i;
+      names = c.hear-heard.ensures.names i;
+    } in
     reached-other _ _ c.args.now c.args.origin claim (λ same. c.requires (same ∙ ap (λ (s : GroupState). s.own.name) c.self.view_is))
     (λ i. record { config = inside.config; own = inside.own; members = members i; suspicions = rows i; queue = queue i })
     c.self.invariant
