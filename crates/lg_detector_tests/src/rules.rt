@@ -2,8 +2,8 @@
 use crate::says::Said::{self, Alive, Failed, Suspect};
 use crate::says::{claim_of, moved};
 use lg_rules::{
-    Claim, Heard, Incarnation, Keyed, MAX_OTHERS, Members, Name, NameFault, Own, OwnHeard, Status,
-    beats, index_of, is_name_byte,
+    Claim, Heard, Incarnation, Keyed, MAX_OTHERS, Members, Name, NameFault, Own, OwnHeard, Slot,
+    Status, beats, index_of, is_name_byte,
 };
 use lg_testing::{alive, claim, failed, letter, local, name, numbered, suspect};
 
@@ -213,6 +213,51 @@ fn knows_256_names(rt: HostRuntime) {
     }
     assert_eq!(rt; facts_of_a_full_table(&members), [true; 5]);
     assert_eq!(rt; facts_of_seats_and_room(&mut members), [true; 5]);
+}
+
+/// Claims that `m` hears, one after another, and the slot of each one's member then. The last two are about known
+/// members: one overrides, and one doesn't.
+const SLOTS: &[(Said, u8)] = &[
+    (Alive("c", 1), 1),
+    (Alive("a", 1), 2),
+    (Alive("b", 1), 3),
+    (Failed("c", 1), 1),
+    (Alive("a", 0), 2),
+];
+
+/// Whether a name has the slot with this number, and this slot has the name.
+fn has_slot(members: &Members, name: &Name, number: u8) -> bool {
+    let slot = Slot::new(number);
+    members.slot_of(name) == Some(slot) && members.name_at(slot).copied() == Some(*name)
+}
+
+/// `m` itself has slot 0, and `c`, `a` and `b` have 1, 2 and 3. `d` has none, and slot 4 has no name.
+fn facts_of_slots(members: &Members) -> [bool; 8] {
+    [
+        has_slot(members, &letter(b'm'), 0),
+        has_slot(members, &letter(b'c'), 1),
+        has_slot(members, &letter(b'a'), 2),
+        has_slot(members, &letter(b'b'), 3),
+        members.slot_of(&letter(b'd')).is_none(),
+        members.name_at(Slot::new(4)).is_none(),
+        members.slot_of(&members.own()) == Some(Slot::own()),
+        Slot::new(200).number() == 200,
+    ]
+}
+
+/// Each name has a slot, by the order in which the names were heard of.
+#[test]
+fn numbers_names_by_appearance(rt: HostRuntime) {
+    let mut members = Members::new(&letter(b'm'));
+    for (said, number) in SLOTS {
+        let heard = claim_of(said);
+        let hearing = hear(&mut members, &heard);
+        assert!(rt;
+            hearing.is_some() && has_slot(&members, &heard.name, *number),
+            "{heard:?}"
+        );
+    }
+    assert_eq!(rt; facts_of_slots(&members), [true; 8]);
 }
 
 /// The greatest incarnation.
