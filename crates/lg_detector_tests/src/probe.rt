@@ -1,10 +1,11 @@
 //! Whom to probe, through whom, and what came of it.
 use crate::says::{Member, named, names_of};
+use arrayvec::ArrayVec;
 use lg_probe::{
     Helpers, MAX_RELAYS, Order, Relays, Round, choose_all, orders_have_room, windows_have_each,
 };
 use lg_rules::{MAX_OTHERS, Name};
-use lg_testing::local;
+use lg_testing::{local, numbered};
 
 /// Whether these are the names of these members.
 fn are_named(names: &[Name], members: &[Member]) -> bool {
@@ -75,8 +76,8 @@ fn plays(step: &Step, order: &mut Order) -> bool {
             true
         }
         Step::Chooses(word, member) => order.choose(word) == member.map(named),
-        Step::Has(members) => are_named(order.names(), members),
-        Step::Chose(members) => are_named(order.chosen(), members),
+        Step::Has(members) => are_named(order.names().as_slice(), members),
+        Step::Chose(members) => are_named(order.chosen().as_slice(), members),
     }
 }
 
@@ -125,6 +126,174 @@ fn chooses_among_those_that_join_and_leave(rt: HostRuntime) {
         let mut order = Order::new();
         for (number, step) in steps.iter().enumerate() {
             assert!(rt; plays(step, &mut order), "{case}, step {number}: {order:?}");
+        }
+    }
+}
+
+/// Names in any order.
+type Names = ArrayVec<Name, MAX_OTHERS>;
+
+/// Adds a name, if there is room.
+fn add(names: &mut Names, name: Name) {
+    if !names.is_full() {
+        names.push(name);
+    }
+}
+
+/// These names in their order.
+fn sorted(names: &Names) -> Names {
+    let mut sorted = ArrayVec::new();
+    for name in names {
+        add(&mut sorted, *name);
+    }
+    sorted.sort_unstable();
+    sorted
+}
+
+/// An order as two rows of names, which looks for its candidates at each choice.
+#[derive(Drop)]
+struct SlowOrder {
+    names: Names,
+    chosen: Names,
+}
+
+impl SlowOrder {
+    /// Nobody has joined.
+    fn new() -> SlowOrder {
+        SlowOrder {
+            names: ArrayVec::new(),
+            chosen: ArrayVec::new(),
+        }
+    }
+
+    /// The names that aren't chosen, in their order.
+    fn candidates(&self) -> Names {
+        let mut candidates = ArrayVec::new();
+        for name in &self.names {
+            if !self.chosen.contains(name) {
+                add(&mut candidates, *name);
+            }
+        }
+        candidates.sort_unstable();
+        candidates
+    }
+
+    /// Lets a member join.
+    fn join(&mut self, name: Name) {
+        if !self.names.contains(&name) {
+            add(&mut self.names, name);
+        }
+    }
+
+    /// Begins a new cycle if there is no candidate. Returns the candidates.
+    fn candidates_now(&mut self) -> Names {
+        let candidates = self.candidates();
+        if !candidates.is_empty() {
+            return candidates;
+        }
+        self.chosen.clear();
+        self.candidates()
+    }
+
+    /// Chooses by a word, as `Order::choose` does.
+    fn choose(&mut self, word: u32) -> Option<Name> {
+        let candidates = self.candidates_now();
+        let count = candidates.len();
+        if count == 0 {
+            return None;
+        }
+        let name = candidates[word as usize % count];
+        add(&mut self.chosen, name);
+        Some(name)
+    }
+
+    /// Whether a fast order has the same names and choices.
+    fn is_same(&self, order: &Order) -> bool {
+        order.names() == sorted(&self.names) && order.chosen() == sorted(&self.chosen)
+    }
+}
+
+/// How many members join and leave during the choices below. Even if all are known and chosen, the counts leave room.
+const MANY: u32 = 127;
+
+/// How many choices are made.
+const CHOICES: u32 = 1_000;
+
+/// A member joins or leaves, by a word, or nobody does.
+fn changes(word: u32, order: &mut Order, slow: &mut SlowOrder) {
+    let name = numbered(word / 4 % MANY);
+    match word % 4 {
+        0 => {
+            order.leave(&name);
+            slow.names.retain(|other| *other != name);
+        }
+        1 | 2 => {
+            join(order, &name);
+            slow.join(name);
+        }
+        _ => {}
+    }
+}
+
+#[test]
+fn chooses_as_a_slow_order_does(rt: HostRuntime) {
+    let mut order = Order::new();
+    let mut slow = SlowOrder::new();
+    for number in 0..MANY {
+        join(&mut order, &numbered(number));
+        slow.join(numbered(number));
+    }
+    let mut random = 2_026_u32;
+    for number in 0..CHOICES {
+        random = random.wrapping_mul(1_664_525).wrapping_add(1_013_904_223);
+        changes(random >> 8, &mut order, &mut slow);
+        let word = random >> 12;
+        assert!(rt;
+            order.choose(word) == slow.choose(word),
+            "choice {number}: {order:?}"
+        );
+        assert!(rt; slow.is_same(&order), "after choice {number}: {order:?}");
+    }
+}
+
+/// The index of the candidate that has so many before it, by a row that says who was chosen in the cycle.
+fn candidate_at(chosen: &[bool; MAX_OTHERS], place: usize) -> Option<usize> {
+    let mut left = place;
+    for (index, is_chosen) in chosen.iter().enumerate() {
+        if !*is_chosen {
+            if left == 0 {
+                return Some(index);
+            }
+            left -= 1;
+        }
+    }
+    None
+}
+
+/// How many words choose below: four cycles of 255 members, but for the last choices of the fourth.
+const WORDS: usize = 1_000;
+
+#[test]
+fn chooses_each_of_255_in_a_cycle(rt: HostRuntime) {
+    let mut names: Names = ArrayVec::new();
+    for number in 0..MAX_OTHERS as u32 {
+        add(&mut names, numbered(number));
+    }
+    let mut words = [0_u32; WORDS];
+    for index in 0..WORDS {
+        words[index] = (index as u32).wrapping_mul(2_654_435_761) >> 7;
+    }
+    let made = choose_all(rt.alloc(), names.as_slice(), &words).expect(&rt, "there is memory");
+    let mut chosen = [false; MAX_OTHERS];
+    for (number, word) in words.iter().enumerate() {
+        if number % MAX_OTHERS == 0 {
+            chosen = [false; MAX_OTHERS];
+        }
+        let count = MAX_OTHERS - number % MAX_OTHERS;
+        let index = candidate_at(&chosen, *word as usize % count).unwrap_or(0);
+        assert!(rt; made.get(number) == names.get(index), "choice {number}");
+        if index < MAX_OTHERS {
+            chosen[index] = true;
         }
     }
 }
