@@ -14,10 +14,9 @@ use Rattle.lg_timers.specs.declared.timer.Timer.{Timer}
 use Rattle.lg_timers.proofs.Pending.{NoSuspicion}
 use Rattle.lg_membership.specs.declared.applied.Applied.{Applied}
 use Rattle.lg_membership.specs.declared.origin.Origin.{Origin}
-use Rattle.lg_membership.specs.declared.suspected.Suspected.{Suspected}
 use Rattle.lg_membership.specs.Meaning.Log as group
 use Rattle.lg_membership.specs.Meaning.Applied.{is_refuted}
-use Rattle.lg_membership.specs.Meaning.Suspicions.{suspicions}
+use Rattle.lg_membership.specs.Meaning.Suspicions.{SuspectedValue, suspicions}
 use Rattle.lg_membership.specs.Support.Changes.{suspicions_after}
 use Rattle.lg_membership.specs.Support.State as known
 use Rattle.lg_membership.specs.Support.State.{GroupState, group_state_of}
@@ -73,7 +72,7 @@ unfolding known.applied
 applied-other now c s other = rw (other_key names_order c.name s.own.name other) refl
 
 -- the timers of a log, by its suspicions
-abbrev parts : Log → List Suspected → List Timer
+abbrev parts : Log → List SuspectedValue → List Timer
 parts log rows = turned (round_timers log) (nack_timers log) (relay_timers log) (map suspicion_timer rows)
 
 rounds_apart : (log : Log) → NoSuspicion (round_timers log)

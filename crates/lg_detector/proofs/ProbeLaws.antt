@@ -14,9 +14,8 @@ use Rattle.lg_probe.specs.Meaning.Order.{OrderValue, Chose, order_with}
 use Rattle.lg_probe.specs.Meaning.Relays.{ended_asker}
 use Rattle.lg_probe.specs.Meaning.Round.{RoundFact, RoundValue, Asked, Acked, Nacked, asked_in, is_acked, ack_counts, round_of, round_with}
 use Rattle.lg_probe.proofs.RoundLaws.{asked_after, nacked_after}
-use Rattle.lg_membership.specs.declared.suspected.Suspected.{Suspected}
 use Rattle.lg_membership.specs.Meaning.Log as group
-use Rattle.lg_membership.specs.Meaning.Suspicions.{suspicions}
+use Rattle.lg_membership.specs.Meaning.Suspicions.{SuspectedValue, suspicions}
 use Rattle.lg_membership.specs.Support.State.{group_state_of}
 use Rattle.lg_detector.specs.Meaning.Log.{Log, Fired, AckHeard, NackHeard, Relayed, event_count, moment, group_log}
 use Rattle.lg_detector.specs.Meaning.Probing as probing
@@ -42,7 +41,7 @@ relay_at log k = opened_at log k + relay_time (group.config (group_log log))
 abbrev is_silent : Log → Relay → Bool
 is_silent log r = not (relay_has_nacked log r.number)
 
-abbrev rows : Log → List Suspected
+abbrev rows : Log → List SuspectedValue
 rows log = suspicions (group_log log)
 
 are : (log : Log) → AreRound (round_timers log)

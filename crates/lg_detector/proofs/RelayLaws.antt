@@ -17,7 +17,7 @@ use Rattle.lg_probe.specs.declared.relays.Relay.{Relay}
 use Rattle.lg_probe.specs.Meaning.Relays.{Opened, TargetAcked, Closed, AreApart, has_number, is_ended, is_open, asker_at, ended_asker}
 use Rattle.lg_probe.proofs.OpenRelays.{relays_after-push}
 use Rattle.lg_probe.proofs.RelayLaws.{apart-opened, apart-fewer}
-use Rattle.lg_membership.specs.declared.suspected.Suspected.{Suspected}
+use Rattle.lg_membership.specs.Meaning.Suspicions.{SuspectedValue}
 use Rattle.lg_membership.specs.Meaning.Log as group
 use Rattle.lg_detector.specs.Meaning.Log.{Log, Came, Fired, AckHeard, NackHeard, Relayed, OfGroup, moment, group_log}
 use Rattle.lg_detector.specs.Meaning.Probing.{number, starts}
@@ -124,7 +124,7 @@ fresh n [] b = refl
 fresh n (r ∷ rs) b = rw (other_number r.number n (λ e. omega (arith, e, b.0))) (ap (λ xs. r ∷ xs) (fresh n rs b.1))
 
 -- The timers of relays are cancelled and set between those of the round and of the suspicions.
-module _ (A : List Timer) (are : AreRound A) (nack_at end_at : ℕ → ℕ) (rows : List Suspected) where
+module _ (A : List Timer) (are : AreRound A) (nack_at end_at : ℕ → ℕ) (rows : List SuspectedValue) where
   without-nack : (k : ℕ) (silent relays : List Relay)
       → without_timer (RelayNack k) (turned A (nacks nack_at silent) (ends end_at relays) (runs rows))
       ≡ turned A (nacks nack_at (filter (λ r. not (has_number k r)) silent)) (ends end_at relays) (runs rows)

@@ -13,8 +13,7 @@ use Rattle.lg_timers.proofs.Pending.{NoSuspicion}
 use Rattle.lg_timers.proofs.Parts.{without-parts, with-first, without-map, parts-put, parts-without, no_suspicion-map, length-parts}
 use Rattle.lg_probe.specs.declared.relays.Relay.{Relay}
 use Rattle.lg_probe.specs.Meaning.Round.{RoundFact, Asked, Acked, asked_in, is_acked, ack_counts}
-use Rattle.lg_membership.specs.declared.suspected.Suspected.{Suspected}
-use Rattle.lg_membership.specs.Meaning.Suspicions.{suspected_name}
+use Rattle.lg_membership.specs.Meaning.Suspicions.{SuspectedValue, suspected_name}
 use Rattle.lg_membership.specs.Support.Changes.{Change, Nothing, Ending, Putting, IsAbout, suspicions_after}
 use Rattle.lg_membership.specs.Support.Changes.{deadline_of_change}
 use Rattle.lg_detector.specs.Meaning.Probing.{Probe, round_at}
@@ -32,7 +31,7 @@ nacks at rows = map (λ r. nack_timer (at r.number) r.number) rows
 abbrev pub ends : (ℕ → ℕ) → List Relay → List Timer
 ends at rows = map (λ r. relay_timer (at r.number) r.number) rows
 
-abbrev pub runs : List Suspected → List Timer
+abbrev pub runs : List SuspectedValue → List Timer
 runs rows = map suspicion_timer rows
 
 -- what holds of the timers of a round
@@ -59,9 +58,9 @@ are_round end direct None past (Some d) = record { cleared = refl; started = ref
 are_round end direct (Some p) past start = are_parts end direct (is_waiting p past) start
 
 -- The timers of the round are set and cancelled behind those of the others.
-module _ (nack_at end_at : ℕ → ℕ) (silent relays : List Relay) (rows : List Suspected) where
+module _ (nack_at end_at : ℕ → ℕ) (silent relays : List Relay) (rows : List SuspectedValue) where
   without-round : (id : TimerId) (A A2 : List Timer) → without_timer id A ≡ A2
-      → ((d k : ℕ) → has_id id (nack_timer d k) ≡ false) → ((d k : ℕ) → has_id id (relay_timer d k) ≡ false) → ((r : Suspected) → has_id id (suspicion_timer r) ≡ false)
+      → ((d k : ℕ) → has_id id (nack_timer d k) ≡ false) → ((d k : ℕ) → has_id id (relay_timer d k) ≡ false) → ((r : SuspectedValue) → has_id id (suspicion_timer r) ≡ false)
       → without_timer id (turned A (nacks nack_at silent) (ends end_at relays) (runs rows)) ≡ turned A2 (nacks nack_at silent) (ends end_at relays) (runs rows)
   without-round id A A2 a nack end run =
       without-parts id A (nacks nack_at silent) (ends end_at relays) (runs rows) A2 (nacks nack_at silent) (ends end_at relays) (runs rows) a
@@ -147,7 +146,7 @@ acked-timers end direct (Some p) past k sender start =
     acked-waiting end direct (is_acked p.number p.target past) (ack_counts p.number p.target (asked_in past) k sender) (list_any is_asking past) start
 
 -- The timers after a change of the suspicions.
-pub pending-after : (A B C : List Timer) (m : List ℕ) (change : Change) (rows : List Suspected) → NoSuspicion A → NoSuspicion B → NoSuspicion C → IsAbout m change → Rises name_cmp (map suspected_name rows)
+pub pending-after : (A B C : List Timer) (m : List ℕ) (change : Change) (rows : List SuspectedValue) → NoSuspicion A → NoSuspicion B → NoSuspicion C → IsAbout m change → Rises name_cmp (map suspected_name rows)
     → follow m (deadline_of_change change) (turned A B C (runs rows)) ≡ turned A B C (runs (suspicions_after change rows))
 pending-after A B C m Nothing rows a b c about rises = refl
 pending-after A B C m (Ending k) rows a b c about rises =
@@ -195,7 +194,7 @@ length-filter p (x ∷ xs) = elim (cases_Bool (p x)) [
   | inr f ↦ rw f (omega (arith, length-filter p xs))
 ]
 
-pub length-turned : (A : List Timer) (nack_at end_at : ℕ → ℕ) (p : Relay → Bool) (relays : List Relay) (rows : List Suspected)
+pub length-turned : (A : List Timer) (nack_at end_at : ℕ → ℕ) (p : Relay → Bool) (relays : List Relay) (rows : List SuspectedValue)
     → length (turned A (nacks nack_at (filter p relays)) (ends end_at relays) (runs rows)) ≤ length A + (length relays + (length relays + length rows))
 length-turned A nack_at end_at p relays rows =
     omega (

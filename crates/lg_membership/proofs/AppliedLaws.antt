@@ -24,9 +24,8 @@ use Rattle.lg_suspicion.specs.Meaning.Accusers.{accuser_counts, deadline_of}
 use Rattle.lg_membership.specs.declared.applied.Applied.{Applied}
 use Rattle.lg_membership.specs.declared.applied.Deadline.{Deadline}
 use Rattle.lg_membership.specs.declared.origin.Origin.{Origin}
-use Rattle.lg_membership.specs.declared.suspected.Suspected.{Suspected}
 use Rattle.lg_membership.specs.Meaning.Log.{GroupLog, Said, config, me, said, own, table, group_view, live_others, opening_addr}
-use Rattle.lg_membership.specs.Meaning.Suspicions.{suspicions, suspected_name}
+use Rattle.lg_membership.specs.Meaning.Suspicions.{SuspectedValue, suspicions, suspected_name}
 use Rattle.lg_membership.specs.Meaning.Applied.{record_in, suspicion_in, is_refuted, IsRecordChange, IsDeadlineChange, IsApplied}
 use Rattle.lg_membership.specs.Support.Changes.{Change, Nothing, Ending, Putting, raised, ended, overriding, accusing}
 use Rattle.lg_membership.specs.Support.Changes.{change_by, change_of, row_about, suspicions_after, deadline_of_change}
@@ -92,26 +91,26 @@ changed-log now origin c log = elim (held (applied now c s).changed) [
     shown-said = sym (ap shown (apply-state now origin c log)) ∙ shown-applied now origin c s (rises-table (me log) (said log))
 
 -- The deadline: what a claim changes of the suspicions is about its member.
-abbrev IsAbout : List ℕ → List Suspected → Change → Type 0
+abbrev IsAbout : List ℕ → List SuspectedValue → Change → Type 0
 IsAbout n rows Nothing = ⊤
 IsAbout n rows (Ending m) = (m ≡ n) × (row_at name_cmp suspected_name n rows ≢ None)
 IsAbout n rows (Putting r) = r.name ≡ n
 
-about-raised : (o : Option Config) (now n : ℕ) (m accuser : List ℕ) (rows : List Suspected) → IsAbout m rows (raised o now n m accuser)
+about-raised : (o : Option Config) (now n : ℕ) (m accuser : List ℕ) (rows : List SuspectedValue) → IsAbout m rows (raised o now n m accuser)
 about-raised None now n m accuser rows = tt
 about-raised (Some opening) now n m accuser rows = refl
 
-about-ended : (m : List ℕ) (rows : List Suspected) (o : Option Suspected) → row_at name_cmp suspected_name m rows ≡ o → IsAbout m rows (ended m o)
+about-ended : (m : List ℕ) (rows : List SuspectedValue) (o : Option SuspectedValue) → row_at name_cmp suspected_name m rows ≡ o → IsAbout m rows (ended m o)
 about-ended m rows None is = tt
 about-ended m rows (Some row) is = (refl, λ none. (let bad : Some row ≡ None = sym is ∙ none in absurd cc))
 
-about-overriding : (o : Option Config) (now n : ℕ) (m : List ℕ) (rows : List Suspected) (s : Status)
+about-overriding : (o : Option Config) (now n : ℕ) (m : List ℕ) (rows : List SuspectedValue) (s : Status)
     → IsAbout m rows (overriding o now n m (row_at name_cmp suspected_name m rows) s)
 about-overriding o now n m rows Alive = about-ended m rows (row_at name_cmp suspected_name m rows) refl
 about-overriding o now n m rows (Suspect accuser) = about-raised o now n m accuser rows
 about-overriding o now n m rows Failed = about-ended m rows (row_at name_cmp suspected_name m rows) refl
 
-about-accused : (m : List ℕ) (rows : List Suspected) (accuser : Option (List ℕ)) (o : Option Suspected) → row_at name_cmp suspected_name m rows ≡ o
+about-accused : (m : List ℕ) (rows : List SuspectedValue) (accuser : Option (List ℕ)) (o : Option SuspectedValue) → row_at name_cmp suspected_name m rows ≡ o
     → IsAbout m rows (accusing accuser o)
 about-accused m rows None o is = tt
 about-accused m rows (Some accuser) None is = tt
@@ -120,7 +119,7 @@ about-accused m rows (Some accuser) (Some row) is = elim (cases_Bool (accuser_co
   | inr f ↦ rw f tt
 ]
 
-about-change : (h : Heard) (o : Option Config) (now n : ℕ) (c : Claim) (rows : List Suspected) → IsAbout c.name rows (change_by h o now n (row_about c rows) c)
+about-change : (h : Heard) (o : Option Config) (now n : ℕ) (c : Claim) (rows : List SuspectedValue) → IsAbout c.name rows (change_by h o now n (row_about c rows) c)
 about-change Overrode o now n c rows = about-overriding o now n c.name rows c.status
 about-change Accused o now n c rows = about-accused c.name rows (accuser_of c.status) (row_about c rows) refl
 about-change Same o now n c rows = tt
@@ -128,13 +127,13 @@ about-change Ignored o now n c rows = tt
 about-change NoRoom o now n c rows = tt
 
 -- so it is what becomes of the member's suspicion and its deadline
-deadline-change : (n : List ℕ) (rows : List Suspected) (ch : Change) → IsAbout n rows ch
+deadline-change : (n : List ℕ) (rows : List SuspectedValue) (ch : Change) → IsAbout n rows ch
     → IsDeadlineChange (row_at name_cmp suspected_name n rows) (row_at name_cmp suspected_name n (suspicions_after ch rows)) (deadline_of_change ch)
 deadline-change n rows Nothing is = refl
 deadline-change n rows (Ending m) is =
     (is.1, ap (λ k. row_at name_cmp suspected_name n (without_row name_cmp suspected_name k rows)) is.0 ∙ row_at-without names_order suspected_name n rows)
 deadline-change n rows (Putting r) is =
-    ap (option_map (λ (q : Suspected). deadline_of q.suspicion))
+    ap (option_map (λ (q : SuspectedValue). deadline_of q.suspicion))
     (row_at-put names_order suspected_name n r rows
     ∙ ap (λ b. cond b (Some r) (row_at name_cmp suspected_name n rows)) (same_key names_order r.name n is))
 
@@ -144,7 +143,7 @@ deadline-other now origin c log other =
     let rows = suspicions log in
     let ch = change_of (config log) now (table log) rows c in
     let is = about-change (hearing_of (table log) c) (config log) now (live_in (heard (table log) c)) c rows in
-    subst (λ (after : List Suspected). IsDeadlineChange (suspicion_in log c.name) (row_at name_cmp suspected_name c.name after) (deadline_of_change ch))
+    subst (λ (after : List SuspectedValue). IsDeadlineChange (suspicion_in log c.name) (row_at name_cmp suspected_name c.name after) (deadline_of_change ch))
     (suspicions-other now origin log c other) (deadline-change c.name rows ch is)
 
 pub applied-log : (now : ℕ) (origin : Origin) (c : Claim) (log : GroupLog) → IsApplied now origin c log (applied now c (group_state_of log))

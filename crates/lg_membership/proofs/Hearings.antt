@@ -13,8 +13,7 @@ use Rattle.lg_rules.proofs.KeyOrder.{names_order}
 use Rattle.lg_timing.specs.declared.config.Config.{Config}
 use Rattle.lg_suspicion.specs.Meaning.Accusers.{accuser_counts, accused}
 use Rattle.lg_membership.specs.declared.applied.Deadline.{Deadline}
-use Rattle.lg_membership.specs.declared.suspected.Suspected.{Suspected}
-use Rattle.lg_membership.specs.Meaning.Suspicions.{suspected_name, is_accusation, counts_in}
+use Rattle.lg_membership.specs.Meaning.Suspicions.{SuspectedValue, suspected_name, is_accusation, counts_in}
 use Rattle.lg_membership.specs.Support.Changes.{Nothing, Putting, IsAbout, raised, ended, overriding, accusing}
 use Rattle.lg_membership.specs.Support.Changes.{change_by, row_about, deadline_of_change, stands, is_override}
 use Rattle.lg_membership.specs.Support.State.{GroupState, change_in}
@@ -50,16 +49,16 @@ pub overrode-takes : (table : List Claim) (c : Claim) → hearing_of table c ≡
 overrode-takes table c e = sym (override-takes table c) ∙ ap is_override e
 
 -- an accuser counts exactly where a deadline is set for it
-either_counts : (b : Bool) (row : Suspected) (accuser : List ℕ) → accuser_counts row.suspicion accuser ≡ b → stands (deadline_of_change (accusing (Some accuser) (Some row))) ≡ b
+either_counts : (b : Bool) (row : SuspectedValue) (accuser : List ℕ) → accuser_counts row.suspicion accuser ≡ b → stands (deadline_of_change (accusing (Some accuser) (Some row))) ≡ b
 either_counts true row accuser e = rw e refl
 either_counts false row accuser e = rw e refl
 
-accusing-stands : (a : Option (List ℕ)) (row : Option Suspected) → stands (deadline_of_change (accusing a row)) ≡ counts_in a row
+accusing-stands : (a : Option (List ℕ)) (row : Option SuspectedValue) → stands (deadline_of_change (accusing a row)) ≡ counts_in a row
 accusing-stands None row = refl
 accusing-stands (Some accuser) None = refl
 accusing-stands (Some accuser) (Some row) = either_counts (accuser_counts row.suspicion accuser) row accuser refl
 
-pub confirms-stands : (h : Heard) (opened : Option Config) (now n : ℕ) (row : Option Suspected) (c : Claim)
+pub confirms-stands : (h : Heard) (opened : Option Config) (now n : ℕ) (row : Option SuspectedValue) (c : Claim)
     → (is_accusation h && stands (deadline_of_change (change_by h opened now n row c))) ≡ (is_accusation h && counts_in (accuser_of c.status) row)
 confirms-stands Overrode opened now n row c = refl
 confirms-stands Accused opened now n row c = accusing-stands (accuser_of c.status) row
@@ -68,7 +67,7 @@ confirms-stands Ignored opened now n row c = refl
 confirms-stands NoRoom opened now n row c = refl
 
 -- So a claim is passed on exactly where it is taken or confirms a suspicion.
-pub counts_for : (table : List Claim) (opened : Option Config) (now n : ℕ) (row : Option Suspected) (c : Claim) {h : Heard} {d : Deadline}
+pub counts_for : (table : List Claim) (opened : Option Config) (now n : ℕ) (row : Option SuspectedValue) (c : Claim) {h : Heard} {d : Deadline}
     → h ≡ hearing_of table c → d ≡ deadline_of_change (change_by (hearing_of table c) opened now n row c)
     → (is_override h || (is_accusation h && stands d)) ≡ (takes table c || (is_accusation (hearing_of table c) && counts_in (accuser_of c.status) row))
 counts_for table opened now n row c hearing deadline =
@@ -80,25 +79,25 @@ raised_about : (opened : Option Config) (now n : ℕ) (m a : List ℕ) → IsAbo
 raised_about None now n m a = tt
 raised_about (Some opening) now n m a = refl
 
-ended_about : (m : List ℕ) (row : Option Suspected) → IsAbout m (ended m row)
+ended_about : (m : List ℕ) (row : Option SuspectedValue) → IsAbout m (ended m row)
 ended_about m None = tt
 ended_about m (Some row) = refl
 
-overriding_about : (opened : Option Config) (now n : ℕ) (m : List ℕ) (row : Option Suspected) (s : Status) → IsAbout m (overriding opened now n m row s)
+overriding_about : (opened : Option Config) (now n : ℕ) (m : List ℕ) (row : Option SuspectedValue) (s : Status) → IsAbout m (overriding opened now n m row s)
 overriding_about opened now n m row Alive = ended_about m row
 overriding_about opened now n m row (Suspect a) = raised_about opened now n m a
 overriding_about opened now n m row Failed = ended_about m row
 
-either_about : (b : Bool) (m : List ℕ) (row : Suspected) → row.name ≡ m → IsAbout m (cond b (Putting row) Nothing)
+either_about : (b : Bool) (m : List ℕ) (row : SuspectedValue) → row.name ≡ m → IsAbout m (cond b (Putting row) Nothing)
 either_about true m row named = named
 either_about false m row named = tt
 
-accusing_about : (m : List ℕ) (a : Option (List ℕ)) (row : Option Suspected) → ((r : Suspected) → row ≡ Some r → r.name ≡ m) → IsAbout m (accusing a row)
+accusing_about : (m : List ℕ) (a : Option (List ℕ)) (row : Option SuspectedValue) → ((r : SuspectedValue) → row ≡ Some r → r.name ≡ m) → IsAbout m (accusing a row)
 accusing_about m None row named = tt
 accusing_about m (Some a) None named = tt
 accusing_about m (Some a) (Some row) named = either_about (accuser_counts row.suspicion a) m record { name = row.name; suspicion = accused row.suspicion a } (named row refl)
 
-by_about : (h : Heard) (opened : Option Config) (now n : ℕ) (row : Option Suspected) (c : Claim) → ((r : Suspected) → row ≡ Some r → r.name ≡ c.name)
+by_about : (h : Heard) (opened : Option Config) (now n : ℕ) (row : Option SuspectedValue) (c : Claim) → ((r : SuspectedValue) → row ≡ Some r → r.name ≡ c.name)
     → IsAbout c.name (change_by h opened now n row c)
 by_about Overrode opened now n row c named = overriding_about opened now n c.name row c.status
 by_about Accused opened now n row c named = accusing_about c.name (accuser_of c.status) row named

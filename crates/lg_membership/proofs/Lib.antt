@@ -19,3 +19,5 @@ pub mod LiveOthers
 pub mod AppliedLaws
 pub mod PageLaws
 pub mod Paging
+pub mod RowsByNames
+pub mod Joining

@@ -20,9 +20,8 @@ use Rattle.lg_gossip.specs.declared.queued.Queued.{Queued}
 use Rattle.lg_gossip.specs.Meaning.Queue.{fresh, queued_name, sent_once}
 use Rattle.lg_membership.specs.declared.origin.Origin.{Origin}
 use Rattle.lg_membership.specs.declared.origin.Origin.TheVariants.{Seed, Group}
-use Rattle.lg_membership.specs.declared.suspected.Suspected.{Suspected}
 use Rattle.lg_membership.specs.Meaning.Log.{GroupLog, Opened, Said, Sent, me, said, own, table, known}
-use Rattle.lg_membership.specs.Meaning.Suspicions.{suspicions, confirms}
+use Rattle.lg_membership.specs.Meaning.Suspicions.{SuspectedValue, suspicions, confirms}
 use Rattle.lg_membership.specs.Meaning.Gossip.{put_of_own, put_if, put_of_other, put_by, put_or, put_last, sends, queued}
 use Rattle.lg_membership.proofs.KnownLaws.{rises-known, own_known, known-own, known-taken, known-passed, known-grows, roster_known}
 
@@ -78,18 +77,18 @@ if_is Seed b c p e = absurd cc
 if_is Group true c p e = held_once c p e
 if_is Group false c p e = absurd cc
 
-pub put_is : (origin : Origin) (rows : List Claim) (suspects : List Suspected) (c p : Claim) → put_of_other origin rows suspects c ≡ Some p → c ≡ p
+pub put_is : (origin : Origin) (rows : List Claim) (suspects : List SuspectedValue) (c p : Claim) → put_of_other origin rows suspects c ≡ Some p → c ≡ p
 put_is origin rows suspects c p e = if_is origin (takes rows c || confirms rows suspects c) c p e
 
 if_not : (origin : Origin) (c : Claim) → put_if origin false c ≡ None
 if_not Seed c = refl
 if_not Group c = refl
 
-put_none : (origin : Origin) (rows : List Claim) (suspects : List Suspected) (c : Claim) → (takes rows c || confirms rows suspects c) ≡ false → put_of_other origin rows suspects c ≡ None
+put_none : (origin : Origin) (rows : List Claim) (suspects : List SuspectedValue) (c : Claim) → (takes rows c || confirms rows suspects c) ≡ false → put_of_other origin rows suspects c ≡ None
 put_none origin rows suspects c test = ap (λ b. put_if origin b c) test ∙ if_not origin c
 
 -- A claim about a name for which there is no room puts nothing.
-out_none : (origin : Origin) (rows : List Claim) (suspects : List Suspected) (c : Claim) → takes rows c ≡ false → row_at name_cmp name_of c.name rows ≡ None → put_of_other origin rows suspects c ≡ None
+out_none : (origin : Origin) (rows : List Claim) (suspects : List SuspectedValue) (c : Claim) → takes rows c ≡ false → row_at name_cmp name_of c.name rows ≡ None → put_of_other origin rows suspects c ≡ None
 out_none origin rows suspects c test missing = put_none origin rows suspects c (rw (test, missing) refl)
 
 pub row_out : (log : GroupLog) (m : List ℕ) → is_among name_cmp m (roster (me log) (said log)) ≡ false → row_at name_cmp name_of m (table log) ≡ None

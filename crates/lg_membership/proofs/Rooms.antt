@@ -86,5 +86,5 @@ other_place origin c s r other =
     subst (λ b. HasPlace (cond b (put_of_own (own_hearing_in c s) (own_heard s.own c)) (put_of_other origin s.members.table s.suspicions c)) s.queue)
     (other_key names_order c.name s.own.name other) room.place
 
-pub other_seat : (c : Claim) (s : GroupState) → IsGroupReached s → c.name ≢ s.own.name → takes s.members.table c ≡ true → HasSeat c.name s.suspicions
+pub other_seat : (c : Claim) (s : GroupState) → IsGroupReached s → c.name ≢ s.own.name → takes s.members.table c ≡ true → HasSeat suspected_name c.name s.suspicions
 other_seat c s r other = (reached_room Group c s r).seat (λ e. other (e ∙ sym (reached-ordered s r).one_name))

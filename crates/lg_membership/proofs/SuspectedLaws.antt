@@ -15,10 +15,9 @@ use Rattle.lg_suspicion.specs.Meaning.Accusers.{suspicion_after, accused}
 use Rattle.lg_suspicion.proofs.AccuserLaws.{counted-one, accused-after}
 use Rattle.std.proofs.lemmas.Bool.{cases_Bool, eq-eqb}
 use Rattle.lg_gossip.specs.Meaning.Queue.{is_suspect}
-use Rattle.lg_membership.specs.declared.suspected.Suspected.{Suspected}
 use Rattle.lg_membership.specs.declared.origin.Origin.{Origin}
 use Rattle.lg_membership.specs.Meaning.Log.{GroupLog, Said, config, said, live}
-use Rattle.lg_membership.specs.Meaning.Suspicions.{accuses, accusers_in, raise_of, said_at, suspicion_since, suspected_by, suspected_in, suspected, suspected_name}
+use Rattle.lg_membership.specs.Meaning.Suspicions.{SuspectedValue, accuses, accusers_in, raise_of, said_at, suspicion_since, suspected_by, suspected_in, suspected, suspected_name}
 use Rattle.lg_membership.proofs.AccusedLaws.{accuses-other, none_accuse, none_raises, one_raises, record_accused, not_accused}
 
 -- Where two logs were opened alike, and say the same of a member, it is suspected alike.
@@ -89,7 +88,7 @@ suspected-ended log m c stands calm = by_config (config log)
     by_config (Some opening) = rw (stands, calm) refl
 
 -- One that suspects raises one anew.
-abbrev pub raised_at : Config → GroupLog → List ℕ → List ℕ → Suspected
+abbrev pub raised_at : Config → GroupLog → List ℕ → List ℕ → SuspectedValue
 raised_at opening log m accuser = record { name = m; suspicion = record { raised = said_at log; timeout = range_of (live log) opening; accusers = accuser ∷ [] } }
 
 accuses_itself : (c : Claim) → is_suspect c.status ≡ true → accuses c.name c.incarnation c ≡ true
@@ -121,7 +120,7 @@ suspected-raised now origin log c accuser opening opened is stands beaten =
 
 -- One more accusation at the incarnation of the record adds its accuser.
 pub record HasAccuser (now : ℕ) (origin : Origin) (log : GroupLog) (c : Claim) (accuser : List ℕ) : Type 0 where
-  pub row : Suspected
+  pub row : SuspectedValue
   pub before : suspected log c.name ≡ Some row
   pub named : row.name ≡ c.name
   pub after : suspected (Said now origin c ∷ log) c.name ≡ Some record { name = row.name; suspicion = accused row.suspicion accuser }
@@ -159,7 +158,7 @@ suspected-accused now origin log c r accuser opening opened is before after susp
     ]
 
 -- What is suspected under a name has that name.
-since_keyed : (opening : Config) (m : List ℕ) (accusers : List (List ℕ)) (front : Option GroupLog) (row : Suspected) → suspicion_since opening m accusers front ≡ Some row → row.name ≡ m
+since_keyed : (opening : Config) (m : List ℕ) (accusers : List (List ℕ)) (front : Option GroupLog) (row : SuspectedValue) → suspicion_since opening m accusers front ≡ Some row → row.name ≡ m
 since_keyed opening m accusers None row e = absurd cc
 since_keyed opening m accusers (Some front) row e = ap suspected_name (sym (held_once _ row e))
 

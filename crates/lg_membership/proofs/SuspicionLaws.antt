@@ -19,10 +19,9 @@ use Rattle.lg_rules.proofs.Tables.{IsTaken, IsUnbeaten, Taken, Unbeaten, Out, he
 use Rattle.lg_timing.specs.declared.config.Config.{Config}
 use Rattle.lg_suspicion.specs.Meaning.Accusers.{SuspicionValue, accuser_counts, accused}
 use Rattle.lg_gossip.specs.Meaning.Queue.{is_suspect}
-use Rattle.lg_membership.specs.declared.suspected.Suspected.{Suspected}
 use Rattle.lg_membership.specs.declared.origin.Origin.{Origin}
 use Rattle.lg_membership.specs.Meaning.Log.{GroupLog, Opened, Said, Sent, config, me, said, table, live}
-use Rattle.lg_membership.specs.Meaning.Suspicions.{suspected, suspicions, suspected_name, accuses}
+use Rattle.lg_membership.specs.Meaning.Suspicions.{SuspectedValue, suspected, suspicions, suspected_name, accuses}
 use Rattle.lg_membership.specs.Support.Changes.{Change, Nothing, Putting, ended, accusing, overriding, change_by, change_of, row_about, suspicions_after}
 use Rattle.lg_membership.proofs.QueueLaws.{none_rows}
 use Rattle.lg_membership.proofs.Removing.{without-missing}
@@ -70,7 +69,7 @@ agree_but : (now : ℕ) (origin : Origin) (log : GroupLog) (c : Claim) → Agree
 agree_but now origin log c n other = suspected-other now origin log c n (λ e. other (sym e))
 
 -- One about another puts a suspicion, ends one, or leaves them.
-rows_put : (now : ℕ) (origin : Origin) (log : GroupLog) (c : Claim) (r : Suspected) → r.name ≡ c.name → suspected (Said now origin c ∷ log) c.name ≡ Some r
+rows_put : (now : ℕ) (origin : Origin) (log : GroupLog) (c : Claim) (r : SuspectedValue) → r.name ≡ c.name → suspected (Said now origin c ∷ log) c.name ≡ Some r
     → roster (me log) (c ∷ said log) ≡ put_key name_cmp c.name (roster (me log) (said log))
     → put_row name_cmp suspected_name r (suspicions log) ≡ suspicions (Said now origin c ∷ log)
 unfolding suspicions
@@ -158,7 +157,7 @@ overrode : (log : GroupLog) (c : Claim) → takes (table log) c ≡ true → hea
 overrode log c t = rw t refl
 
 -- a suspicion that ends, if there is one, leaves those of the others
-ended-after : (m : List ℕ) (rows : List Suspected) → Rises name_cmp (map suspected_name rows)
+ended-after : (m : List ℕ) (rows : List SuspectedValue) → Rises name_cmp (map suspected_name rows)
     → suspicions_after (ended m (row_at name_cmp suspected_name m rows)) rows ≡ without_row name_cmp suspected_name m rows
 ended-after m rows rise = elim (held (row_at name_cmp suspected_name m rows)) [
   | Missing gap ↦ ap (λ o. suspicions_after (ended m o) rows) gap ∙ sym (without-missing names_order suspected_name m rows rise gap)
@@ -198,7 +197,7 @@ is_quiet Same = true
 is_quiet Ignored = true
 is_quiet NoRoom = true
 
-quiet_change : (h : Heard) (opened : Option Config) (now n : ℕ) (row : Option Suspected) (c : Claim) → is_quiet h ≡ true → change_by h opened now n row c ≡ Nothing
+quiet_change : (h : Heard) (opened : Option Config) (now n : ℕ) (row : Option SuspectedValue) (c : Claim) → is_quiet h ≡ true → change_by h opened now n row c ≡ Nothing
 quiet_change Overrode opened now n row c e = absurd cc
 quiet_change Accused opened now n row c e = absurd cc
 quiet_change Same opened now n row c e = refl
@@ -255,7 +254,7 @@ changed-unbeaten now origin log c opening opened k =
       | Accuses a is suspect same hearing ↦ (
           let has = suspected-accused now origin log c k.r a opening opened is k.before k.after suspect same in
           let row = has.row in
-          let grown : Suspected = record { name = row.name; suspicion = accused row.suspicion a } in
+          let grown : SuspectedValue = record { name = row.name; suspicion = accused row.suspicion a } in
           let by_row : change now log c ≡ accusing (Some a) (Some row) =
           ap (λ h. change_by h (config log) now n (row_about c rows) c) (hearing-unbeaten log c k ∙ hearing)
           ∙ ap (λ s. accusing (accuser_of s) (row_at name_cmp suspected_name c.name rows)) is

@@ -1,5 +1,6 @@
 -- Definitions that only support the proofs.
 pub mod Changes
-pub mod State
 pub mod Reached
 pub mod Room
+pub mod Rows
+pub mod State

@@ -48,7 +48,8 @@ pub struct Membership {
 
 impl Model for Membership {
     ghost use Rattle.lg_membership.specs.Support.State.{GroupState};
-    ghost use Rattle.lg_membership.specs.Support.Reached.{IsGroupReached};
+    ghost use Rattle.lg_membership.specs.Support.Reached.{IsGroupKept};
+    ghost use Rattle.lg_membership.specs.Support.Rows.{rows_by};
 
     ghost Value = { GroupState };
 
@@ -56,17 +57,19 @@ impl Model for Membership {
       config = m.config;
       own = m.own;
       members = m.members;
-      suspicions = m.suspicions.items;
+      suspicions = rows_by m.members.names m.suspicions.items;
       queue = m.queue;
     } };
 
-    ghost invariant = { λ m. IsGroupReached record {
-      config = m.config;
-      own = m.own;
-      members = m.members;
-      suspicions = m.suspicions.items;
-      queue = m.queue;
-    } };
+    ghost invariant = { λ m.
+        let group : GroupState = record {
+          config = m.config;
+          own = m.own;
+          members = m.members;
+          suspicions = rows_by m.members.names m.suspicions.items;
+          queue = m.queue;
+        } in
+        IsGroupKept group m.suspicions.items };
 }
 
 /// Whether two names are the same.

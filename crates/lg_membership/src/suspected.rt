@@ -30,9 +30,9 @@ impl Suspected {
 
 /// Rows of suspicions are in the order of the names of the suspected members.
 impl Keyed for Suspected {
-    ghost use Rattle.lg_membership.specs.Meaning.Suspicions.{suspected_name};
+    ghost use Rattle.lg_membership.specs.Support.Rows.{kept_name};
 
-    ghost key_of = { suspected_name };
+    ghost key_of = { kept_name };
 
     fn key(&self) -> Name {
         self.name

@@ -2,16 +2,18 @@
 //!
 //! Defined in: `specs/Meaning/Suspicions.antt`.
 //! Tested in: `lg_detector_tests/src/membership/claims.rt`.
-ghost use Rattle.std.specs.Prelude.{◌≡◌, ◌≤◌, length, map, None, Some};
+ghost use Rattle.std.specs.Prelude.{◌≡◌, ◌≤◌, ℕ, List, length, map, None, Some};
 ghost use Rattle.arrayvec.specs.ArrayVec.{array_vec_len};
 ghost use Rattle.lg_rules.specs.Meaning.Claim.{accuser_of};
 ghost use Rattle.lg_rules.specs.Meaning.Rows.{name_cmp, row_at, Rises};
 ghost use Rattle.lg_rules.specs.Meaning.Table.{live_in};
+ghost use Rattle.lg_suspicion.specs.Meaning.Parts.{IsKnownTo};
 ghost use Rattle.lg_membership.specs.Meaning.Suspicions.{suspected_name};
-ghost use Rattle.lg_membership.specs.Support.Changes.{raised, ended, overriding, accusing, change_by};
+ghost use Rattle.lg_membership.specs.Support.Changes.{raised, ended, overriding, joined, accusing, change_by};
 ghost use Rattle.lg_membership.specs.Support.Changes.{suspicions_after, deadline_of_change, row_about};
 ghost use Rattle.lg_membership.specs.Support.Reached.{IsGood};
 ghost use Rattle.lg_membership.specs.Support.Room.{HasSeat};
+ghost use Rattle.lg_membership.specs.Support.Rows.{kept_name, row_by, rows_by, AreKnownTo};
 
 use crate::applied::Deadline;
 use crate::suspected::Suspected;
@@ -44,19 +46,21 @@ fn raise(
     name: &Name,
     accuser: &Name,
 ) -> Deadline
-    requires rises { Rises name_cmp (map suspected_name suspicions.old.items) }
-    requires seat { HasSeat name.now suspicions.old.items }
+    requires rises { Rises name_cmp (map kept_name suspicions.old.items) }
+    requires seat { HasSeat kept_name name.now suspicions.old.items }
     requires good { IsGood config.now }
+    requires known { AreKnownTo members.now.names suspicions.old.items }
     ensures rows { let change = raised config.now now (live_in members.now.table) name.now accuser.now in
-        suspicions.new.items ≡ suspicions_after change suspicions.old.items }
+        let by = rows_by members.now.names in
+        by suspicions.new.items ≡ suspicions_after change (by suspicions.old.items) }
+    ensures known { AreKnownTo members.now.names suspicions.new.items }
     ensures deadline { let change = raised config.now now (live_in members.now.table) name.now accuser.now in
         result ≡ deadline_of_change change }
 {
     let Some(config) = config else {
         return Deadline::Stays;
     };
-    let live = members.live() as u64;
-    let suspicion = Suspicion::raise(now, accuser, live, config);
+    let suspicion = Suspicion::raise(now, accuser, members, config);
     let deadline = suspicion.deadline();
     let suspected = Suspected {
         name: *name,
@@ -68,11 +72,14 @@ fn raise(
 
 /// Ends the suspicion of a member, if there is one.
 fn end(suspicions: &mut Suspicions, name: &Name) -> Deadline
-    requires { Rises name_cmp (map suspected_name suspicions.old.items) }
-    ensures rows { let row = row_at name_cmp suspected_name name.now suspicions.old.items in
-        suspicions.new.items ≡ suspicions_after (ended name.now row) suspicions.old.items }
-    ensures deadline { let row = row_at name_cmp suspected_name name.now suspicions.old.items in
-        result ≡ deadline_of_change (ended name.now row) }
+    requires { Rises name_cmp (map kept_name suspicions.old.items) }
+    ensures rows { (names : List (List ℕ)) → let before = rows_by names suspicions.old.items in
+        let row = row_at name_cmp suspected_name name.now before in
+        rows_by names suspicions.new.items ≡ suspicions_after (ended name.now row) before }
+    ensures known { (names : List (List ℕ)) → AreKnownTo names suspicions.old.items
+        → AreKnownTo names suspicions.new.items }
+    ensures deadline { (names : List (List ℕ)) → let before = rows_by names suspicions.old.items in
+        result ≡ deadline_of_change (ended name.now (row_at name_cmp suspected_name name.now before)) }
 {
     match index_of(suspicions.as_slice(), name) {
         Ok(at) => {
@@ -91,13 +98,16 @@ fn override_row(
     members: &Members,
     claim: &Claim,
 ) -> Deadline
-    requires rises { Rises name_cmp (map suspected_name suspicions.old.items) }
-    requires seat { HasSeat claim.now.name suspicions.old.items }
+    requires rises { Rises name_cmp (map kept_name suspicions.old.items) }
+    requires seat { HasSeat kept_name claim.now.name suspicions.old.items }
     requires good { IsGood config.now }
-    ensures rows { let row = row_about claim.now suspicions.old.items in
+    requires known { AreKnownTo members.now.names suspicions.old.items }
+    ensures rows { let by = rows_by members.now.names in
+        let row = row_about claim.now (by suspicions.old.items) in
         let change = overriding config.now now (live_in members.now.table) claim.now.name row claim.now.status in
-        suspicions.new.items ≡ suspicions_after change suspicions.old.items }
-    ensures deadline { let row = row_about claim.now suspicions.old.items in
+        by suspicions.new.items ≡ suspicions_after change (by suspicions.old.items) }
+    ensures known { AreKnownTo members.now.names suspicions.new.items }
+    ensures deadline { let row = row_about claim.now (rows_by members.now.names suspicions.old.items) in
         let change = overriding config.now now (live_in members.now.table) claim.now.name row claim.now.status in
         result ≡ deadline_of_change change }
 {
@@ -107,41 +117,60 @@ fn override_row(
     }
 }
 
-/// Takes one more accuser of a member that is suspected already.
-fn join(suspicions: &mut Suspicions, name: &Name, accuser: &Name) -> Deadline
-    requires { Rises name_cmp (map suspected_name suspicions.old.items) }
-    ensures rows { let row = row_at name_cmp suspected_name name.now suspicions.old.items in
-        suspicions.new.items ≡ suspicions_after (accusing (Some accuser.now) row) suspicions.old.items }
-    ensures deadline { let row = row_at name_cmp suspected_name name.now suspicions.old.items in
-        result ≡ deadline_of_change (accusing (Some accuser.now) row) }
+/// Takes one more accuser of a suspected member.
+fn confirm(suspected: &mut Suspected, members: &Members, accuser: &Name) -> Deadline
+    requires { IsKnownTo members.now.names suspected.old.suspicion }
+    ensures row { row_by members.now.names suspected.new
+        ≡ joined accuser.now (row_by members.now.names suspected.old) }
+    ensures name { suspected.new.name ≡ suspected.old.name }
+    ensures known { IsKnownTo members.now.names suspected.new.suspicion }
+    ensures deadline { let row = row_by members.now.names suspected.old in
+        result ≡ deadline_of_change (accusing (Some accuser.now) (Some row)) }
 {
-    let Ok(at) = index_of(suspicions.as_slice(), name) else {
-        return Deadline::Stays;
-    };
-    let suspected = &mut suspicions[at];
-    if suspected.suspicion.accuse(accuser) {
+    if suspected.suspicion.accuse(accuser, members) {
         Deadline::Stands(suspected.suspicion.deadline())
     } else {
         Deadline::Stays
     }
 }
 
+/// Takes one more accuser of a member, if that is suspected.
+fn join(suspicions: &mut Suspicions, members: &Members, name: &Name, accuser: &Name) -> Deadline
+    requires rises { Rises name_cmp (map kept_name suspicions.old.items) }
+    requires known { AreKnownTo members.now.names suspicions.old.items }
+    ensures rows { let by = rows_by members.now.names in
+        let row = row_at name_cmp suspected_name name.now (by suspicions.old.items) in
+        by suspicions.new.items ≡ suspicions_after (accusing (Some accuser.now) row) (by suspicions.old.items) }
+    ensures known { AreKnownTo members.now.names suspicions.new.items }
+    ensures deadline { let before = rows_by members.now.names suspicions.old.items in
+        let row = row_at name_cmp suspected_name name.now before in
+        result ≡ deadline_of_change (accusing (Some accuser.now) row) }
+{
+    let Ok(at) = index_of(suspicions.as_slice(), name) else {
+        return Deadline::Stays;
+    };
+    confirm(&mut suspicions[at], members, accuser)
+}
+
 /// Takes a claim that accuses a member that is suspected already.
-fn accuse(suspicions: &mut Suspicions, claim: &Claim) -> Deadline
-    requires { Rises name_cmp (map suspected_name suspicions.old.items) }
-    ensures rows { let row = row_about claim.now suspicions.old.items in
-        suspicions.new.items ≡ suspicions_after (accusing (accuser_of claim.now.status) row) suspicions.old.items }
-    ensures deadline { let row = row_about claim.now suspicions.old.items in
+fn accuse(suspicions: &mut Suspicions, members: &Members, claim: &Claim) -> Deadline
+    requires rises { Rises name_cmp (map kept_name suspicions.old.items) }
+    requires known { AreKnownTo members.now.names suspicions.old.items }
+    ensures rows { let by = rows_by members.now.names in
+        let change = accusing (accuser_of claim.now.status) (row_about claim.now (by suspicions.old.items)) in
+        by suspicions.new.items ≡ suspicions_after change (by suspicions.old.items) }
+    ensures known { AreKnownTo members.now.names suspicions.new.items }
+    ensures deadline { let row = row_about claim.now (rows_by members.now.names suspicions.old.items) in
         result ≡ deadline_of_change (accusing (accuser_of claim.now.status) row) }
 {
     match claim.status {
-        Status::Suspect(accuser) => join(suspicions, &claim.name, &accuser),
+        Status::Suspect(accuser) => join(suspicions, members, &claim.name, &accuser),
         Status::Alive | Status::Failed => Deadline::Stays,
     }
 }
 
 /// Takes a claim about another member that was heard, and changes the suspicions by it. `members` are those known
-/// after the claim. They are counted only if a suspicion is raised.
+/// after the claim: each accuser still has its slot there. They are counted only if a suspicion is raised.
 pub fn suspect(
     suspicions: &mut Suspicions,
     config: &Option<Config>,
@@ -150,19 +179,22 @@ pub fn suspect(
     heard: Heard,
     claim: &Claim,
 ) -> Deadline
-    requires rises { Rises name_cmp (map suspected_name suspicions.old.items) }
-    requires seat { heard ≡ Heard.Overrode → HasSeat claim.now.name suspicions.old.items }
+    requires rises { Rises name_cmp (map kept_name suspicions.old.items) }
+    requires seat { heard ≡ Heard.Overrode → HasSeat kept_name claim.now.name suspicions.old.items }
     requires good { IsGood config.now }
-    ensures rows { let row = row_about claim.now suspicions.old.items in
+    requires known { AreKnownTo members.now.names suspicions.old.items }
+    ensures rows { let by = rows_by members.now.names in
+        let row = row_about claim.now (by suspicions.old.items) in
         let change = change_by heard config.now now (live_in members.now.table) row claim.now in
-        suspicions.new.items ≡ suspicions_after change suspicions.old.items }
-    ensures deadline { let row = row_about claim.now suspicions.old.items in
+        by suspicions.new.items ≡ suspicions_after change (by suspicions.old.items) }
+    ensures known { AreKnownTo members.now.names suspicions.new.items }
+    ensures deadline { let row = row_about claim.now (rows_by members.now.names suspicions.old.items) in
         let change = change_by heard config.now now (live_in members.now.table) row claim.now in
         result ≡ deadline_of_change change }
 {
     match heard {
         Heard::Overrode => override_row(suspicions, config, now, members, claim),
-        Heard::Accused => accuse(suspicions, claim),
+        Heard::Accused => accuse(suspicions, members, claim),
         Heard::Same | Heard::Ignored | Heard::NoRoom => Deadline::Stays,
     }
 }

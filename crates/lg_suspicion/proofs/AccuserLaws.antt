@@ -1,54 +1,58 @@
 -- Which accusers count, after one more, and that the deadline is by their set.
-use Rattle.std.proofs.Common.{◌≡◌, ℕ, suc, ◌+◌, ◌-◌, ◌≤◌, Bool, true, false, cond, not, ◌||◌, ◌&&◌, leb, List, [], ◌∷◌, ◌++◌, length, reverse, min, inl, inr, refl, sym, ◌∙◌, ap, arith}
+use Rattle.std.proofs.Common.{◌≡◌, ℕ, zero, suc, ◌+◌, ◌-◌, ◌≤◌, Bool, true, false, cond, not, ◌&&◌, leb, min}
+use Rattle.std.proofs.Common.{List, [], ◌∷◌, length, drop, inl, inr, refl, sym, ◌∙◌, ap, arith}
 use Rattle.std.proofs.lemmas.Bool.{cases_Bool, cases_lt, le-leb, leb-true}
-use Rattle.std.proofs.lemmas.List.{reverse-append, length-reverse, length-drop}
-use Rattle.std.proofs.lemmas.List.Folds.{list_any-append}
-use Rattle.lg_rules.specs.Meaning.Past.{oldest}
-use Rattle.lg_rules.specs.Meaning.Rows.{name_cmp, is_same, is_among, distinct, in_order}
+use Rattle.std.proofs.lemmas.List.{length-drop}
 use Rattle.std.specs.Prelude.{nat_eq}
 use Rattle.std.specs.List.{list_any}
 use Rattle.std.specs.Cmp.Lexicographic.{pointwise}
+use Rattle.lg_rules.specs.Meaning.Past.{oldest}
+use Rattle.lg_rules.specs.Meaning.Rows.{name_cmp, is_among, distinct, in_order, put_key}
+use Rattle.lg_rules.specs.Support.Slots.{AreNamedOnce}
 use Rattle.lg_rules.proofs.KeyOrder.{names_order, names_eq}
 use Rattle.lg_rules.proofs.PastLaws.{oldest-all, oldest-more}
-use Rattle.lg_rules.proofs.Rises.{among-distinct, among-in_order, rises-in_order, put-there, length-put, same_members}
+use Rattle.lg_rules.proofs.Rises.{among-distinct, among-in_order, rises-in_order, length-put, same_members}
 use Rattle.lg_timing.specs.Meaning.TimeoutValue.{TimeoutValue}
 use Rattle.lg_timing.specs.Meaning.Timeouts.{timeout_of}
-use Rattle.lg_suspicion.specs.Meaning.Accusers.{SuspicionValue, counted_accusers, suspicion_after, would_count, accused, deadline_of, deadline_by_set, set_of}
+use Rattle.lg_suspicion.specs.Meaning.Accusers.{SuspicionValue, counted_accusers, suspicion_after, would_count, accused}
+use Rattle.lg_suspicion.specs.Meaning.Accusers.{deadline_of, deadline_by_set, set_of}
 
--- the latest of a list comes last in the order of arrival
-reverse-cons : {A : Type 0} (x : A) (xs : List A) → reverse (x ∷ xs) ≡ reverse xs ++ x ∷ []
-reverse-cons x xs = reverse-append (x ∷ []) xs
+-- different names stay different when the latest are dropped, and are as many in order
+once-distinct : (ns : List (List ℕ)) → AreNamedOnce (distinct name_cmp ns)
+once-distinct [] = tt
+once-distinct (n ∷ ns) = elim (cases_Bool (is_among name_cmp n ns)) [
+  | inl among ↦ rw among (once-distinct ns)
+  | inr other ↦ rw other (among-distinct names_order n ns ∙ other, once-distinct ns)
+]
 
-either_way : (a b : Bool) → (a || (b || false)) ≡ (b || a)
-either_way true true = refl
-either_way true false = refl
-either_way false true = refl
-either_way false false = refl
+once-drop : (count : ℕ) (ns : List (List ℕ)) → AreNamedOnce ns → AreNamedOnce (drop count ns)
+once-drop zero ns once = once
+once-drop (suc count) [] once = once
+once-drop (suc count) (n ∷ ns) once = once-drop count ns once.1
 
--- who is among some names is among them in the other direction
-among-reverse : (n : List ℕ) (ns : List (List ℕ)) → is_among name_cmp n (reverse ns) ≡ is_among name_cmp n ns
-among-reverse n [] = refl
-among-reverse n (x ∷ xs) =
-    ap (is_among name_cmp n) (reverse-cons x xs)
-    ∙ list_any-append (λ m. is_same name_cmp m n) (reverse xs) (x ∷ [])
-    ∙ ap (λ b. b || (is_same name_cmp x n || false)) (among-reverse n xs)
-    ∙ either_way (is_among name_cmp n xs) (is_same name_cmp x n)
+length-once : (ns : List (List ℕ)) → AreNamedOnce ns → length (in_order name_cmp ns) ≡ length ns
+length-once [] once = refl
+length-once (n ∷ ns) once =
+    length-put names_order n (in_order name_cmp ns) (among-in_order names_order n ns ∙ once.0)
+    ∙ ap suc (length-once ns once.1)
 
 -- as many count as there are different ones, up to one more than the confirmations
 pub length-counted : (k : ℕ) (past : List (List ℕ)) → length (counted_accusers k past) ≡ min (k + 1) (length (distinct name_cmp past))
 unfolding counted_accusers
 length-counted k past =
     let all = distinct name_cmp past in
-    length-reverse (oldest (k + 1) all) ∙ length-drop (length all - (k + 1)) all ∙ omega arith
+    length-once (oldest (k + 1) all) (once-drop (length all - (k + 1)) all (once-distinct past))
+    ∙ length-drop (length all - (k + 1)) all
+    ∙ omega arith
 
 -- while there are few enough, all count
-counted-all : (k : ℕ) (past : List (List ℕ)) → length (distinct name_cmp past) ≤ k + 1 → counted_accusers k past ≡ reverse (distinct name_cmp past)
+counted-all : (k : ℕ) (past : List (List ℕ)) → length (distinct name_cmp past) ≤ k + 1 → counted_accusers k past ≡ in_order name_cmp (distinct name_cmp past)
 unfolding counted_accusers
-counted-all k past few = ap reverse (oldest-all (k + 1) (distinct name_cmp past) few)
+counted-all k past few = ap (in_order name_cmp) (oldest-all (k + 1) (distinct name_cmp past) few)
 
 among-counted : (k : ℕ) (a : List ℕ) (past : List (List ℕ)) → length (distinct name_cmp past) ≤ k + 1 → is_among name_cmp a (counted_accusers k past) ≡ is_among name_cmp a past
 among-counted k a past few =
-    ap (is_among name_cmp a) (counted-all k past few) ∙ among-reverse a (distinct name_cmp past) ∙ among-distinct names_order a past
+    ap (is_among name_cmp a) (counted-all k past few) ∙ among-in_order names_order a (distinct name_cmp past) ∙ among-distinct names_order a past
 
 -- the first one counts
 pub counted-one : (k : ℕ) (a : List ℕ) → counted_accusers k (a ∷ []) ≡ a ∷ []
@@ -62,16 +66,15 @@ counted-again k a past among = rw among
 -- nor does one who is too late
 counted-full : (k : ℕ) (a : List ℕ) (past : List (List ℕ)) → is_among name_cmp a past ≡ false → k + 1 ≤ length (distinct name_cmp past) → counted_accusers k (a ∷ past) ≡ counted_accusers k past
 unfolding counted_accusers
-counted-full k a past other many = rw other (ap reverse (oldest-more (k + 1) a (distinct name_cmp past) many))
+counted-full k a past other many = rw other (ap (in_order name_cmp) (oldest-more (k + 1) a (distinct name_cmp past) many))
 
--- another, while there are few enough, counts and comes last
-counted-more : (k : ℕ) (a : List ℕ) (past : List (List ℕ)) → is_among name_cmp a past ≡ false → length (distinct name_cmp past) ≤ k → counted_accusers k (a ∷ past) ≡ counted_accusers k past ++ a ∷ []
+-- another, while there are few enough, counts
+counted-more : (k : ℕ) (a : List ℕ) (past : List (List ℕ)) → is_among name_cmp a past ≡ false → length (distinct name_cmp past) ≤ k → counted_accusers k (a ∷ past) ≡ put_key name_cmp a (counted_accusers k past)
 counted-more k a past other few =
     let more : distinct name_cmp (a ∷ past) ≡ a ∷ distinct name_cmp past = rw other in
     counted-all k (a ∷ past) (omega (arith, ap length more))
-    ∙ ap reverse more
-    ∙ reverse-cons a (distinct name_cmp past)
-    ∙ ap (λ xs. xs ++ a ∷ []) (sym (counted-all k past (omega arith)))
+    ∙ ap (in_order name_cmp) more
+    ∙ ap (put_key name_cmp a) (sym (counted-all k past (omega arith)))
 
 -- who wouldn't count
 not_counted : (k : ℕ) (a : List ℕ) (accusers : List (List ℕ)) → (length accusers ≤ k → is_among name_cmp a accusers ≡ true) → would_count k accusers a ≡ false
@@ -82,7 +85,7 @@ not_counted k a accusers there = step (leb (length accusers) k) refl
     step true e = rw (there (leb-true (length accusers) k e))
 
 -- the accusers that count, after one more
-pub counted-cons : (k : ℕ) (a : List ℕ) (past : List (List ℕ)) → counted_accusers k (a ∷ past) ≡ cond (would_count k (counted_accusers k past) a) (counted_accusers k past ++ a ∷ []) (counted_accusers k past)
+pub counted-cons : (k : ℕ) (a : List ℕ) (past : List (List ℕ)) → counted_accusers k (a ∷ past) ≡ cond (would_count k (counted_accusers k past) a) (put_key name_cmp a (counted_accusers k past)) (counted_accusers k past)
 counted-cons k a past =
     elim (cases_Bool (is_among name_cmp a past)) [
       | inl among ↦ counted-again k a past among ∙ sym (unchanged (not_counted k a (counted_accusers k past) (λ few. among-counted k a past (omega (arith, length-counted k past)) ∙ among)))
@@ -92,10 +95,10 @@ counted-cons k a past =
       ]
     ]
   where
-    unchanged : would_count k (counted_accusers k past) a ≡ false → cond (would_count k (counted_accusers k past) a) (counted_accusers k past ++ a ∷ []) (counted_accusers k past) ≡ counted_accusers k past
+    unchanged : would_count k (counted_accusers k past) a ≡ false → cond (would_count k (counted_accusers k past) a) (put_key name_cmp a (counted_accusers k past)) (counted_accusers k past) ≡ counted_accusers k past
     unchanged e = rw e
 
-    changed : length (distinct name_cmp past) ≤ k → is_among name_cmp a past ≡ false → cond (would_count k (counted_accusers k past) a) (counted_accusers k past ++ a ∷ []) (counted_accusers k past) ≡ counted_accusers k past ++ a ∷ []
+    changed : length (distinct name_cmp past) ≤ k → is_among name_cmp a past ≡ false → cond (would_count k (counted_accusers k past) a) (put_key name_cmp a (counted_accusers k past)) (counted_accusers k past) ≡ put_key name_cmp a (counted_accusers k past)
     changed few other = rw (le-leb (length (counted_accusers k past)) k (omega (arith, length-counted k past)), among-counted k a past (omega arith) ∙ other)
 
 -- a suspicion after one more accuser
@@ -108,25 +111,18 @@ accused-after raised timeout a past = field (would_count k (counted_accusers k p
     put : List (List ℕ) → SuspicionValue
     put accusers = record { raised = raised; timeout = timeout; accusers = accusers }
 
-    field : (b : Bool) → cond b (put (counted_accusers k past ++ a ∷ [])) (put (counted_accusers k past)) ≡ put (cond b (counted_accusers k past ++ a ∷ []) (counted_accusers k past))
+    field : (b : Bool) → cond b (put (put_key name_cmp a (counted_accusers k past))) (put (counted_accusers k past)) ≡ put (cond b (put_key name_cmp a (counted_accusers k past)) (counted_accusers k past))
     field true = refl
     field false = refl
 
 -- as many different names as there are in the set
 length-in_order : (ns : List (List ℕ)) → length (in_order name_cmp ns) ≡ length (distinct name_cmp ns)
-length-in_order [] = refl
-length-in_order (n ∷ ns) = elim (cases_Bool (is_among name_cmp n ns)) [
-  | inl among ↦ (
-      let there : in_order name_cmp (n ∷ ns) ≡ in_order name_cmp ns = put-there names_order n (in_order name_cmp ns) (rises-in_order names_order ns) (among-in_order names_order n ns ∙ among) in
-      ap length there ∙ length-in_order ns ∙ sym (ap length (again among)))
-  | inr other ↦ length-put names_order n (in_order name_cmp ns) (among-in_order names_order n ns ∙ other) ∙ ap suc (length-in_order ns) ∙ sym (ap length (more other))
-]
-  where
-    again : is_among name_cmp n ns ≡ true → distinct name_cmp (n ∷ ns) ≡ distinct name_cmp ns
-    again e = rw e
-
-    more : is_among name_cmp n ns ≡ false → distinct name_cmp (n ∷ ns) ≡ n ∷ distinct name_cmp ns
-    more e = rw e
+length-in_order ns =
+    let all = distinct name_cmp ns in
+    ap length (same_members names_order (in_order name_cmp ns) (in_order name_cmp all) (rises-in_order names_order ns)
+    (rises-in_order names_order all)
+    (λ n. among-in_order names_order n ns ∙ sym (among-in_order names_order n all ∙ among-distinct names_order n ns)))
+    ∙ length-once all (once-distinct ns)
 
 -- the deadline is by the set
 pub deadline-after : (raised : ℕ) (timeout : TimeoutValue) (past : List (List ℕ)) → deadline_of (suspicion_after raised timeout past) ≡ deadline_by_set raised timeout (set_of past)

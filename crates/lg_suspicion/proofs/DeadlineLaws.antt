@@ -1,5 +1,5 @@
 -- An accuser never moves a deadline to a later moment.
-use Rattle.std.proofs.Common.{◌≡◌, ℕ, zero, suc, ◌+◌, ◌-◌, ◌*◌, ◌≤◌, ◌<◌, List, [], ◌∷◌, ◌++◌, length, length-append, arith, lit≤}
+use Rattle.std.proofs.Common.{◌≡◌, ℕ, zero, suc, ◌+◌, ◌-◌, ◌*◌, ◌≤◌, ◌<◌, arith, lit≤}
 use Rattle.std.proofs.Math.Nat.{mul-le-mul_left}
 use Rattle.lg_timing.specs.Meaning.Tables.{ratio_of}
 use Rattle.lg_timing.specs.Meaning.TimeoutValue.{TimeoutValue}
@@ -39,8 +39,8 @@ timeout-falls t c few within =
     omega (arith, more)
 
 -- nor does one more accuser move a deadline to a later moment
-pub deadline-falls : (raised : ℕ) (t : TimeoutValue) (accusers : List (List ℕ)) (a : List ℕ) → t.confirmations ≤ 5 → 1 ≤ length accusers → length accusers ≤ t.confirmations
-    → raised + timeout_of t (length (accusers ++ a ∷ []) - 1) ≤ raised + timeout_of t (length accusers - 1)
-deadline-falls raised t accusers a few some fits =
-    let one : length (accusers ++ a ∷ []) - 1 ≡ (length accusers - 1) + 1 = omega (arith, length-append accusers (a ∷ [])) in
-    rw one (omega (arith, timeout-falls t (length accusers - 1) few (omega arith)))
+pub deadline-falls : (raised : ℕ) (t : TimeoutValue) (n m : ℕ) → t.confirmations ≤ 5 → 1 ≤ n → n ≤ t.confirmations
+    → m ≡ suc n → raised + timeout_of t (m - 1) ≤ raised + timeout_of t (n - 1)
+deadline-falls raised t n m few some fits more =
+    let one : m - 1 ≡ (n - 1) + 1 = omega (arith, more) in
+    rw one (omega (arith, timeout-falls t (n - 1) few (omega arith)))

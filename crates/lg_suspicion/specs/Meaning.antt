@@ -1,3 +1,4 @@
 -- What is right: to believe the contracts, read these.
 pub mod Accusers
 pub mod Examples
+pub mod Parts

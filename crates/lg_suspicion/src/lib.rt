@@ -3,4 +3,6 @@
 
 mod suspicion;
 
-pub use suspicion::{MAX_ACCUSERS, MAX_DEADLINE, Suspicion, deadlines_are_by_the_set};
+pub use suspicion::{
+    MAX_ACCUSERS, MAX_DEADLINE, Suspicion, accusers_keep_their_names, deadlines_are_by_the_set,
+};

@@ -6,20 +6,31 @@
 //! greatest timeout, and with all that may count the least one. In between, one more confirmation never makes it
 //! longer. If no confirmation may count, since there are few members, the timeout is the least one from the start.
 //!
-//! Defined in: `specs/Meaning/Accusers.antt`, `lg_timing/specs/Meaning/Timeouts.antt`.
+//! An accuser that is known when it accuses is kept as its slot, in a set. Any other is a stranger, and is kept by its
+//! name. A stranger that becomes known later stays a stranger here, and doesn't count again.
+//!
+//! Defined in: `specs/Meaning/Accusers.antt`, `specs/Meaning/Parts.antt`,
+//! `lg_timing/specs/Meaning/Timeouts.antt`.
 //! Tested in: `lg_detector_tests/src/suspicion.rt`.
-ghost use Rattle.std.specs.Prelude.{◌≡◌, ℕ, ◌≤◌, List, [], ◌∷◌};
+ghost use Rattle.std.specs.Prelude.{◌≡◌, ℕ, ◌≤◌, ◌<◌, ◌+◌, ◌||◌, List, [], ◌∷◌, ◌++◌, length, option_copied, Some};
+ghost use Rattle.arrayvec.specs.ArrayVec.{array_vec_len};
+ghost use Rattle.lg_rules.specs.declared.claim.Claim.{Claim as Said};
 ghost use Rattle.lg_rules.specs.Meaning.Rows.{name_cmp, is_among};
+ghost use Rattle.lg_rules.specs.Meaning.Table.{live_in, names_heard};
 ghost use Rattle.lg_timing.specs.Meaning.Config.{IsChecked};
 ghost use Rattle.lg_timing.specs.Meaning.TimeoutValue.{TimeoutValue};
 ghost use Rattle.lg_timing.specs.Meaning.Timeouts.{range_of};
 ghost use Rattle.lg_suspicion.specs.Meaning.Accusers.{suspicion_after, accuser_counts, accused};
 ghost use Rattle.lg_suspicion.specs.Meaning.Accusers.{deadline_of, deadline_by_set, set_of};
+ghost use Rattle.lg_suspicion.specs.Meaning.Parts.{SuspicionParts, suspicion_by, accuser_count};
+ghost use Rattle.lg_suspicion.specs.Meaning.Parts.{deadline_of_parts, IsKnownTo};
+ghost use Rattle.lg_suspicion.specs.Support.Accusers.{has_slot, members_with, strangers_with};
 
 use arrayvec::ArrayVec;
-use lg_rules::Name;
+use lg_bit_set::{BitSet, NUMBERS};
+use lg_rules::{Members, Name, Slot};
 use lg_timing::{
-    Config, MAX_CONFIRMATIONS, MAX_LIVE, MAX_MOMENT, MAX_SUSPICION_MS, Moment, SuspicionTimeout,
+    Config, MAX_CONFIRMATIONS, MAX_MOMENT, MAX_SUSPICION_MS, Moment, SuspicionTimeout,
 };
 use std::marker::Model;
 
@@ -33,45 +44,85 @@ pub const MAX_DEADLINE: u64 = MAX_MOMENT + MAX_SUSPICION_MS;
 /// suspicion).
 ///
 /// The first accuser counts. So do the first others, which confirm the suspicion: as many as confirmations may count.
-/// How many these are is fixed when the suspicion is raised. A contract sees the moment, the timeouts and the
-/// accusers that count, in the order in which they came. The default fills rows of fixed capacity: it was raised at 0
-/// by the default name, and has timeouts of 0.
+/// How many these are is fixed when the suspicion is raised. A contract sees the moment, the timeouts, the slots of
+/// the accusers that were known when they accused, and the names of the others. The names that have slots make that
+/// a suspicion with its accusers by name. The default fills rows of fixed capacity: it was raised at 0 by the default
+/// name, a stranger, and has timeouts of 0.
 #[derive(Debug, Drop)]
 pub struct Suspicion {
     raised: Moment,
     timeout: SuspicionTimeout,
-    accusers: ArrayVec<Name, MAX_ACCUSERS>,
+    // The slots of the accusers that were known when they accused.
+    members: BitSet,
+    // The names of the other accusers.
+    strangers: ArrayVec<Name, MAX_ACCUSERS>,
 }
 
 impl Model for Suspicion {
-    ghost use Rattle.lg_suspicion.specs.Meaning.Accusers.{SuspicionValue};
+    ghost use Rattle.lg_suspicion.specs.Meaning.Parts.{SuspicionParts};
     ghost use Rattle.lg_suspicion.specs.Support.Accusers.{HasAccusers};
 
-    ghost Value = { SuspicionValue };
+    ghost Value = { SuspicionParts };
 
-    ghost view = { λ s. record { raised = s.raised; timeout = s.timeout; accusers = s.accusers.items } };
+    ghost view = { λ s. record {
+      raised = s.raised;
+      timeout = s.timeout;
+      members = s.members;
+      strangers = s.strangers.items;
+    } };
 
-    ghost invariant = { λ s. HasAccusers s.timeout s.accusers.items };
+    ghost invariant = { λ s. HasAccusers s.timeout s.members s.strangers.items };
 }
 
 impl Default for Suspicion {
     ghost use Rattle.std.specs.Prelude.{◌≡◌, ◌∷◌, []};
+    ghost use Rattle.lg_bit_set.specs.Meaning.Flags.{no_flags};
 
     ghost is_default = { λ s. s
         ≡ record {
           raised = 0;
           timeout = record { min = 0; max = 0; confirmations = 0 };
-          accusers = (97 ∷ []) ∷ [];
+          members = no_flags;
+          strangers = (97 ∷ []) ∷ [];
         } };
 
     fn default() -> Self {
-        let mut accusers = ArrayVec::new();
-        accusers.push(Name::default());
+        let mut strangers = ArrayVec::new();
+        strangers.push(Name::default());
         Suspicion {
             raised: Moment::default(),
             timeout: SuspicionTimeout::default(),
-            accusers,
+            members: BitSet::new(),
+            strangers,
         }
+    }
+}
+
+/// Whether a slot, if there is one, is in a set.
+fn has_slot(members: &BitSet, slot: Option<&Slot>) -> bool
+    ensures { result ≡ has_slot (option_copied slot.entry) members.now }
+{
+    match slot {
+        Some(slot) => members.contains(slot.number()),
+        None => false,
+    }
+}
+
+/// Adds an accuser: its slot, if it has one, and else its name.
+fn add(
+    members: &mut BitSet,
+    strangers: &mut ArrayVec<Name, MAX_ACCUSERS>,
+    slot: Option<Slot>,
+    accuser: &Name,
+)
+    requires { array_vec_len strangers.old < MAX_ACCUSERS }
+    ensures members { members.new ≡ members_with slot members.old }
+    ensures strangers { strangers.new.items ≡ strangers_with slot accuser.now strangers.old.items }
+    ensures number { (number : ℕ) → slot ≡ Some number → number < 256 }
+{
+    match slot {
+        Some(slot) => members.insert(slot.number()),
+        None => strangers.push(*accuser),
     }
 }
 
@@ -80,82 +131,117 @@ impl Suspicion {
     pub fn copy(&self) -> Suspicion
         ensures { result ≡ self.now }
     {
-        let mut accusers = ArrayVec::new();
-        accusers.try_extend_from_slice(&self.accusers).unwrap();
+        let mut strangers = ArrayVec::new();
+        strangers.try_extend_from_slice(&self.strangers).unwrap();
         Suspicion {
             raised: self.raised,
             timeout: self.timeout,
-            accusers,
+            members: self.members,
+            strangers,
         }
     }
 
-    /// The suspicion that `accuser` raises at the moment `now`. `live` is the number of members that haven't failed,
-    /// 1 to [`MAX_LIVE`]. This member is one of them, and the suspected member another.
-    pub fn raise(now: Moment, accuser: &Name, live: u64, config: &Config) -> Suspicion
+    /// The suspicion of another member that `accuser` raises at the moment `now`. `members` is this member's table,
+    /// which says how many members haven't failed, and which slot the accuser has.
+    pub fn raise(now: Moment, accuser: &Name, members: &Members, config: &Config) -> Suspicion
         requires checked { IsChecked config.now }
-        requires some { 1 ≤ live }
-        requires within { live ≤ MAX_LIVE }
 
-        ensures raised { result
+        ensures raised { let live = live_in members.now.table in
+            suspicion_by members.now.names result
             ≡ record { raised = now; timeout = range_of live config.now; accusers = accuser.now ∷ [] } }
 
         // It is the suspicion after one accuser.
-        ensures first { result ≡ suspicion_after now (range_of live config.now) (accuser.now ∷ []) }
+        ensures first { let live = live_in members.now.table in
+            suspicion_by members.now.names result
+            ≡ suspicion_after now (range_of live config.now) (accuser.now ∷ []) }
+
+        ensures known { IsKnownTo members.now.names result }
     {
-        let mut accusers = ArrayVec::new();
-        let first = *accuser;
-        accusers.push(first);
+        let mut slots = BitSet::new();
+        let mut strangers = ArrayVec::new();
+        add(
+            &mut slots,
+            &mut strangers,
+            members.slot_of(accuser),
+            accuser,
+        );
         Suspicion {
             raised: now,
-            timeout: SuspicionTimeout::new(live, config),
-            accusers,
+            timeout: SuspicionTimeout::new(members.live() as u64, config),
+            members: slots,
+            strangers,
         }
     }
 
-    /// Whether one more accuser counts: fewer accusers count than may, and it isn't one of them.
-    fn accuser_counts(&self, accuser: &Name) -> bool
-        ensures counts { result ≡ accuser_counts self.now accuser.now }
-        ensures within { self.now.timeout.confirmations ≤ MAX_CONFIRMATIONS }
+    /// How many accusers count, 1 to [`MAX_ACCUSERS`].
+    fn accusers(&self) -> usize
+        ensures count { result ≡ accuser_count self.now }
+        ensures some { 1 ≤ result }
+        ensures counted { result ≤ self.now.timeout.confirmations + 1 }
+        ensures size { length self.now.members ≡ NUMBERS }
     {
-        self.accusers.len() as u64 <= self.timeout.confirmations()
-            && !self.accusers.contains(accuser)
+        self.members.len() + self.strangers.len()
+    }
+
+    /// Whether an accuser with this slot, or with none, is one of the accusers.
+    fn has(&self, slot: Option<&Slot>, accuser: &Name) -> bool
+        ensures { let is_known = has_slot (option_copied slot.entry) self.now.members in
+            result ≡ (is_known || is_among name_cmp accuser.now self.now.strangers) }
+    {
+        has_slot(&self.members, slot) || self.strangers.contains(accuser)
     }
 
     /// Takes one more accusation, and returns whether its accuser counts. It counts if fewer accusers count than may,
-    /// and it isn't one of them. Otherwise nothing changes.
-    pub fn accuse(&mut self, accuser: &Name) -> bool
-        ensures counts { result ≡ accuser_counts self.old accuser.now }
-        ensures accused { self.new ≡ accused self.old accuser.now }
+    /// and it isn't one of them. Otherwise nothing changes. `members` is this member's table, in which each name still
+    /// has the slot that it had when the suspicion was raised.
+    pub fn accuse(&mut self, accuser: &Name, members: &Members) -> bool
+        requires known { IsKnownTo members.now.names self.old }
+
+        ensures counts { result ≡ accuser_counts (suspicion_by members.now.names self.old) accuser.now }
+        ensures accused { suspicion_by members.now.names self.new
+            ≡ accused (suspicion_by members.now.names self.old) accuser.now }
+
+        ensures known { IsKnownTo members.now.names self.new }
 
         // An accuser never moves the deadline to a later moment.
-        ensures never_later { deadline_of self.new ≤ deadline_of self.old }
+        ensures never_later { deadline_of (suspicion_by members.now.names self.new)
+            ≤ deadline_of (suspicion_by members.now.names self.old) }
 
         // If this was the suspicion after some accusers (the latest first), it is now the one after those and this
         // one.
-        ensures counted { (past : List (List ℕ))
-            → self.old ≡ suspicion_after self.old.raised self.old.timeout past
-            → self.new ≡ suspicion_after self.old.raised self.old.timeout (accuser.now ∷ past) }
+        ensures counted { let suspicion = suspicion_by members.now.names in
+            (past : List (List ℕ))
+            → suspicion self.old ≡ suspicion_after self.old.raised self.old.timeout past
+            → suspicion self.new ≡ suspicion_after self.old.raised self.old.timeout (accuser.now ∷ past) }
     {
-        if self.accuser_counts(accuser) {
-            self.accusers.push(*accuser);
-            true
-        } else {
-            false
+        if self.accusers() as u64 > self.timeout.confirmations() {
+            return false;
         }
+        let slot = members.slot_of(accuser);
+        if self.has(slot.as_ref(), accuser) {
+            return false;
+        }
+        add(&mut self.members, &mut self.strangers, slot, accuser);
+        true
     }
 
     /// When the member is taken as failed: the moment of the raise plus the timeout after the confirmations, which
     /// are the accusers that count without the first. It is at most [`MAX_DEADLINE`] milliseconds.
     pub fn deadline(&self) -> u64
-        ensures deadline { result ≡ deadline_of self.now }
+        ensures parts { result ≡ deadline_of_parts self.now }
+
+        // By whichever names have the slots, it is the deadline of the suspicion.
+        ensures deadline { (names : List (List ℕ)) → IsKnownTo names self.now
+            → result ≡ deadline_of (suspicion_by names self.now) }
 
         // After any list of accusers, the deadline is the one of their set.
-        ensures by_set { (past : List (List ℕ)) → self.now ≡ suspicion_after self.now.raised self.now.timeout past
+        ensures by_set { (names past : List (List ℕ)) → IsKnownTo names self.now
+            → suspicion_by names self.now ≡ suspicion_after self.now.raised self.now.timeout past
             → result ≡ deadline_by_set self.now.raised self.now.timeout (set_of past) }
 
         ensures within { result ≤ MAX_DEADLINE }
     {
-        self.raised.milliseconds() + self.timeout.after(self.accusers.len() as u64 - 1)
+        self.raised.milliseconds() + self.timeout.after(self.accusers() as u64 - 1)
     }
 }
 
@@ -166,4 +252,14 @@ pub fn deadlines_are_by_the_set()
     ensures { (raised : ℕ) (timeout : TimeoutValue) (past other : List (List ℕ))
         → ((name : List ℕ) → is_among name_cmp name past ≡ is_among name_cmp name other)
         → deadline_of (suspicion_after raised timeout past) ≡ deadline_of (suspicion_after raised timeout other) }
+{}
+
+/// Names that get the next slots leave each suspicion as it is: its accusers keep their names. So does a claim that the
+/// table of members hears. This is a law, and the call does nothing.
+pub fn accusers_keep_their_names()
+    ensures grown { (names more : List (List ℕ)) (parts : SuspicionParts) → IsKnownTo names parts
+        → IsKnownTo (names ++ more) parts × (suspicion_by (names ++ more) parts ≡ suspicion_by names parts) }
+    ensures heard { (names : List (List ℕ)) (claim : Said) (parts : SuspicionParts) → IsKnownTo names parts
+        → let after = names_heard names claim in
+        IsKnownTo after parts × (suspicion_by after parts ≡ suspicion_by names parts) }
 {}

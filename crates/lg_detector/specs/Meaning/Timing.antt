@@ -16,9 +16,8 @@ use Rattle.lg_timers.specs.declared.timer.TimerId.TheVariants.{RoundEnd, Suspici
 use Rattle.lg_timers.specs.declared.timer.TimerId.TheVariants.{RelayNack, RelayEnd, RoundStart}
 use Rattle.lg_timers.specs.Meaning.Timers.{in_turn, least_of, due_of}
 use Rattle.lg_probe.specs.Meaning.Round.{RoundFact, RoundValue, Asked, is_acked, is_first_ack, mark_of}
-use Rattle.lg_membership.specs.declared.suspected.Suspected.{Suspected}
 use Rattle.lg_membership.specs.Meaning.Log as group
-use Rattle.lg_membership.specs.Meaning.Suspicions.{suspicions}
+use Rattle.lg_membership.specs.Meaning.Suspicions.{SuspectedValue, suspicions}
 use Rattle.lg_detector.specs.Meaning.Log.{Log, Fired, AckHeard, OfGroup, moment, group_log}
 use Rattle.lg_detector.specs.Meaning.Probing.{Probe, is_round_start, chosen, probe, since_start, round}
 use Rattle.lg_detector.specs.Meaning.Relaying.{relays, opened_at, relay_has_nacked}
@@ -168,7 +167,7 @@ relay_timers log =
 
 -- The timers that are set, in the order in which they fire: those of the round, those of the relays, and the deadline
 -- of each suspicion. Each accuser that counts brings that deadline nearer, as lg_suspicion says.
-abbrev pub suspicion_timer : Suspected → Timer
+abbrev pub suspicion_timer : SuspectedValue → Timer
 suspicion_timer r = record { deadline = deadline_of r.suspicion; id = Suspicion r.name }
 
 abbrev pub suspicion_timers : Log → List Timer

@@ -66,8 +66,8 @@ const RAISED_TO_32000: Did = Did {
     ..CHANGED
 };
 
-/// Alive at the record's incarnation clears no suspicion. A second accuser moves the deadline; among two members none
-/// does. One who becomes a member between two accusations counts once.
+/// Alive at the record's incarnation clears no suspicion. A second accuser moves the deadline, known or not, and does so
+/// once, also if it becomes a member in between; among two members none does.
 const SUSPICIONS: &[Case] = &[
     (
         "alive at the number",
@@ -173,6 +173,24 @@ const SUSPICIONS: &[Case] = &[
                 },
             ),
             Live(5),
+        ],
+    ),
+    (
+        "an accuser that becomes known later",
+        &[
+            Opens("b"),
+            Seeds(&[Alive("a", 0), Alive("c", 0), Alive("d", 0), Alive("e", 0)]),
+            Hears(2000, Suspect("c", 0, "d"), RAISED_TO_32000),
+            Hears(
+                2500,
+                Suspect("c", 0, "f"),
+                Did {
+                    deadline: Deadline::Stands(19_500),
+                    ..NOTHING
+                },
+            ),
+            Hears(2600, Alive("f", 0), JOINED),
+            Hears(2700, Suspect("c", 0, "f"), NOTHING),
         ],
     ),
     (

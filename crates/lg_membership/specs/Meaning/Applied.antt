@@ -14,16 +14,15 @@ use Rattle.lg_membership.specs.declared.applied.Deadline.TheVariants.{Stays, End
 use Rattle.lg_membership.specs.declared.applied.Presence.{Presence}
 use Rattle.lg_membership.specs.declared.applied.Presence.TheVariants.{Stays as Remains, Joins, Leaves}
 use Rattle.lg_membership.specs.declared.origin.Origin.{Origin}
-use Rattle.lg_membership.specs.declared.suspected.Suspected.{Suspected}
 use Rattle.lg_membership.specs.Meaning.Log.{GroupLog, Said, own, group_view, live_others}
-use Rattle.lg_membership.specs.Meaning.Suspicions.{suspicions, suspected_name}
+use Rattle.lg_membership.specs.Meaning.Suspicions.{SuspectedValue, suspicions, suspected_name}
 
 -- The record of a member, which may be this member itself. Before the opening nobody has one.
 abbrev pub record_in : GroupLog → List ℕ → Option Claim
 record_in log m = row_at name_cmp name_of m (group_view log)
 
 -- the suspicion of another member
-abbrev pub suspicion_in : GroupLog → List ℕ → Option Suspected
+abbrev pub suspicion_in : GroupLog → List ℕ → Option SuspectedValue
 suspicion_in log m = row_at name_cmp suspected_name m (suspicions log)
 
 -- whether a claim about this member is a suspicion that this member refutes
@@ -39,7 +38,7 @@ IsRecordChange before after None = after ≡ before
 IsRecordChange before after (Some r) = (after ≡ Some r) × (after ≢ before)
 
 -- A suspicion is as before; or there was one, and there is none; or there is one, with this deadline.
-abbrev pub IsDeadlineChange : Option Suspected → Option Suspected → Deadline → Type 0
+abbrev pub IsDeadlineChange : Option SuspectedValue → Option SuspectedValue → Deadline → Type 0
 IsDeadlineChange before after Stays = after ≡ before
 IsDeadlineChange before after Ends = (before ≢ None) × (after ≡ None)
 IsDeadlineChange before after (Stands deadline) = option_map (λ r. deadline_of r.suspicion) after ≡ Some deadline

@@ -17,10 +17,9 @@ use Rattle.lg_gossip.specs.Meaning.Queue.{taken_of, fill_of}
 use Rattle.lg_membership.specs.declared.applied.Presence.{Presence}
 use Rattle.lg_membership.specs.declared.applied.Presence.TheVariants.{Stays as Remains, Joins, Leaves}
 use Rattle.lg_membership.specs.declared.origin.Origin.TheVariants.{Seed, Group}
-use Rattle.lg_membership.specs.declared.suspected.Suspected.{Suspected}
 use Rattle.lg_membership.specs.Meaning.Log.{GroupFact, GroupLog, Opened, Said, Sent, own, table, live, live_others}
 use Rattle.lg_membership.specs.Meaning.Log.{group_view}
-use Rattle.lg_membership.specs.Meaning.Suspicions.{suspicions, suspected}
+use Rattle.lg_membership.specs.Meaning.Suspicions.{SuspectedValue, suspicions, suspected}
 use Rattle.lg_membership.specs.Meaning.Gossip.{put_by, queued, queue_rows, queue, target_record, taken, fill}
 use Rattle.lg_membership.specs.Meaning.Applied.{is_live, presence_of}
 use Rattle.lg_membership.specs.Meaning.Pages.{page_of}
@@ -73,7 +72,7 @@ by_d = says 2000 (on c (accused_by d) 0) ∷ others
 abbrev by_d_and_e : GroupLog
 by_d_and_e = says 2600 (on c (accused_by e) 0) ∷ says 2500 (on c (accused_by d) 0) ∷ by_d
 
-abbrev of_c : List (List ℕ) → Suspected
+abbrev of_c : List (List ℕ) → SuspectedValue
 of_c accusers =
     let range : TimeoutValue = record { min = 5000; max = 30000; confirmations = 3 } in
     record { name = c ∷ []; suspicion = record { raised = 2000; timeout = range; accusers = accusers } }

@@ -14,9 +14,8 @@ use Rattle.lg_gossip.specs.declared.queued.Queued.{Queued}
 use Rattle.lg_gossip.specs.Meaning.Queue.{QueueValue, taken_of, fill_of}
 use Rattle.lg_membership.specs.declared.origin.Origin.{Origin}
 use Rattle.lg_membership.specs.declared.origin.Origin.TheVariants.{Seed, Group}
-use Rattle.lg_membership.specs.declared.suspected.Suspected.{Suspected}
 use Rattle.lg_membership.specs.Meaning.Log.{GroupLog, Opened, Said, Sent, config, me, own, table, live, known}
-use Rattle.lg_membership.specs.Meaning.Suspicions.{suspicions, confirms}
+use Rattle.lg_membership.specs.Meaning.Suspicions.{SuspectedValue, suspicions, confirms}
 
 -- What a claim puts into the queue when it is said. A claim about another member puts itself there if it makes or
 -- replaces a record, or confirms a suspicion, unless the opening says it. A claim about this member puts this
@@ -31,7 +30,7 @@ abbrev pub put_if : Origin → Bool → Claim → Option Claim
 put_if Seed counts c = None
 put_if Group counts c = if counts then Some c else None
 
-abbrev pub put_of_other : Origin → List Claim → List Suspected → Claim → Option Claim
+abbrev pub put_of_other : Origin → List Claim → List SuspectedValue → Claim → Option Claim
 put_of_other origin rows suspects c = put_if origin (takes rows c || confirms rows suspects c) c
 
 unfoldable pub put_by : Origin → GroupLog → Claim → Option Claim

@@ -11,10 +11,14 @@ use Rattle.lg_rules.specs.Meaning.Rows.{name_cmp, is_same, row_at}
 use Rattle.lg_rules.specs.Meaning.Table.{roster, record_of, hearing_of}
 use Rattle.lg_timing.specs.declared.config.Config.{Config}
 use Rattle.lg_timing.specs.Meaning.Timeouts.{range_of}
-use Rattle.lg_suspicion.specs.Meaning.Accusers.{suspicion_after, accuser_counts}
+use Rattle.lg_suspicion.specs.Meaning.Accusers.{SuspicionValue, suspicion_after, accuser_counts}
 use Rattle.lg_gossip.specs.Meaning.Queue.{is_suspect}
-use Rattle.lg_membership.specs.declared.suspected.Suspected.{Suspected}
 use Rattle.lg_membership.specs.Meaning.Log.{GroupLog, Opened, Said, Sent, config, me, said, live}
+
+-- a member that is suspected, and its suspicion
+pub record SuspectedValue : Type 0 where
+  pub name : List ℕ
+  pub suspicion : SuspicionValue
 
 -- whether a claim accuses a member at an incarnation: it says that the member is Suspect, at that incarnation
 abbrev pub accuses : List ℕ → ℕ → Claim → Bool
@@ -39,13 +43,13 @@ said_at _ = 0
 
 -- The suspicion that the first such claim raises, at its moment. Its timeouts are those for the number of members
 -- that haven't failed once the claim was taken. Its accusers are all who accuse the member at this incarnation.
-abbrev pub suspicion_since : Config → List ℕ → List (List ℕ) → Option GroupLog → Option Suspected
+abbrev pub suspicion_since : Config → List ℕ → List (List ℕ) → Option GroupLog → Option SuspectedValue
 suspicion_since opening m accusers None = None
 suspicion_since opening m accusers (Some front) =
     Some record { name = m; suspicion = suspicion_after (said_at front) (range_of (live front) opening) accusers }
 
 -- a member is suspected while its record is Suspect, at the incarnation of that record
-abbrev pub suspected_by : Config → GroupLog → List ℕ → Option Claim → Option Suspected
+abbrev pub suspected_by : Config → GroupLog → List ℕ → Option Claim → Option SuspectedValue
 suspected_by opening log m None = None
 suspected_by opening log m (Some r) =
     if is_suspect r.status
@@ -53,18 +57,18 @@ suspected_by opening log m (Some r) =
     else None
 
 -- nobody is suspected before the opening
-abbrev pub suspected_in : Option Config → GroupLog → List ℕ → Option Suspected
+abbrev pub suspected_in : Option Config → GroupLog → List ℕ → Option SuspectedValue
 suspected_in None log m = None
 suspected_in (Some opening) log m = suspected_by opening log m (record_of (said log) m)
 
-unfoldable pub suspected : GroupLog → List ℕ → Option Suspected
+unfoldable pub suspected : GroupLog → List ℕ → Option SuspectedValue
 suspected log m = suspected_in (config log) log m
 
 -- the suspicions of the other members, in the order of names
-unfoldable pub suspicions : GroupLog → List Suspected
+unfoldable pub suspicions : GroupLog → List SuspectedValue
 suspicions log = filter_map (suspected log) (roster (me log) (said log))
 
-abbrev pub suspected_name : Suspected → List ℕ
+abbrev pub suspected_name : SuspectedValue → List ℕ
 suspected_name r = r.name
 
 -- A claim confirms a suspicion if it accuses a suspected member at the incarnation of its record, and its accuser is
@@ -76,11 +80,11 @@ is_accusation Same = false
 is_accusation Ignored = false
 is_accusation NoRoom = false
 
-abbrev pub counts_in : Option (List ℕ) → Option Suspected → Bool
+abbrev pub counts_in : Option (List ℕ) → Option SuspectedValue → Bool
 counts_in None row = false
 counts_in (Some accuser) None = false
 counts_in (Some accuser) (Some row) = accuser_counts row.suspicion accuser
 
-abbrev pub confirms : List Claim → List Suspected → Claim → Bool
+abbrev pub confirms : List Claim → List SuspectedValue → Claim → Bool
 confirms table rows c =
     is_accusation (hearing_of table c) && counts_in (accuser_of c.status) (row_at name_cmp suspected_name c.name rows)

@@ -18,16 +18,15 @@ use Rattle.lg_membership.specs.declared.applied.Deadline.{Deadline}
 use Rattle.lg_membership.specs.declared.applied.Deadline.TheVariants.{Stays, Ends, Stands}
 use Rattle.lg_membership.specs.declared.applied.Presence.{Presence}
 use Rattle.lg_membership.specs.declared.applied.Presence.TheVariants.{Stays as Remains, Joins, Leaves}
-use Rattle.lg_membership.specs.declared.suspected.Suspected.{Suspected}
 use Rattle.lg_membership.specs.Meaning.Applied.{presence_of}
 use Rattle.lg_membership.specs.Meaning.Log.{live_names}
-use Rattle.lg_membership.specs.Meaning.Suspicions.{suspected_name}
+use Rattle.lg_membership.specs.Meaning.Suspicions.{SuspectedValue, suspected_name}
 
 -- nothing changes; or the suspicion of a member ends; or one is put, raised anew or with one more accuser
 pub data Change : Type 0 where
   Nothing : Change
   Ending : List ℕ → Change
-  Putting : Suspected → Change
+  Putting : SuspectedValue → Change
 
 -- a claim that overrides the record raises a suspicion, or ends the one that there is
 abbrev pub raised : Option Config → ℕ → ℕ → List ℕ → List ℕ → Change
@@ -36,34 +35,38 @@ raised (Some opening) now n m accuser =
     let suspicion : SuspicionValue = record { raised = now; timeout = range_of n opening; accusers = accuser ∷ [] } in
     Putting record { name = m; suspicion = suspicion }
 
-abbrev pub ended : List ℕ → Option Suspected → Change
+abbrev pub ended : List ℕ → Option SuspectedValue → Change
 ended m None = Nothing
 ended m (Some row) = Ending m
 
-abbrev pub overriding : Option Config → ℕ → ℕ → List ℕ → Option Suspected → Status → Change
+abbrev pub overriding : Option Config → ℕ → ℕ → List ℕ → Option SuspectedValue → Status → Change
 overriding opened now n m row Alive = ended m row
 overriding opened now n m row (Suspect accuser) = raised opened now n m accuser
 overriding opened now n m row Failed = ended m row
 
+-- a suspicion with one more accuser, if that one counts
+abbrev pub joined : List ℕ → SuspectedValue → SuspectedValue
+joined accuser row = record { name = row.name; suspicion = accused row.suspicion accuser }
+
 -- what one more accusation changes, and what any claim changes by what hearing it did
-abbrev pub accusing : Option (List ℕ) → Option Suspected → Change
+abbrev pub accusing : Option (List ℕ) → Option SuspectedValue → Change
 accusing None row = Nothing
 accusing (Some accuser) None = Nothing
 accusing (Some accuser) (Some row) =
     if accuser_counts row.suspicion accuser
-    then Putting record { name = row.name; suspicion = accused row.suspicion accuser }
+    then Putting (joined accuser row)
     else Nothing
 
-abbrev pub change_by : Heard → Option Config → ℕ → ℕ → Option Suspected → Claim → Change
+abbrev pub change_by : Heard → Option Config → ℕ → ℕ → Option SuspectedValue → Claim → Change
 change_by Overrode opened now n row c = overriding opened now n c.name row c.status
 change_by Accused opened now n row c = accusing (accuser_of c.status) row
 change_by _ opened now n row c = Nothing
 
 -- the suspicion of the claim's member
-abbrev pub row_about : Claim → List Suspected → Option Suspected
+abbrev pub row_about : Claim → List SuspectedValue → Option SuspectedValue
 row_about c rows = row_at name_cmp suspected_name c.name rows
 
-abbrev pub change_of : Option Config → ℕ → List Claim → List Suspected → Claim → Change
+abbrev pub change_of : Option Config → ℕ → List Claim → List SuspectedValue → Claim → Change
 change_of opened now table rows c =
     change_by (hearing_of table c) opened now (live_in (heard table c)) (row_about c rows) c
 
@@ -74,7 +77,7 @@ IsAbout m (Ending k) = k ≡ m
 IsAbout m (Putting r) = r.name ≡ m
 
 -- the suspicions after such a change, and what becomes of the deadline of the claim's member
-abbrev pub suspicions_after : Change → List Suspected → List Suspected
+abbrev pub suspicions_after : Change → List SuspectedValue → List SuspectedValue
 suspicions_after Nothing rows = rows
 suspicions_after (Ending m) rows = without_row name_cmp suspected_name m rows
 suspicions_after (Putting r) rows = put_row name_cmp suspected_name r rows

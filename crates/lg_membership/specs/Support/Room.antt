@@ -10,7 +10,6 @@ use Rattle.lg_rules.specs.Meaning.Table.{takes}
 use Rattle.lg_gossip.specs.declared.queue.TheConstants.{MAX_QUEUED}
 use Rattle.lg_gossip.specs.Meaning.Queue.{QueueValue, queued_name}
 use Rattle.lg_membership.specs.declared.origin.Origin.{Origin}
-use Rattle.lg_membership.specs.declared.suspected.Suspected.{Suspected}
 use Rattle.lg_membership.specs.Meaning.Suspicions.{suspected_name}
 use Rattle.lg_membership.specs.Support.State.{GroupState, put_in}
 
@@ -19,12 +18,12 @@ HasPlace None waiting = Unit {0}
 HasPlace (Some c) waiting =
     row_at name_cmp queued_name c.name waiting.rows ≡ None → length waiting.rows < MAX_QUEUED
 
-abbrev pub HasSeat : List ℕ → List Suspected → Type 0
-HasSeat m rows = row_at name_cmp suspected_name m rows ≡ None → length rows < MAX_OTHERS
+abbrev pub HasSeat : {R : Type 0} → (R → List ℕ) → List ℕ → List R → Type 0
+HasSeat key m rows = row_at name_cmp key m rows ≡ None → length rows < MAX_OTHERS
 
 pub record HasRoom (origin : Origin) (c : Claim) (s : GroupState) : Type 0 where
   pub place : HasPlace (put_in origin c s) s.queue
-  pub seat : c.name ≢ s.members.own → takes s.members.table c ≡ true → HasSeat c.name s.suspicions
+  pub seat : c.name ≢ s.members.own → takes s.members.table c ≡ true → HasSeat suspected_name c.name s.suspicions
 
 -- what holds of each state: the records of the others and their suspicions are in the order of names, and no record
 -- there is about this member

@@ -13,9 +13,8 @@ use Rattle.lg_membership.specs.declared.applied.Applied.{Applied}
 use Rattle.lg_membership.specs.declared.applied.Deadline.TheVariants.{Stays}
 use Rattle.lg_membership.specs.declared.applied.Presence.TheVariants.{Stays as Remains}
 use Rattle.lg_membership.specs.declared.origin.Origin.{Origin}
-use Rattle.lg_membership.specs.declared.suspected.Suspected.{Suspected}
 use Rattle.lg_membership.specs.Meaning.Log.{GroupLog, config, me, said, own, live_names, view_in}
-use Rattle.lg_membership.specs.Meaning.Suspicions.{suspicions}
+use Rattle.lg_membership.specs.Meaning.Suspicions.{SuspectedValue, suspicions}
 use Rattle.lg_membership.specs.Meaning.Gossip.{queue, put_of_own, put_of_other, target_record}
 use Rattle.lg_membership.specs.Meaning.Applied.{is_refuted}
 use Rattle.lg_membership.specs.Meaning.Pages.{is_behind}
@@ -25,7 +24,7 @@ pub record GroupState : Type 0 where
   pub config : Option Config
   pub own : OwnValue
   pub members : MembersValue
-  pub suspicions : List Suspected
+  pub suspicions : List SuspectedValue
   pub queue : QueueValue
 
 -- the state after a log: each part by its definition

@@ -9,21 +9,17 @@ use Rattle.std.specs.Prelude.{
   Bool,
   not,
   List,
-  [],
-  ◌∷◌,
-  ◌++◌,
   length,
   nat_le,
   min,
-  reverse,
   if◌then◌else◌,
 }
 use Rattle.lg_rules.specs.Meaning.Past.{oldest}
-use Rattle.lg_rules.specs.Meaning.Rows.{name_cmp, is_among, distinct, in_order}
+use Rattle.lg_rules.specs.Meaning.Rows.{name_cmp, is_among, distinct, in_order, put_key}
 use Rattle.lg_timing.specs.Meaning.TimeoutValue.{TimeoutValue}
 use Rattle.lg_timing.specs.Meaning.Timeouts.{timeout_of}
 
--- when a suspicion was raised, its timeouts, and the accusers that count, in the order in which they came
+-- when a suspicion was raised, its timeouts, and the accusers that count, in the order of names
 pub record SuspicionValue : Type 0 where
   pub raised : ℕ
   pub timeout : TimeoutValue
@@ -31,7 +27,7 @@ pub record SuspicionValue : Type 0 where
 
 -- The accusers that count: the first one, and the first others, as many as confirmations may count.
 unfoldable pub counted_accusers : ℕ → List (List ℕ) → List (List ℕ)
-counted_accusers confirmations past = reverse (oldest (confirmations + 1) (distinct name_cmp past))
+counted_accusers confirmations past = in_order name_cmp (oldest (confirmations + 1) (distinct name_cmp past))
 
 -- a suspicion after a past of accusers
 abbrev pub suspicion_after : ℕ → TimeoutValue → List (List ℕ) → SuspicionValue
@@ -50,7 +46,8 @@ accuser_counts s accuser = would_count s.timeout.confirmations s.accusers accuse
 
 -- a suspicion after one more accusation
 abbrev pub accused : SuspicionValue → List ℕ → SuspicionValue
-accused s accuser = if accuser_counts s accuser then record s { accusers = s.accusers ++ accuser ∷ [] } else s
+accused s accuser =
+    if accuser_counts s accuser then record s { accusers = put_key name_cmp accuser s.accusers } else s
 
 -- the deadline of a suspicion: when it runs out, and the member is taken as failed
 abbrev pub deadline_of : SuspicionValue → ℕ

@@ -1,9 +1,10 @@
 -- Worked rows: what the definitions give for some accusers.
-use Rattle.std.specs.Prelude.{◌≡◌, ℕ, List, [], ◌∷◌, refl}
+use Rattle.std.specs.Prelude.{◌≡◌, ℕ, true, false, List, [], ◌∷◌, refl}
 use Rattle.lg_timing.specs.Meaning.Tables.{ratio_of}
 use Rattle.lg_timing.specs.Meaning.TimeoutValue.{TimeoutValue}
 use Rattle.lg_timing.specs.Meaning.Timeouts.{timeout_of}
 use Rattle.lg_suspicion.specs.Meaning.Accusers.{counted_accusers, suspicion_after, deadline_of, deadline_by_set, set_of}
+use Rattle.lg_suspicion.specs.Meaning.Parts.{SuspicionParts, accuser_count, accusers_by, deadline_of_parts}
 
 abbrev d : List ℕ
 d = 100 ∷ []
@@ -40,3 +41,28 @@ first_four = refl
 first_alone : counted_accusers 0 six ≡ (97 ∷ []) ∷ []
 unfolding counted_accusers
 first_alone = refl
+
+-- The member at slot 2 accuses, and e, which isn't known. Once e is known, it is still one accuser.
+kept : SuspicionParts
+kept = record {
+  raised = 2000;
+  timeout = five;
+  members = false ∷ false ∷ true ∷ [];
+  strangers = e ∷ [];
+}
+
+their_names : accusers_by ((97 ∷ []) ∷ (99 ∷ []) ∷ (102 ∷ []) ∷ []) kept ≡ e ∷ (102 ∷ []) ∷ []
+unfolding kept
+their_names = refl
+
+later_names : accusers_by ((97 ∷ []) ∷ (99 ∷ []) ∷ (102 ∷ []) ∷ e ∷ []) kept ≡ e ∷ (102 ∷ []) ∷ []
+unfolding kept
+later_names = refl
+
+two_count : accuser_count kept ≡ 2
+unfolding kept
+two_count = refl
+
+their_deadline : deadline_of_parts kept ≡ 19500
+unfolding kept timeout_of ratio_of
+their_deadline = refl

@@ -1,64 +1,104 @@
 use Rattle.std.proofs.Common.{◌≡◌, ◌≢◌, false, Option, ap, sym, subst, ◌∙◌}
 use Rattle.lg_rules.specs.declared.claim.Claim.{Claim}
-use Rattle.lg_rules.specs.Meaning.Table.{MembersValue, hearing_of, heard, names_heard, live_in}
+use Rattle.lg_rules.specs.Meaning.Table.{MembersValue, heard, names_heard, live_in}
 use Rattle.lg_membership.specs.Meaning.Gossip.{put_if}
-use Rattle.lg_membership.specs.Support.Changes.{change_by, row_about, suspicions_after, deadline_of_change, is_override}
+use Rattle.lg_membership.specs.Support.Changes.{row_about, suspicions_after, deadline_of_change, is_override}
 use Rattle.lg_membership.specs.Support.Changes.{presence_by}
 use Rattle.lg_membership.specs.Support.Room.{HasPlace}
-use Rattle.lg_membership.specs.Support.State.{GroupState, queue_with, applied_other, if_open, taken_if}
+use Rattle.lg_membership.specs.Support.Rows.{rows_by}
+use Rattle.lg_membership.specs.Support.State.{GroupState, queue_with, apply_other, applied_other, if_open, taken_if}
 use Rattle.lg_membership.proofs.Hearings.{override-takes, overrode-takes, counts_for}
 use Rattle.lg_membership.proofs.LiveOthers.{presence-counted}
 use Rattle.lg_membership.proofs.Reaching.{reached-other}
 use Rattle.lg_membership.proofs.Rooms.{reached-ordered, other_place, other_seat}
+use Rattle.lg_membership.proofs.RowsByNames.{rises-kept, seat-kept, known-heard, rows-heard, change-heard}
 use Rattle.lg_membership.proofs.membership.Membership.apply_other.Goals as goal
+use Rattle.lg_membership.proofs.membership.Membership.apply_other.Goals.{After-if_open}
 
 pub hear-heard-requires : goal.hear-heard-requires
 hear-heard-requires c = λ same.
-    c.requires (same ∙ sym (reached-ordered _ c.self.invariant).one_name ∙ ap (λ (s : GroupState). s.own.name) c.self.view_is)
+    c.requires (same ∙ sym (reached-ordered _ c.self.invariant.reached).one_name
+    ∙ ap (λ (s : GroupState). s.own.name) c.self.view_is)
 
 pub suspect-deadline-requires-clause-rises : goal.suspect-deadline-requires-clause-rises
-suspect-deadline-requires-clause-rises c = (reached-ordered _ c.self.invariant).suspects
+suspect-deadline-requires-clause-rises c =
+    let inside = c.self.inside in
+    rises-kept inside.members.names inside.suspicions.items (reached-ordered _ c.self.invariant.reached).suspects
 
 pub suspect-deadline-requires-clause-seat : goal.suspect-deadline-requires-clause-seat
 suspect-deadline-requires-clause-seat c = λ overrode.
-    other_seat c.args.claim.now _ c.self.invariant (λ same. c.requires (same ∙ ap (λ (s : GroupState). s.own.name) c.self.view_is))
-    (overrode-takes c.self.inside.members.table c.args.claim.now (sym c.hear-heard.ensures.hearing ∙ overrode))
+    let inside = c.self.inside in
+    let claim = c.args.claim.now in
+    seat-kept inside.members.names claim.name inside.suspicions.items
+    (other_seat claim _ c.self.invariant.reached
+    (λ same. c.requires (same ∙ ap (λ (s : GroupState). s.own.name) c.self.view_is))
+    (overrode-takes inside.members.table claim (sym c.hear-heard.ensures.hearing ∙ overrode)))
+
+pub suspect-deadline-requires-clause-known : goal.suspect-deadline-requires-clause-known
+suspect-deadline-requires-clause-known c =
+    let inside = c.self.inside in
+    known-heard inside.members.names c.args.claim.now inside.suspicions.items c.hear-heard.ensures.names
+    c.self.invariant.known
 
 pub put-requires : goal.put-requires
 put-requires c =
     let inside = c.self.inside in
     let claim = c.args.claim.now in
     let table = inside.members.table in
-    let row = row_about claim inside.suspicions.items in
+    let names = inside.members.names in
+    let rows = inside.suspicions.items in
     let n = live_in (heard table claim) in
-    let live = ap live_in c.hear-heard.ensures.table in
     let hearing = c.hear-heard.ensures.hearing in
-    let deadline = c.suspect-deadline.ensures.deadline ∙ (λ i. deadline_of_change (change_by (hearing i) inside.config c.args.now (live i) row claim)) in
-    let counts = c.is_to_be_passed_on-counts.ensures ∙ counts_for table inside.config c.args.now n row claim hearing deadline in
+    let change = change-heard inside.config c.args.now claim table names rows hearing c.hear-heard.ensures.table
+    c.hear-heard.ensures.names c.self.invariant.known in
+    let deadline = c.suspect-deadline.ensures.deadline ∙ ap deadline_of_change change in
+    let row = row_about claim (rows_by names rows) in
+    let counts = c.is_to_be_passed_on-counts.ensures
+    ∙ counts_for table inside.config c.args.now n row claim hearing deadline in
     let puts = c.put_of_other.ensures ∙ ap (λ b. put_if c.args.origin b claim) counts in
-    let other : claim.name ≢ inside.own.name = λ same. c.requires (same ∙ ap (λ (s : GroupState). s.own.name) c.self.view_is) in
-    subst (λ (o : Option Claim). HasPlace o inside.queue) (sym puts) (other_place c.args.origin claim _ c.self.invariant other)
+    let other : claim.name ≢ inside.own.name = λ same.
+    c.requires (same ∙ ap (λ (s : GroupState). s.own.name) c.self.view_is) in
+    subst (λ (o : Option Claim). HasPlace o inside.queue) (sym puts)
+    (other_place c.args.origin claim _ c.self.invariant.reached other)
 
-pub invariant_of-self : goal.invariant_of-self
-invariant_of-self c =
+-- what the claim leaves
+state_is : (c : After-if_open)
+    → record {
+      config = c.self.inside.config;
+      own = c.self.inside.own;
+      members = c.hear-heard.new.self;
+      suspicions = rows_by c.hear-heard.new.self.names c.suspect-deadline.new.suspicions.items;
+      queue = c.put.new.queue;
+    }
+    ≡ apply_other c.args.now c.args.origin c.args.claim.now record {
+      config = c.self.inside.config;
+      own = c.self.inside.own;
+      members = c.self.inside.members;
+      suspicions = rows_by c.self.inside.members.names c.self.inside.suspicions.items;
+      queue = c.self.inside.queue;
+    }
+state_is c =
     let inside = c.self.inside in
     let claim = c.args.claim.now in
     let table = inside.members.table in
-    let row = row_about claim inside.suspicions.items in
+    let names = inside.members.names in
+    let rows = inside.suspicions.items in
     let n = live_in (heard table claim) in
-    let live = ap live_in c.hear-heard.ensures.table in
     let hearing = c.hear-heard.ensures.hearing in
-    let change : change_by c.hear-heard.result inside.config c.args.now (live_in c.hear-heard.new.self.table) row claim ≡ change_by (hearing_of table claim) inside.config c.args.now n row claim =
-    λ i. change_by (hearing i) inside.config c.args.now (live i) row claim in
+    let change = change-heard inside.config c.args.now claim table names rows hearing c.hear-heard.ensures.table
+    c.hear-heard.ensures.names c.self.invariant.known in
+    let before = rows-heard names claim rows c.hear-heard.ensures.names c.self.invariant.known in
     let deadline = c.suspect-deadline.ensures.deadline ∙ ap deadline_of_change change in
-    let rows = c.suspect-deadline.ensures.rows ∙ ap (λ ch. suspicions_after ch inside.suspicions.items) change in
-    let counts = c.is_to_be_passed_on-counts.ensures ∙ counts_for table inside.config c.args.now n row claim hearing deadline in
+    let suspicions = c.suspect-deadline.ensures.rows ∙ (λ i. suspicions_after (change i) (before i)) in
+    let row = row_about claim (rows_by names rows) in
+    let counts = c.is_to_be_passed_on-counts.ensures
+    ∙ counts_for table inside.config c.args.now n row claim hearing deadline in
     let puts = c.put_of_other.ensures ∙ ap (λ b. put_if c.args.origin b claim) counts in
     let queue = c.put.ensures ∙ ap (λ (o : Option Claim). queue_with o inside.queue) puts in
     let heard-all : MembersValue = record {
       own = inside.members.own;
       table = heard table claim;
-      names = names_heard inside.members.names claim;
+      names = names_heard names claim;
     } in
     let members : c.hear-heard.new.self ≡ heard-all =
     λ i. record {
@@ -66,25 +106,46 @@ invariant_of-self c =
       table = c.hear-heard.ensures.table i;
       names = c.hear-heard.ensures.names i;
     } in
-    reached-other _ _ c.args.now c.args.origin claim (λ same. c.requires (same ∙ ap (λ (s : GroupState). s.own.name) c.self.view_is))
-    (λ i. record { config = inside.config; own = inside.own; members = members i; suspicions = rows i; queue = queue i })
-    c.self.invariant
+    λ i. record {
+      config = inside.config;
+      own = inside.own;
+      members = members i;
+      suspicions = suspicions i;
+      queue = queue i;
+    }
+
+pub invariant_of-self : goal.invariant_of-self
+invariant_of-self c = record {
+  reached =
+      reached-other _ _ c.args.now c.args.origin c.args.claim.now
+      (λ same. c.requires (same ∙ ap (λ (s : GroupState). s.own.name) c.self.view_is))
+      (state_is c)
+      c.self.invariant.reached;
+  known = c.suspect-deadline.ensures.known;
+}
+
+pub returns-clause-state : goal.returns-clause-state
+returns-clause-state c = state_is c ∙ ap (apply_other c.args.now c.args.origin c.args.claim.now) c.self.view_is
 
 pub returns-clause-applied : goal.returns-clause-applied
 returns-clause-applied c =
     let inside = c.self.inside in
     let claim = c.args.claim.now in
     let table = inside.members.table in
-    let row = row_about claim inside.suspicions.items in
+    let names = inside.members.names in
+    let rows = inside.suspicions.items in
     let after = c.hear-heard.ensures.table in
     let hearing = c.hear-heard.ensures.hearing in
-    let taken = c.taken_of_other.ensures ∙ ap (λ h. taken_if (is_override h) claim) hearing ∙ ap (λ b. taken_if b claim) (override-takes table claim) in
+    let taken = c.taken_of_other.ensures ∙ ap (λ h. taken_if (is_override h) claim) hearing
+    ∙ ap (λ b. taken_if b claim) (override-takes table claim) in
     let changed = c.if_open.ensures ∙ ap (if_open inside.config) taken in
-    let deadline = c.suspect-deadline.ensures.deadline ∙ (λ i. deadline_of_change (change_by (hearing i) inside.config c.args.now (live_in (after i)) row claim)) in
+    let change = change-heard inside.config c.args.now claim table names rows hearing after
+    c.hear-heard.ensures.names c.self.invariant.known in
+    let deadline = c.suspect-deadline.ensures.deadline ∙ ap deadline_of_change change in
     let live = c.live.ensures.count ∙ ap live_in after in
     let presence =
     c.presence_by-presence.ensures
     ∙ (λ i. presence_by (c.live-before.ensures.count i) (live i))
-    ∙ presence-counted table claim (reached-ordered _ c.self.invariant).rises in
+    ∙ presence-counted table claim (reached-ordered _ c.self.invariant.reached).rises in
     (λ i. record { changed = changed i; refuted = false; deadline = deadline i; presence = presence i })
     ∙ ap (applied_other c.args.now claim) c.self.view_is

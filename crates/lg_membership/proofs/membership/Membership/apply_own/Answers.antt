@@ -2,6 +2,7 @@ use Rattle.std.proofs.Common.{Option, ap, sym, subst, ◌∙◌}
 use Rattle.lg_rules.specs.declared.claim.Claim.{Claim}
 use Rattle.lg_membership.specs.Meaning.Gossip.{put_of_own}
 use Rattle.lg_membership.specs.Support.Room.{HasPlace}
+use Rattle.lg_membership.specs.Support.Rows.{rows_by}
 use Rattle.lg_membership.specs.Support.State.{GroupState, queue_with}
 use Rattle.lg_membership.proofs.Reaching.{reached-own}
 use Rattle.lg_membership.proofs.Rooms.{own_place}
@@ -11,7 +12,8 @@ pub put-requires : goal.put-requires
 put-requires c =
     let same = c.requires ∙ ap (λ (s : GroupState). s.own.name) (sym c.self.view_is) in
     let puts = c.put_of_own.ensures ∙ (λ i. put_of_own (c.hear-heard.ensures.hearing i) (c.hear-heard.ensures.own i)) in
-    subst (λ (o : Option Claim). HasPlace o c.self.inside.queue) (sym puts) (own_place c.args.claim.now _ c.self.invariant same)
+    subst (λ (o : Option Claim). HasPlace o c.self.inside.queue) (sym puts)
+    (own_place c.args.claim.now _ c.self.invariant.reached same)
 
 pub invariant_of-self : goal.invariant_of-self
 invariant_of-self c =
@@ -19,6 +21,16 @@ invariant_of-self c =
     let same = c.requires ∙ ap (λ (s : GroupState). s.own.name) (sym c.self.view_is) in
     let puts = c.put_of_own.ensures ∙ (λ i. put_of_own (c.hear-heard.ensures.hearing i) (c.hear-heard.ensures.own i)) in
     let queue = c.put.ensures ∙ ap (λ (o : Option Claim). queue_with o inside.queue) puts in
-    reached-own _ _ c.args.claim.now same
-    (λ i. record { config = inside.config; own = c.hear-heard.ensures.own i; members = inside.members; suspicions = inside.suspicions.items; queue = queue i })
-    c.self.invariant
+    record {
+      reached =
+          reached-own _ _ c.args.claim.now same
+          (λ i. record {
+            config = inside.config;
+            own = c.hear-heard.ensures.own i;
+            members = inside.members;
+            suspicions = rows_by inside.members.names inside.suspicions.items;
+            queue = queue i;
+          })
+          c.self.invariant.reached;
+      known = c.self.invariant.known;
+    }

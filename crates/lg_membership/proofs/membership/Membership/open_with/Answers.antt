@@ -1,5 +1,6 @@
-use Rattle.std.proofs.Common.{Some, ◌∙◌}
+use Rattle.std.proofs.Common.{Some, sym, subst, ◌∙◌}
 use Rattle.lg_timing.proofs.ConfigLemmas.{ranges}
+use Rattle.lg_membership.specs.Support.Rows.{rows_by, AreKnownTo}
 use Rattle.lg_membership.proofs.FactLaws.{open-state}
 use Rattle.lg_membership.proofs.Reaching.{reached-open}
 use Rattle.lg_membership.proofs.membership.Membership.open_with.Goals as goal
@@ -9,15 +10,19 @@ restart-requires-2 c = (ranges c.args.config.now c.requires).lambda_most
 
 pub invariant_of-self : goal.invariant_of-self
 invariant_of-self c =
-    reached-open _ _ c.args.config.now
-    (λ i. record {
-      config = Some (c.copy.ensures i);
-      own = c.new-self-inside.ensures i;
-      members = c.restart.ensures i;
-      suspicions = c.clear.ensures i;
-      queue = c.restart-2.ensures i;
-    })
-    c.requires c.self.invariant
+    record {
+      reached =
+          reached-open _ _ c.args.config.now
+          (λ i. record {
+            config = Some (c.copy.ensures i);
+            own = c.new-self-inside.ensures i;
+            members = c.restart.ensures i;
+            suspicions = rows_by (c.restart.ensures i).names (c.clear.ensures i);
+            queue = c.restart-2.ensures i;
+          })
+          c.requires c.self.invariant.reached;
+      known = subst (AreKnownTo c.restart.new.self.names) (sym c.clear.ensures) tt;
+    }
 
 pub returns-clause-log : goal.returns-clause-log
 returns-clause-log c = λ log is.
@@ -25,7 +30,7 @@ returns-clause-log c = λ log is.
       config = Some (c.copy.ensures i);
       own = c.new-self-inside.ensures i;
       members = c.restart.ensures i;
-      suspicions = c.clear.ensures i;
+      suspicions = rows_by (c.restart.ensures i).names (c.clear.ensures i);
       queue = c.restart-2.ensures i;
     })
     ∙ open-state c.args.config.now log

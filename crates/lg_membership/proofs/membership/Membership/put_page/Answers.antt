@@ -23,7 +23,7 @@ returns-then-is_some-clause-state c =
     let gathered = c.put_own.ensures ∙ (λ i. with_behind after (c.record.ensures i) (others i)) in
     let cut = c.as_slice.ensures.value ∙ c.truncate.ensures.items ∙ ap (take most_claims) gathered in
     copied ∙ cut
-    ∙ page-shown after _ c.self.invariant (sym c.is_some.ensures ∙ c.if-is_some.true)
+    ∙ page-shown after _ c.self.invariant.reached (sym c.is_some.ensures ∙ c.if-is_some.true)
     ∙ ap (λ (s : GroupState). page_of after (shown s)) c.self.view_is
 
 pub returns-then-is_some-clause-log : goal.returns-then-is_some-clause-log

@@ -1,0 +1,250 @@
+-- A suspicion by the names that have slots: who accuses, and what one more accuser and one more name change.
+use Rattle.std.proofs.Common.{◌≡◌, ℕ, suc, ◌+◌, ◌-◌, ◌<◌, Bool, true, false, ◌||◌, List, [], ◌∷◌, ◌++◌}
+use Rattle.std.proofs.Common.{length, length-append, get_or, Option, Some, None, refl, sym, ap, subst, ◌∙◌, inl, inr}
+use Rattle.std.proofs.Common.{arith}
+use Rattle.std.proofs.lemmas.Bool.{cases_Bool, cases_lt, false≢true}
+use Rattle.std.proofs.lemmas.Option.{slice_get_past}
+use Rattle.std.proofs.lemmas.List.{length-replicate}
+use Rattle.std.proofs.lemmas.List.Folds.{list_any-append}
+use Rattle.lg_bit_set.specs.Meaning.Flags.{no_flags, count_set, entries_in}
+use Rattle.lg_bit_set.proofs.TestLaws.{none_at}
+use Rattle.lg_rules.specs.Meaning.Rows.{name_cmp, is_same, is_among, in_order, put_key}
+use Rattle.lg_rules.specs.Meaning.Table.{slot_in}
+use Rattle.lg_rules.proofs.Cases.{held_once}
+use Rattle.lg_rules.proofs.KeyOrder.{names_order}
+use Rattle.lg_rules.proofs.PastLaws.{neither}
+use Rattle.lg_rules.proofs.Rises.{among-put, among-in_order, rises-put, rises-in_order, length-put, same_members}
+use Rattle.lg_rules.proofs.SlotLaws.{slot-named, slot-kept}
+use Rattle.lg_timing.specs.Meaning.TimeoutValue.{TimeoutValue}
+use Rattle.lg_timing.specs.Meaning.Timeouts.{timeout_of}
+use Rattle.lg_suspicion.specs.Meaning.Accusers.{deadline_of}
+use Rattle.lg_suspicion.specs.Meaning.Parts.{SuspicionParts, accuser_count, accusers_by, suspicion_by}
+use Rattle.lg_suspicion.specs.Meaning.Parts.{deadline_of_parts, HasName, IsKnownTo}
+use Rattle.lg_suspicion.specs.Support.Accusers.{has_slot, members_with, strangers_with}
+use Rattle.lg_suspicion.proofs.SlotSets.{IsSetAt, among-set, set-among, among-inserted, count_set-inserted}
+use Rattle.lg_suspicion.proofs.SlotSets.{set-inserted, entries-grown, none_set, none_counted}
+
+-- each number of a set is the slot of a name
+abbrev pub AreSlots : List (List ℕ) → List Bool → Type 0
+AreSlots names members = (slot : ℕ) → get_or members slot false ≡ true → HasName names slot
+
+-- a name that stands at such a slot has it
+slot-of_set : (names : List (List ℕ)) (members : List Bool) (a : List ℕ) → AreSlots names members
+    → (at : IsSetAt members names a) → slot_in a names ≡ Some at.number
+slot-of_set names members a slots at =
+    let other = slots at.number at.is_set in
+    let same : other.0 ≡ a = held_once other.0 a (sym (slot-named other.0 names at.number other.1) ∙ at.named) in
+    subst (λ n. slot_in n names ≡ Some at.number) same other.1
+
+-- so a name is among the names of the set if its slot is in the set
+pub among-slots : (names : List (List ℕ)) (members : List Bool) (a : List ℕ) (slot : Option ℕ) → AreSlots names members
+    → slot ≡ slot_in a names → is_among name_cmp a (entries_in members names) ≡ has_slot slot members
+among-slots names members a None slots is = elim (cases_Bool (is_among name_cmp a (entries_in members names))) [
+  | inl among ↦ (
+      let has = slot-of_set names members a slots (among-set members names a among) in
+      let bad : None ≡ Some (among-set members names a among).number = is ∙ has in
+      absurd cc)
+  | inr other ↦ other
+]
+among-slots names members a (Some slot) slots is = elim (cases_Bool (get_or members slot false)) [
+  | inl there ↦ set-among members names a slot there (slot-named a names slot (sym is)) ∙ sym there
+  | inr clear ↦ elim (cases_Bool (is_among name_cmp a (entries_in members names))) [
+    | inl among ↦ (
+        let at = among-set members names a among in
+        let same : slot ≡ at.number = held_once slot at.number (is ∙ slot-of_set names members a slots at) in
+        let there = subst (λ i. get_or members i false ≡ true) (sym same) at.is_set in
+        absurd (false≢true (sym clear ∙ there)))
+    | inr other ↦ other ∙ sym clear
+  ]
+]
+
+-- whether a name is that of an accuser
+pub among-accusers : (names : List (List ℕ)) (parts : SuspicionParts) (a : List ℕ) (slot : Option ℕ)
+    → AreSlots names parts.members → slot ≡ slot_in a names
+    → is_among name_cmp a (accusers_by names parts)
+    ≡ (has_slot slot parts.members || is_among name_cmp a parts.strangers)
+among-accusers names parts a slot slots is =
+    among-in_order names_order a (entries_in parts.members names ++ parts.strangers)
+    ∙ list_any-append (λ m. is_same name_cmp m a) (entries_in parts.members names) parts.strangers
+    ∙ ap (λ b. b || is_among name_cmp a parts.strangers) (among-slots names parts.members a slot slots is)
+
+-- one more accuser
+abbrev pub parts_with : Option ℕ → List ℕ → SuspicionParts → SuspicionParts
+parts_with slot a parts = record {
+  raised = parts.raised;
+  timeout = parts.timeout;
+  members = members_with slot parts.members;
+  strangers = strangers_with slot a parts.strangers;
+}
+
+or_last : (a b c : Bool) → (a || (b || (c || false))) ≡ (c || (a || b))
+or_last true true true = refl
+or_last true true false = refl
+or_last true false true = refl
+or_last true false false = refl
+or_last false true true = refl
+or_last false true false = refl
+or_last false false true = refl
+or_last false false false = refl
+
+or_deep : (a b c : Bool) → ((a || b) || c) ≡ (a || (b || c))
+or_deep true b c = refl
+or_deep false b c = refl
+
+among-all : (m : List ℕ) (xs ys : List (List ℕ))
+    → is_among name_cmp m (xs ++ ys) ≡ (is_among name_cmp m xs || is_among name_cmp m ys)
+among-all m xs ys = list_any-append (λ k. is_same name_cmp k m) xs ys
+
+among-with : (names : List (List ℕ)) (parts : SuspicionParts) (a : List ℕ) (slot : Option ℕ)
+    → length parts.members ≡ 256 → ((s : ℕ) → slot ≡ Some s → s < 256) → slot ≡ slot_in a names → (m : List ℕ)
+    → is_among name_cmp m (entries_in (members_with slot parts.members) names ++ strangers_with slot a parts.strangers)
+    ≡ (is_same name_cmp a m || is_among name_cmp m (entries_in parts.members names ++ parts.strangers))
+among-with names parts a None long few is m =
+    let row = entries_in parts.members names in
+    among-all m row (parts.strangers ++ a ∷ [])
+    ∙ ap (λ b. is_among name_cmp m row || b) (among-all m parts.strangers (a ∷ []))
+    ∙ or_last (is_among name_cmp m row) (is_among name_cmp m parts.strangers) (is_same name_cmp a m)
+    ∙ ap (λ b. is_same name_cmp a m || b) (sym (among-all m row parts.strangers))
+among-with names parts a (Some slot) long few is m =
+    let row = entries_in parts.members names in
+    let within : slot < length parts.members = omega (arith, long, few slot refl) in
+    among-all m (entries_in (members_with (Some slot) parts.members) names) parts.strangers
+    ∙ ap (λ b. b || is_among name_cmp m parts.strangers)
+    (among-inserted parts.members names a slot within (slot-named a names slot (sym is)) m)
+    ∙ or_deep (is_same name_cmp a m) (is_among name_cmp m row) (is_among name_cmp m parts.strangers)
+    ∙ ap (λ b. is_same name_cmp a m || b) (sym (among-all m row parts.strangers))
+
+pub accusers-with : (names : List (List ℕ)) (parts : SuspicionParts) (a : List ℕ) (slot : Option ℕ)
+    → length parts.members ≡ 256 → ((s : ℕ) → slot ≡ Some s → s < 256) → slot ≡ slot_in a names
+    → accusers_by names (parts_with slot a parts) ≡ put_key name_cmp a (accusers_by names parts)
+accusers-with names parts a slot long few is =
+    let before = entries_in parts.members names ++ parts.strangers in
+    let after = entries_in (members_with slot parts.members) names ++ strangers_with slot a parts.strangers in
+    same_members names_order (in_order name_cmp after) (put_key name_cmp a (in_order name_cmp before))
+    (rises-in_order names_order after)
+    (rises-put names_order a (in_order name_cmp before) (rises-in_order names_order before))
+    (λ m. among-in_order names_order m after
+    ∙ among-with names parts a slot long few is m
+    ∙ ap (λ b. is_same name_cmp a m || b) (sym (among-in_order names_order m before))
+    ∙ sym (among-put names_order m a (in_order name_cmp before)))
+
+pub count-with : (parts : SuspicionParts) (a : List ℕ) (slot : Option ℕ) → length parts.members ≡ 256
+    → ((s : ℕ) → slot ≡ Some s → s < 256) → has_slot slot parts.members ≡ false
+    → accuser_count (parts_with slot a parts) ≡ accuser_count parts + 1
+count-with parts a None long few clear = omega (arith, length-append parts.strangers (a ∷ []))
+count-with parts a (Some slot) long few clear =
+    omega (arith, count_set-inserted parts.members slot (omega (arith, long, few slot refl)) clear)
+
+slots-with : (names : List (List ℕ)) (members : List Bool) (a : List ℕ) (slot : Option ℕ) → AreSlots names members
+    → slot ≡ slot_in a names → AreSlots names (members_with slot members)
+slots-with names members a None slots is s e = slots s e
+slots-with names members a (Some slot) slots is s e = elim (set-inserted members slot s e) [
+  | inl same ↦ (a, sym is ∙ ap Some same)
+  | inr before ↦ slots s before
+]
+
+-- A new accuser, whose slot isn't in the set and whose name isn't among the strangers, is one more.
+pub known-with : (names : List (List ℕ)) (parts : SuspicionParts) (a : List ℕ) (slot : Option ℕ)
+    → length parts.members ≡ 256 → ((s : ℕ) → slot ≡ Some s → s < 256) → slot ≡ slot_in a names
+    → IsKnownTo names parts → (has_slot slot parts.members || is_among name_cmp a parts.strangers) ≡ false
+    → IsKnownTo names (parts_with slot a parts)
+known-with names parts a slot long few is known new =
+    let all = accusers_by names parts in
+    let parts_new = neither (has_slot slot parts.members) (is_among name_cmp a parts.strangers) new in
+    let other : is_among name_cmp a all ≡ false = among-accusers names parts a slot known.slots is ∙ new in
+    record {
+      slots = slots-with names parts.members a slot known.slots is;
+      once = ap length (accusers-with names parts a slot long few is)
+          ∙ length-put names_order a all other
+          ∙ ap suc known.once
+          ∙ omega (arith, count-with parts a slot long few parts_new.0);
+    }
+
+-- A suspicion with no accuser yet.
+abbrev pub unaccused : ℕ → TimeoutValue → SuspicionParts
+unaccused raised timeout = record { raised = raised; timeout = timeout; members = no_flags; strangers = [] }
+
+pub unaccused-by : (names : List (List ℕ)) (raised : ℕ) (timeout : TimeoutValue)
+    → accusers_by names (unaccused raised timeout) ≡ []
+unfolding no_flags
+unaccused-by names raised timeout = ap (λ ns. in_order name_cmp (ns ++ [])) (none_set 256 names)
+
+pub unaccused-slot : (slot : Option ℕ) → has_slot slot no_flags ≡ false
+unfolding no_flags
+unaccused-slot None = refl
+unaccused-slot (Some slot) = none_at 256 slot
+
+unaccused-long : length no_flags ≡ 256
+unfolding no_flags
+unaccused-long = length-replicate 256 false
+
+pub unaccused-count : count_set no_flags ≡ 0
+unfolding no_flags
+unaccused-count = none_counted 256
+
+pub unaccused-known : (names : List (List ℕ)) (raised : ℕ) (timeout : TimeoutValue)
+    → IsKnownTo names (unaccused raised timeout)
+unfolding no_flags
+unaccused-known names raised timeout = record {
+  slots = λ slot e. absurd (false≢true (sym (none_at 256 slot) ∙ e));
+  once = ap length (unaccused-by names raised timeout) ∙ omega (arith, none_counted 256);
+}
+
+-- the deadline by its parts
+pub deadline-by_parts : (names : List (List ℕ)) (parts : SuspicionParts) → IsKnownTo names parts
+    → deadline_of_parts parts ≡ deadline_of (suspicion_by names parts)
+deadline-by_parts names parts known = ap (λ n. parts.raised + timeout_of parts.timeout (n - 1)) (sym known.once)
+
+-- Names that grow at their end leave a suspicion.
+within-names : (names : List (List ℕ)) (n : List ℕ) (i : ℕ) → slot_in n names ≡ Some i → i < length names
+within-names names n i e = elim (cases_lt i (length names)) [
+  | inl within ↦ within
+  | inr past ↦ (
+      let bad : None ≡ Some n = sym (slice_get_past names i (omega arith)) ∙ slot-named n names i e in
+      absurd cc)
+]
+
+accusers-grown : (names more : List (List ℕ)) (parts : SuspicionParts) → AreSlots names parts.members
+    → accusers_by (names ++ more) parts ≡ accusers_by names parts
+accusers-grown names more parts slots =
+    ap (λ ns. in_order name_cmp (ns ++ parts.strangers))
+    (entries-grown parts.members names more (λ i e. within-names names (slots i e).0 i (slots i e).1))
+
+pub suspicion-grown : (names more : List (List ℕ)) (parts : SuspicionParts) → IsKnownTo names parts
+    → suspicion_by (names ++ more) parts ≡ suspicion_by names parts
+suspicion-grown names more parts known =
+    ap (λ ns. record { raised = parts.raised; timeout = parts.timeout; accusers = ns })
+    (accusers-grown names more parts known.slots)
+
+pub known-grown : (names more : List (List ℕ)) (parts : SuspicionParts) → IsKnownTo names parts
+    → IsKnownTo (names ++ more) parts
+known-grown names more parts known = record {
+  slots = λ slot e. (
+    (known.slots slot e).0,
+    slot-kept (known.slots slot e).0 names more slot (known.slots slot e).1,
+  );
+  once = ap length (accusers-grown names more parts known.slots) ∙ known.once;
+}
+
+-- the first accuser
+pub raised-by : (names : List (List ℕ)) (raised : ℕ) (timeout : TimeoutValue) (a : List ℕ) (slot : Option ℕ)
+    → ((s : ℕ) → slot ≡ Some s → s < 256) → slot ≡ slot_in a names
+    → suspicion_by names (parts_with slot a (unaccused raised timeout))
+    ≡ record { raised = raised; timeout = timeout; accusers = a ∷ [] }
+raised-by names raised timeout a slot below is =
+    ap (λ ns. record { raised = raised; timeout = timeout; accusers = ns })
+    (accusers-with names (unaccused raised timeout) a slot unaccused-long below is
+    ∙ ap (put_key name_cmp a) (unaccused-by names raised timeout))
+
+pub raised-known : (names : List (List ℕ)) (raised : ℕ) (timeout : TimeoutValue) (a : List ℕ) (slot : Option ℕ)
+    → ((s : ℕ) → slot ≡ Some s → s < 256) → slot ≡ slot_in a names
+    → IsKnownTo names (parts_with slot a (unaccused raised timeout))
+raised-known names raised timeout a slot below is =
+    known-with names (unaccused raised timeout) a slot unaccused-long below is (unaccused-known names raised timeout)
+    (ap (λ b. b || false) (unaccused-slot slot))
+
+pub raised-count : (raised : ℕ) (timeout : TimeoutValue) (a : List ℕ) (slot : Option ℕ)
+    → ((s : ℕ) → slot ≡ Some s → s < 256) → accuser_count (parts_with slot a (unaccused raised timeout)) ≡ 1
+raised-count raised timeout a slot below =
+    count-with (unaccused raised timeout) a slot unaccused-long below (unaccused-slot slot)
+    ∙ omega (arith, unaccused-count)
