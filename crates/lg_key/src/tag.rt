@@ -1,0 +1,88 @@
+//! Tags: HMAC-SHA256, cut to 16 bytes.
+//!
+//! Defined in: `specs/Meaning/Tags.antt`.
+//! Tested in: `lg_key_tests/src/tags.rt`.
+ghost use Rattle.std.specs.Prelude.{◌≡◌, ◌↔◌, ◌≤◌, IsTrue, length, take};
+ghost use Rattle.lg_key.specs.Meaning.Tags.{hmac, padded_key, tag_of};
+ghost use Rattle.lg_key.specs.Support.Differing.{differing_bits};
+
+use crate::key::Key;
+use sha2::{Digest, Sha256};
+
+/// The bytes of a tag: 16 (this project's choice). That is half of a digest, the least that RFC 2104, section 5,
+/// recommends.
+pub const TAG_LEN: usize = 16;
+
+/// The most bytes of a key of [`hmac`]: 64, a block of SHA-256. A longer key would be hashed first (RFC 2104, section
+/// 2), which a key of a group never is.
+pub const MAX_HMAC_KEY: usize = 64;
+
+/// The bytes of a digest of SHA-256.
+const DIGEST_LEN: usize = 32;
+
+/// What the padded key is xored with before the message is hashed: ipad of RFC 2104.
+const INNER_PAD: u8 = 0x36;
+
+/// What the padded key is xored with before the inner digest is hashed: opad of RFC 2104.
+const OUTER_PAD: u8 = 0x5c;
+
+/// The tag of some bytes under a key.
+///
+/// Tags have no `==`, which may stop at the first byte that differs.
+#[derive(Clone, Copy, Debug)]
+pub struct Tag(pub [u8; TAG_LEN]);
+
+/// The key, filled up with zeros to 64 bytes, each byte xored with `pad`.
+fn padded_key(key: &[u8], pad: u8) -> [u8; MAX_HMAC_KEY]
+    requires { length key.now ≤ MAX_HMAC_KEY }
+    ensures { result ≡ padded_key pad key.now }
+{
+    let mut block = [pad; MAX_HMAC_KEY];
+    for (place, byte) in key.iter().enumerate() {
+        block[place] = byte ^ pad;
+    }
+    block
+}
+
+/// HMAC-SHA256 (RFC 2104, section 2) under a key of at most 64 bytes. Copies nothing of the message, and allocates
+/// nothing.
+#[tactic(auto, unfolding(crate::specs::Meaning::Tags::hmac))]
+pub fn hmac(key: &[u8], message: &[u8]) -> [u8; DIGEST_LEN]
+    requires { length key.now ≤ MAX_HMAC_KEY }
+    ensures { result ≡ hmac key.now message.now }
+{
+    let mut inner = Sha256::new();
+    inner.update(padded_key(key, INNER_PAD));
+    inner.update(message);
+    let mut outer = Sha256::new();
+    outer.update(padded_key(key, OUTER_PAD));
+    outer.update(inner.finalize());
+    outer.finalize()
+}
+
+/// The tag of some bytes under a key: the first 16 bytes of their HMAC-SHA256. Allocates nothing.
+#[tactic(auto, unfolding(crate::specs::Meaning::Tags::tag_of))]
+pub fn tag_of(key: &Key, bytes: &[u8]) -> Tag
+    ensures { result.0 ≡ tag_of key.now bytes.now }
+{
+    let mut tag = [0; TAG_LEN];
+    tag.copy_from_slice(&hmac(key.as_bytes(), bytes)[..TAG_LEN]);
+    Tag(tag)
+}
+
+/// The bits in which two tags differ at any of their bytes. It looks at all 16 bytes whatever they are.
+fn differing_bits(tag: &Tag, bytes: &[u8; TAG_LEN]) -> u8
+    ensures { result ≡ differing_bits tag.now.0 bytes.now }
+{
+    tag.0
+        .iter()
+        .zip(bytes)
+        .fold(0, |bits, (one, other)| bits | (one ^ other))
+}
+
+/// Whether a tag has these bytes. So the time that it takes doesn't tell how many bytes of a forged tag are right.
+pub(crate) fn are_equal(tag: &Tag, bytes: &[u8; TAG_LEN]) -> bool
+    ensures { IsTrue result ↔ (tag.now.0 ≡ bytes.now) }
+{
+    differing_bits(tag, bytes) == 0
+}
