@@ -12,24 +12,27 @@
 //! Defined in: `specs/Meaning/Probing.antt`, `specs/Support/State.antt`, `specs/Meaning/Tick.antt`.
 //! Tested in: `lg_detector_tests/src/detector/probing.rt`, `lg_detector_tests/src/detector/acks.rt`.
 ghost use Rattle.std.specs.Prelude.{◌≡◌, ◌<◌, ◌≤◌, ◌+◌, []};
-ghost use Rattle.std.specs.Prelude.{◌∷◌, length, option_copied, option_map};
-ghost use Rattle.std.specs.List.{filter_map};
+ghost use Rattle.std.specs.Prelude.{◌∷◌, Some, length, option_copied, option_map};
 ghost use Rattle.std.specs.Option.{option_to_list};
 ghost use Rattle.lg_probe.specs.Meaning.Round.{Asked, Acked, Nacked, round_with};
+ghost use Rattle.lg_timers.specs.declared.timer.TimerId.TheVariants.{Direct};
 ghost use Rattle.lg_membership.specs.Support.Reached.{IsGood};
 ghost use Rattle.lg_detector.specs.Meaning.Timing.{scaled_interval, scaled_timeout, is_first};
 ghost use Rattle.lg_detector.specs.Meaning.Probing.{indirect_in};
-ghost use Rattle.lg_detector.specs.Meaning.Tick.{ping_at, ping_to, requests, requests_of};
+ghost use Rattle.lg_detector.specs.Meaning.Tick.{ping_at, ping_to, request_to, requests, requests_of};
 ghost use Rattle.lg_detector.specs.Meaning.Tick.{failure_of, suspect_of, accusation, found};
 ghost use Rattle.lg_detector.specs.Support.State.{start_round, ask_helpers, end_round, chosen_state, helpers_state};
 ghost use Rattle.lg_detector.specs.Support.State.{with_start};
 ghost use Rattle.lg_detector.specs.Support.State.{with_round, round_of_choice, number_after};
 ghost use Rattle.lg_detector.specs.Support.State.{with_probe, marked_end, marked_ack, without_direct};
+ghost use Rattle.lg_detector.specs.Support.Send.{packets_state, send_all_state};
 ghost use Rattle.lg_detector.specs.Support.Step.{view_state};
+ghost use Rattle.lg_detector.specs.Support.Tick.{messages_state};
 
+use super::send::make_places;
 use super::{Detector, MAX_EVENTS};
 use crate::message::Message;
-use crate::reply::MAX_SENDS;
+use crate::reply::{MAX_SENDS, Outgoing};
 use arrayvec::ArrayVec;
 use lg_packet::Body;
 use lg_probe::{Helpers, MAX_HELPERS, Round};
@@ -202,6 +205,20 @@ fn ping(number: u32, current: &Option<Record>) -> Option<Message>
     })
 }
 
+/// The PingReq that asks a helper to ping a target at the address of the target's record.
+fn request(number: u32, target: &Record, helper: &Record) -> Message
+    ensures { result ≡ request_to number target.now helper.now }
+{
+    Message {
+        to: helper.addr,
+        body: Body::PingReq {
+            number,
+            target: target.name,
+            addr: target.addr,
+        },
+    }
+}
+
 /// The claim that this member suspects another one, unless that one has failed.
 fn accusation(me: &Name, current: &Record) -> Option<Claim>
     ensures { option_to_list result ≡ accusation me.now current.now.status current.now }
@@ -267,19 +284,32 @@ impl Detector {
         chosen
     }
 
-    /// Picks helpers and asks them. After that no more are asked. Returns the PingReqs for them, in the order in
-    /// which they were picked.
-    pub(super) fn ask_helpers(&mut self, words: &[u32; 8]) -> ArrayVec<Message, MAX_SENDS>
+    /// Picks helpers and asks them, in the order in which they were picked. After that no more are asked. Overwrites
+    /// what `sends` held.
+    pub(super) fn ask_helpers(
+        &mut self,
+        words: &[u32; 8],
+        sends: &mut ArrayVec<Outgoing, MAX_SENDS>,
+    )
+        ensures state { self.new
+            ≡ send_all_state (messages_state Direct words.now self.old) (ask_helpers words.now self.old) }
+        ensures sends { sends.new.items
+            ≡ packets_state (messages_state Direct words.now self.old) (ask_helpers words.now self.old) }
+    {
+        let helpers = self.begin_asking(words);
+        self.send_requests(&helpers, sends);
+    }
+
+    /// Picks helpers, and notes that they are asked. After that no more are asked.
+    fn begin_asking(&mut self, words: &[u32; 8]) -> Helpers
         ensures state { self.new ≡ ask_helpers words.now self.old }
-        ensures messages { result.items
-            ≡ requests self.old.round (view_state self.old) (helpers_state words.now self.old) }
+        ensures helpers { result ≡ helpers_state words.now self.old }
     {
         let helpers = self.pick(words);
-        let messages = self.requests(&helpers);
         let parts = &mut *self.parts;
         parts.timers.cancel(&TimerId::Direct);
         ask(&mut parts.round, &helpers);
-        messages
+        helpers
     }
 
     /// The helpers that the words pick.
@@ -294,50 +324,49 @@ impl Detector {
         helpers
     }
 
-    /// The PingReqs for helpers. Each asks its helper to ping the target at the address of the target's record.
-    fn requests(&self, helpers: &Helpers) -> ArrayVec<Message, MAX_SENDS>
-        ensures { result.items ≡ requests self.now.round (view_state self.now) helpers.now }
+    /// Sends helpers the PingReqs of the round that runs. Each asks its helper to ping the target at the address of
+    /// the target's record. Overwrites what `sends` held.
+    fn send_requests(&mut self, helpers: &Helpers, sends: &mut ArrayVec<Outgoing, MAX_SENDS>)
+        ensures state { self.new
+            ≡ send_all_state (requests self.old.round (view_state self.old) helpers.now) self.old }
+        ensures sends { sends.new.items
+            ≡ packets_state (requests self.old.round (view_state self.old) helpers.now) self.old }
     {
-        match &self.parts.round {
-            Some(round) => {
-                self.requests_for(
-                    round.number(),
-                    &self.record_of(&round.target()),
-                    helpers.names(),
-                )
-            }
-            None => ArrayVec::new(),
+        let Some(round) = &self.parts.round else {
+            sends.clear();
+            return;
+        };
+        let number = round.number();
+        match self.record_of(&round.target()) {
+            Some(target) => self.request_each(number, &target, helpers.names(), sends),
+            None => sends.clear(),
         }
     }
 
-    /// The PingReqs for a target, with this sequence number.
-    fn requests_for(
-        &self,
+    /// Sends the PingReqs for a target to those that have a record, with this sequence number. Overwrites what
+    /// `sends` held.
+    fn request_each(
+        &mut self,
         number: u32,
-        target: &Option<Record>,
+        target: &Record,
         names: &[Name],
-    ) -> ArrayVec<Message, MAX_SENDS>
+        sends: &mut ArrayVec<Outgoing, MAX_SENDS>,
+    )
         requires { length names.now ≤ MAX_SENDS }
-        ensures { result.items ≡ requests_of number target.now (view_state self.now) names.now }
+        ensures state { self.new
+            ≡ send_all_state (requests_of number (Some target.now) (view_state self.old) names.now) self.old }
+        ensures sends { sends.new.items
+            ≡ packets_state (requests_of number (Some target.now) (view_state self.old) names.now) self.old }
     {
-        let mut messages = ArrayVec::new();
-        let Some(target) = target else {
-            return messages;
-        };
+        make_places(sends, names.len());
+        let mut count = 0;
         for name in names {
-            match self.record_of(name) {
-                Some(helper) => messages.push(Message {
-                    to: helper.addr,
-                    body: Body::PingReq {
-                        number,
-                        target: target.name,
-                        addr: target.addr,
-                    },
-                }),
-                None => {}
+            if let Some(helper) = self.record_of(name) {
+                self.put_packet(&request(number, target, &helper), &mut sends[count]);
+                count += 1;
             }
         }
-        messages
+        sends.truncate(count);
     }
 
     /// Ends a round. The caller applies the claim that its target is suspected.

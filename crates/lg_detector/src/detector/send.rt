@@ -6,7 +6,7 @@
 //!
 //! Defined in: `specs/Meaning/Send.antt`, `specs/Support/Send.antt`.
 //! Tested in: `lg_detector_tests/src/detector/hear.rt`.
-ghost use Rattle.std.specs.Prelude.{◌≡◌, ◌≤◌, [], length, option_copied};
+ghost use Rattle.std.specs.Prelude.{◌≡◌, ◌≤◌, [], option_copied};
 ghost use Rattle.std.specs.Option.{option_to_list};
 ghost use Rattle.arrayvec.specs.ArrayVec.{array_vec_len};
 ghost use Rattle.lg_detector.specs.Meaning.Send.{version_sent};
@@ -41,22 +41,6 @@ fn version_sent(config: Option<&Config>) -> Version
 }
 
 impl Detector {
-    /// Sends packets one after another, each filled after those before it. Overwrites what `sends` held.
-    pub(super) fn send_all(
-        &mut self,
-        messages: &[Message],
-        sends: &mut ArrayVec<Outgoing, MAX_SENDS>,
-    )
-        requires { length messages.now ≤ MAX_SENDS }
-        ensures state { self.new ≡ send_all_state messages.now self.old }
-        ensures sends { sends.new.items ≡ packets_state messages.now self.old }
-    {
-        make_places(sends, messages.len());
-        for (index, message) in messages.iter().enumerate() {
-            self.put_packet(message, &mut sends[index]);
-        }
-    }
-
     /// Sends one packet, or none. Overwrites what `sends` held.
     pub(super) fn send_one(
         &mut self,
@@ -83,7 +67,7 @@ impl Detector {
     }
 
     /// Overwrites a packet. The claims that it takes of the queue count as sent.
-    fn put_packet(&mut self, message: &Message, place: &mut Outgoing)
+    pub(super) fn put_packet(&mut self, message: &Message, place: &mut Outgoing)
         ensures state { self.new ≡ send_state message.now.body self.old }
         ensures sent { place.new ≡ outgoing_state message.now self.old }
     {

@@ -108,9 +108,8 @@ impl Detector {
                 sends.clear();
             }
             TimerId::Direct => {
-                let requests = self.ask_helpers(words);
                 differing.clear();
-                self.send_all(requests.as_slice(), sends);
+                self.ask_helpers(words, sends);
             }
             TimerId::RelayNack(number) => {
                 let nack = self.nack_relay(*number);

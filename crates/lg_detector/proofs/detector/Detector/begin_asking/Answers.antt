@@ -4,7 +4,7 @@ use Rattle.lg_detector.specs.Support.Reached.{IsReached}
 use Rattle.lg_probe.specs.Meaning.Round.{Asked, round_with}
 use Rattle.lg_detector.specs.Support.State.{helpers_state}
 use Rattle.lg_detector.proofs.Reaching.{reached-direct}
-use Rattle.lg_detector.proofs.detector.Detector.ask_helpers.Goals as goal
+use Rattle.lg_detector.proofs.detector.Detector.begin_asking.Goals as goal
 
 pub invariant_of-self : goal.invariant_of-self
 invariant_of-self c =
