@@ -30,7 +30,8 @@ fn raised_by_d(others: &[u8], config: &Config) -> Watched
     for other in others {
         hear(&mut members, &alive(*other, 0));
     }
-    let suspicion = Suspicion::raise(at(2000), &letter(b'd'), &members, config);
+    let live = members.live() as u64;
+    let suspicion = Suspicion::raise(at(2000), &letter(b'd'), live, config);
     Watched { suspicion, members }
 }
 

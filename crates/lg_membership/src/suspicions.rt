@@ -60,7 +60,8 @@ fn raise(
     let Some(config) = config else {
         return Deadline::Stays;
     };
-    let suspicion = Suspicion::raise(now, accuser, members, config);
+    let live = members.live() as u64;
+    let suspicion = Suspicion::raise(now, accuser, live, config);
     let deadline = suspicion.deadline();
     let suspected = Suspected {
         name: *name,

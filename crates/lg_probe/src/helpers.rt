@@ -52,7 +52,7 @@ impl Helpers {
         ensures past { (past : List OrderFact) → others.now ≡ order_after past
             → self.new ≡ picked k words.now (without target.now (names_after past)) }
     {
-        self.names = others.pick(target, &words[..k]);
+        others.pick(target, &words[..k], &mut self.names);
     }
 
     /// Their names, in the order in which they were picked.

@@ -169,13 +169,19 @@ impl Order {
         }
     }
 
-    /// Picks one of the names by each word, as long as any is left. The target is never picked.
-    pub(crate) fn pick(&self, target: &Name, words: &[u32]) -> ArrayVec<Name, RANDOM_WORDS>
+    /// Picks one of the names by each word, as long as any is left. The target is never picked. The picked names
+    /// replace what `picked` held.
+    pub(crate) fn pick(
+        &self,
+        target: &Name,
+        words: &[u32],
+        picked: &mut ArrayVec<Name, RANDOM_WORDS>,
+    )
         requires { length words.now ≤ RANDOM_WORDS }
-        ensures { result.items ≡ picked_by words.now (without target.now self.now.names) }
+        ensures { picked.new.items ≡ picked_by words.now (without target.now self.now.names) }
     {
         let left = others_than(self.known.as_slice(), &self.joined, target);
-        pick_all(self.known.as_slice(), left, words)
+        pick_all(self.known.as_slice(), left, words, picked);
     }
 }
 

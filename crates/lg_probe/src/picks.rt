@@ -65,19 +65,19 @@ fn push_picked(names: &mut ArrayVec<Name, RANDOM_WORDS>, name: Option<Name>)
     }
 }
 
-/// Picks one of the names left by each word, as long as any is left.
+/// Picks one of the names left by each word, as long as any is left. They replace what `picked` held.
 pub(crate) fn pick_all(
     row: &[Name],
     mut left: BitSet,
     words: &[u32],
-) -> ArrayVec<Name, RANDOM_WORDS>
+    picked: &mut ArrayVec<Name, RANDOM_WORDS>,
+)
     requires numbers { AreOfRow left row.now }
     requires words { length words.now ≤ RANDOM_WORDS }
-    ensures { result.items ≡ picked_by words.now (entries_in left row.now) }
+    ensures { picked.new.items ≡ picked_by words.now (entries_in left row.now) }
 {
-    let mut picked = ArrayVec::new();
+    picked.clear();
     for word in words {
-        push_picked(&mut picked, pick_one(row, &mut left, *word));
+        push_picked(picked, pick_one(row, &mut left, *word));
     }
-    picked
 }

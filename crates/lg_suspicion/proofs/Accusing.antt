@@ -27,6 +27,10 @@ never : (a : Bool) → (a && false) ≡ false
 never true = refl
 never false = refl
 
+or_true : (a : Bool) → (a || true) ≡ true
+or_true true = refl
+or_true false = refl
+
 module _ (names : List (List ℕ)) (parts : SuspicionParts) (a : List ℕ) (known : IsKnownTo names parts) where
   -- It doesn't if as many count as may,
   pub too_late : (n : ℕ) → n ≡ accuser_count parts → parts.timeout.confirmations < n
@@ -35,7 +39,7 @@ module _ (names : List (List ℕ)) (parts : SuspicionParts) (a : List ℕ) (know
 
   module _ (slot : Option ℕ) (is : slot ≡ slot_in a names) where
     abbrev is_there : Bool
-    is_there = has_slot slot parts.members || is_among name_cmp a parts.strangers
+    is_there = has_slot slot parts.members || is_among name_cmp a parts.named
 
     counts-by : accuser_counts (suspicion_by names parts) a
         ≡ (leb (accuser_count parts) parts.timeout.confirmations && not is_there)
@@ -49,11 +53,16 @@ module _ (names : List (List ℕ)) (parts : SuspicionParts) (a : List ℕ) (know
         ∙ ap (λ b. leb (accuser_count parts) parts.timeout.confirmations && not b) there
         ∙ never (leb (accuser_count parts) parts.timeout.confirmations)
 
+  pub again_by_name : is_among name_cmp a parts.named ≡ true → accuser_counts (suspicion_by names parts) a ≡ false
+  again_by_name there =
+      let slot = slot_in a names in
+      again slot refl (ap (λ b. has_slot slot parts.members || b) there ∙ or_true (has_slot slot parts.members))
+
 -- An accuser is new, and fewer count than may: it counts, and is one more of them.
 pub record IsNew (names : List (List ℕ)) (parts : SuspicionParts) (a : List ℕ) (slot : Option ℕ) : Type 0 where
   pub known : IsKnownTo names parts
   pub has : slot ≡ slot_in a names
-  pub new : (has_slot slot parts.members || is_among name_cmp a parts.strangers) ≡ false
+  pub new : (has_slot slot parts.members || is_among name_cmp a parts.named) ≡ false
   pub few : accuser_count parts ≤ parts.timeout.confirmations
   pub long : length parts.members ≡ 256
   pub below : (s : ℕ) → slot ≡ Some s → s < 256
@@ -86,7 +95,7 @@ module _ {names : List (List ℕ)} {parts : SuspicionParts} {a : List ℕ} {slot
       let before = is.known.once in
       let after = known-more.once in
       let one_more = count-with parts a slot is.long is.below
-      (neither (has_slot slot parts.members) (is_among name_cmp a parts.strangers) is.new).0 in
+      (neither (has_slot slot parts.members) (is_among name_cmp a parts.named) is.new).0 in
       let some = is.some in
       let few = is.few in
       deadline-falls parts.raised parts.timeout (length (accusers_by names parts))

@@ -20,7 +20,7 @@ use Rattle.lg_timing.specs.Meaning.Timeouts.{timeout_of}
 use Rattle.lg_suspicion.specs.Meaning.Accusers.{deadline_of}
 use Rattle.lg_suspicion.specs.Meaning.Parts.{SuspicionParts, accuser_count, accusers_by, suspicion_by}
 use Rattle.lg_suspicion.specs.Meaning.Parts.{deadline_of_parts, HasName, IsKnownTo}
-use Rattle.lg_suspicion.specs.Support.Accusers.{has_slot, members_with, strangers_with}
+use Rattle.lg_suspicion.specs.Support.Accusers.{has_slot, members_with, named_with}
 use Rattle.lg_suspicion.proofs.SlotSets.{IsSetAt, among-set, set-among, among-inserted, count_set-inserted}
 use Rattle.lg_suspicion.proofs.SlotSets.{set-inserted, entries-grown, none_set, none_counted}
 
@@ -62,11 +62,11 @@ among-slots names members a (Some slot) slots is = elim (cases_Bool (get_or memb
 pub among-accusers : (names : List (List ℕ)) (parts : SuspicionParts) (a : List ℕ) (slot : Option ℕ)
     → AreSlots names parts.members → slot ≡ slot_in a names
     → is_among name_cmp a (accusers_by names parts)
-    ≡ (has_slot slot parts.members || is_among name_cmp a parts.strangers)
+    ≡ (has_slot slot parts.members || is_among name_cmp a parts.named)
 among-accusers names parts a slot slots is =
-    among-in_order names_order a (entries_in parts.members names ++ parts.strangers)
-    ∙ list_any-append (λ m. is_same name_cmp m a) (entries_in parts.members names) parts.strangers
-    ∙ ap (λ b. b || is_among name_cmp a parts.strangers) (among-slots names parts.members a slot slots is)
+    among-in_order names_order a (entries_in parts.members names ++ parts.named)
+    ∙ list_any-append (λ m. is_same name_cmp m a) (entries_in parts.members names) parts.named
+    ∙ ap (λ b. b || is_among name_cmp a parts.named) (among-slots names parts.members a slot slots is)
 
 -- one more accuser
 abbrev pub parts_with : Option ℕ → List ℕ → SuspicionParts → SuspicionParts
@@ -74,7 +74,7 @@ parts_with slot a parts = record {
   raised = parts.raised;
   timeout = parts.timeout;
   members = members_with slot parts.members;
-  strangers = strangers_with slot a parts.strangers;
+  named = named_with slot a parts.named;
 }
 
 or_last : (a b c : Bool) → (a || (b || (c || false))) ≡ (c || (a || b))
@@ -97,29 +97,29 @@ among-all m xs ys = list_any-append (λ k. is_same name_cmp k m) xs ys
 
 among-with : (names : List (List ℕ)) (parts : SuspicionParts) (a : List ℕ) (slot : Option ℕ)
     → length parts.members ≡ 256 → ((s : ℕ) → slot ≡ Some s → s < 256) → slot ≡ slot_in a names → (m : List ℕ)
-    → is_among name_cmp m (entries_in (members_with slot parts.members) names ++ strangers_with slot a parts.strangers)
-    ≡ (is_same name_cmp a m || is_among name_cmp m (entries_in parts.members names ++ parts.strangers))
+    → is_among name_cmp m (entries_in (members_with slot parts.members) names ++ named_with slot a parts.named)
+    ≡ (is_same name_cmp a m || is_among name_cmp m (entries_in parts.members names ++ parts.named))
 among-with names parts a None long few is m =
     let row = entries_in parts.members names in
-    among-all m row (parts.strangers ++ a ∷ [])
-    ∙ ap (λ b. is_among name_cmp m row || b) (among-all m parts.strangers (a ∷ []))
-    ∙ or_last (is_among name_cmp m row) (is_among name_cmp m parts.strangers) (is_same name_cmp a m)
-    ∙ ap (λ b. is_same name_cmp a m || b) (sym (among-all m row parts.strangers))
+    among-all m row (parts.named ++ a ∷ [])
+    ∙ ap (λ b. is_among name_cmp m row || b) (among-all m parts.named (a ∷ []))
+    ∙ or_last (is_among name_cmp m row) (is_among name_cmp m parts.named) (is_same name_cmp a m)
+    ∙ ap (λ b. is_same name_cmp a m || b) (sym (among-all m row parts.named))
 among-with names parts a (Some slot) long few is m =
     let row = entries_in parts.members names in
     let within : slot < length parts.members = omega (arith, long, few slot refl) in
-    among-all m (entries_in (members_with (Some slot) parts.members) names) parts.strangers
-    ∙ ap (λ b. b || is_among name_cmp m parts.strangers)
+    among-all m (entries_in (members_with (Some slot) parts.members) names) parts.named
+    ∙ ap (λ b. b || is_among name_cmp m parts.named)
     (among-inserted parts.members names a slot within (slot-named a names slot (sym is)) m)
-    ∙ or_deep (is_same name_cmp a m) (is_among name_cmp m row) (is_among name_cmp m parts.strangers)
-    ∙ ap (λ b. is_same name_cmp a m || b) (sym (among-all m row parts.strangers))
+    ∙ or_deep (is_same name_cmp a m) (is_among name_cmp m row) (is_among name_cmp m parts.named)
+    ∙ ap (λ b. is_same name_cmp a m || b) (sym (among-all m row parts.named))
 
 pub accusers-with : (names : List (List ℕ)) (parts : SuspicionParts) (a : List ℕ) (slot : Option ℕ)
     → length parts.members ≡ 256 → ((s : ℕ) → slot ≡ Some s → s < 256) → slot ≡ slot_in a names
     → accusers_by names (parts_with slot a parts) ≡ put_key name_cmp a (accusers_by names parts)
 accusers-with names parts a slot long few is =
-    let before = entries_in parts.members names ++ parts.strangers in
-    let after = entries_in (members_with slot parts.members) names ++ strangers_with slot a parts.strangers in
+    let before = entries_in parts.members names ++ parts.named in
+    let after = entries_in (members_with slot parts.members) names ++ named_with slot a parts.named in
     same_members names_order (in_order name_cmp after) (put_key name_cmp a (in_order name_cmp before))
     (rises-in_order names_order after)
     (rises-put names_order a (in_order name_cmp before) (rises-in_order names_order before))
@@ -131,7 +131,7 @@ accusers-with names parts a slot long few is =
 pub count-with : (parts : SuspicionParts) (a : List ℕ) (slot : Option ℕ) → length parts.members ≡ 256
     → ((s : ℕ) → slot ≡ Some s → s < 256) → has_slot slot parts.members ≡ false
     → accuser_count (parts_with slot a parts) ≡ accuser_count parts + 1
-count-with parts a None long few clear = omega (arith, length-append parts.strangers (a ∷ []))
+count-with parts a None long few clear = omega (arith, length-append parts.named (a ∷ []))
 count-with parts a (Some slot) long few clear =
     omega (arith, count_set-inserted parts.members slot (omega (arith, long, few slot refl)) clear)
 
@@ -143,14 +143,14 @@ slots-with names members a (Some slot) slots is s e = elim (set-inserted members
   | inr before ↦ slots s before
 ]
 
--- A new accuser, whose slot isn't in the set and whose name isn't among the strangers, is one more.
+-- A new accuser, whose slot isn't in the set and whose name isn't among those that are kept, is one more.
 pub known-with : (names : List (List ℕ)) (parts : SuspicionParts) (a : List ℕ) (slot : Option ℕ)
     → length parts.members ≡ 256 → ((s : ℕ) → slot ≡ Some s → s < 256) → slot ≡ slot_in a names
-    → IsKnownTo names parts → (has_slot slot parts.members || is_among name_cmp a parts.strangers) ≡ false
+    → IsKnownTo names parts → (has_slot slot parts.members || is_among name_cmp a parts.named) ≡ false
     → IsKnownTo names (parts_with slot a parts)
 known-with names parts a slot long few is known new =
     let all = accusers_by names parts in
-    let parts_new = neither (has_slot slot parts.members) (is_among name_cmp a parts.strangers) new in
+    let parts_new = neither (has_slot slot parts.members) (is_among name_cmp a parts.named) new in
     let other : is_among name_cmp a all ≡ false = among-accusers names parts a slot known.slots is ∙ new in
     record {
       slots = slots-with names parts.members a slot known.slots is;
@@ -160,34 +160,26 @@ known-with names parts a slot long few is known new =
           ∙ omega (arith, count-with parts a slot long few parts_new.0);
     }
 
--- A suspicion with no accuser yet.
-abbrev pub unaccused : ℕ → TimeoutValue → SuspicionParts
-unaccused raised timeout = record { raised = raised; timeout = timeout; members = no_flags; strangers = [] }
+-- A suspicion with its first accuser, which is kept by its name.
+abbrev pub accused_once : ℕ → TimeoutValue → List ℕ → SuspicionParts
+accused_once raised timeout a =
+    record { raised = raised; timeout = timeout; members = no_flags; named = a ∷ [] }
 
-pub unaccused-by : (names : List (List ℕ)) (raised : ℕ) (timeout : TimeoutValue)
-    → accusers_by names (unaccused raised timeout) ≡ []
+pub once-by : (names : List (List ℕ)) (raised : ℕ) (timeout : TimeoutValue) (a : List ℕ)
+    → accusers_by names (accused_once raised timeout a) ≡ a ∷ []
 unfolding no_flags
-unaccused-by names raised timeout = ap (λ ns. in_order name_cmp (ns ++ [])) (none_set 256 names)
+once-by names raised timeout a = ap (λ ns. in_order name_cmp (ns ++ a ∷ [])) (none_set 256 names)
 
-pub unaccused-slot : (slot : Option ℕ) → has_slot slot no_flags ≡ false
+pub once-count : count_set no_flags ≡ 0
 unfolding no_flags
-unaccused-slot None = refl
-unaccused-slot (Some slot) = none_at 256 slot
+once-count = none_counted 256
 
-unaccused-long : length no_flags ≡ 256
+pub once-known : (names : List (List ℕ)) (raised : ℕ) (timeout : TimeoutValue) (a : List ℕ)
+    → IsKnownTo names (accused_once raised timeout a)
 unfolding no_flags
-unaccused-long = length-replicate 256 false
-
-pub unaccused-count : count_set no_flags ≡ 0
-unfolding no_flags
-unaccused-count = none_counted 256
-
-pub unaccused-known : (names : List (List ℕ)) (raised : ℕ) (timeout : TimeoutValue)
-    → IsKnownTo names (unaccused raised timeout)
-unfolding no_flags
-unaccused-known names raised timeout = record {
+once-known names raised timeout a = record {
   slots = λ slot e. absurd (false≢true (sym (none_at 256 slot) ∙ e));
-  once = ap length (unaccused-by names raised timeout) ∙ omega (arith, none_counted 256);
+  once = ap length (once-by names raised timeout a) ∙ omega (arith, none_counted 256);
 }
 
 -- the deadline by its parts
@@ -207,7 +199,7 @@ within-names names n i e = elim (cases_lt i (length names)) [
 accusers-grown : (names more : List (List ℕ)) (parts : SuspicionParts) → AreSlots names parts.members
     → accusers_by (names ++ more) parts ≡ accusers_by names parts
 accusers-grown names more parts slots =
-    ap (λ ns. in_order name_cmp (ns ++ parts.strangers))
+    ap (λ ns. in_order name_cmp (ns ++ parts.named))
     (entries-grown parts.members names more (λ i e. within-names names (slots i e).0 i (slots i e).1))
 
 pub suspicion-grown : (names more : List (List ℕ)) (parts : SuspicionParts) → IsKnownTo names parts
@@ -225,26 +217,3 @@ known-grown names more parts known = record {
   );
   once = ap length (accusers-grown names more parts known.slots) ∙ known.once;
 }
-
--- the first accuser
-pub raised-by : (names : List (List ℕ)) (raised : ℕ) (timeout : TimeoutValue) (a : List ℕ) (slot : Option ℕ)
-    → ((s : ℕ) → slot ≡ Some s → s < 256) → slot ≡ slot_in a names
-    → suspicion_by names (parts_with slot a (unaccused raised timeout))
-    ≡ record { raised = raised; timeout = timeout; accusers = a ∷ [] }
-raised-by names raised timeout a slot below is =
-    ap (λ ns. record { raised = raised; timeout = timeout; accusers = ns })
-    (accusers-with names (unaccused raised timeout) a slot unaccused-long below is
-    ∙ ap (put_key name_cmp a) (unaccused-by names raised timeout))
-
-pub raised-known : (names : List (List ℕ)) (raised : ℕ) (timeout : TimeoutValue) (a : List ℕ) (slot : Option ℕ)
-    → ((s : ℕ) → slot ≡ Some s → s < 256) → slot ≡ slot_in a names
-    → IsKnownTo names (parts_with slot a (unaccused raised timeout))
-raised-known names raised timeout a slot below is =
-    known-with names (unaccused raised timeout) a slot unaccused-long below is (unaccused-known names raised timeout)
-    (ap (λ b. b || false) (unaccused-slot slot))
-
-pub raised-count : (raised : ℕ) (timeout : TimeoutValue) (a : List ℕ) (slot : Option ℕ)
-    → ((s : ℕ) → slot ≡ Some s → s < 256) → accuser_count (parts_with slot a (unaccused raised timeout)) ≡ 1
-raised-count raised timeout a slot below =
-    count-with (unaccused raised timeout) a slot unaccused-long below (unaccused-slot slot)
-    ∙ omega (arith, unaccused-count)

@@ -6,8 +6,9 @@
 //! greatest timeout, and with all that may count the least one. In between, one more confirmation never makes it
 //! longer. If no confirmation may count, since there are few members, the timeout is the least one from the start.
 //!
-//! An accuser that is known when it accuses is kept as its slot, in a set. Any other is a stranger, and is kept by its
-//! name. A stranger that becomes known later stays a stranger here, and doesn't count again.
+//! The first accuser is kept by its name, as the record of the member has it too. Another one that is known when it
+//! accuses is kept as its slot, in a set. A stranger is kept by its name, stays so if it becomes known later, and
+//! doesn't count again.
 //!
 //! Defined in: `specs/Meaning/Accusers.antt`, `specs/Meaning/Parts.antt`,
 //! `lg_timing/specs/Meaning/Timeouts.antt`.
@@ -16,7 +17,7 @@ ghost use Rattle.std.specs.Prelude.{◌≡◌, ℕ, ◌≤◌, ◌<◌, ◌+◌,
 ghost use Rattle.arrayvec.specs.ArrayVec.{array_vec_len};
 ghost use Rattle.lg_rules.specs.declared.claim.Claim.{Claim as Said};
 ghost use Rattle.lg_rules.specs.Meaning.Rows.{name_cmp, is_among};
-ghost use Rattle.lg_rules.specs.Meaning.Table.{live_in, names_heard};
+ghost use Rattle.lg_rules.specs.Meaning.Table.{names_heard};
 ghost use Rattle.lg_timing.specs.Meaning.Config.{IsChecked};
 ghost use Rattle.lg_timing.specs.Meaning.TimeoutValue.{TimeoutValue};
 ghost use Rattle.lg_timing.specs.Meaning.Timeouts.{range_of};
@@ -24,13 +25,13 @@ ghost use Rattle.lg_suspicion.specs.Meaning.Accusers.{suspicion_after, accuser_c
 ghost use Rattle.lg_suspicion.specs.Meaning.Accusers.{deadline_of, deadline_by_set, set_of};
 ghost use Rattle.lg_suspicion.specs.Meaning.Parts.{SuspicionParts, suspicion_by, accuser_count};
 ghost use Rattle.lg_suspicion.specs.Meaning.Parts.{deadline_of_parts, IsKnownTo};
-ghost use Rattle.lg_suspicion.specs.Support.Accusers.{has_slot, members_with, strangers_with};
+ghost use Rattle.lg_suspicion.specs.Support.Accusers.{has_slot, members_with, named_with};
 
 use arrayvec::ArrayVec;
 use lg_bit_set::{BitSet, NUMBERS};
 use lg_rules::{Members, Name, Slot};
 use lg_timing::{
-    Config, MAX_CONFIRMATIONS, MAX_MOMENT, MAX_SUSPICION_MS, Moment, SuspicionTimeout,
+    Config, MAX_CONFIRMATIONS, MAX_LIVE, MAX_MOMENT, MAX_SUSPICION_MS, Moment, SuspicionTimeout,
 };
 use std::marker::Model;
 
@@ -44,18 +45,18 @@ pub const MAX_DEADLINE: u64 = MAX_MOMENT + MAX_SUSPICION_MS;
 /// suspicion).
 ///
 /// The first accuser counts. So do the first others, which confirm the suspicion: as many as confirmations may count.
-/// How many these are is fixed when the suspicion is raised. A contract sees the moment, the timeouts, the slots of
-/// the accusers that were known when they accused, and the names of the others. The names that have slots make that
-/// a suspicion with its accusers by name. The default fills rows of fixed capacity: it was raised at 0 by the default
-/// name, a stranger, and has timeouts of 0.
+/// How many these are is fixed when the suspicion is raised. A contract sees the moment, the timeouts, the accusers
+/// that are kept as slots, and those that are kept by their names. The names that have slots make that a suspicion
+/// with its accusers by name. The default fills rows of fixed capacity: it was raised at 0 by the default name, and has
+/// timeouts of 0.
 #[derive(Debug, Drop)]
 pub struct Suspicion {
     raised: Moment,
     timeout: SuspicionTimeout,
-    // The slots of the accusers that were known when they accused.
+    // The slots of the accusers that confirmed the suspicion and were known when they did.
     members: BitSet,
-    // The names of the other accusers.
-    strangers: ArrayVec<Name, MAX_ACCUSERS>,
+    // The names of the first accuser and of strangers.
+    named: ArrayVec<Name, MAX_ACCUSERS>,
 }
 
 impl Model for Suspicion {
@@ -68,10 +69,10 @@ impl Model for Suspicion {
       raised = s.raised;
       timeout = s.timeout;
       members = s.members;
-      strangers = s.strangers.items;
+      named = s.named.items;
     } };
 
-    ghost invariant = { λ s. HasAccusers s.timeout s.members s.strangers.items };
+    ghost invariant = { λ s. HasAccusers s.timeout s.members s.named.items };
 }
 
 impl Default for Suspicion {
@@ -83,17 +84,17 @@ impl Default for Suspicion {
           raised = 0;
           timeout = record { min = 0; max = 0; confirmations = 0 };
           members = no_flags;
-          strangers = (97 ∷ []) ∷ [];
+          named = (97 ∷ []) ∷ [];
         } };
 
     fn default() -> Self {
-        let mut strangers = ArrayVec::new();
-        strangers.push(Name::default());
+        let mut named = ArrayVec::new();
+        named.push(Name::default());
         Suspicion {
             raised: Moment::default(),
             timeout: SuspicionTimeout::default(),
             members: BitSet::new(),
-            strangers,
+            named,
         }
     }
 }
@@ -111,18 +112,18 @@ fn has_slot(members: &BitSet, slot: Option<&Slot>) -> bool
 /// Adds an accuser: its slot, if it has one, and else its name.
 fn add(
     members: &mut BitSet,
-    strangers: &mut ArrayVec<Name, MAX_ACCUSERS>,
+    named: &mut ArrayVec<Name, MAX_ACCUSERS>,
     slot: Option<Slot>,
     accuser: &Name,
 )
-    requires { array_vec_len strangers.old < MAX_ACCUSERS }
+    requires { array_vec_len named.old < MAX_ACCUSERS }
     ensures members { members.new ≡ members_with slot members.old }
-    ensures strangers { strangers.new.items ≡ strangers_with slot accuser.now strangers.old.items }
+    ensures named { named.new.items ≡ named_with slot accuser.now named.old.items }
     ensures number { (number : ℕ) → slot ≡ Some number → number < 256 }
 {
     match slot {
         Some(slot) => members.insert(slot.number()),
-        None => strangers.push(*accuser),
+        None => named.push(*accuser),
     }
 }
 
@@ -131,45 +132,41 @@ impl Suspicion {
     pub fn copy(&self) -> Suspicion
         ensures { result ≡ self.now }
     {
-        let mut strangers = ArrayVec::new();
-        strangers.try_extend_from_slice(&self.strangers).unwrap();
+        let mut named = ArrayVec::new();
+        named.try_extend_from_slice(&self.named).unwrap();
         Suspicion {
             raised: self.raised,
             timeout: self.timeout,
             members: self.members,
-            strangers,
+            named,
         }
     }
 
-    /// The suspicion of another member that `accuser` raises at the moment `now`. `members` is this member's table,
-    /// which says how many members haven't failed, and which slot the accuser has.
-    pub fn raise(now: Moment, accuser: &Name, members: &Members, config: &Config) -> Suspicion
+    /// The suspicion of another member that `accuser` raises at the moment `now`. `live` is how many members haven't
+    /// failed, this member and the suspected one included: 1 to [`MAX_LIVE`].
+    pub fn raise(now: Moment, accuser: &Name, live: u64, config: &Config) -> Suspicion
         requires checked { IsChecked config.now }
+        requires some { 1 ≤ live }
+        requires within { live ≤ MAX_LIVE }
 
-        ensures raised { let live = live_in members.now.table in
-            suspicion_by members.now.names result
+        // Whichever names have the slots,
+        ensures raised { (names : List (List ℕ)) → suspicion_by names result
             ≡ record { raised = now; timeout = range_of live config.now; accusers = accuser.now ∷ [] } }
 
-        // It is the suspicion after one accuser.
-        ensures first { let live = live_in members.now.table in
-            suspicion_by members.now.names result
+        // it is the suspicion after one accuser.
+        ensures first { (names : List (List ℕ)) → suspicion_by names result
             ≡ suspicion_after now (range_of live config.now) (accuser.now ∷ []) }
 
-        ensures known { IsKnownTo members.now.names result }
+        ensures known { (names : List (List ℕ)) → IsKnownTo names result }
     {
-        let mut slots = BitSet::new();
-        let mut strangers = ArrayVec::new();
-        add(
-            &mut slots,
-            &mut strangers,
-            members.slot_of(accuser),
-            accuser,
-        );
+        let mut named = ArrayVec::new();
+        let first = *accuser;
+        named.push(first);
         Suspicion {
             raised: now,
-            timeout: SuspicionTimeout::new(members.live() as u64, config),
-            members: slots,
-            strangers,
+            timeout: SuspicionTimeout::new(live, config),
+            members: BitSet::new(),
+            named,
         }
     }
 
@@ -180,15 +177,14 @@ impl Suspicion {
         ensures counted { result ≤ self.now.timeout.confirmations + 1 }
         ensures size { length self.now.members ≡ NUMBERS }
     {
-        self.members.len() + self.strangers.len()
+        self.members.len() + self.named.len()
     }
 
-    /// Whether an accuser with this slot, or with none, is one of the accusers.
-    fn has(&self, slot: Option<&Slot>, accuser: &Name) -> bool
-        ensures { let is_known = has_slot (option_copied slot.entry) self.now.members in
-            result ≡ (is_known || is_among name_cmp accuser.now self.now.strangers) }
+    /// Whether an accuser is one of those that are kept by their names.
+    fn is_named(&self, accuser: &Name) -> bool
+        ensures { result ≡ is_among name_cmp accuser.now self.now.named }
     {
-        has_slot(&self.members, slot) || self.strangers.contains(accuser)
+        self.named.contains(accuser)
     }
 
     /// Takes one more accusation, and returns whether its accuser counts. It counts if fewer accusers count than may,
@@ -217,11 +213,14 @@ impl Suspicion {
         if self.accusers() as u64 > self.timeout.confirmations() {
             return false;
         }
-        let slot = members.slot_of(accuser);
-        if self.has(slot.as_ref(), accuser) {
+        if self.is_named(accuser) {
             return false;
         }
-        add(&mut self.members, &mut self.strangers, slot, accuser);
+        let slot = members.slot_of(accuser);
+        if has_slot(&self.members, slot.as_ref()) {
+            return false;
+        }
+        add(&mut self.members, &mut self.named, slot, accuser);
         true
     }
 

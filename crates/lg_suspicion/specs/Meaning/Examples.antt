@@ -48,7 +48,7 @@ kept = record {
   raised = 2000;
   timeout = five;
   members = false ∷ false ∷ true ∷ [];
-  strangers = e ∷ [];
+  named = e ∷ [];
 }
 
 their_names : accusers_by ((97 ∷ []) ∷ (99 ∷ []) ∷ (102 ∷ []) ∷ []) kept ≡ e ∷ (102 ∷ []) ∷ []

@@ -1,65 +1,55 @@
-use Rattle.std.proofs.Common.{◌≡◌, List, [], ◌∷◌, ℕ, ap, sym, subst, ◌∙◌, arith}
-use Rattle.lg_rules.specs.Meaning.Table.{live_in}
+use Rattle.std.proofs.Common.{◌≡◌, List, [], ◌∷◌, ◌++◌, ℕ, ap, sym, subst, ◌∙◌, arith}
 use Rattle.lg_timing.specs.Meaning.Timeouts.{range_of}
 use Rattle.lg_suspicion.specs.Meaning.Accusers.{SuspicionValue}
 use Rattle.lg_suspicion.specs.Meaning.Parts.{SuspicionParts, accuser_count, suspicion_by, IsKnownTo}
-use Rattle.lg_suspicion.specs.Support.Accusers.{members_with, strangers_with}
 use Rattle.lg_suspicion.proofs.AccuserLaws.{counted-one}
-use Rattle.lg_suspicion.proofs.KnownAccusers.{parts_with, unaccused, raised-by, raised-known, raised-count}
+use Rattle.lg_suspicion.proofs.KnownAccusers.{accused_once, once-by, once-known, once-count}
 use Rattle.lg_suspicion.proofs.suspicion.Suspicion.raise.Goals as goal
-use Rattle.lg_suspicion.proofs.suspicion.Suspicion.raise.Goals.{After-new}
+use Rattle.lg_suspicion.proofs.suspicion.Suspicion.raise.Goals.{After-new-2}
 
-abbrev parts : (c : After-new) → SuspicionParts
+abbrev parts : (c : After-new-2) → SuspicionParts
 parts c = record {
   raised = c.args.now;
   timeout = c.new.result;
-  members = c.add.new.members;
-  strangers = c.add.new.strangers.items;
+  members = c.new-2.result;
+  named = c.push.new.self.items;
 }
 
--- what is kept is one accuser
-is_with : (c : After-new)
-    → parts c ≡ parts_with c.slot_of.result c.args.accuser.now
-    (unaccused c.args.now (range_of (live_in c.args.members.now.table) c.args.config.now))
-is_with c =
-    let timeout = c.new.ensures ∙ ap (λ n. range_of n c.args.config.now) c.live.ensures.count in
-    let members = c.add.ensures.members ∙ ap (members_with c.slot_of.result) c.new-slots.ensures in
-    let strangers = c.add.ensures.strangers
-    ∙ ap (strangers_with c.slot_of.result c.args.accuser.now) c.new-strangers.ensures in
-    λ i. record { raised = c.args.now; timeout = timeout i; members = members i; strangers = strangers i }
+-- what is kept is the first accuser
+is_once : (c : After-new-2)
+    → parts c ≡ accused_once c.args.now (range_of c.args.live c.args.config.now) c.args.accuser.now
+is_once c =
+    let named = c.push.ensures.items
+    ∙ ap (λ (ns : List (List ℕ)). ns ++ c.args.accuser.now ∷ []) c.new-named.ensures in
+    λ i. record { raised = c.args.now; timeout = c.new.ensures i; members = c.new-2.ensures i; named = named i }
 
 pub invariant_of-result : goal.invariant_of-result
 invariant_of-result c =
-    let one = raised-count c.args.now (range_of (live_in c.args.members.now.table) c.args.config.now) c.args.accuser.now
-    c.slot_of.result c.add.ensures.number in
-    let count : accuser_count (parts c) ≡ 1 = ap accuser_count (is_with c) ∙ one in
+    let count : accuser_count (parts c) ≡ 1 = ap accuser_count (is_once c) ∙ omega (arith, once-count) in
     record { some = omega (arith, count); counted = omega (arith, count) }
 
-is_raised : (c : After-new)
-    → suspicion_by c.args.members.now.names (parts c)
+is_raised : (c : After-new-2) (names : List (List ℕ))
+    → suspicion_by names (parts c)
     ≡ record {
       raised = c.args.now;
-      timeout = range_of (live_in c.args.members.now.table) c.args.config.now;
+      timeout = range_of c.args.live c.args.config.now;
       accusers = c.args.accuser.now ∷ [];
     }
-is_raised c =
-    ap (suspicion_by c.args.members.now.names) (is_with c)
-    ∙ raised-by c.args.members.now.names c.args.now
-    (range_of (live_in c.args.members.now.table) c.args.config.now) c.args.accuser.now c.slot_of.result
-    c.add.ensures.number c.slot_of.ensures.slot
+is_raised c names =
+    let timeout = range_of c.args.live c.args.config.now in
+    let put : List (List ℕ) → SuspicionValue = λ ns. record { raised = c.args.now; timeout = timeout; accusers = ns } in
+    ap (suspicion_by names) (is_once c) ∙ ap put (once-by names c.args.now timeout c.args.accuser.now)
 
 pub returns-clause-raised : goal.returns-clause-raised
-returns-clause-raised c = is_raised c
+returns-clause-raised c = λ names. is_raised c names
 
 pub returns-clause-first : goal.returns-clause-first
-returns-clause-first c =
-    let timeout = range_of (live_in c.args.members.now.table) c.args.config.now in
+returns-clause-first c = λ names.
+    let timeout = range_of c.args.live c.args.config.now in
     let put : List (List ℕ) → SuspicionValue = λ ns. record { raised = c.args.now; timeout = timeout; accusers = ns } in
-    is_raised c ∙ ap put (sym (counted-one timeout.confirmations c.args.accuser.now))
+    is_raised c names ∙ ap put (sym (counted-one timeout.confirmations c.args.accuser.now))
 
 pub returns-clause-known : goal.returns-clause-known
-returns-clause-known c =
-    subst (IsKnownTo c.args.members.now.names) (sym (is_with c))
-    (raised-known c.args.members.now.names c.args.now
-    (range_of (live_in c.args.members.now.table) c.args.config.now) c.args.accuser.now c.slot_of.result
-    c.add.ensures.number c.slot_of.ensures.slot)
+returns-clause-known c = λ names.
+    subst (IsKnownTo names) (sym (is_once c))
+    (once-known names c.args.now (range_of c.args.live c.args.config.now) c.args.accuser.now)
