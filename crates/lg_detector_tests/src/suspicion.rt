@@ -1,38 +1,39 @@
 //! Who counts as an accuser, and when a suspected member is taken as failed.
-ghost use Rattle.lg_suspicion.specs.Meaning.Parts.{IsKnownTo};
+ghost use Rattle.std.specs.Prelude.{ℕ};
+ghost use Rattle.lg_suspicion.specs.Meaning.Parts.{IsKnownTo, SuspicionParts};
 ghost use Rattle.lg_timing.specs.Meaning.Config.{IsChecked};
 
-use lg_rules::{Addr, Claim, Members};
+use lg_rules::{Addr, Members};
 use lg_suspicion::{Suspicion, accusers_keep_their_names, deadlines_are_by_the_set};
 use lg_testing::{alive, at, letter, numbered};
 use lg_timing::Config;
 
-/// The suspicion of a member, and what `b` knows of the others.
-#[derive(Debug, Drop)]
-struct Watched {
-    suspicion: Suspicion,
-    members: Members,
-    ghost known: { IsKnownTo members.names suspicion },
-}
-
-/// Hears a claim about another member.
-fn hear(members: &mut Members, claim: &Claim) {
-    if claim.name != members.own() {
-        members.hear(claim);
-    }
-}
-
-/// The suspicion that `d` raises at 2000, if `b` knows these others.
-fn raised_by_d(others: &[u8], config: &Config) -> Watched
-    requires { IsChecked config.now }
-{
+/// What `b` knows if it has heard that these others are alive.
+fn knowing(others: &[u8]) -> Members {
     let mut members = Members::new(&letter(b'b'));
     for other in others {
-        hear(&mut members, &alive(*other, 0));
+        join(&mut members, *other);
     }
-    let live = members.live() as u64;
-    let suspicion = Suspicion::raise(at(2000), &letter(b'd'), live, config);
-    Watched { suspicion, members }
+    members
+}
+
+/// Hears that another member is alive. Each suspicion keeps its accusers.
+fn join(members: &mut Members, member: u8)
+    ensures { (parts : SuspicionParts) → IsKnownTo members.old.names parts → IsKnownTo members.new.names parts }
+{
+    accusers_keep_their_names();
+    let claim = alive(member, 0);
+    if claim.name != members.own() {
+        members.hear(&claim);
+    }
+}
+
+/// The suspicion that `d` raises at 2000.
+fn raised_by_d(members: &Members, config: &Config) -> Suspicion
+    requires { IsChecked config.now }
+    ensures { IsKnownTo members.now.names result }
+{
+    Suspicion::raise(at(2000), &letter(b'd'), members.live() as u64, config)
 }
 
 /// What happens after the raise.
@@ -44,34 +45,41 @@ enum Step {
     Joins(u8),
 }
 
-impl Watched {
-    /// Hears that another member is alive.
-    fn join(&mut self, member: u8) {
-        accusers_keep_their_names();
-        hear(&mut self.members, &alive(member, 0));
-    }
-
-    /// Does a step, and returns whether its accuser, if it has one, counts as it should.
-    fn does(&mut self, step: &Step) -> bool {
-        match step {
-            Step::Accuses(accuser, counts) => {
-                self.suspicion.accuse(&letter(*accuser), &self.members) == *counts
-            }
-            Step::Joins(member) => {
-                self.join(*member);
-                true
-            }
+/// Does a step, and returns whether its accuser, if it has one, counts as it should.
+fn does(step: &Step, suspicion: &mut Suspicion, members: &mut Members) -> bool
+    requires { IsKnownTo members.old.names suspicion.old }
+    ensures { IsKnownTo members.new.names suspicion.new }
+{
+    match step {
+        Step::Accuses(accuser, counts) => suspicion.accuse(&letter(*accuser), members) == *counts,
+        Step::Joins(member) => {
+            join(members, *member);
+            true
         }
     }
+}
 
-    /// Whether the suspicion first has one deadline, all these steps do what they should, and it then has another.
-    fn goes(&mut self, before: u64, steps: &[Step], after: u64) -> bool {
-        let mut met = self.suspicion.deadline() == before;
-        for step in steps {
-            met = self.does(step) && met;
-        }
-        met && self.suspicion.deadline() == after
+/// Whether all these steps do what they should, and the deadline of the suspicion then.
+fn after_steps(steps: &[Step], suspicion: Suspicion, members: Members) -> (bool, u64)
+    requires { IsKnownTo members.names suspicion }
+{
+    let mut suspicion = suspicion;
+    let mut members = members;
+    let mut met = true;
+    for step in steps {
+        met = does(step, &mut suspicion, &mut members) && met;
     }
+    (met, suspicion.deadline())
+}
+
+/// Whether the suspicion first has one deadline, all the steps do what they should, and it then has another.
+fn is_so(case: &Case, config: &Config) -> bool
+    requires { IsChecked config.now }
+{
+    let (others, before, steps, after) = *case;
+    let members = knowing(others);
+    let suspicion = raised_by_d(&members, config);
+    suspicion.deadline() == before && after_steps(steps, suspicion, members) == (true, after)
 }
 
 /// Whom `b` knows, the first deadline, what happens, and the deadline then.
@@ -166,10 +174,8 @@ const SIX: &[Case] = &[
 fn another_accuser_confirms(rt: HostRuntime) {
     deadlines_are_by_the_set();
     let config = Config::new(letter(b'b'), Addr::default());
-    for (others, before, steps, after) in MEMBERS.iter().chain(STRANGERS) {
-        let mut watched = raised_by_d(others, &config);
-        let met = watched.goes(*before, steps, *after);
-        assert!(rt; met, "{steps:?} among {others:?}: {watched:?}");
+    for case in MEMBERS.iter().chain(STRANGERS) {
+        assert!(rt; is_so(case, &config), "{case:?}");
     }
 }
 
@@ -178,27 +184,31 @@ fn six_accusers_count(rt: HostRuntime) {
     let mut config = Config::new(letter(b'b'), Addr::default());
     config.confirmations = 5;
     if config.check().is_ok() {
-        for (others, before, steps, after) in SIX {
-            let mut watched = raised_by_d(others, &config);
-            let met = watched.goes(*before, steps, *after);
-            assert!(rt; met, "{steps:?} among {others:?}: {watched:?}");
+        for case in SIX {
+            assert!(rt; is_so(case, &config), "{case:?}");
         }
     }
+}
+
+/// How many of 299 accusers count.
+fn flooded(suspicion: &mut Suspicion, members: &Members) -> u32
+    requires { IsKnownTo members.now.names suspicion.old }
+{
+    let mut counted: u32 = 0;
+    for number in 1..300 {
+        if suspicion.accuse(&numbered(number), members) {
+            counted = counted.saturating_add(1);
+        }
+    }
+    counted
 }
 
 /// Of many accusers only four count, and the first is among them.
 #[test]
 fn a_flood_of_accusers(rt: HostRuntime) {
     let config = Config::new(letter(b'b'), Addr::default());
-    let mut watched = raised_by_d(b"acde", &config);
-    let mut counted: u32 = 1;
-    for number in 1..300 {
-        if watched
-            .suspicion
-            .accuse(&numbered(number), &watched.members)
-        {
-            counted = counted.saturating_add(1);
-        }
-    }
-    assert_eq!(rt; (counted, watched.suspicion.deadline()), (4, 7000));
+    let members = knowing(b"acde");
+    let mut suspicion = raised_by_d(&members, &config);
+    let counted = flooded(&mut suspicion, &members);
+    assert_eq!(rt; (counted, suspicion.deadline()), (3, 7000));
 }
