@@ -39,13 +39,19 @@ struct Meeting {
     stop: AtomicBool,
 }
 
+/// Which call of the receiving loop's link fails, and which of the ticking one's, counted from 1. With 0 none does.
+pub type FailsAt = [u64; 2];
+
 /// A link that waits for the other loop.
 #[derive(Drop)]
 struct MeetingLink<'a, R> {
     rt: &'a R,
     meeting: &'a Meeting,
-    /// Whether the first receiving fails.
-    fails: bool,
+    /// Which call fails, counted from 1, or 0 if none does.
+    fails_at: u64,
+    /// How many calls were made.
+    made: u64,
+    /// How many of them waited for a datagram.
     received: u64,
     failures: u64,
 }
@@ -63,22 +69,25 @@ fn is_met<R: rt::Clock>(rt: &R, flag: &AtomicBool) -> bool {
 
 impl<'a, R> MeetingLink<'a, R> {
     /// A link of one loop.
-    fn new(rt: &'a R, meeting: &'a Meeting, fails: bool) -> MeetingLink<'a, R> {
+    fn new(rt: &'a R, meeting: &'a Meeting, fails_at: u64) -> MeetingLink<'a, R> {
         MeetingLink {
             rt,
             meeting,
-            fails,
+            fails_at,
+            made: 0,
             received: 0,
             failures: 0,
         }
     }
 
-    /// Counts a failure, unless the count is at its greatest.
-    fn count(&mut self) -> bool
+    /// Counts a call that met the other loop or didn't. Returns whether it fails; a failure is counted too.
+    fn fails(&mut self, met: bool) -> bool
         ensures { MatchBool result (self.new.failures ≡ self.old.failures + 1)
             (self.new.failures ≡ self.old.failures) }
     {
-        if self.failures == u64::MAX {
+        self.made = self.made.saturating_add(1);
+        let fails = !met || self.made == self.fails_at;
+        if !fails || self.failures == u64::MAX {
             return false;
         }
         self.failures += 1;
@@ -94,6 +103,16 @@ impl<'a, R> MeetingLink<'a, R> {
     }
 }
 
+impl<'a, R: rt::Clock> MeetingLink<'a, R> {
+    /// Waits in the first receiving until a packet was handed over, and says that a datagram is waited for. Returns
+    /// whether one was handed over.
+    fn meet(&self) -> bool {
+        let met = is_met(self.rt, &self.meeting.sent);
+        self.meeting.received.store(met, SeqCst);
+        met
+    }
+}
+
 impl<'a, R: rt::Clock> Link for MeetingLink<'a, R> {
     ghost use Rattle.std.specs.Prelude.{false, []};
 
@@ -106,28 +125,30 @@ impl<'a, R: rt::Clock> Link for MeetingLink<'a, R> {
     /// Fails if the other loop doesn't receive.
     fn send(&mut self, _to: Addr, _bytes: &[u8]) -> Result<(), LinkFault> {
         self.meeting.sent.store(true, SeqCst);
-        if !is_met(self.rt, &self.meeting.received) && self.count() {
-            return Err(LinkFault);
+        let met = is_met(self.rt, &self.meeting.received);
+        if self.fails(met) {
+            Err(LinkFault)
+        } else {
+            Ok(())
         }
-        Ok(())
     }
 
-    /// The first one fails if no packet was handed over. At the second the loops are told to stop.
+    /// The first one fails if no packet was handed over. At the second the loops are told to stop, unless it fails.
     fn receive(
         &mut self,
         buffer: &mut [u8; MAX_DATAGRAM],
         _limit_ms: u64,
     ) -> Result<Option<(Addr, usize)>, LinkFault> {
-        if self.next() > 1 {
-            self.meeting.stop.store(true, SeqCst);
-            return Ok(None);
-        }
-        let met = is_met(self.rt, &self.meeting.sent);
-        self.meeting.received.store(met, SeqCst);
-        if (self.fails || !met) && self.count() {
+        let is_first = self.next() == 1;
+        let met = !is_first || self.meet();
+        if self.fails(met) {
             return Err(LinkFault);
         }
-        Ok(Some((local(7001), put(buffer, PING_7))))
+        if is_first {
+            return Ok(Some((local(7001), put(buffer, PING_7))));
+        }
+        self.meeting.stop.store(true, SeqCst);
+        Ok(None)
     }
 
     fn failures(&self) -> u64 {
@@ -221,13 +242,13 @@ where
     )
 }
 
-/// Runs both loops with these passes, the receiving one with the first. The first receiving may fail.
+/// Runs both loops with these passes, the receiving one with the first.
 fn run_passes<A, R>(
     rt: &R,
     alloc: Global,
     first: Pass<'_, A>,
     second: Pass<'_, A>,
-    fails: bool,
+    fails_at: FailsAt,
 ) -> (BothSeen, (Spent<A>, Spent<A>))
 where
     A: AgentName + Send + Sync,
@@ -236,11 +257,11 @@ where
     let meeting = begun();
     let receiver = Side {
         pass: first,
-        link: MeetingLink::new(rt, &meeting, fails),
+        link: MeetingLink::new(rt, &meeting, fails_at[0]),
     };
     let ticker = Side {
         pass: second,
-        link: MeetingLink::new(rt, &meeting, false),
+        link: MeetingLink::new(rt, &meeting, fails_at[1]),
     };
     let (received, ticked) = run(rt, alloc, &meeting, receiver, ticker);
     let seen = BothSeen {
@@ -257,7 +278,7 @@ pub fn run_both<A, R>(
     rt: &R,
     alloc: Global,
     passes: Vec<Pass<'_, A>>,
-    fails: bool,
+    fails_at: FailsAt,
     spents: Vec<Spent<A>>,
 ) -> Left<A, Shown>
 where
@@ -267,13 +288,13 @@ where
     let Some((first, second)) = both_passes(passes) else {
         return Left::nothing(spents);
     };
-    let (seen, both) = run_passes(rt, alloc, first, second, fails);
+    let (seen, both) = run_passes(rt, alloc, first, second, fails_at);
     Left::with_both(spents, both, Shown::Both(seen))
 }
 
-/// An agent that knows c, and runs both loops. The first receiving may fail.
-pub fn both_loops(fails: bool) -> Case<Play> {
-    let mut case = Case::new(2, Play::Both { fails });
+/// An agent that knows c, and runs both loops.
+pub fn both_loops(fails_at: FailsAt) -> Case<Play> {
+    let mut case = Case::new(2, Play::Both { fails_at });
     case.others = 1;
     case
 }
@@ -286,32 +307,50 @@ pub fn seen_in(outcome: &Outcome<Shown>) -> Option<(BothSeen, Ending)> {
     }
 }
 
-/// The Ping of the ticking loop is handed over while the other loop receives. The receiving loop answers a Ping, and
-/// is told to stop. If its receiving fails, after a tick, the ticking loop, which has no other reason to end, is
-/// stopped.
-#[test]
-fn both_run_at_once(rt: HostRuntime) {
-    let rows = [
-        (false, Why::Stopped, 2, 0, 3),
-        (true, Why::LinkFailed, 1, 1, 2),
-    ];
-    for (fails, why, turns, failures, entries) in rows {
-        let outcome = told(&rt, rt.alloc(), both_loops(fails)).ok();
-        let seen = outcome.as_ref().and_then(seen_in);
+/// A name, and which call of each link fails. Then why the receiving loop ends and after how many turns, how many
+/// packets of each loop weren't sent, and how many entries there are in the end.
+type Row = (&'static str, FailsAt, Why, u64, [u64; 2], u64);
+
+/// The receiving loop waits for a Ping, answers it, and waits again. The ticking loop makes a tick, and sends a Ping.
+const ROWS: &[Row] = &[
+    ("no failure", [0, 0], Why::Stopped, 2, [0, 0], 3),
+    ("first receiving", [1, 0], Why::LinkFailed, 1, [0, 0], 2),
+    ("the Ack", [2, 0], Why::Stopped, 2, [1, 0], 3),
+    ("second receiving", [3, 0], Why::LinkFailed, 2, [0, 0], 3),
+    ("the Ping", [0, 1], Why::Stopped, 2, [0, 1], 3),
+];
+
+impl BothSeen {
+    /// Whether the receiving loop ended as a row says, and the ticking one was stopped.
+    fn is(&self, row: &Row) -> bool {
+        let (_, _, why, turns, [unsent, lost], _) = *row;
         let end = End {
             why,
             dropped: 0,
-            unsent: 0,
+            unsent,
             turns,
         };
+        let lost_link = u64::from(why == Why::LinkFailed);
+        self.receiving == end
+            && self.receiving_failures == unsent.saturating_add(lost_link)
+            && self.ticking.why == Why::Stopped
+            && self.ticking.unsent == lost
+            && self.ticking_failures == lost
+    }
+}
+
+/// The Ping of the ticking loop is handed over while the other loop receives. The receiving loop answers a Ping, and
+/// is told to stop. Each call of their links fails in turn. A packet that isn't sent ends no loop, and its event stays
+/// in the history. If a receiving fails, the ticking loop, which has no other reason to end, is stopped.
+#[test]
+fn both_run_at_once(rt: HostRuntime) {
+    for row in ROWS {
+        let (name, fails_at, .., entries) = *row;
+        let outcome = told(&rt, rt.alloc(), both_loops(fails_at)).ok();
+        let seen = outcome.as_ref().and_then(seen_in);
         let met = seen.is_some_and(|(both, ending)| {
-            both.receiving == end
-                && both.receiving_failures == failures
-                && both.ticking.why == Why::Stopped
-                && both.ticking.unsent == 0
-                && both.ticking_failures == 0
-                && ending == Ending::closed(None, entries)
+            both.is(row) && ending == Ending::closed(None, entries)
         });
-        assert!(rt; met, "{fails}");
+        assert!(rt; met, "{name}");
     }
 }

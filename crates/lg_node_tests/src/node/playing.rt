@@ -2,7 +2,7 @@
 ghost use Rattle.std.specs.Prelude.{◌≡◌, ◌<◌, ◌≤◌};
 
 use super::alone::{LoopSeen, Run, run_alone};
-use super::both::{BothSeen, run_both};
+use super::both::{BothSeen, FailsAt, run_both};
 use super::finding::{Found, Search, run_search};
 use super::rotating::{StreamSeen, run_stream};
 use lg_agent::{Agent, AgentName, Refusal, Spent};
@@ -19,8 +19,8 @@ use std::thread::Threads;
 pub enum Play {
     /// The last pass runs one loop of a node.
     Loop(Run),
-    /// Two passes run both loops of a node. The first receiving may fail.
-    Both { fails: bool },
+    /// Two passes run both loops of a node. A call of each link may fail.
+    Both { fails_at: FailsAt },
     /// One loop of a node after the other: many datagrams, and then many ticks.
     Stream,
     /// The last pass runs a ticking loop that finds its group.
@@ -53,7 +53,7 @@ where
     };
     match play {
         Play::Loop(run) => run_alone(rt, alloc, passes, run, spents),
-        Play::Both { fails } => run_both(rt, alloc, passes, fails, spents),
+        Play::Both { fails_at } => run_both(rt, alloc, passes, fails_at, spents),
         Play::Stream => run_stream(rt, alloc, passes, spents),
         Play::Find(search) => run_search(rt, alloc, passes, search, spents),
     }

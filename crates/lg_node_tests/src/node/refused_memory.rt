@@ -134,7 +134,7 @@ fn is_still(seen: (BothSeen, Ending)) -> bool {
 /// Both loops. Memory may be refused to the thread of the receiving loop; then the ticking loop makes no turn either.
 #[test]
 fn a_thread(rt: HostRuntime) {
-    let outcome = told_at_last(&rt, rt.alloc(), both_loops(false));
+    let outcome = told_at_last(&rt, rt.alloc(), both_loops([0, 0]));
     let seen = outcome.as_ref().ok().and_then(seen_in);
     assert!(rt; seen.is_some_and(is_still));
 }
