@@ -154,6 +154,8 @@ struct Doing<'a, R> {
     alloc: Global,
     clock: &'a SetClock,
     counters: &'a Counters,
+    /// Whether a step that went otherwise is done once more, since it may have been refused memory.
+    twice: bool,
 }
 
 /// A packet of a for b: a Ping with a claim, or the wish that b probes c.
@@ -251,6 +253,19 @@ impl<'a, R: Wait> Doing<'a, R> {
             _ => false,
         }
     }
+
+    /// Whether a step goes as it should with the agent or the site.
+    fn goes<A: AgentName, S: Site>(
+        &self,
+        step: Step<'_>,
+        pass: &mut Pass<'_, A>,
+        site: &mut S,
+    ) -> bool {
+        match self.happens(step, pass) {
+            Some(went) => went,
+            None => self.shows(step, site),
+        }
+    }
 }
 
 /// Whether an answer has this status and this body, in JSON.
@@ -281,10 +296,7 @@ fn first_unmet<A: AgentName, S: Site, R: Wait>(
     steps: &[Step<'_>],
 ) -> Option<usize> {
     for (index, step) in steps.iter().enumerate() {
-        let met = match doing.happens(*step, pass) {
-            Some(went) => went,
-            None => doing.shows(*step, site),
-        };
+        let met = doing.goes(*step, pass, site) || doing.twice && doing.goes(*step, pass, site);
         if !met {
             return Some(index);
         }
@@ -300,6 +312,7 @@ fn play_with<A: AgentName, R: Wait>(
     passes: Vec<Pass<'_, A>>,
     config: &Config,
     steps: &[Step<'_>],
+    twice: bool,
 ) -> Option<Option<usize>> {
     let mut passes = passes;
     let mut hearer = passes.pop()?;
@@ -324,6 +337,7 @@ fn play_with<A: AgentName, R: Wait>(
         alloc,
         clock: &clock,
         counters: &counters,
+        twice,
     };
     Some(first_unmet(&doing, &mut hearer, &mut site, steps))
 }
@@ -335,6 +349,7 @@ fn play_in<A: AgentName, R: Wait>(
     book: UnnamedBook,
     places: usize,
     steps: &[Step<'_>],
+    twice: bool,
 ) -> Option<Option<usize>>
     requires book { book.seen.book ≡ A.book }
     requires places { (places ≡ A.places) × (places ≡ 2) }
@@ -342,22 +357,36 @@ fn play_in<A: AgentName, R: Wait>(
     let config = Config::new(letter(b'b'), local(7000));
     let mut agent = Agent::<A>::open(rt, alloc, book, at(0), config.copy(), places).ok()?;
     let outcome = match agent.passes(alloc) {
-        Ok(passes) => play_with(rt, alloc, passes, &config, steps),
+        Ok(passes) => play_with(rt, alloc, passes, &config, steps, twice),
         Err(_) => None,
     };
     agent.abandon(rt);
     outcome
 }
 
-/// Does the steps with an agent of its own.
-fn play<R: Wait>(rt: &R, alloc: Global, steps: &[Step<'_>]) -> Option<Option<usize>> {
-    play_in::<Brand, R>(rt, alloc, UnnamedBook::new(), 2, steps)
+/// Does the steps with an agent of its own. A step that went otherwise is done once more, if it may be done twice.
+fn play<R: Wait>(rt: &R, alloc: Global, steps: &[Step<'_>], twice: bool) -> Option<Option<usize>> {
+    play_in::<Brand, R>(rt, alloc, UnnamedBook::new(), 2, steps, twice)
 }
 
 #[test]
 fn shows_what_looks_find(rt: HostRuntime) {
     for (case, steps) in CASES {
-        let unmet = play(&rt, rt.alloc(), steps);
+        let unmet = play(&rt, rt.alloc(), steps, false);
+        assert!(rt; unmet == Some(None), "{case}: step {unmet:?}");
+    }
+}
+
+/// If any one allocation is refused, an event, a look or an answer comes the next time as it should have come.
+#[test]
+fn shows_after_refused_memory(rt: HostRuntime) {
+    for (case, steps) in CASES {
+        let first = play(&rt, rt.alloc(), steps, true);
+        let unmet = if first.is_none() {
+            play(&rt, rt.alloc(), steps, true)
+        } else {
+            first
+        };
         assert!(rt; unmet == Some(None), "{case}: step {unmet:?}");
     }
 }
