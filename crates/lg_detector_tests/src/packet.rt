@@ -4,7 +4,7 @@ mod judge;
 
 use crate::detector::{Says, packet_of};
 use crate::says::Member;
-use crate::says::Said::{self, AliveAt, Suspect};
+use crate::says::Said::{self, Alive, AliveAt, Suspect};
 use arrayvec::ArrayVec;
 use judge::judge;
 use lg_packet::{
@@ -15,6 +15,9 @@ use lg_rules::Addr;
 
 /// A Ping from `a` for `b`, numbered 7.
 const PING: &[u8] = b"SL\x01\x01\x01a\x00\x00\x00\x07\x01b\x00";
+
+/// The same, numbered 8.
+const PING_8: &[u8] = b"SL\x01\x01\x01a\x00\x00\x00\x08\x01b\x00";
 
 /// An Ack of `b`, numbered 7.
 const ACK: &[u8] = b"SL\x01\x03\x01b\x00\x00\x00\x07\x00";
@@ -47,10 +50,14 @@ const ALIVE: &[u8] = b"SL\x01\x01\x01a\x00\x00\x00\x07\x01c\x01\
 const ACK_ALIVE: &[u8] = b"SL\x01\x03\x01b\x00\x00\x00\x08\x01\
     \x01\x01c\x7f\x00\x00\x01\x1b\x5b\x00\x00\x00\x00";
 
-/// A Ping in which `b` is suspected by `a` and then by `c`.
-const SUSPECTS: &[u8] = b"SL\x01\x01\x01a\x00\x00\x00\x09\x01c\x02\
+/// A Ping for `b`, in which it is suspected by `a` and then by `c`.
+const SUSPECTS: &[u8] = b"SL\x01\x01\x01a\x00\x00\x00\x09\x01b\x02\
     \x02\x01b\x7f\x00\x00\x01\x1b\x58\x00\x00\x00\x00\x01a\
     \x02\x01b\x7f\x00\x00\x01\x1b\x58\x00\x00\x00\x00\x01c";
+
+/// The Ack of `b` to it, by which `b` objects.
+const OBJECTS: &[u8] = b"SL\x01\x03\x01b\x00\x00\x00\x09\x01\
+    \x01\x01b\x7f\x00\x00\x01\x1b\x58\x00\x00\x00\x01";
 
 /// A Ping in which `b` is suspected at the greatest incarnation.
 const GREATEST: &[u8] = b"SL\x01\x01\x01a\x00\x00\x00\x01\x01b\x01\
@@ -77,7 +84,8 @@ const VERSIONS: &[(Version, u8)] = &[(Version::One, 1), (Version::Two, 2)];
 
 /// Bytes that are packets of version 1.
 const PACKETS: &[&[u8]] = &[
-    PING, ACK, PING_REQ, NACK, PULL, PULL_AFTER, PAGE, ALIVE, ACK_ALIVE, SUSPECTS, GREATEST,
+    PING, PING_8, ACK, PING_REQ, NACK, PULL, PULL_AFTER, PAGE, ALIVE, ACK_ALIVE, SUSPECTS, OBJECTS,
+    GREATEST,
 ];
 
 /// The bytes of a packet.
@@ -138,7 +146,8 @@ fn fronts_of_packets(rt: HostRuntime) {
 
 /// The same packets, and one with too great an incarnation.
 const CHANGED: &[&[u8]] = &[
-    PING, ACK, PING_REQ, NACK, PULL, PULL_AFTER, PAGE, ALIVE, ACK_ALIVE, SUSPECTS, GREATEST, ABOVE,
+    PING, PING_8, ACK, PING_REQ, NACK, PULL, PULL_AFTER, PAGE, ALIVE, ACK_ALIVE, SUSPECTS, OBJECTS,
+    GREATEST, ABOVE,
 ];
 
 /// The decoder and the slow judge agree on every change of one byte of a packet of either version, and on every byte
@@ -156,6 +165,36 @@ fn changes_of_packets(rt: HostRuntime) {
             }
         }
     }
+}
+
+/// Changes of one byte of the Ping numbered 7, each at its place counted from 0, and the faults that they give.
+const CHANGES_OF_PING: &[(usize, u8, Fault)] = &[
+    (0, 0x00, Fault::Magic),
+    (1, 0x00, Fault::Magic),
+    (2, 0xff, Fault::Version),
+    (3, 0x07, Fault::Kind),
+    (4, 0x00, Fault::Name),
+    (4, 0x02, Fault::Name),
+    (4, 0x21, Fault::Name),
+    (5, 0x20, Fault::Name),
+    (10, 0x02, Fault::Name),
+    (12, 0x07, Fault::Count),
+    (12, 0x01, Fault::Short),
+];
+
+/// The place of the only byte of its target's name.
+const TARGET_PLACE: usize = 11;
+
+/// The bytes of a Ping, one by one: most changes give a fault, and another letter in its target's name gives a Ping for
+/// another.
+#[test]
+fn each_byte_of_a_ping(rt: HostRuntime) {
+    for (place, byte, fault) in CHANGES_OF_PING {
+        let near = changed(PING, *place, *byte);
+        assert!(rt; both_are(&near, Err(*fault)), "{near:?}");
+    }
+    let of_z = changed(PING, TARGET_PLACE, b'z');
+    assert!(rt; is_one(&of_z, &packet_of("a", &Says::Ping(7, "z"), &[])));
 }
 
 /// Bytes that are no version or no kind, and a byte after a packet. Each is put at its place, or after the packet if
@@ -263,6 +302,7 @@ fn is_one(bytes: &[u8], wanted: &Packet) -> bool {
 /// Bytes of packets of version 1, with their senders, bodies and claims.
 const WRITTEN: &[(&[u8], Member, Says, &[Said])] = &[
     (PING, "a", Says::Ping(7, "b"), &[]),
+    (PING_8, "a", Says::Ping(8, "b"), &[]),
     (ACK, "b", Says::Ack(7), &[]),
     (PING_REQ, "a", Says::Request(1, "c", 7003), &[]),
     (NACK, "b", Says::Nack(1), &[]),
@@ -279,9 +319,10 @@ const WRITTEN: &[(&[u8], Member, Says, &[Said])] = &[
     (
         SUSPECTS,
         "a",
-        Says::Ping(9, "c"),
+        Says::Ping(9, "b"),
         &[Suspect("b", 0, "a"), Suspect("b", 0, "c")],
     ),
+    (OBJECTS, "b", Says::Ack(9), &[Alive("b", 1)]),
     (
         GREATEST,
         "a",

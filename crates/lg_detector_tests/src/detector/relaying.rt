@@ -3,10 +3,12 @@
 use super::happening::Happens::{From, Ping, Tick};
 use super::happening::Says;
 use super::happening::Says::{Ack, Nack, Request};
-use super::playing::Due::{Nothing, RelayEnd, RelayNack, RoundEnd};
+use super::playing::Due::{Nothing, RelayEnd, RelayNack, RoundEnd, RoundStart};
 use super::playing::Step::{self, Chose, Fired, Next, Pings, Sends, Sent, Takes};
 use super::playing::{Case, opened, play, play_on};
 use crate::says::Said::{Alive, Suspect};
+use lg_detector::Detector;
+use std::process::Abort;
 
 /// The Ping is sent for a, so it chooses nobody. An Ack after the Nack is still passed on.
 const NACKED: Case = (
@@ -150,6 +152,83 @@ fn refuses_beyond_64(rt: HostRuntime) {
         play_on(&rt, &mut detector, "a relay", &steps);
     }
     play_on(&rt, &mut detector, "64 relays", FULL);
+}
+
+/// How many requests are relayed at once.
+const RELAYS: u32 = 64;
+
+/// What happens once for each relay, by its number.
+#[derive(Clone, Copy)]
+enum Each {
+    /// A request at 0 is relayed by a Ping with the same number.
+    Relayed,
+    /// A tick at 1000 sends the relay's Nack.
+    Nacked,
+    /// A tick at 1000 ends the relay.
+    Ended,
+}
+
+impl Each {
+    /// The steps for the relay with this number.
+    fn steps(self, number: u32) -> [Step<'static>; 4] {
+        match self {
+            Each::Relayed => [
+                Takes(From(0, "a", 7001, Request(number, "c", 7003), &[])),
+                Sends(1),
+                Sent(0, 7003, Says::Ping(number, "c"), &[]),
+                Next(0),
+            ],
+            Each::Nacked => [
+                Takes(Tick(1000)),
+                Fired(RelayNack(400, number)),
+                Sends(1),
+                Sent(0, 7001, Nack(number), &[]),
+            ],
+            Each::Ended => [
+                Takes(Tick(1000)),
+                Fired(RelayEnd(1000, number)),
+                Sends(0),
+                Next(1000),
+            ],
+        }
+    }
+
+    /// Plays the steps for each relay, in the order of their numbers.
+    fn play(self, rt: &impl Abort, detector: &mut Detector, case: &str) {
+        for number in 1..=RELAYS {
+            play_on(rt, detector, case, &self.steps(number));
+        }
+    }
+}
+
+/// The 65th request is refused. The first round starts at 0, with nobody to choose.
+const ONE_TOO_MANY: &[Step<'static>] = &[
+    Takes(From(0, "a", 7001, Request(65, "c", 7003), &[])),
+    Sends(1),
+    Sent(0, 7001, Nack(65), &[]),
+    Takes(Tick(0)),
+    Fired(RoundStart(0)),
+    Chose(None),
+    Sends(0),
+    Next(400),
+];
+
+/// All relays have ended, so a further request is relayed.
+const ONE_MORE: &[Step<'static>] = &[
+    Takes(From(1000, "a", 7001, Request(66, "c", 7003), &[])),
+    Sends(1),
+    Sent(0, 7003, Says::Ping(65, "c"), &[]),
+];
+
+/// 65 requests come at once, and later a 66th. Each tick does one thing: 64 send a Nack, and 64 more end a relay.
+#[test]
+fn a_flood_of_requests(rt: HostRuntime) {
+    let mut detector = opened(&rt, rt.alloc());
+    Each::Relayed.play(&rt, &mut detector, "a request");
+    play_on(&rt, &mut detector, "one too many", ONE_TOO_MANY);
+    Each::Nacked.play(&rt, &mut detector, "a Nack");
+    Each::Ended.play(&rt, &mut detector, "an end");
+    play_on(&rt, &mut detector, "one more", ONE_MORE);
 }
 
 /// A relay is opened at the latest moment that was handed in, if its request's moment is earlier. Its target's Ack is
