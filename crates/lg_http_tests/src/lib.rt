@@ -12,4 +12,6 @@ mod late;
 #[cfg(test)]
 mod playing;
 #[cfg(test)]
+mod refused_memory;
+#[cfg(test)]
 mod serving;

@@ -1,7 +1,7 @@
 //! A server at a free port of loopback, and a client in another thread that asks it.
 
 use super::board::Board;
-use super::{crowd, late, serving};
+use super::{crowd, late, refused_memory, serving};
 use lg_clock::MachineClock;
 use lg_http::{Counts, Desk, End, Listener, Server, Signal};
 use std::alloc::{AllocError, Global};
@@ -20,6 +20,8 @@ pub(crate) enum Play {
     Crowd,
     /// It takes its time.
     Late,
+    /// It asks the same again, if memory may be refused.
+    Refused,
 }
 
 /// What the client has.
@@ -89,6 +91,7 @@ fn ask_and_stop<R: Net<Stream = TcpStream> + rt::Clock>(
         Play::Rows => serving::ask(rt, place),
         Play::Crowd => crowd::ask(rt, place),
         Play::Late => late::ask(rt, place),
+        Play::Refused => refused_memory::ask(rt, place),
     };
     place.signal.stop();
     seen
