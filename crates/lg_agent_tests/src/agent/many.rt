@@ -319,32 +319,45 @@ fn threads_make_one_history(rt: HostRuntime) {
     }
 }
 
-/// Eight threads, one of which rotates after each hundred of its calls.
-fn rotating(looks: bool) -> [Task; 8] {
-    let mut task = Task::new(3000, WhenFull::Rotates);
+/// Eight threads that make this many calls each, and the first of which rotates after each hundred of its calls.
+fn rotating(calls: u32, looks: bool) -> [Task; 8] {
+    let mut task = Task::new(calls, WhenFull::Rotates);
     task.looks = looks;
     let mut tasks = [task; 8];
     tasks[0].rotates_after = 100;
     tasks
 }
 
-/// Whether all 24,000 calls were answered, and an agent with room for 200 entries was closed. Its last rotation left
-/// room for all of them.
-fn is_rotated(tally: Tally, ending: Ending) -> bool {
-    let mut want = Ending::closed(None, 24_001);
+/// How many calls each of eight threads makes, for how many entries the history has room, and whether each call is
+/// between looks. With little room all threads rotate: the others make some 700 calls while the first makes a hundred.
+const ROTATING: &[(u32, u64, bool)] = &[
+    (2000, 200, true),
+    (3000, 200, true),
+    (3000, 200, false),
+    (3000, 20_000, false),
+];
+
+/// Whether all calls of eight threads were answered, and an agent with this much room was closed. Its last rotation
+/// left room for all of them.
+fn is_rotated(tally: Tally, ending: Ending, calls: u32, limit: u64) -> bool {
+    let entries = u64::from(calls).saturating_mul(8).saturating_add(1);
+    let mut want = Ending::closed(None, entries);
     want.base = Some(tally.cut);
-    tally.wrong == 0 && tally.full == 0 && ending == want && 23_801 <= tally.cut
+    tally.wrong == 0
+        && tally.full == 0
+        && ending == want
+        && entries.saturating_sub(limit) <= tally.cut
 }
 
-/// Eight threads, one of which rotates after each hundred of its calls. The others make some 700 calls meanwhile.
-/// There isn't room for these, so the others rotate too.
+/// The calls of threads that rotate meanwhile make one history too, and none is refused in the end.
 #[test]
 fn threads_that_rotate(rt: HostRuntime) {
-    for looks in [false, true] {
-        let met = match played(&rt, rt.alloc(), 200, &rotating(looks)) {
-            Some((tally, ending)) => is_rotated(tally, ending),
+    for (calls, limit, looks) in ROTATING {
+        let tasks = rotating(*calls, *looks);
+        let met = match played(&rt, rt.alloc(), *limit, &tasks) {
+            Some((tally, ending)) => is_rotated(tally, ending, *calls, *limit),
             None => false,
         };
-        assert!(rt; met, "{looks}");
+        assert!(rt; met, "{calls} calls, room for {limit}, looks: {looks}");
     }
 }
