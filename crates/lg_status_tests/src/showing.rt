@@ -154,7 +154,7 @@ struct Doing<'a, R> {
     alloc: Global,
     clock: &'a SetClock,
     counters: &'a Counters,
-    /// Whether a step that went otherwise is done once more, since it may have been refused memory.
+    /// Whether each look is made twice, and a step that went otherwise is done once more: memory may be refused.
     twice: bool,
 }
 
@@ -241,6 +241,9 @@ impl<'a, R: Wait> Doing<'a, R> {
         match step {
             Shows(now, version) => {
                 self.clock.now.store(now, SeqCst);
+                if self.twice {
+                    site.refresh();
+                }
                 site.refresh() == version
             }
             Gets(path, query, status, body) => self.is_answered(site, path, query, status, body),
@@ -364,7 +367,7 @@ fn play_in<A: AgentName, R: Wait>(
     outcome
 }
 
-/// Does the steps with an agent of its own. A step that went otherwise is done once more, if it may be done twice.
+/// Does the steps with an agent of its own. If memory may be refused, steps are done twice.
 fn play<R: Wait>(rt: &R, alloc: Global, steps: &[Step<'_>], twice: bool) -> Option<Option<usize>> {
     play_in::<Brand, R>(rt, alloc, UnnamedBook::new(), 2, steps, twice)
 }
