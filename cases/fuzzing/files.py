@@ -1,0 +1,171 @@
+"""A slow judge of configuration files: what `lg check` writes of one, or its fault, by docs/FORMATS.md.
+
+Python's own reader of TOML says what a document is. It reads TOML 1.0. Where 1.1 allows more, this judge is unsure.
+"""
+
+import re
+import tomllib
+
+from fuzzing.numbers import DEFAULTS, NUMBERS, fault_of, suspicion_range, timeout
+from fuzzing.wire import is_name
+
+MOST_BYTES = 65_536
+MOST_DEPTH = 80
+SYNTAX, KEY, VALUE = 12, 13, 14
+STATUS, STATUS_OPEN, STATUS_NOT_LOOPBACK = 18, 19, 20
+TEXT_KEYS = ("name", "address")
+INTEGER_KEYS = ("port", "dice")
+# Of the node's own numbers: the least, the greatest, the default and the number of the fault.
+OWN_NUMBERS = {"pull_ms": (0, 3_600_000, 30_000, 16), "stall_ms": (0, 60_000, 100, 17)}
+DEFAULT_TEXTS = {"address": "127.0.0.1", "port": 7946, "dice": 1}
+KEYS = {*TEXT_KEYS, *INTEGER_KEYS, *NUMBERS, *OWN_NUMBERS, "seeds", "status", "status_open"}
+SHOWN_MEMBERS = (4, 16, 64, 256)
+# What TOML 1.1 or another reader of dates may take though Python's reader doesn't.
+UNSURE = re.compile(rb"\\[ex]|\{|\d\d:\d\d|\d{4}-\d\d|^\xef\xbb\xbf")
+
+
+class FileFault(Exception):
+    """The number of a file's fault."""
+
+    def __init__(self, number):
+        super().__init__(number)
+        self.number = number
+
+
+class Unsure(Exception):
+    """This judge can't say whether the file is TOML."""
+
+
+def must(holds, number):
+    if not holds:
+        raise FileFault(number)
+
+
+# ---- TOML
+
+
+def integers_in(value, depth=0):
+    """All whole numbers of a value. Raises a fault if its arrays are nested too deep."""
+    must(depth <= MOST_DEPTH, SYNTAX)
+    if isinstance(value, dict):
+        return [it for part in value.values() for it in integers_in(part, depth)]
+    if isinstance(value, list):
+        return [it for part in value for it in integers_in(part, depth + 1)]
+    return [value] if type(value) is int else []
+
+
+def document_of(data):
+    """The document that some bytes are."""
+    must(len(data) <= MOST_BYTES, SYNTAX)
+    try:
+        document = tomllib.loads(data.decode())
+    except (ValueError, RecursionError) as error:
+        if UNSURE.search(data) or isinstance(error, RecursionError):
+            raise Unsure from error
+        raise FileFault(SYNTAX) from error
+    must(all(-2**63 <= it < 2**63 for it in integers_in(document)), SYNTAX)
+    return document
+
+
+def is_of_type(key, value):
+    """Whether a value is of the type that its key needs. Those of the status server are judged later."""
+    if key in TEXT_KEYS:
+        return isinstance(value, str)
+    if key == "seeds":
+        return isinstance(value, list) and all(isinstance(it, str) for it in value)
+    return key in ("status", "status_open") or type(value) is int
+
+
+# ---- Texts
+
+
+def number_in(text, least, most):
+    """The number of a text, None if it is out of its form or range."""
+    is_right = re.fullmatch("[0-9]{1,16}", text) and least <= int(text) <= most
+    return int(text) if is_right else None
+
+
+def address_in(text):
+    """The four numbers of an address, None if it is out of its form."""
+    parts = [number_in(it, 0, 255) for it in text.split(".")]
+    return parts if len(parts) == 4 and None not in parts else None
+
+
+def place_in(text):
+    """The numbers and the port of `A.B.C.D:PORT`, None if the text is out of its form."""
+    before, colon, behind = text.partition(":")
+    address, port = address_in(before), number_in(behind, 1, 65535)
+    return (address, port) if colon and address and port else None
+
+
+def place_text(place):
+    return f"{'.'.join(map(str, place[0]))}:{place[1]}"
+
+
+def seed_in(text):
+    """The name and the place of a seed, None if it is out of its form."""
+    name, sign, behind = text.partition("@")
+    place = place_in(behind)
+    return (name, place) if sign and place and is_name(name.encode(errors="replace")) else None
+
+
+# ---- What a document means
+
+
+def numbers_of(document):
+    """The configuration's numbers and the node's own."""
+    own = {key: row[2] for key, row in OWN_NUMBERS.items()}
+    return {key: document.get(key, default) for key, default in (DEFAULTS | own).items()}
+
+
+def status_of(document):
+    """Where the status server listens, None if there is none, and whether that may be anywhere."""
+    place = None
+    if "status" in document:
+        must(isinstance(document["status"], str), STATUS)
+        place = place_in(document["status"])
+        must(place, STATUS)
+    is_open = document.get("status_open", False)
+    must(isinstance(is_open, bool), STATUS_OPEN)
+    must(place is None or is_open or place[0][0] == 127, STATUS_NOT_LOOPBACK)
+    return place, is_open
+
+
+def meaning_of(document):
+    """The values of a document, defaults filled in, by their keys. Raises the first fault."""
+    must(all(key in KEYS and is_of_type(key, value) for key, value in document.items()) and "name" in document, KEY)
+    values = DEFAULT_TEXTS | document | numbers_of(document)
+    address = address_in(values["address"])
+    seeds = [seed_in(it) for it in document.get("seeds", [])]
+    must(is_name(values["name"].encode(errors="replace")) and address and 1 <= values["port"] <= 65535
+         and values["dice"] >= 0 and None not in seeds, VALUE)
+    fault = fault_of(values, values["name"], [name for name, _ in seeds])
+    must(fault is None, fault)
+    for key, (least, most, _, number) in OWN_NUMBERS.items():
+        must(least <= values[key] <= most, number)
+    values["status"], values["status_open"] = status_of(document)
+    return values | {"address": ".".join(map(str, address)), "seeds": seeds}
+
+
+def shown(values):
+    """The lines of `lg check`."""
+    order = ["name", "address", "port", "dice", "seeds", *NUMBERS, *OWN_NUMBERS, "status", "status_open"]
+    seeds = ", ".join(f"{name}@{place_text(place)}" for name, place in values["seeds"])
+    texts = values | {"seeds": seeds or "none", "status": place_text(values["status"]) if values["status"] else "none",
+                      "status_open": str(values["status_open"]).lower()}
+    defaults = DEFAULT_TEXTS | numbers_of({}) | {"seeds": "none", "status": "none", "status_open": "false"}
+    lines = [f"{key} = {texts[key]}{' (default)' if texts[key] == defaults.get(key) else ''}" for key in order]
+    for live in SHOWN_MEMBERS:
+        least, most, counted = suspicion_range(values, live)
+        longest = timeout(least, most, counted, 0)
+        lines.append(f"{live} members: a round takes {values['interval_ms']} ms, "
+                     f"a suspicion lasts {least} to {longest} ms")
+    return lines
+
+
+def checked(data):
+    """What `lg check` writes of a file, and the number of its fault. One of the two is None."""
+    try:
+        return shown(meaning_of(document_of(data))), None
+    except FileFault as fault:
+        return None, fault.number

@@ -1,0 +1,118 @@
+"""What has to hold of any group, by what its members wrote. Nothing here is taken from the model of a detector."""
+
+from fuzzing.wire import ACK, FAILED, PING_REQ, SUSPECT, read
+
+
+def events_of(script, output):
+    """Each line of a script that is an event or a question, as words, with the words of the lines that it wrote."""
+    rest = iter(output)
+    for line in script:
+        words = line.split(" ")
+        if words[0] in ("", "#", "set", "table"):
+            continue
+        lines = []
+        for wrote in rest:
+            lines.append(wrote.split(" "))
+            if lines[-1][0] in ("next", "nobody", "fault"):
+                break
+        yield words, lines
+
+
+class Witness:
+    """Follows the events of a group, and notes what breaks a law.
+
+    `known` has what each member knows of others, the incarnation and the status. `accused` has who had a round without
+    an Ack of whom, at which incarnation. `failed` has whose suspicion ran out at which incarnation.
+    """
+
+    def __init__(self):
+        self.faults, self.names, self.sent = [], {}, []
+        self.known, self.probes = {}, {}
+        self.accused, self.failed = set(), set()
+
+    def note(self, fault):
+        self.faults.append(fault)
+
+    def take(self, words, lines):
+        """Takes an event and its lines."""
+        if lines and lines[0][0] in ("nobody", "fault"):
+            return
+        name = self.opened(words) if words[0] == "open" else words[1]
+        if words[0] == "deliver":
+            sender, to, packet = self.sent[int(words[1]) - 1]
+            name = self.names[to]
+            self.hear(name, sender, packet)
+        fired = next((line for line in lines if line[0] == "fired"), None)
+        if fired:
+            self.fire(name, fired)
+        for line in lines:
+            if line[0] == "record":
+                self.record(name, line[1], line[2], int(line[3]), line[6] if len(line) > 5 else None)
+        packets = [(line[2], read(bytes.fromhex(line[3]))) for line in lines if line[0] == "send"]
+        for to, packet in packets:
+            self.send(name, to, packet)
+        if fired and fired[1] == "round-start" and packets:
+            # The probe, with its number, its target, who may answer, and whether an Ack came.
+            self.probes[name] = [packets[0][1].number, packets[0][1].target.decode(), set(), False]
+            self.probes[name][2].add(self.probes[name][1])
+
+    def opened(self, words):
+        """A member is opened, or started again from nothing."""
+        name = words[1]
+        self.names[f"127.0.0.1:{int(words[2])}"] = name
+        self.known[name] = {seed.partition(":")[0]: (0, "alive") for seed in words[4:]}
+        self.known[name][name] = (0, "alive")
+        self.probes.pop(name, None)
+        return name
+
+    def hear(self, name, _, packet):
+        probe = self.probes.get(name)
+        if probe and packet.kind == ACK and packet.number == probe[0] and packet.sender.decode() in probe[2]:
+            probe[3] = True
+
+    def fire(self, name, fired):
+        if fired[1] == "suspicion":
+            incarnation, status = self.known[name].get(fired[2], (0, ""))
+            if status != "suspect":
+                self.note(f"a suspicion of {fired[2]} ran out at {name}, which didn't suspect it")
+            self.failed.add((fired[2], incarnation))
+        if fired[1] == "round-end":
+            _, target, _, is_acked = self.probes.pop(name)
+            if not is_acked:
+                self.accused.add((name, target, self.known[name][target][0]))
+
+    def record(self, name, member, status, incarnation, accuser):
+        """A record of a member changed."""
+        before = self.known[name].get(member)
+        if before and before[0] > incarnation:
+            self.note(f"the incarnation of {member} fell from {before[0]} to {incarnation} at {name}")
+        self.known[name][member] = incarnation, status
+        self.judge(name, member, status, incarnation, accuser)
+
+    def judge(self, name, member, status, incarnation, accuser):
+        """A member says that another is suspected or has failed: somebody had a reason."""
+        if status == "suspect" and (accuser, member, incarnation) not in self.accused:
+            self.note(f"{name} says that {accuser} suspects {member} at {incarnation}, after no round without an Ack")
+        if status == "failed" and (member, incarnation) not in self.failed:
+            self.note(f"{name} says that {member} failed at {incarnation}, and no suspicion of it ran out")
+
+    def send(self, name, to, packet):
+        self.sent.append((name, to, packet))
+        probe = self.probes.get(name)
+        if probe and packet.kind == PING_REQ and packet.number == probe[0] and to in self.names:
+            probe[2].add(self.names[to])
+        for claim in packet.claims:
+            status = {SUSPECT: "suspect", FAILED: "failed"}.get(claim.status, "alive")
+            accuser = claim.accuser.decode() if claim.accuser else None
+            self.judge(name, claim.member.decode(), status, claim.incarnation, accuser)
+
+
+def broken_laws(script, output, is_perfect=False):
+    """What of a script and its output breaks a law. In a perfect network nobody is suspected at all."""
+    witness = Witness()
+    for words, lines in events_of(script, output):
+        witness.take(words, lines)
+    if is_perfect:
+        doubted = [it for it in output if it.startswith("record ") and it.split(" ")[2] != "alive"]
+        witness.faults += [f"nothing was lost or late: {it}" for it in doubted[:1]]
+    return witness.faults

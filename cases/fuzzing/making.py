@@ -1,0 +1,107 @@
+"""Random values for the cases, and damage to bytes. All come from a generator with a seed, here called the dice."""
+
+from fuzzing.wire import (
+    ACK, ALIVE, FAILED, MOST_CLAIMS, MOST_INCARNATION, NACK, PAGE, PING, PING_REQ, PULL, SUSPECT, Claim, Packet,
+    spelled)
+
+HOST = bytes([127, 0, 0, 1])
+# Names that are short, long, the first and last by their bytes, and that begin others.
+NAMES = [b"b", b"a", b"c", b"d", b"bb", b"-", b"z", b"_", b"A.z_-9", b"n" * 32, b"n" * 31, b"9"]
+EDGES = [0, 1, 2, 3, 63, 64, 65, 255, 256, 65_535, 999_999_999, 1_000_000_000, 1_000_000_001, 2**32 - 1]
+BYTES = bytes([0, 1, 2, 3, 6, 7, 32, 33, 127, 128, 255])
+
+
+def names_of(dice):
+    """The names of a case: a few, or more than a member can know."""
+    few = dice.sample(NAMES, dice.randrange(3, len(NAMES) + 1))
+    many = [b"m%d" % number for number in range(dice.choice([20, 300, 600]))]
+    return few + many if dice.random() < 0.1 else few
+
+
+def incarnation_of(dice):
+    return dice.choice([0, 0, 0, 1, 1, 2, 3, dice.randrange(10), MOST_INCARNATION - dice.randrange(3)])
+
+
+def address_of(dice):
+    """An address, which is seldom far away."""
+    if dice.random() < 0.1:
+        return dice.randbytes(6)
+    return HOST + (7000 + dice.randrange(8)).to_bytes(2, "big")
+
+
+def claim_of(dice, names):
+    status = dice.choice([ALIVE, ALIVE, SUSPECT, SUSPECT, FAILED])
+    accuser = dice.choice(names) if status == SUSPECT else None
+    return Claim(status, dice.choice(names), address_of(dice), incarnation_of(dice), accuser)
+
+
+def number_of(dice):
+    """A number of a probe: small ones are those of relays."""
+    return dice.choice([dice.randrange(8), dice.randrange(80), dice.choice(EDGES[:-3]), dice.randrange(2**32)])
+
+
+def packet_of(dice, names, usual=PING):
+    """A packet, between members of these names, often of the usual kind."""
+    kind = dice.choice([usual] * 6 + [PING, PING_REQ, ACK, ACK, NACK, PULL, PAGE])
+    count = dice.choice([0, 0, 1, 1, 2, dice.randrange(MOST_CLAIMS + 1), MOST_CLAIMS])
+    claims = tuple([claim_of(dice, names) for _ in range(count)])
+    target = dice.choice([*names[:3], dice.choice(names)]) if kind in (PING, PING_REQ) else b""
+    target = dice.choice([b"", dice.choice(names)]) if kind == PULL else target
+    return Packet(dice.choice([1, 1, 1, 2]), kind, dice.choice(names),
+                  number_of(dice) if kind in (PING, PING_REQ, ACK, NACK) else 0, target,
+                  address_of(dice) if kind == PING_REQ else b"", claims)
+
+
+# ---- Damage
+
+
+def changed_bit(dice, data, place):
+    return data[:place] + bytes([data[place] ^ 1 << dice.randrange(8)]) + data[place + 1:]
+
+
+def changed_byte(dice, data, place):
+    return data[:place] + bytes([dice.choice(BYTES)]) + data[place + 1:]
+
+
+def cut(dice, data, place):
+    return data[:place]
+
+
+def left_out(dice, data, place):
+    return data[:place] + data[place + dice.randrange(1, 5):]
+
+
+def put_in(dice, data, place):
+    return data[:place] + dice.randbytes(dice.randrange(1, 5)) + data[place:]
+
+
+def doubled(dice, data, place):
+    end = place + dice.randrange(1, 9)
+    return data[:end] + data[place:]
+
+
+def lengthened(dice, data, place):
+    return data + dice.randbytes(dice.randrange(1, 3))
+
+
+DAMAGE = [changed_bit, changed_bit, changed_byte, changed_byte, cut, left_out, put_in, doubled, lengthened]
+
+
+def damaged(dice, data, other=b""):
+    """Some bytes with one or a few places damaged, or spliced with others."""
+    if other and dice.random() < 0.1:
+        return data[:dice.randrange(len(data) + 1)] + other[dice.randrange(len(other) + 1):]
+    for _ in range(dice.choice([1, 1, 1, 2, 4])):
+        if data:
+            data = dice.choice(DAMAGE)(dice, data, dice.randrange(len(data)))
+    return data
+
+
+def damaged_packet(dice, names, usual, share):
+    """The bytes of a packet, often of the usual kind. A share of 1 of all is damaged, or nothing like a packet."""
+    data = spelled(packet_of(dice, names, usual))
+    if dice.random() >= share:
+        return data
+    if dice.random() < 0.9:
+        return damaged(dice, data, spelled(packet_of(dice, names, usual)))
+    return dice.randbytes(dice.randrange(40))

@@ -1,0 +1,108 @@
+"""Cases of groups: 2 to 64 members that live through trouble and come to rest, as a script for a simulated cluster."""
+
+from dataclasses import dataclass, replace
+
+from fuzzing import group, member, numbers, wire
+from fuzzing.kinds import RunKind
+from fuzzing.laws import broken_laws, events_of
+from fuzzing.runs import Case, Outcome, first_difference, test_of, text_of
+from fuzzing.script import MOST_MEMBERS, Cluster, written
+
+MOST_INPUT = 1_048_576
+MOST_GROUP = 64
+TABLES_DIFFER = "after quiet the tables differ"
+
+
+@dataclass(frozen=True)
+class Life(Case):
+    """A script of a group. `may_restart` says which program plays it. What is known of the group holds of the whole
+    script alone: that its network was perfect, and whether its members agree at the end."""
+
+    may_restart: bool = False
+    is_perfect: bool = False
+    agrees: bool = True
+
+    def script(self):
+        return self.given.decode(errors="replace").splitlines()
+
+
+def size_of(dice, has_player):
+    """How many members a group has: mostly a few."""
+    how = dice.random()
+    if how < 0.7:
+        return dice.randint(2, 4)
+    if how < 0.92:
+        return dice.randint(5, 8)
+    return dice.randint(9, MOST_MEMBERS) if how < 0.99 or not has_player else dice.randint(17, MOST_GROUP)
+
+
+class Groups(RunKind):
+    """Each group is a case. With a player it may have 64 members, which may be started again; else it is one of
+    `lg sim`."""
+
+    name = "groups"
+    has_small_lines = False
+    wrong_rules = (
+        (member.Member, "live", lambda it: 1 + len(it.records)), (member, "MOST_CLAIMS", 5),
+        (member.Member, "mark", lambda *_: None), (member.Member, "accuse", lambda *_: None),
+        (member.Member, "hear_nack", lambda *_: None), (numbers, "LOGARITHMS", numbers.LOGARITHMS | {10: 999}))
+    # Detectors that break a law: the self-test lets small groups live by them, and looks at the laws alone. One goes by
+    # the status before the incarnation, one hears no Ack, one takes each suspect as failed at once, and one refutes
+    # nothing.
+    lawless = (
+        (wire.Claim, "rank", lambda it: (it.status, it.incarnation)),
+        (member.Member, "hear_ack", lambda *_: None),
+        (member.Member, "set_suspicion", lambda it, name: it.end_suspicion(name, None)),
+        (member.Member, "take_own", lambda *_: None))
+
+    def __init__(self, has_player=False):
+        self.has_player = has_player
+
+    def make(self, dice, most=MOST_GROUP):
+        may_restart = self.has_player and dice.random() < 0.8
+        size = min(most, size_of(dice, may_restart))
+        names = [f"m{number:02}" for number in range(size)]
+        plan = group.plan_of(dice, size, names, may_restart)
+        life = group.Group(dice, names, plan, may_restart)
+        agrees = life.live()
+        return Life(() if may_restart else ("sim",), text_of(life.lines), may_restart=may_restart,
+                    is_perfect=plan.is_perfect, agrees=agrees)
+
+    def wanted(self, case):
+        if len(case.given) > MOST_INPUT:
+            return Outcome(1, b"", ("lg: read",))
+        if not case.may_restart:
+            lines, is_faulty = written(case.given)
+            return Outcome(3 if is_faulty else 0, text_of(lines))
+        lines, _ = written(case.given, Cluster(MOST_GROUP, may_restart=True))
+        heard = sum(line.startswith("next ") for line in lines)
+        return Outcome(0, text_of([*lines, f"replayed {heard}"]))
+
+    def difference(self, case, programs):
+        got = programs.run(case, programs.player if case.may_restart else None)
+        laws = [] if case.agrees else [TABLES_DIFFER]
+        if len(case.given) <= MOST_INPUT:
+            laws += broken_laws(case.script(), got.output.decode(errors="replace").splitlines(), case.is_perfect)
+        return first_difference(got, self.wanted(case)) or next(iter(laws), None)
+
+    def with_lines(self, case, lines):
+        return replace(case, given=b"".join(lines), agrees=True, is_perfect=False)
+
+    def smaller(self, case, programs):
+        """Only what holds of any script is sought in a smaller one."""
+        small = super().smaller(case, programs)
+        return small if self.difference(small, programs) else case
+
+    def shown(self, case, programs, title):
+        told = self.difference(case, programs)
+        count = sum(1 for _ in events_of(case.script(), []))
+        if count > 200:
+            return f"{told}\nThe script has {count} events; the number of the case gives it again."
+        how = "# The program is the one that plays groups.\n" if case.may_restart else ""
+        return f"{told}\n{how}{test_of(case, self.wanted(case), title)}"
+
+    def broken_law(self, dice):
+        """What breaks a law in a small group that lives by the model of a detector. None if nothing does."""
+        case = self.make(dice, 4)
+        lines, _ = written(case.given, Cluster(MOST_GROUP, may_restart=True))
+        return next(iter(broken_laws(case.script(), lines, case.is_perfect)), None if case.agrees else TABLES_DIFFER)

@@ -1,0 +1,139 @@
+"""Cases of scripts, for `lg sim`: random lines over a few members, of which one is often damaged."""
+
+from fuzzing import member, numbers, script
+from fuzzing.kinds import RunKind
+from fuzzing.making import NAMES, damaged
+from fuzzing.runs import Case, Outcome, text_of
+
+MOST_LINES = 150
+CROWD = [b"m%02d" % number for number in range(20)]
+WORDS = [b"0", b"1", b"00", b"65535", b"65536", b"4294967295", b"4294967296", b"1000000000000000", b"1000000000000001",
+         b"9" * 16, b"9" * 17, b"", b"-1", b"+1", b"1 ", b" ", b"#", b"a/b", b"a:7001", b"n" * 32, b"n" * 33, b"\t",
+         b"\r", b"\xff", b"tick", b"wire", b"7001"]
+# Just in a range, and just outside.
+EDGES = [b"0", b"1", b"65535", b"65536", b"4294967295", b"4294967296", b"1000000000000000", b"1000000000000001"]
+
+
+class Story:
+    """A script that grows: its lines, and the cluster that they lead to."""
+
+    def __init__(self, dice):
+        self.dice, self.lines, self.cluster, self.now = dice, [], script.Cluster(), 0
+        self.names = dice.choice([dice.sample(NAMES, dice.choice([2, 3, 4, len(NAMES)])), CROWD])
+        # How many members are opened before much else happens.
+        self.early = dice.choice([2, 2, 3, len(self.names)])
+        # Members come near each other in time, so that timers of several are due at once.
+        self.pace = dice.choice([0, 1, 20, 200, 1000])
+
+    def add(self, line):
+        """Adds a line. A faulty one changes nothing of the cluster."""
+        self.lines.append(line)
+        try:
+            self.cluster.run(line)
+        except script.LineFault:
+            pass
+
+    def moment(self):
+        self.now = max(0, self.now + self.dice.choice([0, 1, -1, self.dice.randrange(self.pace + 1)]))
+        return self.dice.choice([self.now, self.now, self.now, 10**15]) if self.dice.random() < 0.005 else self.now
+
+    def name(self):
+        return self.dice.choice(list(self.cluster.members) or self.names)
+
+    def port(self):
+        return 7001 + self.dice.randrange(len(self.names) + 1)
+
+    def set(self):
+        key = self.dice.choice(sorted(numbers.NUMBERS))
+        least, most, default, _ = numbers.NUMBERS[key]
+        value = self.dice.choice([least, most, default, self.dice.randint(least, min(most, 3 * default))])
+        value = self.dice.choice([least - 1 if least else most + 1, most + 1]) if self.dice.random() < 0.01 else value
+        return f"set {key} {value}"
+
+    def open(self):
+        """An opening, seldom of a name that is open, which is a fault."""
+        new = [name for name in self.names if name not in self.cluster.members]
+        word = self.dice.choice(new if new and self.dice.random() < 0.99 else self.names)
+        seeds = self.dice.sample(self.names, self.dice.choice([0, 1, 2, self.dice.randrange(len(self.names))]))
+        seeds = [f"{it.decode()}:{7001 + self.names.index(it)}" for it in seeds if it != word]
+        return " ".join(["open", word.decode(), str(7001 + self.names.index(word)), str(self.moment()), *seeds])
+
+    def tick(self):
+        """A tick, mostly when a timer of the member is due."""
+        word = self.name()
+        opened = self.cluster.members.get(word)
+        now = self.moment()
+        if opened and self.dice.random() < 0.7:
+            now = self.now = max(now, opened.least_deadline())
+        words = [self.dice.choice([0, 1, self.dice.randrange(2**32)]) for _ in range(self.dice.choice([0, 1, 4, 8]))]
+        return " ".join(["tick", word.decode(), *map(str, [now, *words])])
+
+    def deliver(self):
+        """A delivery, mostly of one of the packets that were sent last."""
+        sent = len(self.cluster.sent)
+        last = max(1, sent - self.dice.choice([0, 0, 0, 1, 2, 5, 20]))
+        number = self.dice.choice([last, last, last, self.dice.randint(1, max(1, sent))])
+        return f"deliver {sent + 1 if self.dice.random() < 0.002 else number} {self.moment()}"
+
+    def question(self):
+        word = self.name().decode()
+        return self.dice.choice([f"ask {word} {self.moment()} {self.dice.choice(self.names).decode()}",
+                                 f"health {word} {self.moment()}", f"table {word}",
+                                 f"pull {word} {self.moment()} {self.port()}", "", "# words"])
+
+    def tell(self, count):
+        for _ in range(self.dice.randrange(8)):
+            self.add(self.set().encode())
+        for _ in range(count):
+            opened = len(self.cluster.members)
+            is_early = opened < self.early and self.dice.random() < 0.8
+            if is_early or opened < len(self.names) and self.dice.random() < 0.03:
+                line = self.open()
+            elif self.cluster.sent or self.dice.random() < 0.01:
+                line = self.dice.choice([self.tick, self.tick, self.deliver, self.deliver, self.question])()
+            else:
+                line = self.dice.choice([self.tick, self.question])()
+            self.add(line.encode())
+
+
+def with_damage(dice, lines):
+    """The lines of a script with one of them damaged: a word of it changed, left out, put in, or some bytes of it."""
+    place = dice.randrange(len(lines))
+    words = lines[place].split(b" ")
+    spot = dice.randrange(len(words))
+    how = dice.randrange(7)
+    if how >= 5:
+        words[spot] = dice.choice(EDGES)
+    elif how == 0:
+        words[spot] = dice.choice(WORDS)
+    elif how == 1:
+        words.insert(spot, dice.choice(WORDS))
+    elif how == 2:
+        del words[spot]
+    elif how == 3:
+        words = words + words[spot:]
+    line = damaged(dice, lines[place]) if how == 4 else b" ".join(words)
+    return [*lines[:place], line, *lines[place + 1:]]
+
+
+class Scripts(RunKind):
+    """Each script is a case."""
+
+    name = "scripts"
+    wrong_rules = (
+        (script, "MOST_MEMBERS", 17), (script, "MOST_WORD", 2**32), (script, "MOST_MOMENT", 10**15 + 1),
+        (script, "MOST_SEEDS", 15), (member, "MOST_CLAIMS", 5), (member.Member, "live", lambda it: 1 + len(it.records)),
+        (member.Member, "mark", lambda *_: None), (member.Member, "accuse", lambda *_: None),
+        (numbers, "RATIOS", [[900], [0, 1000], *numbers.RATIOS[2:]]),
+        (numbers, "LOGARITHMS", numbers.LOGARITHMS | {10: 999}))
+
+    def make(self, dice):
+        story = Story(dice)
+        story.tell(dice.choice([5, 20, 60, MOST_LINES]))
+        lines = story.lines or [b""]
+        lines = with_damage(dice, lines) if dice.random() < 0.4 else lines
+        return Case(("sim",), b"\n".join(lines) + dice.choice([b"", b"\n"]))
+
+    def wanted(self, case):
+        lines, is_faulty = script.written(case.given)
+        return Outcome(3 if is_faulty else 0, text_of(lines))

@@ -1,0 +1,64 @@
+//! Plays the lines of a script, up to the first that is faulty.
+
+use crate::group::Group;
+use crate::member::{Output, Stop};
+use arrayvec::ArrayVec;
+use itoa::Buffer;
+use lg_detector::{NoMemory, Reply};
+use lg_script::{ScriptFault, command_in};
+use lg_text::cut_line;
+use std::alloc::{AllocError, Global};
+
+/// Carries out the command of a line, if it has one.
+fn run_line(
+    alloc: Global,
+    line: &[u8],
+    group: &mut Group,
+    output: &mut Output,
+) -> Result<(), Stop> {
+    match command_in(line) {
+        Ok(None) => Ok(()),
+        Ok(Some(command)) => group.run(alloc, command, output),
+        Err(fault) => Err(Stop::Faulty(fault)),
+    }
+}
+
+/// Writes the line of a fault, with the number of the faulty line.
+fn put_fault(number: u64, fault: ScriptFault, text: &mut Vec<u8>) -> Result<(), NoMemory> {
+    let mut digits = Buffer::new();
+    text.extend_from_slice(b"fault ")?;
+    text.extend_from_slice(digits.format(number).as_bytes())?;
+    text.push(b' ')?;
+    text.extend_from_slice(fault.text().as_bytes())?;
+    text.push(b'\n')?;
+    Ok(())
+}
+
+/// What a script writes. Time and memory are in proportion to the script and to what it writes. The only error is that
+/// memory was refused.
+pub fn play_script(alloc: Global, input: &[u8]) -> Result<Vec<u8>, NoMemory> {
+    let mut group = Group::new(alloc);
+    let mut output = Output {
+        text: Vec::new(alloc),
+        sent: Vec::new(alloc),
+        reply: Reply::default(),
+        row: ArrayVec::new(),
+    };
+    let mut number: u64 = 1;
+    let mut rest = input;
+    'lines: while !rest.is_empty() {
+        let (line, after) = cut_line(rest);
+        match run_line(alloc, line, &mut group, &mut output) {
+            Ok(()) => {}
+            Err(Stop::NoMemory) => return Err(AllocError),
+            Err(Stop::Faulty(fault)) => {
+                put_fault(number, fault, &mut output.text)?;
+                break;
+            }
+        }
+        number = number.saturating_add(1);
+        rest = after;
+    }
+    group.replay_all(alloc, &mut output)?;
+    Ok(output.text)
+}
