@@ -1,4 +1,4 @@
-"""A random group that lives by the model: what its network loses, doubles and delays, who stands still, dies or is
+"""A random group of the models of detectors: what its network loses, doubles and delays, who stands still, dies or is
 started again, and who is cut off. It writes the script that plays the same."""
 
 import heapq
@@ -9,7 +9,6 @@ from fuzzing.script import MOST_MEMBERS, Cluster
 from fuzzing.wire import ALIVE, FAILED
 
 FIRST_PORT = 7001
-# Why a member isn't there: it hasn't been opened yet, or it is dead.
 MOST_SEEDS = 16
 STEPS = 60
 
@@ -94,7 +93,7 @@ def plan_of(dice, size, names, may_restart):
 
 
 class Group:
-    """A group that lives, and what it writes. `may_restart` is that of the cluster."""
+    """A group, and the script that it writes. `may_restart` is that of the cluster."""
 
     def __init__(self, dice, names, plan, may_restart):
         self.dice, self.names, self.plan, self.now = dice, names, plan, 0
@@ -197,7 +196,7 @@ class Group:
                 getattr(self, does)(*words)
         self.now = max(self.now, end)
 
-    # ---- A life
+    # ---- From the beginning to the end
 
     def trouble(self):
         """Opens the members, some of them late, and lets the trouble come."""
@@ -258,8 +257,8 @@ class Group:
                 return True
         return False
 
-    def live(self):
-        """The whole life. Gives whether all agree at its end, of which the tables are written."""
+    def run_whole(self):
+        """Trouble, and then quiet. Gives whether all agree at the end, of which the tables are written."""
         self.trouble()
         for name in self.names:
             self.still_until[name] = 0

@@ -1,4 +1,4 @@
-"""Cases of groups: 2 to 64 members that live through trouble and come to rest, as a script for a simulated cluster."""
+"""Cases of groups: 2 to 64 members in trouble and then in quiet, as a script for a simulated cluster."""
 
 from dataclasses import dataclass, replace
 
@@ -14,7 +14,7 @@ TABLES_DIFFER = "after quiet the tables differ"
 
 
 @dataclass(frozen=True)
-class Life(Case):
+class GroupCase(Case):
     """A script of a group. `may_restart` says which program plays it. What is known of the group holds of the whole
     script alone: that its network was perfect, and whether its members agree at the end."""
 
@@ -46,7 +46,7 @@ class Groups(RunKind):
         (member.Member, "live", lambda it: 1 + len(it.records)), (member, "MOST_CLAIMS", 5),
         (member.Member, "mark", lambda *_: None), (member.Member, "accuse", lambda *_: None),
         (member.Member, "hear_nack", lambda *_: None), (numbers, "LOGARITHMS", numbers.LOGARITHMS | {10: 999}))
-    # Detectors that break a law: the self-test lets small groups live by them, and looks at the laws alone. One goes by
+    # Detectors that break a law: the self-test runs small groups of them, and looks at the laws alone. One goes by
     # the status before the incarnation, one hears no Ack, one takes each suspect as failed at once, and one refutes
     # nothing.
     lawless = (
@@ -63,10 +63,10 @@ class Groups(RunKind):
         size = min(most, size_of(dice, may_restart))
         names = [f"m{number:02}" for number in range(size)]
         plan = group.plan_of(dice, size, names, may_restart)
-        life = group.Group(dice, names, plan, may_restart)
-        agrees = life.live()
-        return Life(() if may_restart else ("sim",), text_of(life.lines), may_restart=may_restart,
-                    is_perfect=plan.is_perfect, agrees=agrees)
+        made = group.Group(dice, names, plan, may_restart)
+        agrees = made.run_whole()
+        return GroupCase(() if may_restart else ("sim",), text_of(made.lines), may_restart=may_restart,
+                         is_perfect=plan.is_perfect, agrees=agrees)
 
     def wanted(self, case):
         if len(case.given) > MOST_INPUT:
@@ -102,7 +102,7 @@ class Groups(RunKind):
         return f"{told}\n{how}{test_of(case, self.wanted(case), title)}"
 
     def broken_law(self, dice):
-        """What breaks a law in a small group that lives by the model of a detector. None if nothing does."""
+        """What breaks a law in a small group of the models of detectors. None if nothing does."""
         case = self.make(dice, 4)
         lines, _ = written(case.given, Cluster(MOST_GROUP, may_restart=True))
         return next(iter(broken_laws(case.script(), lines, case.is_perfect)), None if case.agrees else TABLES_DIFFER)

@@ -15,7 +15,7 @@ from fuzzing.member import Member
 from fuzzing.numbers import DEFAULTS
 from fuzzing.shrinking import shrunk
 from fuzzing.wire import ALIVE, FAILED, PING, SUSPECT, Claim, Packet, spelled
-from running import bound_socket, table_of, wait_until
+from running import HELD, PATIENCE, bound_socket, table_of, wait_until
 
 SECONDS = 10
 MOST_REQUESTS = 12
@@ -79,23 +79,28 @@ class Asked:
     """A node that heard the packet, and the records that it then knows."""
 
     def __init__(self, program):
+        self.held = len(HELD)
         self.lone = Lone(program)
         own = HOST + self.lone.port.to_bytes(2, "big")
         model = Member(b"b", own, 0, DEFAULTS | {"interval_ms": 60_000})
         model.hear(0, own, HEARD)
         self.view = model.view()
+        if wait_until(self.has_heard, PATIENCE) is None:
+            raise RuntimeError(f"the node knows {table_of(self.lone.port)}")
+
+    def has_heard(self):
+        """Sends the packet, which changes nothing if it comes again, and says whether the node has heard it."""
         with bound_socket() as sender:
             sender.sendto(spelled(HEARD), ("127.0.0.1", self.lone.port))
-        if wait_until(lambda: len(table_of(self.lone.port)) == len(self.view), SECONDS) is None:
-            raise RuntimeError(f"the node knows {table_of(self.lone.port)}")
+        return len(table_of(self.lone.port)) == len(self.view)
 
     def fault(self, requests):
         """What is wrong with what comes for the requests of a connection."""
-        received = all_received(self.lone.status, b"".join(it.data for it in requests))
         whole = [it for it in requests if it.is_whole]
         try:
+            received = all_received(self.lone.status, b"".join(it.data for it in requests))
             answers, rest = web.answers_in(received, [it.method for it in whole])
-        except (ValueError, KeyError) as error:
+        except (ValueError, KeyError, OSError) as error:
             return f"the answers can't be read: {error!r}"
         faults = [web.fault_of(it.method, it.target, answer, self.view) for it, answer in zip(whole, answers)]
         faults += [f"{len(answers)} answers to {len(whole)} requests"] if len(answers) < len(whole) else []
@@ -108,7 +113,11 @@ class Asked:
         return self
 
     def __exit__(self, *words):
+        """Ends the node, and gives its ports back: a long run has many nodes."""
         self.lone.__exit__(*words)
+        for holder in HELD[self.held:]:
+            holder.close()
+        del HELD[self.held:]
 
 
 class Requests:

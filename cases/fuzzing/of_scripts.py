@@ -14,8 +14,8 @@ WORDS = [b"0", b"1", b"00", b"65535", b"65536", b"4294967295", b"4294967296", b"
 EDGES = [b"0", b"1", b"65535", b"65536", b"4294967295", b"4294967296", b"1000000000000000", b"1000000000000001"]
 
 
-class Story:
-    """A script that grows: its lines, and the cluster that they lead to."""
+class Maker:
+    """Makes a script line by line, and has the cluster that the lines lead to."""
 
     def __init__(self, dice):
         self.dice, self.lines, self.cluster, self.now = dice, [], script.Cluster(), 0
@@ -81,7 +81,8 @@ class Story:
                                  f"health {word} {self.moment()}", f"table {word}",
                                  f"pull {word} {self.moment()} {self.port()}", "", "# words"])
 
-    def tell(self, count):
+    def make(self, count):
+        """Adds some settings, and so many lines."""
         for _ in range(self.dice.randrange(8)):
             self.add(self.set().encode())
         for _ in range(count):
@@ -128,9 +129,9 @@ class Scripts(RunKind):
         (numbers, "LOGARITHMS", numbers.LOGARITHMS | {10: 999}))
 
     def make(self, dice):
-        story = Story(dice)
-        story.tell(dice.choice([5, 20, 60, MOST_LINES]))
-        lines = story.lines or [b""]
+        maker = Maker(dice)
+        maker.make(dice.choice([5, 20, 60, MOST_LINES]))
+        lines = maker.lines or [b""]
         lines = with_damage(dice, lines) if dice.random() < 0.4 else lines
         return Case(("sim",), b"\n".join(lines) + dice.choice([b"", b"\n"]))
 

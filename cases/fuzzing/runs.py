@@ -1,9 +1,6 @@
 """Runs of the program over a case, and what they give beside what was wanted."""
 
-import contextlib
-import pathlib
 import subprocess
-import tempfile
 from dataclasses import dataclass
 
 SECONDS = 30
@@ -55,19 +52,10 @@ def first_difference(got, wanted):
 
 
 class Programs:
-    """The programs that are tried, and a folder for their files. It is used by one process, as `with` says."""
+    """The programs that are tried by one process, and a folder of it."""
 
-    def __init__(self, program, player=None):
-        self.program, self.player = program, player
-
-    def __enter__(self):
-        with contextlib.ExitStack() as stack:
-            self.folder = pathlib.Path(stack.enter_context(tempfile.TemporaryDirectory(prefix="lg-fuzz-")))
-            self.stack = stack.pop_all()
-        return self
-
-    def __exit__(self, *_):
-        self.stack.close()
+    def __init__(self, program, player, folder):
+        self.program, self.player, self.folder = program, player, folder
 
     def run(self, case, program=None):
         """Runs a program over a case."""

@@ -103,65 +103,69 @@ impl Group {
         if self.place_at(&addr).is_some_and(|at| before != Some(at)) {
             return Err(Stop::Faulty(ScriptFault::Double));
         }
+        if before.is_none() && self.members.len() >= MAX_GROUP {
+            return Err(Stop::Faulty(ScriptFault::Full));
+        }
         let mut member = Member::new(alloc, name, addr)?;
-        match before {
-            Some(at) => {
-                self.replay(alloc, at, output)?;
-                member.take(&Event::Open { now, config }, output)?;
-                self.members[at] = member;
-            }
-            None => {
-                if self.members.len() >= MAX_GROUP {
-                    return Err(Stop::Faulty(ScriptFault::Full));
-                }
-                member.take(&Event::Open { now, config }, output)?;
-                self.add(member)?;
-            }
+        if let Some(at) = before {
+            self.replay(alloc, at, output)?;
+        }
+        member.take(&Event::Open { now, config }, output)?;
+        self.put(before, member)?;
+        Ok(())
+    }
+
+    /// Puts a member in a place, or behind all others.
+    fn put(&mut self, at: Option<usize>, member: Member) -> Result<(), NoMemory> {
+        match at.and_then(|at| self.members.get_mut(at)) {
+            Some(place) => *place = member,
+            None => self.members.push(member)?,
         }
         Ok(())
     }
 
-    /// Adds a member.
-    fn add(&mut self, member: Member) -> Result<(), NoMemory> {
-        self.members.push(member)?;
-        Ok(())
-    }
-
-    /// Lets an event happen at the member with a name.
-    fn happen_at(&mut self, name: &Name, event: &Event, output: &mut Output) -> Result<(), Stop> {
-        match self.place_of(name) {
-            Some(at) => self.members[at].take(event, output),
+    /// Lets an event happen at the member in a place. Without a place it is a fault.
+    fn happen(
+        &mut self,
+        at: Option<usize>,
+        event: &Event,
+        output: &mut Output,
+    ) -> Result<(), Stop> {
+        match at.and_then(|at| self.members.get_mut(at)) {
+            Some(member) => member.take(event, output),
             None => Err(Stop::Faulty(ScriptFault::Member)),
         }
     }
 
+    /// Lets an event happen at the member with a name.
+    fn happen_at(&mut self, name: &Name, event: &Event, output: &mut Output) -> Result<(), Stop> {
+        self.happen(self.place_of(name), event, output)
+    }
+
     /// Delivers the packet with a number to the member at its destination, if a member is there.
     fn deliver(&mut self, packet: u64, now: Moment, output: &mut Output) -> Result<(), Stop> {
-        let Some(index) = packet.checked_sub(1) else {
+        let index = packet.checked_sub(1).map(|index| index as usize);
+        let Some(sent) = index.and_then(|index| output.sent.get(index)) else {
             return Err(Stop::Faulty(ScriptFault::Packet));
         };
-        let Some(sent) = output.sent.get(index as usize) else {
-            return Err(Stop::Faulty(ScriptFault::Packet));
-        };
+        let to = self.place_at(&sent.outgoing.to);
         let event = Event::Heard {
             now,
             source: sent.from,
             packet: sent.outgoing.packet.copy(),
         };
-        match self.place_at(&sent.outgoing.to) {
-            Some(at) => self.members[at].take(&event, output),
-            None => {
-                output.text.extend_from_slice(b"nobody\n")?;
-                Ok(())
-            }
+        if to.is_some() {
+            return self.happen(to, &event, output);
         }
+        output.text.extend_from_slice(b"nobody\n")?;
+        Ok(())
     }
 
     /// Writes the table of the member with a name.
     fn put_table(&self, alloc: Global, name: &Name, output: &mut Output) -> Result<(), Stop> {
-        match self.place_of(name) {
-            Some(at) => {
-                self.members[at].put_table(alloc, &mut output.text)?;
+        match self.members.iter().find(|member| member.name == *name) {
+            Some(member) => {
+                member.put_table(alloc, &mut output.text)?;
                 Ok(())
             }
             None => Err(Stop::Faulty(ScriptFault::Member)),
@@ -170,9 +174,11 @@ impl Group {
 
     /// Replays the events of the member in a place, and counts them.
     fn replay(&mut self, alloc: Global, at: usize, output: &mut Output) -> Result<(), NoMemory> {
-        let count = self.members[at].replay(alloc, output)?;
-        self.agrees = self.agrees && count == self.members[at].heard();
-        self.replayed = self.replayed.saturating_add(count);
+        if let Some(member) = self.members.get(at) {
+            let count = member.replay(alloc, output)?;
+            self.agrees = self.agrees && count == member.heard();
+            self.replayed = self.replayed.saturating_add(count);
+        }
         Ok(())
     }
 
@@ -187,10 +193,9 @@ impl Group {
         } else {
             b"differs "
         };
+        let count = digits.format(self.replayed as u64).as_bytes();
         output.text.extend_from_slice(word)?;
-        output
-            .text
-            .extend_from_slice(digits.format(self.replayed as u64).as_bytes())?;
+        output.text.extend_from_slice(count)?;
         output.text.push(b'\n')?;
         Ok(())
     }

@@ -6,6 +6,9 @@ use lg_rules::{Addr, Name};
 use lg_script::ScriptFault;
 use std::alloc::{AllocError, Global};
 
+/// A number that no packet has, since no script is long enough. The check sees by it that numbers don't overflow.
+const MOST_PACKETS: u64 = 1_000_000_000_000;
+
 /// Why a line of a script isn't carried out.
 #[derive(Clone, Copy, Debug, PartialEq, Eq)]
 pub enum Stop {
@@ -133,7 +136,7 @@ impl Member {
             lines.clear();
             put_reply(
                 &entry.event,
-                entry.first,
+                entry.first.min(MOST_PACKETS),
                 &output.reply,
                 &mut output.row,
                 &mut lines,
