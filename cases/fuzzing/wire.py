@@ -1,6 +1,6 @@
 """A slow judge of packets, by the table of docs/FORMATS.md: their first fault, what they say, and their bytes.
 
-It reads one byte after another, and shares nothing with the program.
+It reads the bytes from the first on, and shares nothing with the program.
 """
 
 from dataclasses import dataclass
@@ -74,7 +74,7 @@ def address_text(address):
 
 
 class Reader:
-    """Takes the bytes of a packet one after another."""
+    """Takes the bytes of a packet from the first on."""
 
     def __init__(self, data):
         self.data, self.place = data, 0
@@ -95,10 +95,17 @@ class Reader:
     def name(self, least=1):
         """A name, or no name at all if it may have a length of 0."""
         length = self.one_of(range(least, MOST_NAME + 1), NAME)
-        return bytes([self.one_of(NAME_BYTES, NAME) for _ in range(length)])
+        # A bad byte that is there comes before the one that is missing.
+        if not NAME_BYTES.issuperset(self.data[self.place:self.place + length]):
+            raise Fault(NAME)
+        return self.raw(length)
 
     def raw(self, count):
-        return bytes([self.byte() for _ in range(count)])
+        """So many bytes, whatever they are."""
+        self.place += count
+        if self.place > len(self.data):
+            raise Fault(SHORT)
+        return self.data[self.place - count:self.place]
 
     def number(self):
         return int.from_bytes(self.raw(4), "big")
