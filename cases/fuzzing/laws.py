@@ -15,6 +15,8 @@ def events_of(script, output):
             lines.append(wrote.split(" "))
             if lines[-1][0] in ("next", "nobody", "fault"):
                 break
+        if not lines or lines[0][0] == "fault":
+            return
         yield words, lines
 
 
@@ -35,7 +37,7 @@ class Witness:
 
     def take(self, words, lines):
         """Takes an event and its lines."""
-        if lines and lines[0][0] in ("nobody", "fault"):
+        if lines[0][0] == "nobody":
             return
         name = self.opened(words) if words[0] == "open" else words[1]
         if words[0] == "deliver":

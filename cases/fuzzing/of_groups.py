@@ -4,12 +4,14 @@ from dataclasses import dataclass, replace
 
 from fuzzing import group, member, numbers, wire
 from fuzzing.kinds import RunKind
-from fuzzing.laws import broken_laws, events_of
+from fuzzing.laws import broken_laws
 from fuzzing.runs import Case, Outcome, first_difference, test_of, text_of
 from fuzzing.script import MOST_MEMBERS, Cluster, written
 
 MOST_INPUT = 1_048_576
 MOST_GROUP = 64
+# The longest script that is shown.
+MOST_SHOWN = 200
 TABLES_DIFFER = "after quiet the tables differ"
 
 
@@ -79,11 +81,13 @@ class Groups(RunKind):
         return Outcome(0, text_of([*lines, f"replayed {heard}"]))
 
     def difference(self, case, programs):
+        """Where the program differs from the model, or else which law both of them break."""
         got = programs.run(case, programs.player if case.may_restart else None)
-        laws = [] if case.agrees else [TABLES_DIFFER]
-        if len(case.given) <= MOST_INPUT:
-            laws += broken_laws(case.script(), got.output.decode(errors="replace").splitlines(), case.is_perfect)
-        return first_difference(got, self.wanted(case)) or next(iter(laws), None)
+        told = first_difference(got, self.wanted(case))
+        if told or got.status:
+            return told
+        laws = broken_laws(case.script(), got.output.decode().splitlines(), case.is_perfect)
+        return next(iter(laws), None if case.agrees else TABLES_DIFFER)
 
     def with_lines(self, case, lines):
         return replace(case, given=b"".join(lines), agrees=True, is_perfect=False)
@@ -95,9 +99,9 @@ class Groups(RunKind):
 
     def shown(self, case, programs, title):
         told = self.difference(case, programs)
-        count = sum(1 for _ in events_of(case.script(), []))
-        if count > 200:
-            return f"{told}\nThe script has {count} events; the number of the case gives it again."
+        count = len(case.script())
+        if count > MOST_SHOWN:
+            return f"{told}\nThe script has {count} lines; the number of the case gives it again."
         how = "# The program is the one that plays groups.\n" if case.may_restart else ""
         return f"{told}\n{how}{test_of(case, self.wanted(case), title)}"
 

@@ -129,14 +129,14 @@ impl Member {
         let mut detector = Detector::blank(alloc)?;
         let mut lines = Vec::new(alloc);
         for (count, entry) in self.entries.iter().enumerate() {
-            if !detector.accepts(&entry.event) {
+            if !detector.accepts(&entry.event) || entry.first > MOST_PACKETS {
                 return Ok(count);
             }
             detector.step(&entry.event, &mut output.reply);
             lines.clear();
             put_reply(
                 &entry.event,
-                entry.first.min(MOST_PACKETS),
+                entry.first,
                 &output.reply,
                 &mut output.row,
                 &mut lines,

@@ -6,7 +6,7 @@ use arrayvec::ArrayVec;
 use itoa::Buffer;
 use lg_detector::{NoMemory, Reply};
 use lg_script::{ScriptFault, command_in};
-use lg_text::cut_line;
+use lg_text::{MAX_INPUT, cut_line};
 use std::alloc::{AllocError, Global};
 
 /// Carries out the command of a line, if it has one.
@@ -34,7 +34,7 @@ fn put_fault(number: u64, fault: ScriptFault, text: &mut Vec<u8>) -> Result<(), 
     Ok(())
 }
 
-/// What a script writes. Time and memory are in proportion to the script and to what it writes. The only error is that
+/// What a script of at most [`MAX_INPUT`] bytes writes. Time and memory are in proportion to the script and to what it writes. The only error is that
 /// memory was refused.
 pub fn play_script(alloc: Global, input: &[u8]) -> Result<Vec<u8>, NoMemory> {
     let mut group = Group::new(alloc);
@@ -44,9 +44,11 @@ pub fn play_script(alloc: Global, input: &[u8]) -> Result<Vec<u8>, NoMemory> {
         reply: Reply::default(),
         row: ArrayVec::new(),
     };
-    let mut number: u64 = 1;
     let mut rest = input;
-    'lines: while !rest.is_empty() {
+    for number in 1..=MAX_INPUT as u64 {
+        if rest.is_empty() {
+            break;
+        }
         let (line, after) = cut_line(rest);
         match run_line(alloc, line, &mut group, &mut output) {
             Ok(()) => {}
@@ -56,7 +58,6 @@ pub fn play_script(alloc: Global, input: &[u8]) -> Result<Vec<u8>, NoMemory> {
                 break;
             }
         }
-        number = number.saturating_add(1);
         rest = after;
     }
     group.replay_all(alloc, &mut output)?;
