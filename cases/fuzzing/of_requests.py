@@ -17,7 +17,8 @@ from fuzzing.shrinking import shrunk
 from fuzzing.wire import ALIVE, FAILED, PING, SUSPECT, Claim, Packet, spelled
 from running import HELD, PATIENCE, bound_socket, table_of, wait_until
 
-SECONDS = 10
+# Longer than a request for changes may wait.
+SECONDS = 40
 MOST_REQUESTS = 12
 CONNECTIONS = 50
 METHODS = ["GET", "GET", "GET", "GET", "HEAD", "HEAD", "POST", "PUT", "DELETE", "OPTIONS", "PATCH"]
