@@ -21,6 +21,9 @@ class Network:
     doubling: float = 0.0
     least_delay: int = 1
     most_delay: int = 1
+    # How likely somebody records a packet and sends it again, and how much later at most.
+    replays: float = 0.0
+    most_later: int = 1
     # The names of one side while the network is cut in two.
     side: frozenset = frozenset()
 
@@ -29,7 +32,10 @@ class Network:
         if (sender in self.side) != (receiver in self.side) or dice.random() < self.loss:
             return []
         copies = 2 if dice.random() < self.doubling else 1
-        return [dice.randint(self.least_delay, self.most_delay) for _ in range(copies)]
+        delays = [dice.randint(self.least_delay, self.most_delay) for _ in range(copies)]
+        if dice.random() < self.replays:
+            delays.append(dice.randint(1, self.most_later))
+        return delays
 
 
 @dataclass
@@ -86,7 +92,7 @@ def plan_of(dice, size, names, may_restart):
     if dice.random() < 1 / 6:
         return Plan(size, config, Network(0, dice.choice([0, 0.2]), 1, wait // 4), rounds, is_perfect=True)
     network = Network(dice.choice([0, 0.1, 0.3, 0.6]), dice.choice([0, 0, 0.2]), dice.choice([1, wait // 4]),
-                      dice.choice([wait // 4, wait, 2 * interval]))
+                      dice.choice([wait // 4, wait, 2 * interval]), dice.choice([0, 0, 0.1, 0.5]), rounds * interval)
     plan = Plan(size, config, network, rounds, dice.choice([0, 0, 0.3]), dice.choice([0, 1, wait // 5]))
     plan.troubles = troubles_of(dice, names, rounds * interval, may_restart)
     return plan
