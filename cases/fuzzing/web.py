@@ -106,9 +106,10 @@ def answers_in(data, methods):
 
 
 def fault_of_rest(data):
-    """What is wrong with the answers to damaged bytes: each has a code that is fit for such."""
-    codes = {int(it) for it in re.findall(rb"^HTTP/1.1 ([0-9]{3}) ", data, re.MULTILINE)}
-    if codes <= DAMAGED_CODES and (not data or data.startswith(b"HTTP/1.1 ")):
+    """What is wrong with the answers to damaged bytes: each has a code that is fit for such. A request whose version
+    became 1.0 has an answer of that version."""
+    codes = {int(it) for it in re.findall(rb"^HTTP/1.[01] ([0-9]{3}) ", data, re.MULTILINE)}
+    if codes <= DAMAGED_CODES and (not data or data.startswith((b"HTTP/1.1 ", b"HTTP/1.0 "))):
         return None
     return f"damaged bytes got {data[:300]}"
 
