@@ -30,8 +30,8 @@ pub fn one_outcome()
         → IsRefused keys datagram f → IsRefused keys datagram g → f ≡ g }
 {}
 
-/// What is sealed with the first key or with the second is sealed with one of the keys, so [`open`](crate::open) gives
-/// its packet back.
+/// What is sealed with the first key or with the second is sealed with one of the keys, so
+/// [`Sealer::open`](crate::Sealer::open) gives its packet back.
 pub fn sealed_opens()
     ensures first { (keys : Keys) (packet : List ℕ) → IsSealed keys (sealed keys.first packet) packet }
     ensures second { (keys : Keys) (key packet : List ℕ)

@@ -4,7 +4,7 @@
 use crate::keys::{SECOND, is_told};
 use crate::tags::FIRST;
 use arrayvec::ArrayVec;
-use lg_key::{Key, Keys, SEAL_LEN, SealFault, TAG_LEN, open, seal};
+use lg_key::{Key, Keys, SEAL_LEN, SealFault, Sealer, TAG_LEN};
 use lg_packet::{Fault, MAX_PACKET, decode};
 
 /// The most bytes of a sealed datagram.
@@ -36,31 +36,31 @@ const SEALED_WITHOUT_HEAD: &[u8] = b"LK\x01SL\x01\x01\x01a\x00\x00\x00\x07\x01b\
 const HEAD_LEN: usize = SEAL_LEN - TAG_LEN;
 
 /// One key.
-fn only(bytes: [u8; 32]) -> Keys {
-    Keys {
+fn only(bytes: [u8; 32]) -> Sealer {
+    Sealer::new(&Keys {
         first: Key::new(bytes),
         second: None,
-    }
+    })
 }
 
 /// Two keys, of which the first signs.
-fn both(first: [u8; 32], second: [u8; 32]) -> Keys {
-    Keys {
+fn both(first: [u8; 32], second: [u8; 32]) -> Sealer {
+    Sealer::new(&Keys {
         first: Key::new(first),
         second: Some(Key::new(second)),
-    }
+    })
 }
 
 /// Whether the bytes, sealed with these keys, are this datagram, and it opens with them to the bytes.
-fn is_sealed(keys: &Keys, packet: &[u8], want: &[u8]) -> bool {
+fn is_sealed(sealer: &Sealer, packet: &[u8], want: &[u8]) -> bool {
     let mut room = ArrayVec::<u8, MAX_SEALED>::new();
     if packet.len() > MAX_PACKET {
         return false;
     }
     // What the room held before is gone.
     room.push(0);
-    seal(keys, packet, &mut room);
-    room.as_slice() == want && open(keys, want) == Ok(packet)
+    sealer.seal(packet, &mut room);
+    room.as_slice() == want && sealer.open(want) == Ok(packet)
 }
 
 #[test]
@@ -72,8 +72,8 @@ fn seals_and_opens(rt: HostRuntime) {
         (both(SECOND, FIRST), PING, SEALED_SECOND),
         (only(FIRST), NOTHING, SEALED_NOTHING),
     ];
-    for (keys, packet, want) in rows {
-        assert!(rt; is_sealed(&keys, packet, want), "{want:?}");
+    for (sealer, packet, want) in rows {
+        assert!(rt; is_sealed(&sealer, packet, want), "{want:?}");
     }
 }
 
@@ -89,8 +89,8 @@ fn opens_with_either_key(rt: HostRuntime) {
         (only(FIRST), PING, Err(SealFault::Unsigned)),
         (only(FIRST), NOTHING, Err(SealFault::Unsigned)),
     ];
-    for (keys, datagram, want) in rows {
-        assert_eq!(rt; open(&keys, datagram), want, "{datagram:?}");
+    for (sealer, datagram, want) in rows {
+        assert_eq!(rt; sealer.open(datagram), want, "{datagram:?}");
     }
 }
 
@@ -106,15 +106,15 @@ fn fault_of_front(len: usize) -> SealFault {
 /// Each front of a sealed datagram is refused.
 #[test]
 fn refuses_fronts(rt: HostRuntime) {
-    let keys = both(SECOND, FIRST);
+    let sealer = both(SECOND, FIRST);
     for len in 0..SEALED.len() {
         let front = &SEALED[..len];
-        assert_eq!(rt; open(&keys, front), Err(fault_of_front(len)), "{len}");
+        assert_eq!(rt; sealer.open(front), Err(fault_of_front(len)), "{len}");
     }
 }
 
 /// Whether a sealed datagram is refused if these bits of the byte in this place are turned.
-fn is_refused_with(keys: &Keys, place: usize, bits: u8) -> bool {
+fn is_refused_with(sealer: &Sealer, place: usize, bits: u8) -> bool {
     let mut changed = ArrayVec::<u8, MAX_SEALED>::new();
     if changed.try_extend_from_slice(SEALED).is_err() || place >= changed.len() {
         return false;
@@ -125,16 +125,16 @@ fn is_refused_with(keys: &Keys, place: usize, bits: u8) -> bool {
     } else {
         SealFault::Forged
     };
-    open(keys, changed.as_slice()) == Err(want)
+    sealer.open(changed.as_slice()) == Err(want)
 }
 
 /// Each bit of a sealed datagram is turned, and all bits of each byte of it, and each time it is refused.
 #[test]
 fn refuses_changed_bytes(rt: HostRuntime) {
-    let keys = both(FIRST, SECOND);
+    let sealer = both(FIRST, SECOND);
     for place in 0..SEALED.len() {
         for bits in [1, 2, 4, 8, 16, 32, 64, 128, 255] {
-            assert!(rt; is_refused_with(&keys, place, bits), "{bits} at {place}");
+            assert!(rt; is_refused_with(&sealer, place, bits), "{bits} at {place}");
         }
     }
 }
@@ -142,12 +142,12 @@ fn refuses_changed_bytes(rt: HostRuntime) {
 /// The greatest packet has its room, and a member without keys refuses a sealed datagram by its first bytes.
 #[test]
 fn seals_the_greatest_packet(rt: HostRuntime) {
-    let keys = only(FIRST);
+    let sealer = only(FIRST);
     let packet = [b'a'; MAX_PACKET];
     let mut room = ArrayVec::<u8, MAX_SEALED>::new();
-    seal(&keys, &packet, &mut room);
+    sealer.seal(&packet, &mut room);
     assert!(rt; room.is_full());
-    assert!(rt; open(&keys, room.as_slice()) == Ok(packet.as_slice()));
+    assert!(rt; sealer.open(room.as_slice()) == Ok(packet.as_slice()));
     assert_eq!(rt; decode(room.as_slice()).err(), Some(Fault::Magic));
 }
 

@@ -1,6 +1,6 @@
 //! Tags: rows of RFC 4231, and rows that the module `hmac` of Python computed.
 
-use lg_key::{Key, MAX_HMAC_KEY, TAG_LEN, hmac, tag_of};
+use lg_key::{Key, MAX_HMAC_KEY, Signer, TAG_LEN, hmac};
 
 /// A key, a message, and the first bytes of their HMAC-SHA256.
 type Row = (&'static [u8], &'static [u8], &'static [u8]);
@@ -103,8 +103,8 @@ fn computes_the_rows_of_the_rfc(rt: HostRuntime) {
 
 #[test]
 fn computes_tags(rt: HostRuntime) {
-    let key = Key::new(FIRST);
+    let signer = Signer::new(Key::new(FIRST));
     for (message, want) in LETTERS {
-        assert_eq!(rt; tag_of(&key, message).0, **want, "{message:?}");
+        assert_eq!(rt; signer.tag_of(message).0, **want, "{message:?}");
     }
 }
