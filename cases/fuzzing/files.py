@@ -12,8 +12,8 @@ from fuzzing.wire import is_name
 MOST_BYTES = 65_536
 MOST_DEPTH = 80
 SYNTAX, KEY, VALUE = 12, 13, 14
-STATUS, STATUS_OPEN, STATUS_NOT_LOOPBACK = 18, 19, 20
-TEXT_KEYS = ("name", "address")
+STATUS, STATUS_OPEN, STATUS_NOT_LOOPBACK, KEY_FILE = 18, 19, 20, 21
+TEXT_KEYS = ("name", "address", "key_file")
 INTEGER_KEYS = ("port", "dice")
 # Of the node's own numbers: the least, the greatest, the default and the number of the fault.
 OWN_NUMBERS = {"pull_ms": (0, 3_600_000, 30_000, 16), "stall_ms": (0, 60_000, 100, 17)}
@@ -131,6 +131,13 @@ def status_of(document):
     return place, is_open
 
 
+def key_file_of(document):
+    """The path of the key file, None if there is none."""
+    path = document.get("key_file")
+    must(path is None or re.fullmatch("[ -~]{1,255}", path), KEY_FILE)
+    return path
+
+
 def meaning_of(document):
     """The values of a document, defaults filled in, by their keys. Raises the first fault."""
     must(all(key in KEYS and is_of_type(key, value) for key, value in document.items()) and "name" in document, KEY)
@@ -144,16 +151,19 @@ def meaning_of(document):
     for key, (least, most, _, number) in OWN_NUMBERS.items():
         must(least <= values[key] <= most, number)
     values["status"], values["status_open"] = status_of(document)
+    values["key_file"] = key_file_of(document)
     return values | {"address": ".".join(map(str, address)), "seeds": seeds}
 
 
 def shown(values):
     """The lines of `lg check`."""
-    order = ["name", "address", "port", "dice", "seeds", *NUMBERS, *OWN_NUMBERS, "status", "status_open"]
+    order = ["name", "address", "port", "dice", "seeds", *NUMBERS, *OWN_NUMBERS, "status", "status_open",
+             "key_file"]
     seeds = ", ".join(f"{name}@{place_text(place)}" for name, place in values["seeds"])
     texts = values | {"seeds": seeds or "none", "status": place_text(values["status"]) if values["status"] else "none",
-                      "status_open": str(values["status_open"]).lower()}
+                      "status_open": str(values["status_open"]).lower(), "key_file": values["key_file"] or "none"}
     defaults = DEFAULT_TEXTS | numbers_of({}) | {"seeds": "none", "status": "none", "status_open": "false"}
+    defaults |= {} if values["key_file"] else {"key_file": "none"}
     lines = [f"{key} = {texts[key]}{' (default)' if texts[key] == defaults.get(key) else ''}" for key in order]
     for live in SHOWN_MEMBERS:
         least, most, counted = suspicion_range(values, live)

@@ -90,7 +90,8 @@ def plan_of(dice, size, names, may_restart):
     interval, wait = config["interval_ms"], config["timeout_ms"]
     rounds = dice.choice([5, 10, 20]) if size <= MOST_MEMBERS else dice.choice([3, 6])
     if dice.random() < 1 / 6:
-        return Plan(size, config, Network(0, dice.choice([0, 0.2]), 1, wait // 4), rounds, is_perfect=True)
+        network = Network(0, dice.choice([0, 0.2]), 1, wait // 4, dice.choice([0, 0.5]), rounds * interval)
+        return Plan(size, config, network, rounds, is_perfect=True)
     network = Network(dice.choice([0, 0.1, 0.3, 0.6]), dice.choice([0, 0, 0.2]), dice.choice([1, wait // 4]),
                       dice.choice([wait // 4, wait, 2 * interval]), dice.choice([0, 0, 0.1, 0.5]), rounds * interval)
     plan = Plan(size, config, network, rounds, dice.choice([0, 0, 0.3]), dice.choice([0, 1, wait // 5]))

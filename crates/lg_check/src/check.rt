@@ -7,7 +7,9 @@ ghost use Rattle.std.specs.List.{flat_map};
 ghost use Rattle.lg_timing.specs.Meaning.Config.{IsChecked};
 ghost use Rattle.lg_check.specs.Meaning.Checks.{check_text, group_line, group_sizes, member_line, own_line};
 
-use crate::lines::{put_address, put_group, put_member, put_own, put_server, put_start};
+use crate::lines::{
+    put_address, put_group, put_key_file, put_member, put_own, put_server, put_start,
+};
 use lg_config::{NODE_KEYS, NodeConfig, NodeKey};
 use lg_timing::{Config, KEYS, Key};
 use std::alloc::{AllocError, Global};
@@ -52,7 +54,7 @@ fn put_groups(config: &Config, text: &mut String) -> Result<(), AllocError>
 /// local health aware suspicion). The forms are this project's choice.
 ///
 /// The configuration has to be checked. The only error is that memory was refused. Memory is allocated for the text,
-/// which has 24 lines.
+/// which has 25 lines.
 #[tactic(auto, unfolding(crate::specs::Meaning::Checks::check_text))]
 pub fn check_text(alloc: Global, node: &NodeConfig) -> Result<String, AllocError>
     requires { IsChecked node.now.config }
@@ -64,6 +66,7 @@ pub fn check_text(alloc: Global, node: &NodeConfig) -> Result<String, AllocError
     put_members(&node.config, &KEYS, &mut text)?;
     put_owns(node, &NODE_KEYS, &mut text)?;
     put_server(alloc, node, &mut text)?;
+    put_key_file(&node.key_file, &mut text)?;
     put_groups(&node.config, &mut text)?;
     Ok(text)
 }

@@ -5,11 +5,13 @@
 ghost use Rattle.std.specs.Prelude.{◌≡◌, ◌≤◌, ◌++◌, OnOk, string_bytes};
 ghost use Rattle.lg_timing.specs.Meaning.Config.{IsChecked};
 ghost use Rattle.lg_check.specs.Meaning.Checks.{address_lines, default_mark, group_line, key_line, listening_line};
-ghost use Rattle.lg_check.specs.Meaning.Checks.{member_line, number_line, own_line, server_lines};
+ghost use Rattle.lg_check.specs.Meaning.Checks.{key_file_line, member_line, number_line, own_line, server_lines};
 ghost use Rattle.lg_check.specs.Meaning.Checks.{start_lines, status_open_line, times_line};
 
-use crate::spelling::{octets_text, seeds_spelled, status_spelled, text_of_name, truth_spelled};
-use lg_config::{DEFAULT_ADDRESS, DEFAULT_DICE, DEFAULT_PORT, NodeConfig, NodeKey};
+use crate::spelling::{
+    octets_text, path_spelled, seeds_spelled, status_spelled, text_of_name, truth_spelled,
+};
+use lg_config::{DEFAULT_ADDRESS, DEFAULT_DICE, DEFAULT_PORT, FilePath, NodeConfig, NodeKey};
 use lg_rules::Addr;
 use lg_timing::{Config, Key, MAX_LIVE, SuspicionTimeout, suspicion_ms};
 use std::alloc::{AllocError, Global};
@@ -106,6 +108,13 @@ pub(crate) fn put_server(
 {
     put_listening(alloc, node.status, text)?;
     put_status_open(node.status_open, text)
+}
+
+/// Appends the line of the path of the key file to a text.
+pub(crate) fn put_key_file(path: &Option<FilePath>, text: &mut String) -> Result<(), AllocError>
+    ensures { OnOk result (string_bytes text.new ≡ string_bytes text.old ++ key_file_line path.now) }
+{
+    put_key("key_file", path_spelled(path), path.is_none(), text)
 }
 
 /// Appends the line of a group of some members to a text, given its times in milliseconds.

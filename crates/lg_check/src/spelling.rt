@@ -1,4 +1,4 @@
-//! Spells names, addresses, seeds and truth values.
+//! Spells names, addresses, seeds, paths and truth values.
 //!
 //! Defined in: `specs/Meaning/Spelling.antt`, `lg_report/specs/Meaning/Records.antt`.
 //! Tested in: `cases/check.case`.
@@ -6,8 +6,9 @@ ghost use Rattle.std.specs.Prelude.{◌≡◌, ◌++◌, IfOk, OnOk, string_byte
 ghost use Rattle.std.specs.List.{flat_map};
 ghost use Rattle.lg_report.specs.Meaning.Records.{addr_text, dotted};
 ghost use Rattle.lg_check.specs.Meaning.Spelling.{next_seed, seed_spelled, seeds_spelled, status_spelled};
-ghost use Rattle.lg_check.specs.Meaning.Spelling.{truth_spelled};
+ghost use Rattle.lg_check.specs.Meaning.Spelling.{path_spelled, truth_spelled};
 
+use lg_config::FilePath;
 use lg_rules::{Addr, Name};
 use lg_timing::Seed;
 use std::alloc::{AllocError, Global};
@@ -82,6 +83,16 @@ pub(crate) fn status_spelled(alloc: Global, status: Option<Addr>) -> Result<Stri
     match status {
         None => String::from_str(alloc, "none"),
         Some(addr) => addr_text(alloc, addr),
+    }
+}
+
+/// The path of a file, or a word for no file.
+pub(crate) fn path_spelled(path: &Option<FilePath>) -> &str
+    ensures { result.now ≡ path_spelled path.now }
+{
+    match path {
+        None => "none",
+        Some(path) => path.as_str(),
     }
 }
 

@@ -23,6 +23,8 @@ struct Row {
     seeds: &'static [Known],
     /// Where the status server listens, and `status_open`.
     status: (Option<Addr>, bool),
+    /// The path of the key file.
+    key_file: Option<&'static str>,
 }
 
 /// The numbers of a file that gives none.
@@ -49,6 +51,7 @@ pull_ms = 3600000
 stall_ms = 0
 status = \"10.1.2.3:8946\"
 status_open = true
+key_file = \"/etc/lg/group.key\"
 seeds = [\"c@127.0.0.1:7002\", \"a@1.2.3.4:5\"]
 ";
 
@@ -81,6 +84,7 @@ fn is_of(node: &NodeConfig, row: &Row) -> bool {
         && numbers == row.numbers
         && [node.pull_ms, node.stall_ms] == row.own
         && (node.status, node.status_open) == row.status
+        && node.key_file.as_ref().map(|path| path.as_str()) == row.key_file
         && config.seeds.len() == row.seeds.len()
         && config.seeds.iter().zip(row.seeds).all(|(seed, known)| {
             seed.name == name(known.0) && (seed.addr.octets, seed.addr.port) == (known.1, known.2)
@@ -101,6 +105,7 @@ fn each_value(rt: HostRuntime) {
         numbers: USUAL,
         seeds: &[],
         status: (None, false),
+        key_file: None,
     };
     let rows = [
         alone,
@@ -117,6 +122,7 @@ fn each_value(rt: HostRuntime) {
             numbers: [200, 50, 0, 1, 2, 3, 4, 5, 6, 7, 2],
             seeds: &[(b"c", [127, 0, 0, 1], 7002), (b"a", [1, 2, 3, 4], 5)],
             status: (Some(Addr::new([10, 1, 2, 3], 8946)), true),
+            key_file: Some("/etc/lg/group.key"),
         },
         Row {
             text: "name = \"b\"\npull_ms = 0\nstall_ms = 60000",

@@ -137,6 +137,10 @@ const FILES: &[(FileFault, &str)] = &[
         FileFault::StatusNotLoopback,
         "status has to be in 127.0.0.0/8 if status_open isn't true",
     ),
+    (
+        FileFault::KeyFile,
+        "key_file has to have 1 to 255 bytes of printable ASCII",
+    ),
 ];
 
 const READS: &[(ReadFault, &str)] = &[

@@ -1,5 +1,5 @@
 -- What settings mean, by those with the first of their seeds.
-use Rattle.std.proofs.Common.{◌≡◌, ℕ, ◌<◌, ◌≤◌, Bool, true, false, List, length, leb, Option, Some, None, option_and_then, option_map, Result, Err, refl, ap, sym, ◌∙◌, arith}
+use Rattle.std.proofs.Common.{◌≡◌, ℕ, ◌<◌, ◌≤◌, Bool, true, false, if◌then◌else◌, List, length, leb, Option, Some, None, option_and_then, option_map, Result, Ok, Err, IfOk, refl, ap, sym, ◌∙◌, arith}
 use Rattle.std.proofs.lemmas.Bool.Decides.{nat_tests}
 use Rattle.std.proofs.lemmas.List.{take_all}
 use Rattle.std.proofs.lemmas.Option.{same_Some}
@@ -14,10 +14,16 @@ use Rattle.lg_timing.specs.declared.keys.Key.{Key}
 use Rattle.toml.specs.Data.{Members}
 use Rattle.toml.specs.View.{items_view}
 use Rattle.toml.specs.declared.value.Value.{Value}
+use Rattle.lg_config.specs.declared.fault.FileFault.{FileFault}
 use Rattle.lg_config.specs.declared.fault.FileFault.TheVariants as fault
 use Rattle.lg_config.specs.declared.node.NodeConfig.{NodeConfig}
+use Rattle.lg_config.specs.declared.node_keys.NodeKey.{NodeKey}
 use Rattle.lg_config.specs.declared.node_keys.NodeKey.TheVariants.{PullMs, StallMs}
-use Rattle.lg_config.specs.Meaning.Answer.{unless_config, unless_node}
+use Rattle.lg_config.specs.Meaning.Answer.{and_key_file, and_status, meaning_of, unless_broken, unless_config, unless_node}
+use Rattle.lg_config.specs.Meaning.KeyFiles.{key_file_in, with_key_file}
+use Rattle.lg_config.specs.Meaning.Keys.{are_right_keys}
+use Rattle.lg_config.specs.Meaning.NodeKeys.{own_broken}
+use Rattle.lg_config.specs.Meaning.Status.{may_listen, open_in, status_addr_in, with_status}
 use Rattle.lg_config.specs.Meaning.Settings.{addr_in, dice_in, name_in, seeds_at, seeds_of_items, settings_of}
 use Rattle.lg_config.specs.Meaning.Settings.{own_number_in, with_numbers, with_seeds}
 use Rattle.lg_config.specs.Support.Reading.{fault_of_many, kept, with_first_seeds}
@@ -54,7 +60,7 @@ unfolding settings_of
 settings-seeds m node is = go (name_in m) (addr_in m) (dice_in m) (seeds_of_items (seeds_at m)) is
   where
     go : (name : Option (List ℕ)) (addr : Option Addr) (dice : Option ℕ) (seeds : Option (List Seed))
-        → option_and_then (λ n. option_and_then (λ a. option_and_then (λ d. option_and_then (λ ss. Some (let made : NodeConfig = record { config = with_seeds ss (with_numbers m (defaults n a)); dice = d; pull_ms = own_number_in PullMs m; stall_ms = own_number_in StallMs m; status = None; status_open = false } in made)) seeds) dice) addr) name ≡ Some node
+        → option_and_then (λ n. option_and_then (λ a. option_and_then (λ d. option_and_then (λ ss. Some (let made : NodeConfig = record { config = with_seeds ss (with_numbers m (defaults n a)); dice = d; pull_ms = own_number_in PullMs m; stall_ms = own_number_in StallMs m; status = None; status_open = false; key_file = None } in made)) seeds) dice) addr) name ≡ Some node
         → seeds ≡ Some node.config.seeds.items
     go None addr dice seeds e = absurd cc
     go (Some n) None dice seeds e = absurd cc
@@ -100,3 +106,51 @@ judged-few m first vs found same few = go (settings_of m) refl found
     go (Some node) s e =
         let within : length node.config.seeds.items ≤ most_seeds = omega (arith, few, settings-counted m node vs same s) in
         ap (λ n. unless_config n (check_of n.config)) (same_Some _ _ e ∙ few-kept node within)
+
+-- ---- the node's own numbers of a configuration that is given are in their ranges
+
+abbrev HasWithin : NodeConfig → Type 0
+HasWithin node = own_broken node ≡ None
+
+within-judged : (node : NodeConfig) (broken : Option NodeKey) → own_broken node ≡ broken → IfOk (unless_broken node broken) HasWithin
+within-judged node None is = is
+within-judged node (Some key) is = tt
+
+within-checked : (node : NodeConfig) (checked : Result (Unit {0}) ConfigFault) → IfOk (unless_config node checked) HasWithin
+within-checked node (Ok passed) = within-judged node (own_broken node) refl
+within-checked node (Err broken) = tt
+
+within-node : (settings : Option NodeConfig) → IfOk (unless_node settings) HasWithin
+within-node None = tt
+within-node (Some node) = within-checked node (check_of node.config)
+
+within-open : (node : NodeConfig) (status : Option Addr) (is_open listens : Bool) → HasWithin node
+    → IfOk (if listens then Ok (record node { status = status; status_open = is_open }) else Err fault.StatusNotLoopback) HasWithin
+within-open node status is_open true within = within
+within-open node status is_open false within = tt
+
+within-status : (node : NodeConfig) (status : Result (Option Addr) FileFault) (is_open : Result Bool FileFault) → HasWithin node
+    → IfOk (with_status node status is_open) HasWithin
+within-status node (Err found) is_open within = tt
+within-status node (Ok status) (Err found) within = tt
+within-status node (Ok status) (Ok is_open) within = within-open node status is_open (may_listen status is_open) within
+
+within-and_status : (m : Members) (r : Result NodeConfig FileFault) → IfOk r HasWithin → IfOk (and_status m r) HasWithin
+within-and_status m (Err found) within = tt
+within-and_status m (Ok node) within = within-status node (status_addr_in m) (open_in m) within
+
+within-key_file : (node : NodeConfig) (path : Result (Option (List ℕ)) FileFault) → HasWithin node → IfOk (with_key_file node path) HasWithin
+within-key_file node (Err found) within = tt
+within-key_file node (Ok path) within = within
+
+within-and_key_file : (m : Members) (r : Result NodeConfig FileFault) → IfOk r HasWithin → IfOk (and_key_file m r) HasWithin
+within-and_key_file m (Err found) within = tt
+within-and_key_file m (Ok node) within = within-key_file node (key_file_in m) within
+
+within-if_right : (m : Members) (right : Bool) (r : Result NodeConfig FileFault) → IfOk r HasWithin → IfOk (if right then r else Err fault.Key) HasWithin
+within-if_right m true r within = within
+within-if_right m false r within = tt
+
+pub within-meaning : (m : Members) → IfOk (meaning_of m) HasWithin
+within-meaning m =
+    within-if_right m (are_right_keys m) _ (within-and_key_file m _ (within-and_status m _ (within-node (settings_of m))))

@@ -4,6 +4,7 @@ pub mod Bounds
 pub mod Examples
 pub mod Faults
 pub mod FormReasons
+pub mod KeyFiles
 pub mod KeyReasons
 pub mod Keys
 pub mod NodeKeys

@@ -7,6 +7,7 @@ ghost use Rattle.lg_config.specs.Meaning.Faults.{fault_number};
 ghost use Rattle.lg_config.specs.declared.fault.ReadFault.TheVariants.{File};
 
 use crate::document::MAX_FILE;
+use crate::key_file::MAX_PATH;
 use crate::node_keys::{MAX_PULL_MS, MAX_STALL_MS};
 use lg_timing::ConfigFault;
 use thiserror::Error;
@@ -43,10 +44,13 @@ pub enum FileFault {
     /// The address of `status` isn't loopback, and `status_open` isn't true.
     #[error("status has to be in 127.0.0.0/8 if status_open isn't true")]
     StatusNotLoopback,
+    /// `key_file` has no bytes, more than 255, or one that isn't printable ASCII.
+    #[error("key_file has to have 1 to {most} bytes of printable ASCII", most = MAX_PATH)]
+    KeyFile,
 }
 
 impl FileFault {
-    /// The number of the fault: that of [`ConfigFault::number`], or 12, 13, 14 or 16 to 20 for the others.
+    /// The number of the fault: that of [`ConfigFault::number`], or 12, 13, 14 or 16 to 21 for the others.
     pub fn number(self) -> u8
         ensures { result ≡ fault_number self }
     {
@@ -60,6 +64,7 @@ impl FileFault {
             FileFault::Status => 18,
             FileFault::StatusOpen => 19,
             FileFault::StatusNotLoopback => 20,
+            FileFault::KeyFile => 21,
         }
     }
 }

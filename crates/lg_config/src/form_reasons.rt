@@ -8,8 +8,10 @@ ghost use Rattle.lg_config.specs.Meaning.FormReasons.{shared_name, value_reason}
 ghost use Rattle.lg_timing.specs.Meaning.Config.{is_seed};
 ghost use Rattle.lg_config.specs.Meaning.FormReasons.{address_reason, bad_seed, few_seeds, few_seeds_reason};
 ghost use Rattle.lg_config.specs.Meaning.FormReasons.{many_seeds_reason, name_reason, seed_reason, seeds_reason};
+ghost use Rattle.lg_config.specs.Meaning.FormReasons.{key_file_reason, key_file_text};
 
-use crate::lookup::seeds_at;
+use crate::keys::KEY_FILE;
+use crate::lookup::{seeds_at, text_at};
 use crate::quoting::quoted;
 use crate::ranges::{dice_reason, port_reason};
 use crate::seeds::{first_seeds, seed_of_value};
@@ -73,6 +75,21 @@ pub(crate) fn value_reason(alloc: Global, table: &Table) -> Result<String, Alloc
         return dice_reason(alloc, table);
     }
     seed_reason(alloc, table)
+}
+
+/// The text of the path of the key file.
+fn key_file_text(table: &Table) -> &str
+    ensures { result.now ≡ key_file_text (table_view table.now) }
+{
+    text_at(table, KEY_FILE).unwrap_or("")
+}
+
+/// The reason of a path of a key file that is none.
+pub(crate) fn key_file_reason(alloc: Global, table: &Table) -> Result<String, AllocError>
+    ensures { IfOk result (λ text. string_bytes text ≡ key_file_reason (table_view table.now)) }
+{
+    let quote = quoted(alloc, key_file_text(table).as_bytes())?;
+    format!(in alloc; "key_file is {quote}, and has to have 1 to 255 bytes of printable ASCII\n")
 }
 
 /// Whether some seed has this name.

@@ -30,6 +30,9 @@ pub(crate) const NAME: &str = "name";
 /// The key of the members that it knows from the start.
 pub(crate) const SEEDS: &str = "seeds";
 
+/// The key of the path of the key file.
+pub(crate) const KEY_FILE: &str = "key_file";
+
 /// The key of the status server's address.
 pub(crate) const STATUS: &str = "status";
 
@@ -42,7 +45,7 @@ pub(crate) fn kind_of(key: &str) -> Option<Kind>
     ensures { result ≡ kind_of_key key.now }
 {
     match key {
-        "name" | "address" => Some(Kind::Text),
+        "name" | "address" | "key_file" => Some(Kind::Text),
         "port" | "dice" => Some(Kind::Number),
         "seeds" => Some(Kind::Texts),
         "status" | "status_open" => Some(Kind::Any),

@@ -11,6 +11,7 @@ ghost use Rattle.lg_config.specs.Support.Reading.{fault_of_many};
 
 use crate::document::table_in;
 use crate::fault::{FileFault, ReadFault};
+use crate::key_file::{FilePath, with_key_file};
 use crate::keys::are_right_keys;
 use crate::lookup::seeds_at;
 use crate::node_keys::{NODE_KEYS, NodeKey};
@@ -39,6 +40,8 @@ pub struct NodeConfig {
     /// Whether the status server may listen at an address that isn't loopback (127.0.0.0/8). Its answers have no
     /// authentication. If there is no status server, this means nothing.
     pub status_open: bool,
+    /// The path of its key file, which has the keys of its group. None if the group has no key.
+    pub key_file: Option<FilePath>,
 }
 
 /// The fault of a table with too many seeds, given what the check of a configuration with the first of them found. The
@@ -62,7 +65,8 @@ fn unless_broken(node: NodeConfig, broken: Option<NodeKey>) -> Result<NodeConfig
     }
 }
 
-/// The settings of a table whose keys are right, or their fault. The status server isn't read yet.
+/// The settings of a table whose keys are right, or their fault. The status server and the path of the key file aren't
+/// read yet.
 fn judged_in(table: &Table) -> Result<NodeConfig, FileFault>
     ensures { result ≡ unless_node (settings_of (table_view table.now)) }
 {
@@ -88,7 +92,8 @@ fn meaning_in(table: &Table) -> Result<NodeConfig, FileFault>
         return Err(FileFault::Key);
     }
     let node = judged_in(table)?;
-    with_status(table, node)
+    let node = with_status(table, node)?;
+    with_key_file(table, node)
 }
 
 impl NodeConfig {
@@ -118,11 +123,11 @@ impl NodeConfig {
     /// The configuration that the bytes of a file mean.
     ///
     /// The file is TOML. Its keys are `name`, which it must have, `address`, `port`, `dice`, `seeds`, the numbers of
-    /// [`Config`] and those of [`NodeKey`], by the names of their fields, `status` and `status_open`. The error is
-    /// [`ReadFault::File`] with the first of these: [`FileFault::Syntax`], [`FileFault::Key`], [`FileFault::Value`],
-    /// [`FileFault::Config`], [`FileFault::Pull`], [`FileFault::Stall`], [`FileFault::Status`],
-    /// [`FileFault::StatusOpen`] and [`FileFault::StatusNotLoopback`]. Or it is [`ReadFault::NoMemory`], and then
-    /// nothing is known of the file.
+    /// [`Config`] and those of [`NodeKey`], by the names of their fields, `status`, `status_open` and `key_file`. The
+    /// error is [`ReadFault::File`] with the first of these: [`FileFault::Syntax`], [`FileFault::Key`],
+    /// [`FileFault::Value`], [`FileFault::Config`], [`FileFault::Pull`], [`FileFault::Stall`], [`FileFault::Status`],
+    /// [`FileFault::StatusOpen`], [`FileFault::StatusNotLoopback`] and [`FileFault::KeyFile`]. Or it is
+    /// [`ReadFault::NoMemory`], and then nothing is known of the file.
     ///
     /// Memory is allocated for the table that the file spells, and is freed again. For a file of more than
     /// [`MAX_FILE`](crate::MAX_FILE) bytes none is allocated.

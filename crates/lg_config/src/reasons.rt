@@ -10,7 +10,7 @@ ghost use Rattle.lg_config.specs.Meaning.Reasons.{IsReason, IsTomlReason};
 
 use crate::document::{Unread, table_in};
 use crate::fault::FileFault;
-use crate::form_reasons::{seeds_reason, value_reason};
+use crate::form_reasons::{key_file_reason, seeds_reason, value_reason};
 use crate::key_reasons::key_reason;
 use crate::lookup::seeds_at;
 use crate::node_keys::NodeKey;
@@ -54,6 +54,7 @@ fn reason_of(alloc: Global, fault: FileFault, table: &Table) -> Result<String, A
         FileFault::Status => status_reason(alloc, table),
         FileFault::StatusOpen => open_reason(alloc, table),
         FileFault::StatusNotLoopback => loopback_reason(alloc, table),
+        FileFault::KeyFile => key_file_reason(alloc, table),
     }
 }
 

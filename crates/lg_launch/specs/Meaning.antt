@@ -1,6 +1,7 @@
 -- What is right: whoever wants to believe the contracts reads these.
 pub mod Checking
 pub mod Examples
+pub mod KeyTelling
 pub mod Reporting
 pub mod Running
 pub mod Telling

@@ -7,7 +7,7 @@ ghost use Rattle.std.specs.Prelude.{◌≡◌, ◌⊎◌, ℕ, List, [], Err, fa
 ghost use Rattle.std.specs.Option.{option_map};
 ghost use Rattle.lg_timing.specs.Meaning.Config.{IsChecked};
 ghost use Rattle.lg_launch.specs.Meaning.Running.{table_wished, Announces, HasRun, IsSecond, RunsBytes};
-ghost use Rattle.lg_launch.specs.Meaning.Running.{RunsFile, RunsNode, RunsOrRefused, Writes};
+ghost use Rattle.lg_launch.specs.Meaning.Running.{RunsFile, RunsKeyed, RunsNode, RunsOrRefused, Writes};
 ghost use Rattle.lg_launch.specs.Meaning.Wishes.{end_wished};
 ghost use Rattle.lg_node.specs.Meaning.Nodes.{IsEarly};
 ghost use Rattle.lg_launch.specs.Meaning.Reporting.{ReportsBoth};
@@ -15,12 +15,14 @@ ghost use Rattle.lg_launch.specs.Meaning.Telling.{line_of, status_told};
 ghost use Rattle.lg_launch.specs.Meaning.Words.{link_reason, start_line};
 
 use crate::file::file_bytes;
+use crate::key_file::{keys_at, tell_no_keys};
 use crate::reporting::{tell, tell_both, tell_fault};
 use crate::telling::table_of;
 use crate::told::Told;
 use crate::wishes::{Wishes, end_wished, is_announced};
 use crate::words::{link_reason, served_line, start_line};
 use lg_config::{NodeConfig, ReadFault};
+use lg_key::Keys;
 use lg_node::{NodeEnd, NodeFault, Settings, run_node};
 use lg_report::put_table;
 use lg_rules::{Addr, Record};
@@ -62,7 +64,11 @@ where
     }
 }
 
-/// Runs the node that the bytes of a configuration file mean, as [`run_config`] does.
+/// Runs the node that the bytes of a configuration file mean, as [`run_config`] does, with the keys of the file that it
+/// names, if it names one.
+///
+/// A key file that gives none is told by [`Told::Key`], and a second line says why: it can't be read, others than
+/// its owner may use it, or it spells no keys. At most 131 bytes of it are read. No contract can say what it holds.
 ///
 /// Bytes that mean no configuration are told by [`Told::Config`], as [`NodeConfig::read`] answers, and a second line
 /// says in words what is wrong with them. Memory that is refused for them is told by [`Told::Memory`]. In both cases
@@ -77,7 +83,7 @@ pub fn run_bytes<R, W, F>(
     faults: &mut F,
 ) -> u8
 where
-    R: Wait + Threads + Net + rt::Clock + RandomSource + Sync,
+    R: Wait + Threads + Net + rt::Clock + Files + RandomSource + Sync,
     W: Write + Send,
     F: Write,
     ensures { RunsBytes writer.old writer.new (W.contents writer.old) (W.contents writer.new)
@@ -85,9 +91,34 @@ where
         wishes.now.follow result }
 {
     match NodeConfig::read(alloc, bytes) {
-        Ok(node) => run_config(rt, alloc, &node, wishes, stop, writer, faults),
+        Ok(node) => run_keyed(rt, alloc, &node, wishes, stop, writer, faults),
         Err(ReadFault::NoMemory) => tell(Told::Memory, faults),
         Err(ReadFault::File(fault)) => tell_fault(alloc, bytes, fault, faults),
+    }
+}
+
+/// Runs the node of a configuration with the keys of the file that it names, if it names one.
+fn run_keyed<R, W, F>(
+    rt: &R,
+    alloc: Global,
+    node: &NodeConfig,
+    wishes: &Wishes<'_>,
+    stop: &AtomicBool,
+    writer: &mut W,
+    faults: &mut F,
+) -> u8
+where
+    R: Wait + Threads + Net + rt::Clock + Files + RandomSource + Sync,
+    W: Write + Send,
+    F: Write,
+    requires { IsChecked node.now.config }
+    ensures { RunsKeyed writer.old writer.new (W.contents writer.old) (W.contents writer.new)
+        (F.contents faults.old) (F.contents faults.new) wishes.now.file.now node.now wishes.now.until
+        wishes.now.follow result }
+{
+    match keys_at(rt, alloc, &node.key_file) {
+        Ok(keys) => run_config(rt, alloc, node, keys, wishes, stop, writer, faults),
+        Err(fault) => tell_no_keys(fault, faults),
     }
 }
 
@@ -98,18 +129,20 @@ where
 /// with which file, in which version it writes its packets, and how many seeds it has. Memory that is refused for this
 /// line is told by [`Told::Memory`], and nothing is run.
 ///
-/// The node is run by [`run_node`](lg_node::run_node), and [`Told::of`] says what is told of it. If it follows, its
-/// watcher writes what it sees, and nothing else is written. Otherwise, if both loops stopped or the node was ousted,
-/// the members are written as [`put_table`](lg_report::put_table) does, a line each. In all other cases nothing is
-/// written. A socket that can't be bound has a second line, which says to which address and why. So has a status
-/// server, and one that ended before the node. A line that `faults` doesn't take is dropped. The configuration has to
-/// be checked. Apart from what the node allocates, memory is allocated only for these texts.
+/// If there are keys, the node takes and sends only sealed datagrams. It is run by [`run_node`](lg_node::run_node), and
+/// [`Told::of`] says what is told of it. If it follows, its watcher writes what it sees, and nothing else is written.
+/// Otherwise, if both loops stopped or the node was ousted, the members are written as
+/// [`put_table`](lg_report::put_table) does, a line each. In all other cases nothing is written. A socket that can't be
+/// bound has a second line, which says to which address and why. So has a status server, and one that ended before the
+/// node. A line that `faults` doesn't take is dropped. The configuration has to be checked. Apart from what the node
+/// allocates, memory is allocated only for these texts.
 ///
 /// What is said of bytes holds for writers that tell their bytes, as those over memory do.
 pub fn run_config<R, W, F>(
     rt: &R,
     alloc: Global,
     node: &NodeConfig,
+    keys: Option<Keys>,
     wishes: &Wishes<'_>,
     stop: &AtomicBool,
     writer: &mut W,
@@ -125,7 +158,7 @@ where
         wishes.now.follow result }
 {
     match announce(alloc, wishes, node, faults) {
-        Ok(()) => run_announced(rt, alloc, node, wishes, stop, writer, faults),
+        Ok(()) => run_announced(rt, alloc, node, keys, wishes, stop, writer, faults),
         Err(AllocError) => tell(Told::Memory, faults),
     }
 }
@@ -153,6 +186,7 @@ fn run_announced<R, W, F>(
     rt: &R,
     alloc: Global,
     node: &NodeConfig,
+    keys: Option<Keys>,
     wishes: &Wishes<'_>,
     stop: &AtomicBool,
     writer: &mut W,
@@ -166,7 +200,7 @@ where
     ensures { RunsNode writer.old writer.new (W.contents writer.old) (W.contents writer.new)
         (F.contents faults.old) (F.contents faults.new) node.now wishes.now.until wishes.now.follow result }
 {
-    let ran = run(rt, alloc, node, wishes, stop, writer);
+    let ran = run(rt, alloc, node, keys, wishes, stop, writer);
     let written = write_table(alloc, &ran, wishes.follow, writer);
     tell_run(alloc, node, &ran, Told::of(&ran, written), faults)
 }
@@ -176,6 +210,7 @@ fn run<R, W>(
     rt: &R,
     alloc: Global,
     node: &NodeConfig,
+    keys: Option<Keys>,
     wishes: &Wishes<'_>,
     stop: &AtomicBool,
     writer: &mut W,
@@ -196,6 +231,7 @@ where
         follow: wishes.follow,
         status: node.status,
         status_open: node.status_open,
+        keys,
     };
     let until = end_wished(wishes.until);
     run_node(rt, alloc, &node.config, &settings, until, stop, writer)

@@ -8,6 +8,7 @@
 
 mod checking;
 mod file;
+mod key_file;
 mod launch;
 mod reporting;
 mod telling;
@@ -16,6 +17,7 @@ mod wishes;
 mod words;
 
 pub use checking::{check_bytes, check_file};
+pub use key_file::NoKeys;
 pub use launch::{run_bytes, run_config, run_file};
 pub use told::{MAX_LINE, Told};
 pub use wishes::Wishes;

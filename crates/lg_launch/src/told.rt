@@ -42,11 +42,13 @@ pub enum Told {
     Link,
     /// The status server couldn't be bound to its address.
     Status,
+    /// The key file gives none.
+    Key,
 }
 
 impl Told {
     /// The exit status: 0 for [`Told::Done`], 3 for [`Told::Config`], 4 for [`Told::Ousted`], 5 for [`Told::Link`],
-    /// 6 for [`Told::Status`], and 1 for the others.
+    /// 6 for [`Told::Status`], 9 for [`Told::Key`], and 1 for the others.
     pub fn status(self) -> u8
         ensures { result ≡ status_told self }
     {
@@ -56,6 +58,7 @@ impl Told {
             Told::Ousted => 4,
             Told::Link => 5,
             Told::Status => 6,
+            Told::Key => 9,
             Told::Memory
             | Told::Read
             | Told::Write
@@ -84,6 +87,7 @@ impl Told {
             Told::Ousted => line_with("lg: ousted\n"),
             Told::Link => line_with("lg: link\n"),
             Told::Status => line_with("lg: status\n"),
+            Told::Key => line_with("lg: key\n"),
         }
     }
 }

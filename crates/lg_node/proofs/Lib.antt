@@ -1,6 +1,7 @@
 pub mod AskingLaws
 pub mod EarlyLaws
 pub mod FollowingLaws
+pub mod KeyedLaws
 pub mod LastingLaws
 pub mod PassesLaws
 pub mod PullingLaws

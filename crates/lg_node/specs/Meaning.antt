@@ -1,5 +1,6 @@
 -- What is right: whoever wants to believe the contracts reads these.
 pub mod Links
+pub mod Keyed
 pub mod Words
 pub mod Turns
 pub mod Pulling

@@ -1,3 +1,4 @@
 -- What only carries the proofs.
 pub mod Took
 pub mod Acted
+pub mod Failing

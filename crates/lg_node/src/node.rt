@@ -14,6 +14,7 @@ use crate::shared::MAX_TURNS;
 use crate::sockets::Sockets;
 use crate::start::{Setup, open_and_serve};
 use lg_agent::{CloseFault, Closed, Refusal};
+use lg_key::Keys;
 use lg_rules::{Addr, Record};
 use lg_serve::Served;
 use lg_timing::{Config, Moment};
@@ -47,6 +48,9 @@ pub struct Settings {
     pub status: Option<Addr>,
     /// Whether that may be an address that isn't loopback. It is only shown: the node listens where it is told to.
     pub status_open: bool,
+    /// The keys of its group, if the group has any. The node then sends and takes only sealed datagrams
+    /// ([`KeyedLink`](crate::KeyedLink)), and counts those that it drops for the status server.
+    pub keys: Option<Keys>,
 }
 
 /// How a node ended whose loops had begun.

@@ -24,6 +24,7 @@ ghost use Rattle.lg_node.specs.Meaning.Words.{seeded, DrawsEight};
 use crate::asking::ask_each;
 use crate::ending::End;
 use crate::node::{NodeEnd, NodeFault, Settings};
+use crate::node_link::NodeLink;
 use crate::plan::Plan;
 use crate::serving::StatusServer;
 use crate::shared::{MAX_TURNS, Shared, Side};
@@ -158,6 +159,15 @@ struct Left<A: AgentName> {
     status: Spent<A>,
 }
 
+/// A link over the socket of a node, with its keys if it has any. It hasn't failed yet.
+fn link_of<'n, 's, 'c>(counters: &'c Counters, setup: &Setup<'n, 's>) -> NodeLink<'s, 'c> {
+    NodeLink::new(
+        UdpLink::new(setup.socket),
+        setup.settings.keys.as_ref(),
+        counters,
+    )
+}
+
 /// Hands out the passes of a fresh agent, asks the seeds, runs both loops over the socket until one of them ends, with
 /// a watcher and a status server beside them if they are wanted, and reads the members.
 fn serve<A, R, C, W>(
@@ -202,9 +212,9 @@ where
         status: looker,
     } = passes;
     let mut asker = asker;
-    let mut sends = UdpLink::new(setup.socket);
+    let mut sends = link_of(shared.counters, setup);
     let unsent = ask_each(shared, &mut asker, &mut sends, &setup.config.seeds)?;
-    let hears = UdpLink::new(setup.socket);
+    let hears = link_of(shared.counters, setup);
     let sides = Sides {
         receiver: Side {
             pass: receiver,

@@ -1,7 +1,7 @@
 //! What the loops of a node count while they run.
 //!
 //! Defined in: this file.
-//! Tested in: `lg_status_tests/src/showing.rt`, `cases/status`.
+//! Tested in: `lg_status_tests/src/counting.rt`, `lg_status_tests/src/showing.rt`, `cases/status`.
 
 ghost use Rattle.std.specs.Prelude.{◌≡◌, ◌<◌};
 
@@ -15,10 +15,17 @@ use std::alloc::{AllocError, Global};
 use std::sync::atomic::AtomicU64;
 use std::sync::atomic::Ordering::Relaxed;
 
-/// How many faults the bytes of a packet can have.
-pub(crate) const FAULTS: usize = 9;
+/// How many faults a datagram can have: nine of the bytes of a packet, and two of a datagram that isn't sealed as a
+/// keyed link wants it.
+pub(crate) const FAULTS: usize = 11;
 
-/// Each of them by its name, in the order of their numbers.
+/// The index of a datagram that isn't sealed in the version of the keyed link.
+const UNSIGNED: usize = 9;
+
+/// The index of a datagram that isn't sealed with one of the keys.
+const FORGED: usize = 10;
+
+/// Each fault by its name: those of a packet in the order of their numbers, and then the others.
 const FAULT_NAMES: [&str; FAULTS] = [
     "Short",
     "Magic",
@@ -29,6 +36,8 @@ const FAULT_NAMES: [&str; FAULTS] = [
     "ClaimKind",
     "Incarnation",
     "Trailing",
+    "Unsigned",
+    "Forged",
 ];
 
 /// What a node counts from its start on. Threads share it by reference. No call waits, and none allocates but
@@ -85,6 +94,8 @@ impl Counters {
                 AtomicU64::new(0),
                 AtomicU64::new(0),
                 AtomicU64::new(0),
+                AtomicU64::new(0),
+                AtomicU64::new(0),
             ],
         }
     }
@@ -104,6 +115,18 @@ impl Counters {
     /// A datagram was dropped, since its bytes have this fault.
     pub fn note_dropped(&self, fault: Fault) {
         add(&self.dropped[index_of(fault)], 1);
+    }
+
+    /// A datagram was received and dropped by a keyed link, since it isn't sealed.
+    pub fn note_unsigned(&self) {
+        self.note_received();
+        add(&self.dropped[UNSIGNED], 1);
+    }
+
+    /// A datagram was received and dropped by a keyed link, since it isn't sealed with one of the keys.
+    pub fn note_forged(&self) {
+        self.note_received();
+        add(&self.dropped[FORGED], 1);
     }
 
     /// A call was refused, for another reason than the bytes of a datagram.
@@ -155,7 +178,7 @@ impl Counters {
         self.last_event.load(Relaxed)
     }
 
-    /// A row for each fault, in the order of their numbers, with how many datagrams were dropped for it. Allocates the
+    /// A row for each fault, in the order of their names above, with how many datagrams were dropped for it. Allocates the
     /// list. The only error is that memory was refused.
     pub fn drops(&self, alloc: Global) -> Result<Vec<Drops>, AllocError> {
         FAULT_NAMES

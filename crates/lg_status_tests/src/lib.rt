@@ -7,6 +7,8 @@ mod answer;
 #[cfg(test)]
 mod bodies;
 #[cfg(test)]
+mod counting;
+#[cfg(test)]
 mod metrics;
 #[cfg(test)]
 mod nodes;

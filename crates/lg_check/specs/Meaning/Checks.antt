@@ -15,7 +15,7 @@ use Rattle.lg_config.specs.declared.node.NodeConfig.{NodeConfig}
 use Rattle.lg_config.specs.declared.node_keys.NodeKey.{NodeKey}
 use Rattle.lg_config.specs.Meaning.Bounds.{default_address, default_dice, default_port}
 use Rattle.lg_config.specs.Meaning.NodeKeys.{node_key_name, node_keys, node_row_of, own_number}
-use Rattle.lg_check.specs.Meaning.Spelling.{seeds_spelled, status_spelled, truth_spelled}
+use Rattle.lg_check.specs.Meaning.Spelling.{path_spelled, seeds_spelled, status_spelled, truth_spelled}
 
 -- what stands behind a value that is the default of its key
 abbrev pub default_mark : Bool → List ℕ
@@ -59,6 +59,10 @@ status_open_line is_open = key_line (codes "status_open") (truth_spelled is_open
 abbrev pub server_lines : NodeConfig → List ℕ
 server_lines node = listening_line node.status ++ status_open_line node.status_open
 
+-- the line of the path of the key file
+abbrev pub key_file_line : Option (List ℕ) → List ℕ
+key_file_line path = key_line (codes "key_file") (path_spelled path) (is_none path)
+
 -- MEMBERS members: a round takes ROUND ms, a suspicion lasts LEAST to GREATEST ms
 abbrev pub times_line : ℕ → ℕ → ℕ → ℕ → List ℕ
 times_line members round least greatest =
@@ -80,4 +84,4 @@ unfoldable pub check_text : NodeConfig → List ℕ
 check_text node =
     address_lines node.config ++ start_lines node
     ++ flat_map (member_line node.config) keys ++ flat_map (own_line node) node_keys
-    ++ server_lines node ++ flat_map (group_line node.config) group_sizes
+    ++ server_lines node ++ key_file_line node.key_file ++ flat_map (group_line node.config) group_sizes

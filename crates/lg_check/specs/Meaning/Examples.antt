@@ -9,7 +9,7 @@ use Rattle.lg_timing.specs.Meaning.Tables.{log10_of, ratio_of}
 use Rattle.lg_timing.specs.Meaning.Timeouts.{range_of, timeout_of}
 use Rattle.lg_config.specs.declared.node.NodeConfig.{NodeConfig}
 use Rattle.lg_config.specs.declared.node_keys.NodeKey.TheVariants.{PullMs, StallMs}
-use Rattle.lg_check.specs.Meaning.Checks.{address_lines, group_line, member_line, own_line, server_lines}
+use Rattle.lg_check.specs.Meaning.Checks.{key_file_line, address_lines, group_line, member_line, own_line, server_lines}
 use Rattle.lg_check.specs.Meaning.Checks.{start_lines}
 use Rattle.lg_check.specs.Meaning.Spelling.{seeds_spelled}
 
@@ -27,7 +27,15 @@ b-by-default = defaults (98 ∷ []) (addr_of (127 ∷ 0 ∷ 0 ∷ 1 ∷ []) 7946
 
 abbrev usual : NodeConfig
 usual =
-    record { config = b-by-default; dice = 1; pull_ms = 30000; stall_ms = 100; status = None; status_open = false }
+    record {
+      config = b-by-default;
+      dice = 1;
+      pull_ms = 30000;
+      stall_ms = 100;
+      status = None;
+      status_open = false;
+      key_file = None;
+    }
 
 -- the times of the table in the documents, by the default numbers: 5.0 s; 6.0 and 36.1 s; 9.0 and 54.2 s; 12.0 and
 -- 72.2 s
@@ -110,3 +118,9 @@ open-without-server :
     server_lines (record usual { status_open = true }) ≡ codes "status = none (default)\nstatus_open = true\n"
 unfolding on_checks
 open-without-server = refl
+
+no-key_file : key_file_line usual.key_file ≡ codes "key_file = none (default)\n"
+no-key_file = refl
+
+a-key_file : key_file_line (Some (codes "group.key")) ≡ codes "key_file = group.key\n"
+a-key_file = refl

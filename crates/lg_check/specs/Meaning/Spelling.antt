@@ -22,6 +22,11 @@ abbrev pub status_spelled : Option Addr → List ℕ
 status_spelled None = codes "none"
 status_spelled (Some addr) = addr_text addr
 
+-- the path of a file, or the word for no file
+abbrev pub path_spelled : Option (List ℕ) → List ℕ
+path_spelled None = codes "none"
+path_spelled (Some path) = path
+
 -- a truth value, as TOML spells it
 abbrev pub truth_spelled : Bool → List ℕ
 truth_spelled true = codes "true"

@@ -105,8 +105,9 @@ where
 
 /// A node alone and a seeded one. An output that fails at its first byte, at a later one, and at the flush after the
 /// 33 bytes of the table. Files that can't be read or mean no configuration: no such file, a path that is none, an
-/// empty path, a folder, an empty file and one without an end.
-const ROWS: [Row; 11] = [
+/// empty path, a folder, an empty file and one without an end. Key files that give none: no such file, and one that
+/// others than its owner can use.
+const ROWS: [Row; 13] = [
     (
         Bytes("name = \"b\"\nport = #"),
         0,
@@ -147,6 +148,20 @@ const ROWS: [Row; 11] = [
         3,
         "",
         "lg: config 12\nthe file has more than 65536 bytes\n",
+    ),
+    (
+        Bytes("name = \"b\"\nport = #\nkey_file = \"/nowhere/b.key\""),
+        0,
+        9,
+        "",
+        "lg: key\nthe key file can't be read\n",
+    ),
+    (
+        Bytes("name = \"b\"\nport = #\nkey_file = \"/dev/null\""),
+        0,
+        9,
+        "",
+        "lg: key\nothers than its owner can use the key file\n",
     ),
 ];
 

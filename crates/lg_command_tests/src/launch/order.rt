@@ -186,6 +186,7 @@ where
         follow: false,
         status: None,
         status_open: false,
+        keys: None,
     };
     let stop = AtomicBool::new(false);
     let mut unread = Room::failing(0);

@@ -5,6 +5,7 @@ use lg_testing::{Room, at};
 use std::alloc::Global;
 use std::net::Net;
 use std::random::RandomSource;
+use std::rt::Files;
 use std::sync::Wait;
 use std::sync::atomic::AtomicBool;
 use std::thread::Threads;
@@ -40,7 +41,7 @@ const ROWS: [Row; 4] = [
 /// Runs the node of a row at a free port. Returns whether it ended with status 0, and told what the row says.
 fn runs<R>(rt: &R, alloc: Global, row: Row) -> io::Result<bool>
 where
-    R: Wait + Threads + Net + rt::Clock + RandomSource + Sync,
+    R: Wait + Threads + Net + rt::Clock + Files + RandomSource + Sync,
 {
     let (line, until, follow, told) = row;
     let port = free_port(rt)?;

@@ -28,7 +28,7 @@ fn told_of(of: Of) -> Told {
 }
 
 /// Each with its status and its line. No two things that may be told have the same line.
-const ENDS: [(Of, u8, &str); 24] = [
+const ENDS: [(Of, u8, &str); 25] = [
     (Of::End(Told::Done), 0, ""),
     (Of::End(Told::Memory), 1, "lg: memory\n"),
     (Of::End(Told::Read), 1, "lg: read\n"),
@@ -39,6 +39,7 @@ const ENDS: [(Of, u8, &str); 24] = [
     (Of::End(Told::Close), 1, "lg: close\n"),
     (Of::End(Told::Ousted), 4, "lg: ousted\n"),
     (Of::End(Told::Link), 5, "lg: link\n"),
+    (Of::End(Told::Key), 9, "lg: key\n"),
     (Of::Refusal(Refusal::NoMemory), 1, "lg: memory\n"),
     (Of::Refusal(Refusal::HistoryFull(2)), 1, "lg: history\n"),
     (

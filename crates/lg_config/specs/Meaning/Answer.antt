@@ -1,6 +1,6 @@
 -- What reading a configuration file answers. If there are several faults, the first of these counts: of the document,
 -- of its keys and their types, of the form of a value, of the configuration's own check, of the node's own numbers, of
--- the status server.
+-- the status server, of the path of the key file.
 use Rattle.std.specs.Prelude.{ℕ, Bool, ◌&&◌, nat_le, List, length, Option, Some, None, Result, Ok, Err}
 use Rattle.std.specs.Prelude.{if◌then◌else◌, ◌≡◌, true}
 use Rattle.std.specs.Str.{is_utf8}
@@ -16,6 +16,7 @@ use Rattle.lg_config.specs.declared.fault.ReadFault.TheVariants.{NoMemory, File}
 use Rattle.lg_config.specs.declared.node.NodeConfig.{NodeConfig}
 use Rattle.lg_config.specs.declared.node_keys.NodeKey.{NodeKey}
 use Rattle.lg_config.specs.Meaning.Bounds.{most_bytes}
+use Rattle.lg_config.specs.Meaning.KeyFiles.{key_file_in, with_key_file}
 use Rattle.lg_config.specs.Meaning.Keys.{are_right_keys}
 use Rattle.lg_config.specs.Meaning.NodeKeys.{node_row_of, own_broken}
 use Rattle.lg_config.specs.Meaning.Settings.{settings_of}
@@ -49,10 +50,16 @@ abbrev pub and_status : Members → Result NodeConfig FileFault → Result NodeC
 and_status members (Ok node) = with_status node (status_addr_in members) (open_in members)
 and_status _ (Err found) = Err found
 
+-- the same, with the path of the key file
+abbrev pub and_key_file : Members → Result NodeConfig FileFault → Result NodeConfig FileFault
+and_key_file members (Ok node) = with_key_file node (key_file_in members)
+and_key_file _ (Err found) = Err found
+
 -- what a document means, or the fault Key if its keys are wrong
 abbrev pub meaning_of : Members → Result NodeConfig FileFault
 meaning_of members =
-    if are_right_keys members then and_status members (unless_node (settings_of members)) else Err fault.Key
+    if are_right_keys members then and_key_file members (and_status members (unless_node (settings_of members)))
+    else Err fault.Key
 
 -- what a file means, or the fault Syntax if it is no document
 abbrev pub unless_syntax : Option Members → Result NodeConfig FileFault

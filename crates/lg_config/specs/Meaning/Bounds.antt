@@ -18,6 +18,10 @@ most_pull_ms = 3600000
 abbrev pub most_stall_ms : ℕ
 most_stall_ms = 60000
 
+-- the most bytes of a path
+abbrev pub most_path_bytes : ℕ
+most_path_bytes = 255
+
 -- the greatest number that the dice start from: the greatest whole number of TOML
 abbrev pub most_dice : ℕ
 most_dice = 2 ^ 63 - 1

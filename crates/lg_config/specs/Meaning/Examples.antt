@@ -12,6 +12,7 @@ use Rattle.lg_config.specs.declared.fault.FileFault.{FileFault}
 use Rattle.lg_config.specs.declared.fault.FileFault.TheVariants as fault
 use Rattle.lg_config.specs.declared.node.NodeConfig.{NodeConfig}
 use Rattle.lg_config.specs.Meaning.Answer.{answer_of}
+use Rattle.lg_config.specs.Meaning.KeyFiles.{path_of}
 use Rattle.lg_config.specs.Meaning.Keys.{kind_of_key}
 use Rattle.lg_config.specs.Meaning.Settings.{addr_in, dice_in, name_in, settings_of, with_numbers}
 use Rattle.lg_config.specs.Meaning.Texts.{before, behind, octets_of, address_of, seed_of_text}
@@ -40,7 +41,15 @@ b-by-default = defaults (98 ∷ []) (local 7946)
 -- a file that means this configuration, with the default dice
 abbrev means : Config → Result NodeConfig FileFault
 means config =
-    Ok record { config = config; dice = 1; pull_ms = 30000; stall_ms = 100; status = None; status_open = false }
+    Ok record {
+      config = config;
+      dice = 1;
+      pull_ms = 30000;
+      stall_ms = 100;
+      status = None;
+      status_open = false;
+      key_file = None;
+    }
 
 -- ---- files that mean a configuration
 
@@ -87,6 +96,7 @@ all-keys :
       stall_ms = 60000;
       status = Some record { octets = 10 ∷ 0 ∷ 0 ∷ 7 ∷ []; port = 8946 };
       status_open = true;
+      key_file = None;
     }
 unfolding on_files
 all-keys = refl
@@ -244,6 +254,7 @@ b-at addr is_open =
       stall_ms = 100;
       status = Some addr;
       status_open = is_open;
+      key_file = None;
     }
 
 on-loopback : answer_of (b-with (codes "status = \"127.0.0.1:8946\"")) ≡ b-at (local 8946) false
@@ -266,7 +277,15 @@ open-to-all = refl
 -- without a server it means nothing
 open-alone :
     answer_of (b-with (codes "status_open = true"))
-    ≡ Ok record { config = b-by-default; dice = 1; pull_ms = 30000; stall_ms = 100; status = None; status_open = true }
+    ≡ Ok record {
+      config = b-by-default;
+      dice = 1;
+      pull_ms = 30000;
+      stall_ms = 100;
+      status = None;
+      status_open = true;
+      key_file = None;
+    }
 unfolding on_files
 open-alone = refl
 
@@ -295,7 +314,7 @@ above-127 : answer_of (b-with (codes "status = \"128.0.0.0:1\"\nstatus_open = fa
 unfolding on_files
 above-127 = refl
 
--- it is judged last, in this order
+-- it is judged behind the node's own numbers, in this order
 stall-before-status : answer_of (b-with (codes "status = 1\nstall_ms = -1")) ≡ Err fault.Stall
 unfolding on_files
 stall-before-status = refl
@@ -307,6 +326,43 @@ status-before-open = refl
 open-before-loopback : answer_of (b-with (codes "status_open = 1\nstatus = \"1.2.3.4:1\"")) ≡ Err fault.StatusOpen
 unfolding on_files
 open-before-loopback = refl
+
+-- ---- the key file
+
+keyed : answer_of (b-with (codes "key_file = \"group.key\""))
+    ≡ Ok record {
+      config = b-by-default;
+      dice = 1;
+      pull_ms = 30000;
+      stall_ms = 100;
+      status = None;
+      status_open = false;
+      key_file = Some (codes "group.key");
+    }
+unfolding on_files
+keyed = refl
+
+path-without-bytes : answer_of (b-with (codes "key_file = \"\"")) ≡ Err fault.KeyFile
+unfolding on_files
+path-without-bytes = refl
+
+longest-path : path_of (replicate 255 120) ≡ Some (replicate 255 120)
+longest-path = refl
+
+path-too-long : path_of (replicate 256 120) ≡ None
+path-too-long = refl
+
+path-with-newline : path_of (codes "a\nb") ≡ None
+path-with-newline = refl
+
+path-as-number : answer_of (b-with (codes "key_file = 1")) ≡ Err fault.Key
+unfolding on_files
+path-as-number = refl
+
+-- it is judged last
+status-before-path : answer_of (b-with (codes "key_file = \"\"\nstatus = 1")) ≡ Err fault.Status
+unfolding on_files
+status-before-path = refl
 
 -- ---- texts
 

@@ -10,7 +10,7 @@ use Rattle.lg_timing.specs.declared.config.Seed.{Seed}
 use Rattle.lg_config.specs.Meaning.Quoting.{quoted}
 use Rattle.lg_config.specs.Meaning.Ranges.{dice_reason, port_reason}
 use Rattle.lg_config.specs.Meaning.Settings.{address_text, dice_in, name_in, name_text, octets_of_member}
-use Rattle.lg_config.specs.Meaning.Settings.{port_of_member, seed_of_value, seeds_at, seeds_of_items}
+use Rattle.lg_config.specs.Meaning.Settings.{port_of_member, seed_of_value, seeds_at, seeds_of_items, text_at}
 
 -- the first text of an array that is no seed; it is empty if each is one
 abbrev pub bad_seed : Items → List ℕ
@@ -41,6 +41,15 @@ value_reason members =
     else if is_none (port_of_member members) then port_reason members
     else if is_none (dice_in members) then dice_reason members
     else seed_reason members
+
+-- the text of the path of the key file, and the reason of one that is none
+abbrev pub key_file_text : Members → List ℕ
+key_file_text members = unwrap_or (text_at (codes "key_file") members) []
+
+abbrev pub key_file_reason : Members → List ℕ
+key_file_reason members =
+    codes "key_file is "
+    ++ (quoted (key_file_text members) ++ codes ", and has to have 1 to 255 bytes of printable ASCII\n")
 
 -- how many elements an array has
 abbrev pub item_count : Items → ℕ

@@ -1,12 +1,16 @@
 -- The bounds and defaults of the definitions are the constants of the code.
 use Rattle.std.specs.Prelude.{◌≡◌, refl}
 use Rattle.lg_config.specs.declared.document.TheConstants.{MAX_FILE}
+use Rattle.lg_config.specs.declared.key_file.TheConstants.{MAX_PATH}
 use Rattle.lg_config.specs.declared.node_keys.TheConstants.{MAX_PULL_MS, MAX_STALL_MS}
 use Rattle.lg_config.specs.declared.settings.TheConstants.{DEFAULT_PORT, DEFAULT_DICE}
-use Rattle.lg_config.specs.Meaning.Bounds.{most_bytes, most_pull_ms, most_stall_ms, default_port, default_dice}
+use Rattle.lg_config.specs.Meaning.Bounds.{most_bytes, most_path_bytes, most_pull_ms, most_stall_ms, default_port, default_dice}
 
 most_bytes-is : MAX_FILE ≡ most_bytes
 most_bytes-is = refl
+
+most_path_bytes-is : MAX_PATH ≡ most_path_bytes
+most_path_bytes-is = refl
 
 most_pull_ms-is : MAX_PULL_MS ≡ most_pull_ms
 most_pull_ms-is = refl

@@ -1,6 +1,6 @@
 -- How the node of a configuration is run: what is announced, what is written, and what is told of its end.
 use Rattle.std.specs.Prelude.{◌≡◌, ◌⊎◌, ℕ, Bool, true, false, List, [], if◌then◌else◌}
-use Rattle.std.specs.Prelude.{Option, Some, None, is_some, Result, Ok, Err, MatchResult, OnErr}
+use Rattle.std.specs.Prelude.{Option, Some, None, IsSome, is_some, Result, Ok, Err, MatchResult, OnErr}
 use Rattle.std.specs.Option.{option_map}
 use Rattle.std.specs.Result.{result_ok}
 use Rattle.lg_rules.specs.declared.addr.Addr.{Addr}
@@ -20,6 +20,8 @@ use Rattle.lg_node.specs.Meaning.Turns.{LinkValue}
 use Rattle.lg_node.specs.Meaning.Words.{seeded, DrawsEight}
 use Rattle.lg_launch.specs.declared.told.Told.TheVariants.{Memory, Read}
 use Rattle.lg_launch.specs.Meaning.Checking.{WritesText}
+use Rattle.lg_launch.specs.declared.key_file.NoKeys.{NoKeys}
+use Rattle.lg_launch.specs.Meaning.KeyTelling.{TellsNoKeys}
 use Rattle.lg_launch.specs.Meaning.Reporting.{ReportsBoth, TellsAlone, TellsFault}
 use Rattle.lg_launch.specs.Meaning.Telling.{ending, line_of, run_told, status_told}
 use Rattle.lg_launch.specs.Meaning.Wishes.{end_wished, is_announced}
@@ -112,12 +114,21 @@ RunsOrRefused before after held holds reported reports file n until follow statu
     RunsAnnounced before after held holds reported reports file n until follow status
     ⊎ TellsAlone before after reported reports Memory status
 
+-- That is done. Or the key file that the configuration names gives no keys, and it is told why. What a file holds no
+-- contract can say, nor that the node's link seals with its keys.
+abbrev pub RunsKeyed :
+    {W : Type 0} → (before after : W) (held holds reported reports : Option (List ℕ)) (file : List ℕ) (n : NodeConfig)
+    (until : Option ℕ) (follow : Bool) (status : ℕ) → Type 0
+RunsKeyed before after held holds reported reports file n until follow status =
+    RunsOrRefused before after held holds reported reports file n until follow status
+    ⊎ ((fault : NoKeys) × IsSome n.key_file × (after ≡ before) × TellsNoKeys reported reports fault status)
+
 -- A configuration that was read is run. If none was read, the reason is told.
 abbrev pub RunsConfig :
     {W : Type 0} → (before after : W) (held holds reported reports : Option (List ℕ)) (bytes file : List ℕ)
     → Result NodeConfig ReadFault → (until : Option ℕ) (follow : Bool) (status : ℕ) → Type 0
 RunsConfig before after held holds reported reports bytes file (Ok n) until follow status =
-    RunsOrRefused before after held holds reported reports file n until follow status
+    RunsKeyed before after held holds reported reports file n until follow status
 RunsConfig before after held holds reported reports bytes file (Err NoMemory) until follow status =
     TellsAlone before after reported reports Memory status
 RunsConfig before after held holds reported reports bytes file (Err (File fault)) until follow status =

@@ -14,7 +14,7 @@ use Rattle.lg_node.specs.declared.node.NodeFault.{NodeFault}
 use Rattle.lg_node.specs.declared.node.NodeFault.TheVariants as node
 use Rattle.lg_launch.specs.declared.told.Told.{Told}
 use Rattle.lg_launch.specs.declared.told.Told.TheVariants.{Done, Memory, Read, Write, History, Turns, Refused, Close}
-use Rattle.lg_launch.specs.declared.told.Told.TheVariants.{Config, Ousted, Link, Status}
+use Rattle.lg_launch.specs.declared.told.Told.TheVariants.{Config, Ousted, Link, Status, Key}
 
 -- the exit status
 abbrev pub status_told : Told → ℕ
@@ -23,6 +23,7 @@ status_told (Config fault) = 3
 status_told Ousted = 4
 status_told Link = 5
 status_told Status = 6
+status_told Key = 9
 status_told Memory = 1
 status_told Read = 1
 status_told Write = 1
@@ -53,6 +54,7 @@ line_of (Config fault) = config_line (fault_number fault)
 line_of Ousted = said_line (codes "ousted")
 line_of Link = said_line (codes "link")
 line_of Status = said_line (codes "status")
+line_of Key = said_line (codes "key")
 
 -- what is told of a refusal, and of a fault of memory, reading or writing
 abbrev pub refusal_told : Refusal → Told

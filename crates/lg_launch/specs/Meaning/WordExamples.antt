@@ -31,6 +31,7 @@ b-knowing seeds =
       stall_ms = 100;
       status = None;
       status_open = false;
+      key_file = None;
     }
 
 two-seeds :

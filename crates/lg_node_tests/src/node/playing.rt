@@ -4,6 +4,7 @@ ghost use Rattle.std.specs.Prelude.{◌≡◌, ◌<◌, ◌≤◌};
 use super::alone::{LoopSeen, Run, run_alone};
 use super::both::{BothSeen, FailsAt, run_both};
 use super::finding::{Found, Search, run_search};
+use super::keyed::{KeyedSeen, run_keyed};
 use super::rotating::{StreamSeen, run_stream};
 use lg_agent::{Agent, AgentName, Refusal, Spent};
 use lg_playing::{Case, Left, Outcome, room};
@@ -23,6 +24,8 @@ pub enum Play {
     Both { fails_at: FailsAt },
     /// One loop of a node after the other: many datagrams, and then many ticks.
     Stream,
+    /// The last pass runs a receiving loop over a keyed link.
+    Keyed,
     /// The last pass runs a ticking loop that finds its group.
     Find(Search),
 }
@@ -33,6 +36,7 @@ pub enum Shown {
     Loop(LoopSeen),
     Both(BothSeen),
     Stream(StreamSeen),
+    Keyed(KeyedSeen),
     Found(Found),
 }
 
@@ -55,6 +59,7 @@ where
         Play::Loop(run) => run_alone(rt, alloc, passes, run, spents),
         Play::Both { fails_at } => run_both(rt, alloc, passes, fails_at, spents),
         Play::Stream => run_stream(rt, alloc, passes, spents),
+        Play::Keyed => run_keyed(rt, alloc, passes, spents),
         Play::Find(search) => run_search(rt, alloc, passes, search, spents),
     }
 }

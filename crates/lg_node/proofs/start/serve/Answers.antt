@@ -1,5 +1,6 @@
 use Rattle.std.proofs.Common.{◌≡◌, [], arith}
 use Rattle.lg_node.specs.Meaning.Turns.{line}
+use Rattle.lg_node.specs.Support.Failing.{failures_of}
 use Rattle.lg_node.proofs.EarlyLaws.{passed_early}
 use Rattle.lg_node.proofs.start.serve.Goals as goal
 
@@ -16,14 +17,14 @@ pub returns-clause-left : goal.returns-clause-left
 returns-clause-left g c = λ start name told.
     let ready = c.in-Some.ensures _ start name told in
     let seeds : c.deref.result.now ≡ c.args.setup.now.config.now.seeds.items = cc in (
-      line [] c.new-hears.result.failures,
-      line [] c.run_threads-watcher.result.1.1.0.link.failures,
-      line [] c.new-sends.result.failures,
-      line [] c.run_threads-watcher.result.1.1.1.link.failures,
+      line [] (failures_of c.link_of-hears.result),
+      line [] (failures_of c.run_threads-watcher.result.1.1.0.link),
+      line [] (failures_of c.link_of-sends.result),
+      line [] (failures_of c.run_threads-watcher.result.1.1.1.link),
       c.ask_each.new.pass,
       c.run_threads-watcher.result.0.0,
       record {
-        between = line [] c.ask_each.new.link.failures;
+        between = line [] (failures_of c.ask_each.new.link);
         unsent = c.in_ok-unsent.unsent;
         later = c.run_threads-watcher.result.1.1.1.end.unsent;
         asked = rw (ready.2, seeds) at c.in_ok-unsent.ensures.asked;

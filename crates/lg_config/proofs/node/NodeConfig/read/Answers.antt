@@ -1,6 +1,7 @@
-use Rattle.std.proofs.Common.{◌≡◌, ℕ, List, Result, Ok, Err, Some, ap, refl, subst, sym, ◌∙◌}
+use Rattle.std.proofs.Common.{◌≡◌, ℕ, List, Result, Ok, Err, IfOk, Some, None, ap, refl, subst, sym, ◌∙◌}
 use Rattle.std.specs.Result.{IsErrAnd}
 use Rattle.toml.specs.Data.{Members}
+use Rattle.toml.specs.View.{table_view}
 use Rattle.lg_config.specs.declared.document.Unread.{Unread}
 use Rattle.lg_config.specs.declared.document.Unread.TheVariants as unread
 use Rattle.lg_config.specs.declared.fault.FileFault.{FileFault}
@@ -8,7 +9,9 @@ use Rattle.lg_config.specs.declared.fault.ReadFault.{ReadFault}
 use Rattle.lg_config.specs.declared.fault.ReadFault.TheVariants.{File}
 use Rattle.lg_config.specs.declared.node.NodeConfig.{NodeConfig}
 use Rattle.lg_config.specs.Meaning.Answer.{IsAnswer, answer_of, document_of, meaning_of, unless_syntax}
+use Rattle.lg_config.specs.Meaning.NodeKeys.{own_broken}
 use Rattle.lg_config.specs.Support.Reading.{IsUnread, SaysUnread}
+use Rattle.lg_config.proofs.MeaningLaws.{within-meaning}
 use Rattle.lg_config.proofs.node.NodeConfig.read.Goals as goal
 
 -- the error that a `?` passes on
@@ -39,3 +42,8 @@ returns-in_err-meaning_in-clause-answer c =
 
 pub returns-clause-answer : goal.returns-clause-answer
 returns-clause-answer c = read-as c.args.bytes.now _ _ c.in_ok-table.ensures c.in_ok-meaning_in.ensures
+
+pub returns-clause-within : goal.returns-clause-within
+returns-clause-within c =
+    subst (λ r. IfOk r (λ node. own_broken node ≡ None)) (sym c.in_ok-meaning_in.ensures)
+    (within-meaning (table_view c.in_ok-table.table))

@@ -1,0 +1,38 @@
+-- The file that has the keys of a node's group: its path (this project's choice). What the file says is defined in
+-- `lg_key`.
+use Rattle.std.specs.Prelude.{ℕ, Bool, ◌&&◌, List, length, codes, Option, Some, None, ok_or, Result, Ok, Err}
+use Rattle.std.specs.Prelude.{if◌then◌else◌}
+use Rattle.std.specs.List.{list_all}
+use Rattle.std.specs.Option.{option_map}
+use Rattle.toml.specs.Data.{Members}
+use Rattle.lg_timing.specs.Meaning.Keys.{is_within}
+use Rattle.lg_config.specs.declared.fault.FileFault.{FileFault}
+use Rattle.lg_config.specs.declared.fault.FileFault.TheVariants as fault
+use Rattle.lg_config.specs.declared.node.NodeConfig.{NodeConfig}
+use Rattle.lg_config.specs.Meaning.Bounds.{most_path_bytes}
+use Rattle.lg_config.specs.Meaning.Settings.{text_at}
+
+-- whether a byte may stand in a path: it is printable ASCII, so that a terminal takes it for nothing else
+abbrev pub is_path_byte : ℕ → Bool
+is_path_byte b = is_within 32 126 b
+
+-- the path that a text is; None if it has no bytes, too many, or one that may not stand in a path
+abbrev pub is_path : List ℕ → Bool
+is_path text = is_within 1 most_path_bytes (length text) && list_all is_path_byte text
+
+abbrev pub path_of : List ℕ → Option (List ℕ)
+path_of text = if is_path text then Some text else None
+
+-- the path at the key of the file, by the text there; there is no such file if the key is missing
+abbrev pub key_file_of : Option (List ℕ) → Result (Option (List ℕ)) FileFault
+key_file_of None = Ok None
+key_file_of (Some text) = ok_or (option_map (λ path. Some path) (path_of text)) fault.KeyFile
+
+-- the same of a document
+abbrev pub key_file_in : Members → Result (Option (List ℕ)) FileFault
+key_file_in members = key_file_of (text_at (codes "key_file") members)
+
+-- settings with that path, or its fault
+abbrev pub with_key_file : NodeConfig → Result (Option (List ℕ)) FileFault → Result NodeConfig FileFault
+with_key_file node (Ok path) = Ok (record node { key_file = path })
+with_key_file node (Err found) = Err found
