@@ -5,6 +5,8 @@ pub mod Faults
 pub mod Lines
 pub mod Names
 pub mod Numbers
+pub mod Octets
 pub mod Ranges
+pub mod Reporting
 pub mod Running
 pub mod Steps

@@ -9,7 +9,9 @@ mod input;
 mod lines;
 mod name;
 mod number;
+mod octets;
 mod output;
+mod reporting;
 
 pub use cutting::cut_at;
 pub use end::End;
@@ -18,4 +20,6 @@ pub use input::{MAX_INPUT, read_input};
 pub use lines::cut_line;
 pub use name::name_in;
 pub use number::{MAX_DIGITS, number_in, number_within, port_among, port_in};
-pub use output::{report, write_whole};
+pub use octets::octets_in;
+pub use output::write_whole;
+pub use reporting::{FaultStream, report};

@@ -1,4 +1,4 @@
-//! Writes a text whole, or a line as far as the writer takes it.
+//! Writes a text whole, or as far as the writer takes it.
 //!
 //! Defined in: `specs/Meaning/Running.antt`.
 //! Tested in: `lg_command_tests/src/writers.rt`.
@@ -26,15 +26,8 @@ pub fn write_whole<W: Write>(writer: &mut W, text: &[u8]) -> Result<(), RunFault
     Ok(())
 }
 
-/// Writes a line, as far as the writer takes it.
-pub fn report<F: Write>(faults: &mut F, line: &str)
-    ensures { AppendsFront (F.contents faults.old) (F.contents faults.new) line.now }
-{
-    let _ = write_pieces(faults, line.as_bytes());
-}
-
 /// Writes a text in as many calls as the writer needs, without a flush. The only error is [`RunFault::Write`].
-fn write_pieces<W: Write>(writer: &mut W, text: &[u8]) -> Result<(), RunFault>
+pub(crate) fn write_pieces<W: Write>(writer: &mut W, text: &[u8]) -> Result<(), RunFault>
     ensures written { OnOk result (Appends (W.contents writer.old) (W.contents writer.new) text.now) }
     ensures partly { AppendsFront (W.contents writer.old) (W.contents writer.new) text.now }
     ensures refused { IfErr result (λ fault. fault ≡ RunFault.Write) }

@@ -5,6 +5,7 @@ use Rattle.lg_text.specs.Meaning.Faults.{run_fault_text}
 use Rattle.lg_text.specs.Meaning.Lines.{lines_of}
 use Rattle.lg_text.specs.Meaning.Names.{member_name_of}
 use Rattle.lg_text.specs.Meaning.Numbers.{number_of, number_within, port_of}
+use Rattle.lg_text.specs.Meaning.Octets.{octets_of}
 use Rattle.lg_text.specs.declared.fault.RunFault.TheVariants.{Read}
 
 two-lines : lines_of (codes "ab" ++ 10 ∷ 10 ∷ codes "c") ≡ codes "ab" ∷ [] ∷ codes "c" ∷ []
@@ -78,3 +79,23 @@ blank-in-name = refl
 
 read-fault : run_fault_text Read ≡ codes "lg: read" ++ 10 ∷ []
 read-fault = refl
+
+an-address : octets_of (codes "10.0.0.255") ≡ Some (10 ∷ 0 ∷ 0 ∷ 255 ∷ [])
+unfolding octets_of before behind
+an-address = refl
+
+octal-address : octets_of (codes "010.0.0.1") ≡ None
+unfolding octets_of before behind
+octal-address = refl
+
+long-address : octets_of (codes "1.2.3.4.5") ≡ None
+unfolding octets_of before behind
+long-address = refl
+
+three-numbers : octets_of (codes "1.2.3") ≡ None
+unfolding octets_of before behind
+three-numbers = refl
+
+great-number : octets_of (codes "1.2.3.256") ≡ None
+unfolding octets_of before behind
+great-number = refl

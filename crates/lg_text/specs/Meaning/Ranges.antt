@@ -15,3 +15,7 @@ least_port = 1
 
 abbrev pub most_port : ℕ
 most_port = 65535
+
+-- the greatest of the four numbers of an IPv4 address, each of 8 bits
+abbrev pub most_octet : ℕ
+most_octet = 255
