@@ -6,22 +6,17 @@ import json
 import os
 import pathlib
 import select
-import shutil
 import subprocess
 import tempfile
 import time
 
 from running import end_with_parent
 
+# Under which names a Chromium may be there.
 NAMES = ["chromium", "chromium-browser", "google-chrome"]
 SECONDS = 30
 # The descriptors at which it reads commands and writes answers.
 READS, WRITES = 3, 4
-
-
-def chromium():
-    """The path of a Chromium, if there is one."""
-    return next(filter(None, map(shutil.which, NAMES)), None)
 
 
 def high_pipe():

@@ -9,7 +9,8 @@ import time
 from asking import Link, changes_after, on_connection, request
 from checks import NOTES
 from packets import HOST, IN_A_PACKET, claim, ping
-from running import LIFE_MS, PATIENCE, Node, bound_socket, file_of, free_ports, free_status_ports, table_of, wait_for
+from running import (
+    LIFE_MS, PATIENCE, Node, asked, bound_socket, file_of, free_ports, free_status_ports, table_of, wait_for)
 from unread import Stranger
 
 # Rounds are so rare that only strangers change anything.
@@ -20,26 +21,27 @@ PARKED = 192
 
 
 class Lone:
-    """A node b without others, which has a status server unless it is to have none."""
+    """A node b that runs alone, which has a status server unless it is to have none. `keys` are lines of its
+    configuration, and `seeds` its seeds, of whom none runs."""
 
-    def __init__(self, program, *options, has_status=True):
+    def __init__(self, program, *options, keys=QUIET, seeds=(), has_status=True):
         [self.port], [self.status] = free_ports(1), free_status_ports(1)
-        keys = f'{QUIET}status = "{HOST}:{self.status}"\n' if has_status else QUIET
-        text = file_of("b", self.port, keys=keys)
+        text = file_of("b", self.port, seeds, f'{keys}status = "{HOST}:{self.status}"\n' if has_status else keys)
         self.node = Node(program, text, "--for-ms", str(LIFE_MS), *options)
         self.silent = bound_socket()
-        if wait_for("b", self.port) is None:
-            raise RuntimeError(f"the node doesn't answer: {self.node.kill()}")
+        try:
+            wait_for("b", self.port)
+        except RuntimeError as error:
+            raise RuntimeError(f"{error}: {self.node.kill()}") from error
 
     def tell(self, incarnation, count=1):
         """Tells it that the members t000 to the last of so many are alive at an incarnation. What it sends to them
-        stays unread."""
+        stays unread. Each of these Pings is answered, so none is lost without being missed."""
         place = self.silent.getsockname()[1]
         claims = [claim(1, f"t{number:03}", place, incarnation) for number in range(count)]
-        with bound_socket() as sender:
-            for start in range(0, count, IN_A_PACKET):
-                sender.sendto(ping(5, "nobody", claims[start:start + IN_A_PACKET]), (HOST, self.port))
-                time.sleep(0.0005)
+        for start in range(0, count, IN_A_PACKET):
+            if not asked(ping(5, "b", claims[start:start + IN_A_PACKET]), self.port):
+                raise RuntimeError(f"no Ack came for the claims about t{start:03} and those behind it: {incarnation}")
 
     def __enter__(self):
         return self

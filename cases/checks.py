@@ -1,33 +1,57 @@
 """Runs the checks of a script: functions that take the program and give what is wrong, or None."""
 
 import os
+import shutil
 import sys
 import time
 from concurrent.futures import ProcessPoolExecutor
 
 # What the check that this process runs has noted of itself.
 NOTES = []
+# What a check may come to.
+PASSED, FAILED, SKIPPED = "passed", "failed", "skipped"
+
+
+class Skipped(Exception):
+    """Ends a check that looked at nothing, since something isn't there that it needs."""
+
+
+def needed(*names):
+    """The path of the first of these tools that is there. Without any of them the check that needs it is skipped."""
+    found = next(filter(None, map(shutil.which, names)), None)
+    if not found:
+        raise Skipped(f"there is no {names[0]}")
+    return found
 
 
 def outcome(check, program):
-    """Whether a check failed, and its line: what is wrong, how long it took, and what it noted. `./test` shows the lines
-    that begin with FAILED once more at its end."""
+    """What a check came to, and its line: what is wrong or wasn't there, how long it took, and what it noted. `./test`
+    shows the lines that begin with FAILED or SKIPPED once more at its end."""
     NOTES.clear()
     begun = time.monotonic()
     try:
         fault = check(program)
+        came_to = PASSED if fault is None else FAILED
+    except Skipped as lack:
+        came_to, fault = SKIPPED, lack
     except Exception as error:
-        fault = repr(error)
+        came_to, fault = FAILED, repr(error)
     notes = "; ".join([f"{time.monotonic() - begun:.0f} s", *NOTES])
-    has_failed = fault is not None
-    return has_failed, f"{'FAILED ' if has_failed else ''}{check.__name__}: {fault or 'passed'} ({notes})"
+    mark = "" if came_to == PASSED else f"{came_to.upper()} "
+    return came_to, f"{mark}{check.__name__}: {fault or PASSED} ({notes})"
 
 
 def shown(ended):
-    """Shows the line of a check, and says whether it failed."""
-    has_failed, line = ended
+    """Shows the line of a check, and gives what it came to."""
+    came_to, line = ended
     print(line, flush=True)
-    return has_failed
+    return came_to
+
+
+def last_line(came_to):
+    """The last line of a script whose checks came to this: what was skipped is counted if anything was."""
+    skipped = came_to.count(SKIPPED)
+    return f"{came_to.count(PASSED)} passed, {came_to.count(FAILED)} failed" + (f", {skipped} skipped" if skipped else "")
 
 
 def run_all(alone, side_by_side=()):
@@ -36,11 +60,11 @@ def run_all(alone, side_by_side=()):
     if len(sys.argv) != 2:
         sys.exit(f"usage: cases/{os.path.basename(sys.argv[0])} PROGRAM")
     program = os.path.abspath(sys.argv[1])
-    failed = 0
+    came_to = []
     if side_by_side:
         with ProcessPoolExecutor(len(side_by_side)) as pool:
             answers = [pool.submit(outcome, check, program) for check in side_by_side]
-            failed += sum(shown(answer.result()) for answer in answers)
-    failed += sum(shown(outcome(check, program)) for check in alone)
-    print(f"{len(side_by_side) + len(alone) - failed} passed, {failed} failed")
-    return 1 if failed else 0
+            came_to += [shown(answer.result()) for answer in answers]
+    came_to += [shown(outcome(check, program)) for check in alone]
+    print(last_line(came_to))
+    return 1 if FAILED in came_to else 0

@@ -2,15 +2,15 @@
 
 import os
 import pathlib
-import shutil
 import subprocess
+import sys
 import tempfile
 import time
 
 from asking import asked_for, by_python
-from browser import Browser, chromium
+from browser import NAMES as BROWSERS, Browser
 from changes import Lone
-from checks import NOTES
+from checks import NOTES, needed
 from group import AskedGroup
 from running import PATIENCE, end_with_parent, table_of, wait_until
 
@@ -70,11 +70,8 @@ def fault_of_a_new_start(group, browser):
 
 def page_follows_the_node(program):
     """A Chromium shows the page of b: within two seconds that c has died, that b has ended, and what b knows once both
-    run again. Without a Chromium this isn't looked at."""
-    path = chromium()
-    if not path:
-        NOTES.append("there is no Chromium, so no page was shown")
-        return None
+    run again. Without a Chromium it is skipped."""
+    path = needed(*BROWSERS)
     with AskedGroup(program, NAMES, KEYS) as group:
         if wait_until(group.is_whole, PATIENCE) is None:
             return group.difference(dict.fromkeys(NAMES, "alive"))
@@ -83,15 +80,13 @@ def page_follows_the_node(program):
 
 
 def page_reads_as_text(program):
-    """w3m, which runs no script, shows the members on the page. Without it this isn't looked at."""
-    if not shutil.which("w3m"):
-        NOTES.append("there is no w3m, so the page wasn't read as text")
-        return None
+    """w3m, which runs no script, shows the members on the page. Without it this is skipped."""
+    w3m = needed("w3m")
     with Lone(program) as node:
         node.tell(3, 2)
         wait_until(lambda: len(table_of(node.port)) == 3, 10)
         page = by_python(node.status, "/").body
-    ran = subprocess.run(["w3m", "-dump", "-T", "text/html"], input=page, capture_output=True, check=True)
+    ran = subprocess.run([w3m, "-dump", "-T", "text/html"], input=page, capture_output=True, check=True)
     rows = [line.split()[:3] for line in ran.stdout.decode().splitlines()]
     missing = [it for it in (["b", "alive", "0"], ["t000", "alive", "3"], ["t001", "alive", "3"]) if it not in rows]
     return f"{missing} aren't in {rows}" if missing else None
@@ -131,26 +126,28 @@ def fault_of_service(group, words):
     group.nodes["b"].kill()
     last = service.choices(3)
     status, told = service.end()
-    group.nodes |= {name: group.started(name) for name in ("b", "c")}
     got = both, one, last, status, told.count("the last answer is used")
     wanted = {"a at 127.0.0.1", "c at 127.0.0.1"}, {"a at 127.0.0.1"}, {"a at 127.0.0.1"}, 0, 3
     return None if got == wanted else f"{words}: got {got}, wanted {wanted}; it told {told}"
 
 
-def services_choose_who_is_alive(program):
-    """The services of the examples choose among the other members that are alive: the one in Python, and the one in Go
-    if there is a go."""
-    with tempfile.TemporaryDirectory(prefix="lg-services-") as folder, AskedGroup(program, NAMES, KEYS) as group:
-        services = [["python3", f"{SERVICES}/choose.py"]]
-        if shutil.which("go"):
-            made = f"{folder}/choose"
-            subprocess.run(["go", "build", "-o", made, f"{SERVICES}/choose.go"], check=True)
-            services.append([made])
-        else:
-            NOTES.append("there is no go, so the service in Go wasn't run")
-        for words in services:
-            if wait_until(group.is_whole, PATIENCE) is None:
-                return group.difference(dict.fromkeys(NAMES, "alive"))
-            if fault := fault_of_service(group, words):
-                return fault
-    return None
+def fault_beside_a_group(program, words):
+    """What is wrong with the choices of a service beside a group that is whole."""
+    with AskedGroup(program, NAMES, KEYS) as group:
+        if wait_until(group.is_whole, PATIENCE) is None:
+            return group.difference(dict.fromkeys(NAMES, "alive"))
+        return fault_of_service(group, words)
+
+
+def service_in_python_chooses_who_is_alive(program):
+    """The service of the examples that is written in Python chooses among the other members that are alive."""
+    return fault_beside_a_group(program, [sys.executable, f"{SERVICES}/choose.py"])
+
+
+def service_in_go_chooses_who_is_alive(program):
+    """So does the one in Go. Without a go it is skipped."""
+    go = needed("go")
+    with tempfile.TemporaryDirectory(prefix="lg-services-") as folder:
+        made = f"{folder}/choose"
+        subprocess.run([go, "build", "-o", made, f"{SERVICES}/choose.go"], check=True)
+        return fault_beside_a_group(program, [made])

@@ -94,8 +94,9 @@ def free_status_ports(count):
 
 
 def file_of(name, port, seeds=(), keys=""):
-    """The configuration of a member, by the names and ports of its seeds, and by lines of further keys."""
-    known = ", ".join(f'"{seed}@{HOST}:{place}"' for seed, place in seeds)
+    """The configuration of a member, by the names and ports of its seeds, with their addresses if these are others, and
+    by lines of further keys."""
+    known = ", ".join(f'"{seed}@{address[0] if address else HOST}:{place}"' for seed, place, *address in seeds)
     return f'name = "{name}"\nport = {port}\nseeds = [{known}]\n{keys}'
 
 
@@ -173,8 +174,9 @@ def wait_until(holds, seconds):
 
 
 def wait_for(name, port):
-    """Waits until the node of a name answers at a port, for at most twenty seconds."""
-    return wait_until(lambda: asked(ping(1, name), port, 0.05), 20)
+    """Waits until the node of a name answers at a port. One that doesn't in twenty seconds fails the check."""
+    if wait_until(lambda: asked(ping(1, name), port, 0.05), 20) is None:
+        raise RuntimeError(f"{name} doesn't answer at port {port}")
 
 
 def table_of(port):
