@@ -18,6 +18,7 @@ from exposition import metrics_in
 from group import AskedGroup
 from packets import ping
 from running import PATIENCE, asked, table_of, wait_until
+from sockets import udp_drops
 
 STAYING = 1000
 # How long a client may take for a part of a request or of an answer, and two seconds for a busy machine.
@@ -207,8 +208,75 @@ def harmful_clients_harm_nobody(program):
 # ---- A flood of a whole group
 
 GROUP = [f"m{place:02}" for place in range(8)]
+OTHERS = len(GROUP) - 1
 FLOODED_SECONDS = 5
 FLOODS = 5
+# How long a round is, how often the loops are looked at, and from which wait on a loop counts as late, in seconds.
+ROUND, LOOK, LATE = 0.1, 0.02, 0.04
+
+
+class Waits:
+    """Looks fifty times a second at how long the loops of some nodes wait for a processor, until its end.
+
+    The kernel counts for each thread how long it has run, and how long it was ready and had to wait.
+    """
+
+    def __init__(self, group):
+        self.threads = {name: sorted(pathlib.Path(f"/proc/{node.process.pid}/task").glob("*/schedstat"))
+                        for name, node in group.nodes.items()}
+        # In how many rounds a thread was late, by its place, and in how many the whole machine stood still.
+        self.late, self.still = dict.fromkeys(sum(self.threads.values(), []), 0), 0
+        self.first, self.is_on = self.read(), True
+        self.thread = threading.Thread(target=self.run)
+        self.thread.start()
+
+    def read(self):
+        """How long each thread has run so far, and how long it has waited, in seconds."""
+        return {it: times_of(it) for it in self.late}
+
+    def run(self):
+        own, last, looked = pathlib.Path("/proc/thread-self/schedstat"), self.first, time.monotonic()
+        own_before = times_of(own)
+        while self.is_on:
+            time.sleep(LOOK)
+            try:
+                now = self.read()
+            except OSError:
+                # A node has ended, which the check tells.
+                return
+            for place, (_, waited) in now.items():
+                self.late[place] += rounds_in(waited - last[place][1])
+            gap, own_now = time.monotonic() - looked, times_of(own)
+            # What is late without having waited or run stood still with the whole machine.
+            self.still += rounds_in(gap - LOOK - sum(own_now) + sum(own_before))
+            last, looked, own_before = now, time.monotonic(), own_now
+
+    def end(self):
+        """Ends it, and gives in how many rounds a loop of a node was late, and in how many the machine stood still. The
+        thread of a node that ran the longest is its server's, and the others are its loops."""
+        self.is_on = False
+        self.thread.join()
+        last, late = self.read(), 0
+        for threads in self.threads.values():
+            server = max(threads, key=lambda it: last[it][0] - self.first[it][0])
+            late += sum(self.late[it] for it in threads if it != server)
+        return late, self.still
+
+
+def times_of(place):
+    """How long a thread has run and waited, in seconds, by its file of the kernel."""
+    return tuple(int(it) / 1e9 for it in place.read_text(encoding="ascii").split()[:2])
+
+
+def rounds_in(waited):
+    """How many rounds a wait touches that is long enough to make a loop late."""
+    return 1 + int(waited / ROUND) if waited >= LATE else 0
+
+
+def lost(group):
+    """How many datagrams the system has thrown away so far, since a member's receive buffer was full."""
+    ports = set(group.own.values())
+    return sum(drops for (_, port), drops in udp_drops().items() if port in ports)
 
 
 def flood(ports):
@@ -236,34 +304,51 @@ def answered(group):
                for port in group.status.values())
 
 
+def flooded(group):
+    """Asks the status servers of a group for some seconds as fast as two clients can. Gives how many suspicions may be
+    raised meanwhile, and whether the clients went on to the end."""
+    clients = [Process(target=flood, args=(list(group.status.values()),), daemon=True) for _ in range(2)]
+    before, waits = lost(group), Waits(group)
+    for it in clients:
+        it.start()
+    time.sleep(FLOODED_SECONDS)
+    were_running = all(it.is_alive() for it in clients)
+    for it in clients:
+        it.kill()
+        it.join()
+    late, still = waits.end()
+    dropped = lost(group) - before
+    NOTES.append(f"{late} rounds with a late loop, {still} in which the machine stood still, {dropped} datagrams lost")
+    return late * OTHERS + still * OTHERS * len(GROUP) + dropped, were_running
+
+
 def fault_of_a_flood(group):
-    """What is wrong with a group whose status servers are asked for some seconds as fast as two clients can."""
+    """What is wrong with a group while its status servers are flooded."""
     if wait_until(group.is_whole, PATIENCE) is None:
         return group.difference(dict.fromkeys(GROUP, "alive"))
     before, sent = suspicions(group), answered(group)
-    floods = [Process(target=flood, args=(list(group.status.values()),), daemon=True) for _ in range(2)]
-    for it in floods:
-        it.start()
-    time.sleep(FLOODED_SECONDS)
-    were_running = all(it.is_alive() for it in floods)
+    most, were_running = flooded(group)
     after = suspicions(group)
-    for it in floods:
-        it.kill()
-        it.join()
-    NOTES.append(f"{(answered(group) - sent) / FLOODED_SECONDS:.0f} datagrams a second")
-    if after != before or not were_running or not group.is_whole():
-        return f"suspicions and incarnations {before} became {after}; the flood went on: {were_running}"
-    return None
+    raised = after[0] - before[0]
+    NOTES.append(f"{(answered(group) - sent) / FLOODED_SECONDS:.0f} datagrams a second, {raised:.0f} suspicions")
+    if raised > most or not raised and after != before or not were_running:
+        return f"of {most} that may be, suspicions and incarnations {before} became {after}; the flood went on: {were_running}"
+    return None if wait_until(group.is_whole, PATIENCE if raised else 1) is not None else "it isn't whole"
 
 
 def flood_raises_no_suspicion(program):
     """Eight members whose rounds take 100 ms suspect nobody while their status servers are asked as fast as two clients
-    can. A machine that is busy with something else makes members late, flood or not. So one flood of several that
-    raises no suspicion is enough."""
+    can, in each of five floods, unless the machine gave a loop no processor.
+
+    A member suspects another at the end of a round in which no Ack of that one counted, on the direct way or by a
+    helper. A client over HTTP sends no datagram, and takes nothing from the receive buffer of a loop. So such a round
+    needs a datagram that the system threw away (one suspicion each), or a member that was late by a good part of the
+    round. That is one whose receiving or ticking loop was ready and got no processor for 40 ms: at most all seven
+    others suspect it in this round, or it suspects one. If the machine stood still as a whole, each may suspect each.
+    The kernel counts all three. On a machine that does nothing else they are 0, and so no suspicion may be raised.
+    """
     with AskedGroup(program, GROUP, "interval_ms = 100\ntimeout_ms = 50\npull_ms = 1000\n") as group:
         for tried in range(FLOODS):
-            fault = fault_of_a_flood(group)
-            if not fault:
-                NOTES.append(f"flood {tried + 1} of at most {FLOODS}")
-                return None
-        return f"after {FLOODS} floods: {fault}"
+            if fault := fault_of_a_flood(group):
+                return f"flood {tried + 1} of {FLOODS}: {fault}"
+    return None
