@@ -28,10 +28,25 @@ class Program:
     def source(self) -> Path:
         return TOP / "benches" / f"{self.name}_program"
 
+    def lines_below(self) -> dict[str, str]:
+        """Returns the lines of crates.txt of the crates of this repository that the program stands on."""
+        lines = {}
+        for line in (TOP / "crates.txt").read_text(encoding="utf-8").splitlines():
+            if words := line.partition("#")[0].partition(":")[0].split():
+                lines[words[0]] = line.partition("#")[0]
+        found, left = {}, self.libraries.split()
+        while left:
+            name = left.pop()
+            if name in lines and name not in found:
+                found[name] = lines[name]
+                left += lines[name].partition(":")[2].replace(",", " ").split()
+        return found
+
     def lay_out(self, room: Path) -> Path:
-        """Copies the crates, with the libraries that are built, and puts the program's crate beside them. Returns the
-        folder of that crate."""
-        for crate in (TOP / "crates").iterdir():
+        """Copies the crates below the program, with the libraries that are built, and puts the program's crate beside
+        them. Returns the folder of that crate."""
+        below = self.lines_below()
+        for crate in (TOP / "crates" / name for name in below):
             for part in ("src", "specs", "proofs", "out/rlib"):
                 if (crate / part).is_dir():
                     to = room / "crates" / crate.name / part
@@ -43,13 +58,14 @@ class Program:
             to = made / "src" / f"{stem}.rt" if kind == "rt" else made / "proofs" / stem / "Invariants.antt"
             to.parent.mkdir(parents=True, exist_ok=True)
             shutil.copyfile(file, to)
-        crates = (TOP / "crates.txt").read_text(encoding="utf-8")
-        (room / "crates.txt").write_text(f"{crates}{self.name}: {self.libraries}\n", encoding="utf-8")
+        lines = [*below.values(), f"{self.name}: {self.libraries}"]
+        (room / "crates.txt").write_text("\n".join(lines) + "\n", encoding="utf-8")
         shutil.copyfile(TOP / "HANDLES", room / "HANDLES")
         return made
 
     def build(self, kept: Path) -> None:
-        print("benches: proving and building the program; this takes some minutes", file=sys.stderr)
+        """Builds the program over the libraries that are built in out/ of their crates, by `./lg` or by `rt ci`."""
+        print("benches: proving and building the program; this takes some minutes", file=sys.stderr, flush=True)
         if self.beside:
             run(["rt", "lib"], TOP / "crates" / self.beside, f"the library {self.beside}")
         folder = os.environ.get("TMPDIR", "/var/tmp")
