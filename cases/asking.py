@@ -11,6 +11,7 @@ import subprocess
 from dataclasses import dataclass
 
 from packets import HOST
+from running import wait_until
 
 # How long an answer may take, in seconds.
 SECONDS = 10
@@ -149,3 +150,9 @@ def is_answering(port):
         return by_python(port, "/v1/health").code == 200
     except (OSError, http.client.HTTPException):
         return False
+
+
+def wait_for_answers(port):
+    """Waits until the server at a port says that its node is well. One that doesn't in ten seconds fails the check."""
+    if wait_until(lambda: is_answering(port), 10) is None:
+        raise RuntimeError(f"no server answers at port {port}")

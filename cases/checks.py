@@ -50,8 +50,8 @@ def shown(ended):
 
 def last_line(came_to):
     """The last line of a script whose checks came to this: what was skipped is counted if anything was."""
-    skipped = came_to.count(SKIPPED)
-    return f"{came_to.count(PASSED)} passed, {came_to.count(FAILED)} failed" + (f", {skipped} skipped" if skipped else "")
+    skipped = f", {came_to.count(SKIPPED)} skipped" if SKIPPED in came_to else ""
+    return f"{came_to.count(PASSED)} passed, {came_to.count(FAILED)} failed{skipped}"
 
 
 def run_all(alone, side_by_side=()):

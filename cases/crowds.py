@@ -332,7 +332,7 @@ def fault_of_a_flood(group):
     raised = after[0] - before[0]
     NOTES.append(f"{(answered(group) - sent) / FLOODED_SECONDS:.0f} datagrams a second, {raised:.0f} suspicions")
     if raised > most or not raised and after != before or not were_running:
-        return f"of {most} that may be, suspicions and incarnations {before} became {after}; the flood went on: {were_running}"
+        return f"suspicions, incarnations {before} became {after}, at most {most} more wanted; flooded: {were_running}"
     return None if wait_until(group.is_whole, PATIENCE if raised else 1) is not None else "it isn't whole"
 
 

@@ -16,7 +16,7 @@ def rows_of(kind):
 
 
 def place_of(text):
-    """The address and the port that a word such as `0100007F:1F0A` says: the address in the machine's order of bytes."""
+    """The address and the port of a word such as `0100007F:1F0A`, the address in the machine's order of bytes."""
     address, _, port = text.partition(":")
     return socket.inet_ntoa(int(address, 16).to_bytes(4, sys.byteorder)), int(port, 16)
 
