@@ -136,7 +136,7 @@ def fault_of_damaged(port, data):
     code = head[9:12]
     if code == b"200" or not received and not data:
         return None
-    if code not in (b"400", b"404", b"405", b"413", b"414", b"431", b"501"):
+    if code not in (b"400", b"404", b"405", b"413", b"414", b"421", b"431", b"501"):
         return f"{data} got {received[:200]}"
     return None if data.startswith(b"HEAD") or "error" in json.loads(body.partition(b"HTTP/1.1")[0]) else f"{received}"
 

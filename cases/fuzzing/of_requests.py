@@ -32,6 +32,8 @@ ALL_QUERIES = ["", "status=alive", "status=suspect", "status=failed", "status=de
 # For the paths that take a query these are the usual ones.
 QUERIES = {"/v1/members": [it for it in ALL_QUERIES if it.startswith("status")],
            "/v1/changes": [it for it in ALL_QUERIES if it.startswith(("after", "wait_ms"))]}
+HOSTS = ["127.0.0.1", "127.0.0.1:8946", "255.255.255.255", "localhost", "LOCALHOST:1", "[::1]", "[fe80::1]:65535"]
+FOREIGN_HOSTS = ["b", "evil.example", "evil.example:80", "localhost.b", "xlocalhost", "1.2.3", "1.2.3.256", "01.2.3.4"]
 FIELDS = ["", "", "", "accept: */*\r\n", "a: b\r\n", "a:\tb \r\n", "x: " + "y" * 500 + "\r\n"]
 
 # What the node hears: of one member of each status.
@@ -42,9 +44,10 @@ HEARD = Packet(1, PING, b"z", 1, b"nobody", claims=CLAIMS)
 
 @dataclass(frozen=True)
 class Request:
-    """A request: its method and target, its bytes, and whether they are whole."""
+    """A request: its method, host and target, its bytes, and whether they are whole."""
 
     method: str
+    host: str
     target: str
     data: bytes
     is_whole: bool = True
@@ -56,9 +59,9 @@ def request_of(dice):
     queries = QUERIES.get(path, ALL_QUERIES) if dice.random() < 0.8 else ALL_QUERIES
     target = path + (dice.choice(MEMBERS) if path == web.ONE_MEMBER else "")
     target += "?" + dice.choice(queries) if dice.random() < 0.5 else ""
-    method = dice.choice(METHODS)
+    method, host = dice.choice(METHODS), dice.choice(HOSTS if dice.random() < 0.9 else FOREIGN_HOSTS)
     fields = "".join(dice.choice(FIELDS) for _ in range(dice.randrange(3)))
-    return Request(method, target, f"{method} {target} HTTP/1.1\r\nhost: b\r\n{fields}\r\n".encode())
+    return Request(method, host, target, f"{method} {target} HTTP/1.1\r\nhost: {host}\r\n{fields}\r\n".encode())
 
 
 def all_received(port, data):
@@ -103,7 +106,7 @@ class Asked:
             answers, rest = web.answers_in(received, [it.method for it in whole])
         except (ValueError, KeyError, OSError) as error:
             return f"the answers can't be read: {error!r}"
-        faults = [web.fault_of(it.method, it.target, answer, self.view) for it, answer in zip(whole, answers)]
+        faults = [web.fault_of(it.method, it.host, it.target, answer, self.view) for it, answer in zip(whole, answers)]
         faults += [f"{len(answers)} answers to {len(whole)} requests"] if len(answers) < len(whole) else []
         faults += [web.fault_of_rest(rest)] if len(whole) < len(requests) else []
         faults += [f"bytes behind the last answer: {rest[:200]}"] if rest and len(whole) == len(requests) else []
@@ -128,6 +131,7 @@ class Requests:
     name = "requests"
     wrong_rules = (
         (wire, "MOST_NAME", 31), (web, "SERVED", ("GET", "HEAD", "OPTIONS")), (web, "MOST_WAIT", 4),
+        (web, "OWN_NAME", "evil.example"),
         (web, "MEMBERS_QUERIES", ("", "status=alive", "status=suspect")), (web, "PLAIN", (*web.PLAIN, "/v1/config/")))
 
     def make(self, dice):
@@ -137,7 +141,7 @@ class Requests:
             requests = [request_of(dice) for _ in range(dice.randint(1, MOST_REQUESTS))]
             if dice.random() < 0.5:
                 data = damaged(dice, dice.choice(requests).data, dice.choice(requests).data)
-                requests.append(Request("", "", data, is_whole=False))
+                requests.append(Request("", "", "", data, is_whole=False))
             case.append(tuple(requests))
         return case
 

@@ -1,5 +1,6 @@
 """A slow judge of what a node answers over HTTP, by docs/FORMATS.md, and a reader of whole answers."""
 
+import ipaddress
 import json
 import re
 from dataclasses import dataclass
@@ -14,8 +15,10 @@ JSON = "application/json"
 MEDIA = {"/": "text/html; charset=utf-8", "/metrics": "text/plain; version=0.0.4; charset=utf-8"}
 MEMBERS_QUERIES = ("", *(f"status={it}" for it in STATUS_WORDS.values()))
 SERVED = ("GET", "HEAD")
+# The name of a host that a server on a loopback address answers to, beside addresses.
+OWN_NAME = "localhost"
 # What may be answered to damaged bytes: they may also be good ones.
-DAMAGED_CODES = {200, 400, 404, 405, 413, 414, 431, 501}
+DAMAGED_CODES = {200, 400, 404, 405, 413, 414, 421, 431, 501}
 
 
 @dataclass(frozen=True)
@@ -45,8 +48,20 @@ def asks_for_changes(query):
     return True
 
 
-def code_of(method, target, known):
-    """The code of the answer to a request for a target, if members of these names are known."""
+def is_own(host):
+    """Whether a host is an address or the own name, each with or without a port."""
+    name = re.sub(":[0-9]+$", "", host)
+    try:
+        is_six = name.startswith("[") and name.endswith("]")
+        return bool(ipaddress.IPv6Address(name[1:-1]) if is_six else ipaddress.IPv4Address(name))
+    except ValueError:
+        return name.lower() == OWN_NAME
+
+
+def code_of(method, host, target, known):
+    """The code of the answer to a request for a target of a host, if members of these names are known."""
+    if not is_own(host):
+        return 421
     if method not in SERVED:
         return 405
     path, _, query = target.partition("?")
@@ -114,9 +129,9 @@ def fault_of_rest(data):
     return f"damaged bytes got {data[:300]}"
 
 
-def fault_of(method, target, answer, view):
+def fault_of(method, host, target, answer, view):
     """What is wrong with the answer to a whole request, if the node knows these records."""
-    code = code_of(method, target, [record.member for record in view])
+    code = code_of(method, host, target, [record.member for record in view])
     media = MEDIA.get(target.partition("?")[0], JSON) if code == 200 else JSON
     if (answer.code, answer.media) != (code, media):
         return f"{method} {target}: got {answer.code} {answer.media}, wanted {code} {media}"
