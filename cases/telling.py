@@ -4,9 +4,10 @@ import json
 import socket
 import subprocess
 import threading
+import time
 from contextlib import suppress
 
-from asking import asked_for, by_python
+from asking import Link, asked_for, by_python, request
 from changes import Lone
 from group import AskedGroup
 from packets import HOST
@@ -170,6 +171,52 @@ def changes_are_watched(program):
     return None if got == 2 * [(7, "lg: no answer\n")] else f"once the node had ended, they ended with {ends}"
 
 
+PARKED = 192
+# Longer than twice the second after which a client is told to ask again.
+TURNED_AWAY_SECONDS = 2.5
+
+
+def is_full(port, version):
+    """Whether as many requests wait as may: one that would wait for a millisecond is turned away."""
+    return by_python(port, f"/v1/changes?after={version}&wait_ms=1").code == 503
+
+
+def fault_of_waiting(node, watcher, held, version):
+    """What is wrong with a `watch` while other requests hold all places to wait: it waits too, and takes the first
+    place that is free."""
+    if wait_until(lambda: watcher.lines, 10) is None:
+        return "it wrote nothing at first"
+    time.sleep(TURNED_AWAY_SECONDS)
+    if watcher.process.poll() is not None or not is_full(node.status, version):
+        return f"it ended, or the places aren't held: {watcher.process.poll()}"
+    held.pop().close()
+    time.sleep(TURNED_AWAY_SECONDS)
+    if not is_full(node.status, version):
+        return "it didn't take the free place"
+    node.tell(1)
+    return None if wait_until(lambda: len(watcher.lines) == 2, 10) is not None else "it missed the change"
+
+
+def watch_waits_while_its_node_is_busy(program):
+    """192 requests wait for a change when a `watch` asks, so it is told to come again. It does so until one of them is
+    gone, and writes the next change."""
+    with Lone(program) as node:
+        version = asked_for(node.status, "/v1/changes")["version"]
+        held = [Link(node.status, request(f"/v1/changes?after={version}&wait_ms=30000")) for _ in range(PARKED)]
+        try:
+            if wait_until(lambda: is_full(node.status, version), 10) is None:
+                return f"{PARKED} requests wait, and another isn't turned away"
+            watcher = Watcher(program, node.status)
+            fault = fault_of_waiting(node, watcher, held, version)
+        finally:
+            for link in held:
+                link.close()
+    end = watcher.end()
+    if fault or (end[0], len(end[1]), end[2]) != (7, 2, "lg: no answer\n"):
+        return f"{fault or 'its end is another'}; it ended with {end}"
+    return None
+
+
 def watch_ends_with_its_reader(program):
     """A `watch` whose lines nobody takes any more ends at the next one."""
     with Lone(program) as node:
@@ -199,22 +246,23 @@ def fault_of_silence(program, port):
     return None
 
 
-def answering(listener, data):
-    """Answers the next client of a listener by some bytes, once its request has come. It may close before it has taken
-    all of them."""
-    with listener.accept()[0] as client, suppress(OSError):
-        client.recv(4096)
-        client.sendall(data)
+def answering(listener, answers):
+    """Answers the next clients of a listener by some bytes each, once their requests have come. One may close before it
+    has taken all of them."""
+    for data in answers:
+        with suppress(OSError), listener.accept()[0] as client:
+            client.recv(4096)
+            client.sendall(data)
 
 
-def told_of(program, command, data):
-    """What a command tells of an answer."""
+def told_of(program, command, *answers):
+    """What a command tells of some answers in turn, and how many seconds it takes. It may leave out the last ones."""
     with socket.create_server((HOST, 0)) as listener:
-        server = threading.Thread(target=answering, args=(listener, data), daemon=True)
+        server = threading.Thread(target=answering, args=(listener, answers), daemon=True)
         server.start()
+        begun = time.monotonic()
         got = told_by(words_of(program, command, listener.getsockname()[1]))
-        server.join(10)
-        return got
+        return got, time.monotonic() - begun
 
 
 def answer_of(body, code="200 OK"):
@@ -237,14 +285,43 @@ def answers_of_others_are_told(program):
         return f"nobody listens: {fault}"
     rows = [("members", data, (8, "", "lg: bad answer\n"), what) for data, what in BAD]
     rows += [("members", answer_of(HEALTH)[:-5], (7, "", "lg: no answer\n"), "cut off"),
-             ("members", b"", (7, "", "lg: no answer\n"), "closed"),
              ("status", answer_of(OUSTED, "503 Service Unavailable"),
               (4, "".join(f"{key} {value}\n" for key, value in zip(
                   json.loads(OUSTED), ["b", 0, 0, 3, 3, "true", 5120, 0])), ""), "ousted")]
     for command, data, wanted, what in rows:
-        got = told_of(program, command, data)
+        got, _ = told_of(program, command, data)
         if got != wanted:
             return f"{what}: got {got}, wanted {wanted}"
+    return None
+
+
+def busy_answer(seconds):
+    """The answer of a node that has no place for a request."""
+    body = '{"error":"too many requests wait"}'
+    return (f"HTTP/1.1 503 Service Unavailable\r\nretry-after: {seconds}\r\ncontent-type: application/json\r\n"
+            f"content-length: {len(body)}\r\nconnection: close\r\n\r\n{body}").encode()
+
+
+KNOWN = answer_of('{"version":1,"moment_ms":1,"name":"b","members":[]}')
+WELL_TOLD, TOLD_BUSY = (0, "", ""), (10, "", "lg: busy\n")
+# A command, what it is answered in turn, what it comes to, and how many seconds it waits at least.
+BUSY = [("members", [busy_answer(1), KNOWN], WELL_TOLD, 1), ("members", [busy_answer(3), KNOWN], WELL_TOLD, 3),
+        ("members", [busy_answer(600), KNOWN], WELL_TOLD, 5), ("members", [b"", KNOWN], WELL_TOLD, 1),
+        ("members", [busy_answer(1), busy_answer(1), KNOWN], TOLD_BUSY, 1),
+        ("members", [b"", b"", KNOWN], TOLD_BUSY, 1), ("members", [busy_answer(1), b"", KNOWN], TOLD_BUSY, 1),
+        ("status", [b"", b"", answer_of(HEALTH)], TOLD_BUSY, 1)]
+# By how many seconds a busy machine makes a command later.
+BEHIND = 3
+
+
+def busy_nodes_are_told(program):
+    """A node is busy that says so by 503 and `Retry-After`, or closes the connection before a byte. `members` and
+    `status` ask such a one once more, as many seconds later as it says, but five at most, and then tell that it is
+    busy."""
+    for command, answers, wanted, seconds in BUSY:
+        got, took = told_of(program, command, *answers)
+        if got != wanted or not seconds <= took < seconds + BEHIND:
+            return f"{command}, {[it[:60] for it in answers]}: got {got} after {took:.1f} s, wanted {wanted}"
     return None
 
 
