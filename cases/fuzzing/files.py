@@ -86,8 +86,8 @@ def number_in(text, least, most):
 
 
 def address_in(text):
-    """The four numbers of an address, None if it is out of its form."""
-    parts = [number_in(it, 0, 255) for it in text.split(".")]
+    """The four numbers of an address, None if it is out of its form. None of them has a leading zero."""
+    parts = [number_in(it, 0, 255) if it == "0" or not it.startswith("0") else None for it in text.split(".")]
     return parts if len(parts) == 4 and None not in parts else None
 
 

@@ -72,7 +72,7 @@ def seeds(dice):
 
 def right_value(dice, key):
     """A value for a key that is no fault, whatever else the file has."""
-    texts = {"name": "b", "address": "127.0.0.1", "status": dice.choice(["127.0.0.1:8946", "127.9.0.010:1"])}
+    texts = {"name": "b", "address": "127.0.0.1", "status": dice.choice(["127.0.0.1:8946", "127.9.0.10:1"])}
     plain = {"seeds": "[]", "status_open": dice.choice(["true", "false"])}
     if key in ROWS:
         least, most, default = ROWS[key][:3]

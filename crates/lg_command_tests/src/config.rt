@@ -4,7 +4,7 @@ use lg_config::{
 };
 use lg_rules::Addr;
 use lg_testing::name;
-use std::alloc::Global;
+use std::alloc::{AllocError, Global};
 
 /// A seed: its name, its address and its port.
 type Known = (&'static [u8], [u8; 4], u16);
@@ -140,7 +140,7 @@ fn each_value(rt: HostRuntime) {
             ..alone
         },
         Row {
-            text: "name = \"b\"\naddress = \"0000000000000001.02.3.4\"\nport = 0x10\ndice = 9223372036854775807",
+            text: "name = \"b\"\naddress = \"1.2.3.4\"\nport = 0x10\ndice = 9223372036854775807",
             octets: [1, 2, 3, 4],
             port: 16,
             dice: 9_223_372_036_854_775_807,
@@ -199,5 +199,53 @@ fn reasons(rt: HostRuntime) {
         let line = reason(rt.alloc(), text.as_bytes(), FileFault::Syntax);
         let is_wanted = line.as_ref().is_ok_and(|line| line.as_str() == wanted);
         assert!(rt; is_wanted, "{row:?}");
+    }
+}
+
+/// Unknown keys, each with the known key that the reason names. Three edits are few of eight bytes, two of six, and one
+/// of three; four are too many, and so are two of four bytes. Two edits lead from `all_ms` to `pull_ms` and to
+/// `stall_ms`, of which the first counts.
+const UNKNOWN_KEYS: [(&str, Option<&str>); 14] = [
+    ("intervall_ms", Some("interval_ms")),
+    ("interval", Some("interval_ms")),
+    ("nack_thousandth", Some("nack_thousandths")),
+    ("status_opne", Some("status_open")),
+    ("keyfile", Some("key_file")),
+    ("Port", Some("port")),
+    ("por", Some("port")),
+    ("ports_", Some("port")),
+    ("all_ms", Some("pull_ms")),
+    ("stall", None),
+    ("prot", None),
+    ("po", None),
+    ("interval_ms____", None),
+    ("colour", None),
+];
+
+/// Whether the reason of a file with an unknown key is the one that is wanted. If memory is refused, that is the only
+/// error, and the next reason is right.
+fn names(alloc: Global, key: &str, nearest: Option<&str>) -> Result<bool, AllocError> {
+    let text = format!(in alloc; "name = \"b\"\n{key} = 1\n")?;
+    let wanted = match nearest {
+        Some(known) => format!(in alloc; "the key \"{key}\" is unknown, and the nearest is \"{known}\"\n")?,
+        None => format!(in alloc; "the key \"{key}\" is unknown\n")?,
+    };
+    let line = match reason(alloc, text.as_bytes(), FileFault::Key) {
+        Ok(line) => line,
+        Err(AllocError) => reason(alloc, text.as_bytes(), FileFault::Key)?,
+    };
+    Ok(line.as_str() == wanted.as_str())
+}
+
+/// The reason of each unknown key names the nearest known one, if one is near.
+#[test]
+fn nearest_keys_refused_memory(rt: HostRuntime) {
+    for row in UNKNOWN_KEYS {
+        let (key, nearest) = row;
+        let mut is_named = names(rt.alloc(), key, nearest);
+        if is_named.is_err() {
+            is_named = names(rt.alloc(), key, nearest);
+        }
+        assert!(rt; is_named == Ok(true), "{row:?}");
     }
 }

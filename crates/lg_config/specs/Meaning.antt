@@ -7,6 +7,7 @@ pub mod FormReasons
 pub mod KeyFiles
 pub mod KeyReasons
 pub mod Keys
+pub mod NearestKeys
 pub mod NodeKeys
 pub mod Quoting
 pub mod Ranges

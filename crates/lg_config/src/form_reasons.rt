@@ -46,7 +46,9 @@ fn address_reason(alloc: Global, table: &Table) -> Result<String, AllocError>
     ensures { IfOk result (λ text. string_bytes text ≡ address_reason (table_view table.now)) }
 {
     let quote = quoted(alloc, address_text(table).as_bytes())?;
-    format!(in alloc; "address is {quote}, and has to be A.B.C.D, each from 0 to 255\n")
+    format!(in alloc;
+        "address is {quote}, and has to be A.B.C.D, each from 0 to 255 without leading zeros\n"
+    )
 }
 
 /// The reason of a seed that is none.
@@ -54,7 +56,9 @@ fn seed_reason(alloc: Global, table: &Table) -> Result<String, AllocError>
     ensures { IfOk result (λ text. string_bytes text ≡ seed_reason (table_view table.now)) }
 {
     let quote = quoted(alloc, bad_seed(seeds_at(table)).as_bytes())?;
-    format!(in alloc; "the seed {quote} has to be NAME@A.B.C.D:PORT\n")
+    format!(in alloc;
+        "the seed {quote} has to be NAME@A.B.C.D:PORT, A to D without leading zeros\n"
+    )
 }
 
 /// The reason of a value that is out of its form.

@@ -3,11 +3,13 @@
 //! Defined in: `specs/Meaning/KeyReasons.antt`.
 //! Tested in: `cases/config_reasons.case`.
 ghost use Rattle.std.specs.Prelude.{◌≡◌, IfOk, string_bytes};
+ghost use Rattle.std.specs.Option.{option_map};
 ghost use Rattle.toml.specs.View.{table_view, view};
-ghost use Rattle.lg_config.specs.Meaning.KeyReasons.{wrong_key_reason};
+ghost use Rattle.lg_config.specs.Meaning.KeyReasons.{unknown_with, wrong_key_reason};
 ghost use Rattle.lg_config.specs.Meaning.KeyReasons.{key_reason, type_reason, unknown_reason, wanted_type};
 
 use crate::keys::{Kind, is_of_kind, kind_of};
+use crate::nearest::nearest_key;
 use crate::quoting::quoted;
 use std::alloc::{AllocError, Global};
 use toml::{Table, Value};
@@ -37,12 +39,26 @@ pub(crate) fn type_reason(
     format!(in alloc; "{key} is of type {given}, and has to be of type {wanted}\n")
 }
 
-/// The reason of a key that is unknown.
+/// The reason of a key that is unknown, given the known key that is nearest to it, if one is near.
+fn unknown_with(alloc: Global, key: &str, nearest: Option<&str>) -> Result<String, AllocError>
+    ensures { IfOk result (λ text. string_bytes text
+        ≡ unknown_with key.now (option_map (λ known. known.now) nearest.entry)) }
+{
+    let quote = quoted(alloc, key.as_bytes())?;
+    match nearest {
+        Some(known) => format!(in alloc;
+            "the key {quote} is unknown, and the nearest is \"{known}\"\n"
+        ),
+        None => format!(in alloc; "the key {quote} is unknown\n"),
+    }
+}
+
+/// The reason of a key that is unknown. It names the known key that is nearest, if one is near.
 fn unknown_reason(alloc: Global, key: &str) -> Result<String, AllocError>
     ensures { IfOk result (λ text. string_bytes text ≡ unknown_reason key.now) }
 {
-    let quote = quoted(alloc, key.as_bytes())?;
-    format!(in alloc; "the key {quote} is unknown\n")
+    let nearest = nearest_key(alloc, key.as_bytes())?;
+    unknown_with(alloc, key, nearest)
 }
 
 /// The reason of a key that is wrong.

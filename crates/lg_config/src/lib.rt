@@ -12,6 +12,7 @@ mod key_file;
 mod key_reasons;
 mod keys;
 mod lookup;
+mod nearest;
 mod node;
 mod node_keys;
 mod quoting;

@@ -23,7 +23,9 @@ fn no_address_reason(alloc: Global, value: &Value) -> Result<String, AllocError>
         return type_reason(alloc, "string", STATUS, value);
     };
     let quote = quoted(alloc, text.as_bytes())?;
-    format!(in alloc; "status is {quote}, and has to be A.B.C.D:PORT\n")
+    format!(in alloc;
+        "status is {quote}, and has to be A.B.C.D:PORT, A to D without leading zeros\n"
+    )
 }
 
 /// The reason of a status server's address that is none.

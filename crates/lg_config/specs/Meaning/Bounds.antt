@@ -6,10 +6,6 @@ use Rattle.std.specs.Prelude.{ℕ, ◌^◌, ◌-◌, List, codes}
 abbrev pub most_bytes : ℕ
 most_bytes = 65536
 
--- the greatest value of each of the four numbers of an address
-abbrev pub most_octet : ℕ
-most_octet = 255
-
 -- the longest times of the node's own, in milliseconds: from one Pull of a member to the next, and by which its clock
 -- passes a loop's last turn
 abbrev pub most_pull_ms : ℕ

@@ -59,7 +59,7 @@ name-alone = refl
 
 -- lines of all the other keys
 abbrev addressed : List ℕ
-addressed = codes "address = \"10.0.0.007\"\nport = 1\ndice = 9223372036854775807\nseeds = [\"c@127.0.0.1:7001\"]\n"
+addressed = codes "address = \"10.0.0.7\"\nport = 1\ndice = 9223372036854775807\nseeds = [\"c@127.0.0.1:7001\"]\n"
 
 abbrev timed : List ℕ
 timed = codes "interval_ms = 200\ntimeout_ms = 50\nalpha = 2\nbeta = 3\nnack_thousandths = 6\n"
@@ -366,9 +366,18 @@ status-before-path = refl
 
 -- ---- texts
 
-zeros-first : octets_of (codes "0000000000000001.002.3.255") ≡ Some (1 ∷ 2 ∷ 3 ∷ 255 ∷ [])
+four-numbers : octets_of (codes "0.10.100.255") ≡ Some (0 ∷ 10 ∷ 100 ∷ 255 ∷ [])
 unfolding on_texts
-zeros-first = refl
+four-numbers = refl
+
+-- some programs read 010 as eight
+zero-first : octets_of (codes "010.0.0.1") ≡ None
+unfolding on_texts
+zero-first = refl
+
+two-zeros : octets_of (codes "127.0.0.00") ≡ None
+unfolding on_texts
+two-zeros = refl
 
 octet-256 : octets_of (codes "1.2.3.256") ≡ None
 unfolding on_texts

@@ -27,11 +27,12 @@ name_reason members =
 abbrev pub address_reason : Members → List ℕ
 address_reason members =
     codes "address is " ++ (quoted (address_text members)
-    ++ codes ", and has to be A.B.C.D, each from 0 to 255\n")
+    ++ codes ", and has to be A.B.C.D, each from 0 to 255 without leading zeros\n")
 
 abbrev pub seed_reason : Members → List ℕ
 seed_reason members =
-    codes "the seed " ++ (quoted (bad_seed (seeds_at members)) ++ codes " has to be NAME@A.B.C.D:PORT\n")
+    codes "the seed " ++ (quoted (bad_seed (seeds_at members))
+    ++ codes " has to be NAME@A.B.C.D:PORT, A to D without leading zeros\n")
 
 -- the reason of a value that is out of its form: the first of the name, the address, the port, the dice and the seeds
 unfoldable pub value_reason : Members → List ℕ

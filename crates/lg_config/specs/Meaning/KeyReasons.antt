@@ -5,6 +5,7 @@ use Rattle.lg_text.specs.Meaning.Lines.{newline}
 use Rattle.lg_config.specs.declared.keys.Kind.{Kind}
 use Rattle.lg_config.specs.declared.keys.Kind.TheVariants.{Text, Number, Texts, Any}
 use Rattle.lg_config.specs.Meaning.Keys.{is_of_kind, kind_of_key}
+use Rattle.lg_config.specs.Meaning.NearestKeys.{nearest_key}
 use Rattle.lg_config.specs.Meaning.Quoting.{quoted}
 
 -- the TOML type that a kind of key wants
@@ -20,9 +21,14 @@ type_reason wanted key value =
     key ++ (codes " is of type " ++ (type_name value
     ++ (codes ", and has to be of type " ++ (wanted ++ newline))))
 
--- the reason of a key that is unknown
+-- the reason of a key that is unknown, by the known key that is nearest to it, if one is near
+abbrev pub unknown_with : List ℕ → Option (List ℕ) → List ℕ
+unknown_with key None = codes "the key " ++ (quoted key ++ codes " is unknown\n")
+unknown_with key (Some nearest) =
+    codes "the key " ++ (quoted key ++ (codes " is unknown, and the nearest is \"" ++ (nearest ++ codes "\"\n")))
+
 abbrev pub unknown_reason : List ℕ → List ℕ
-unknown_reason key = codes "the key " ++ (quoted key ++ codes " is unknown\n")
+unknown_reason key = unknown_with key (nearest_key key)
 
 -- the reason of a key that is wrong; None stands for the kind of one that is unknown
 abbrev pub wrong_key_reason : Option Kind → List ℕ → Data → List ℕ

@@ -1,18 +1,23 @@
 -- Worked reasons of files.
-use Rattle.std.specs.Prelude.{⊤, ◌≡◌, ℕ, ◌++◌, List, [], ◌∷◌, codes, refl, replicate}
-use Rattle.std.specs.Prelude.{Option, Some, None, Result, Ok, Err}
+use Rattle.std.specs.Prelude.{⊤, ◌≡◌, ℕ, ◌+◌, true, ◌++◌, List, [], ◌∷◌, codes, length, refl, replicate}
+use Rattle.std.specs.Prelude.{Option, Some, None, is_some, Result, Ok, Err}
 use Rattle.std.specs.Fmt.{digits}
-use Rattle.std.specs.List.{flat_map}
+use Rattle.std.specs.List.{flat_map, list_all}
 use Rattle.std.specs.Str.{chars, is_utf8}
 use Rattle.toml.proofs.OnLiterals.{toml_on_literals}
+use Rattle.strsim.specs.Edits.{rows, next_row, cost_at}
 use Rattle.toml.specs.Data.{Members}
 use Rattle.lg_timing.specs.Meaning.Config.{check_of}
+use Rattle.lg_timing.specs.Meaning.Keys.{keys}
 use Rattle.lg_config.specs.declared.fault.FileFault.{FileFault}
 use Rattle.lg_config.specs.declared.fault.FileFault.TheVariants as fault
 use Rattle.lg_config.specs.declared.node.NodeConfig.{NodeConfig}
 use Rattle.lg_config.specs.Meaning.Answer.{answer_of, document_of}
 use Rattle.lg_config.specs.Meaning.FormReasons.{seeds_reason, value_reason}
-use Rattle.lg_config.specs.Meaning.Keys.{kind_of_key}
+use Rattle.lg_config.specs.Meaning.Keys.{kind_of_key, number_keys, text_keys}
+use Rattle.lg_config.specs.Meaning.NodeKeys.{node_keys}
+use Rattle.lg_config.specs.Meaning.NearestKeys.{edits, fewest_edits, first_at, known_keys}
+use Rattle.lg_config.specs.Meaning.NearestKeys.{nearest_key, nearest_of}
 use Rattle.lg_config.specs.Meaning.Quoting.{quoted}
 use Rattle.lg_config.specs.Meaning.Reasons.{reason_of, IsReason}
 use Rattle.lg_config.specs.Meaning.Settings.{addr_in, dice_in, name_in, settings_of, with_numbers}
@@ -28,7 +33,7 @@ unfolding on_texts answer_of kind_of_key settings_of name_in addr_in dice_in wit
 on_answers = tt
 
 unfoldable on_reasons : ⊤
-unfolding on_answers value_reason seeds_reason
+unfolding on_answers value_reason seeds_reason nearest_key nearest_of fewest_edits first_at edits rows next_row cost_at
 on_reasons = tt
 
 -- the reason of the fault that a file's document has, if it has one
@@ -76,14 +81,14 @@ negative-dice = refl
 
 three-numbers :
     said (codes "address = \"1.2.3\"")
-    ≡ Some (codes "address is \"1.2.3\", and has to be A.B.C.D, each from 0 to 255\n")
+    ≡ Some (codes "address is \"1.2.3\", and has to be A.B.C.D, each from 0 to 255 without leading zeros\n")
 unfolding on_reasons
 three-numbers = refl
 
 -- the second seed is the first that is none
 bad-seed :
     said (codes "seeds = [\"c@1.2.3.4:1\", \"c\", \"d\"]")
-    ≡ Some (codes "the seed \"c\" has to be NAME@A.B.C.D:PORT\n")
+    ≡ Some (codes "the seed \"c\" has to be NAME@A.B.C.D:PORT, A to D without leading zeros\n")
 unfolding on_reasons
 bad-seed = refl
 
@@ -103,9 +108,25 @@ seeds-17 :
 unfolding on_reasons
 seeds-17 = refl
 
-unknown-key : said (codes "colour = 1") ≡ Some (codes "the key \"colour\" is unknown\n")
+unknown-key : said (codes "nap = 1") ≡ Some (codes "the key \"nap\" is unknown\n")
 unfolding on_reasons
 unknown-key = refl
+
+-- one edit leads to `dice`, and fewer lead to no other key
+near-key : said (codes "dic = 1") ≡ Some (codes "the key \"dic\" is unknown, and the nearest is \"dice\"\n")
+unfolding on_reasons
+near-key = refl
+
+-- three edits lead to `address`, too many for four bytes
+far-key : nearest_key (codes "addr") ≡ None
+unfolding on_reasons
+far-key = refl
+
+octal-address :
+    said (codes "address = \"010.0.0.1\"")
+    ≡ Some (codes "address is \"010.0.0.1\", and has to be A.B.C.D, each from 0 to 255 without leading zeros\n")
+unfolding on_reasons
+octal-address = refl
 
 text-for-number :
     said (codes "port = \"5\"") ≡ Some (codes "port is of type string, and has to be of type integer\n")
@@ -127,7 +148,8 @@ unfolding on_reasons
 status-for-number = refl
 
 status-without-port :
-    said (codes "status = \"127.0.0.1\"") ≡ Some (codes "status is \"127.0.0.1\", and has to be A.B.C.D:PORT\n")
+    said (codes "status = \"127.0.0.1\"")
+    ≡ Some (codes "status is \"127.0.0.1\", and has to be A.B.C.D:PORT, A to D without leading zeros\n")
 unfolding on_reasons
 status-without-port = refl
 
@@ -154,3 +176,12 @@ quoted-front = refl
 no-text : IsReason fault.Syntax (255 ∷ []) (codes "the file isn't UTF-8\n")
 unfolding on_reasons
 no-text = refl
+
+-- each known key has a kind, and there are as many as there are keys of all kinds
+known-keys-known : list_all (λ key. is_some (kind_of_key key)) known_keys ≡ true
+unfolding kind_of_key
+known-keys-known = refl
+
+known-keys-counted :
+    length known_keys ≡ length text_keys + length number_keys + 1 + 2 + length keys + length node_keys
+known-keys-counted = refl

@@ -9,7 +9,8 @@ use Rattle.lg_config.specs.Meaning.Settings.{text_at}
 -- the reason of a value that is no address with its port, by the text that it is, if it is one
 abbrev pub no_address_reason : Data → Option (List ℕ) → List ℕ
 no_address_reason value None = type_reason (codes "string") status_key value
-no_address_reason value (Some text) = codes "status is " ++ (quoted text ++ codes ", and has to be A.B.C.D:PORT\n")
+no_address_reason value (Some text) =
+    codes "status is " ++ (quoted text ++ codes ", and has to be A.B.C.D:PORT, A to D without leading zeros\n")
 
 -- the same, by the value at the key
 abbrev pub status_value_reason : Option Data → List ℕ
