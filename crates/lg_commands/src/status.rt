@@ -5,7 +5,8 @@
 ghost use Rattle.std.specs.Prelude.{◌≡◌, ◌≢◌, ◌⊎◌, Err, IfOk, true};
 ghost use Rattle.std.specs.Result.{is_err};
 ghost use Rattle.lg_rules.specs.Meaning.Name.{name_of_text};
-ghost use Rattle.lg_text.specs.Meaning.Running.{AppendsFront, ReadsWhole};
+ghost use Rattle.lg_text.specs.Meaning.Reporting.{Reports};
+ghost use Rattle.lg_text.specs.Meaning.Running.{ReadsWhole};
 ghost use Rattle.lg_commands.specs.Meaning.Choosing.{order_text};
 ghost use Rattle.lg_commands.specs.Meaning.Faults.{bad_list_text};
 ghost use Rattle.lg_commands.specs.Meaning.Running.{FailsBy, RunsAnswer, RunsOrder, RunsSim, RunsTimeouts};
@@ -15,7 +16,7 @@ use crate::order::{BadList, OrderFault};
 use crate::run::{answer_run, order_run, timeouts_run};
 use crate::timeouts::Numbers;
 use lg_rules::Name;
-use lg_text::report;
+use lg_text::{FaultStream, report};
 use std::alloc::Global;
 use std::io::{Read, Write};
 
@@ -33,7 +34,7 @@ pub const BAD_INPUT: u8 = 3;
 ///
 /// If the text is no name, `lg: bad names` is reported, nothing is read or written, and the status is [`BAD_INPUT`].
 /// A run that fails is reported, and its status is [`FAILED`]. A line that `faults` doesn't take is dropped.
-pub fn answer_named<R: Read, W: Write, F: Write>(
+pub fn answer_named<R: Read, W: Write, F: FaultStream>(
     alloc: Global,
     name: &str,
     reader: &mut R,
@@ -41,15 +42,15 @@ pub fn answer_named<R: Read, W: Write, F: Write>(
     faults: &mut F,
 ) -> u8
     ensures answered { result ≢ FAILED → IfOk (name_of_text name.now) (λ name. RunsAnswer (R.remaining reader.old)
-        (R.remaining reader.new) (W.contents writer.old) (W.contents writer.new) (F.contents faults.old)
-        (F.contents faults.new) name result) }
+        (R.remaining reader.new) (W.contents writer.old) (W.contents writer.new) (F.reported faults.old)
+        (F.reported faults.new) name result) }
     ensures bad_name { is_err (name_of_text name.now) ≡ true → result ≡ BAD_INPUT }
     ensures unread { is_err (name_of_text name.now) ≡ true → reader.new ≡ reader.old }
     ensures unnamed { is_err (name_of_text name.now) ≡ true → writer.new ≡ writer.old }
     ensures told { is_err (name_of_text name.now) ≡ true
-        → AppendsFront (F.contents faults.old) (F.contents faults.new) (bad_list_text BadList.Names) }
+        → Reports (F.reported faults.old) (F.reported faults.new) (bad_list_text BadList.Names) }
     ensures failed { result ≡ FAILED
-        → FailsBy (F.contents faults.old) (F.contents faults.new) writer.old writer.new }
+        → FailsBy (F.reported faults.old) (F.reported faults.new) writer.old writer.new }
     ensures read { result ≡ FAILED
         → (writer.new ≡ writer.old) ⊎ ReadsWhole (R.remaining reader.old) (R.remaining reader.new) }
     ensures run { result ≢ USAGE }
@@ -73,16 +74,16 @@ pub fn answer_named<R: Read, W: Write, F: Write>(
 /// Runs `sim`, as [`lg_sim::run`] does. Gives the status: 0, or [`BAD_INPUT`] if some line is faulty.
 ///
 /// A run that fails is reported, and its status is [`FAILED`]. A line that `faults` doesn't take is dropped.
-pub fn simulate<R: Read, W: Write, F: Write>(
+pub fn simulate<R: Read, W: Write, F: FaultStream>(
     alloc: Global,
     reader: &mut R,
     writer: &mut W,
     faults: &mut F,
 ) -> u8
     ensures simulated { result ≢ FAILED → RunsSim (R.remaining reader.old) (R.remaining reader.new)
-        (W.contents writer.old) (W.contents writer.new) (F.contents faults.old) (F.contents faults.new) result }
+        (W.contents writer.old) (W.contents writer.new) (F.reported faults.old) (F.reported faults.new) result }
     ensures failed { result ≡ FAILED
-        → FailsBy (F.contents faults.old) (F.contents faults.new) writer.old writer.new }
+        → FailsBy (F.reported faults.old) (F.reported faults.new) writer.old writer.new }
     ensures read { result ≡ FAILED
         → (writer.new ≡ writer.old) ⊎ ReadsWhole (R.remaining reader.old) (R.remaining reader.new) }
     ensures run { result ≢ USAGE }
@@ -102,7 +103,7 @@ pub fn simulate<R: Read, W: Write, F: Write>(
 /// If a list is bad, `lg: bad names` or `lg: bad words` is reported, nothing is written, and the status is
 /// [`BAD_INPUT`]. A run that fails is reported, and its status is [`FAILED`]. A line that `faults` doesn't take is
 /// dropped.
-pub fn order_lists<W: Write, F: Write>(
+pub fn order_lists<W: Write, F: FaultStream>(
     alloc: Global,
     names: &str,
     words: &str,
@@ -110,11 +111,11 @@ pub fn order_lists<W: Write, F: Write>(
     faults: &mut F,
 ) -> u8
     ensures ordered { result ≢ FAILED → RunsOrder (W.contents writer.old) (W.contents writer.new)
-        (F.contents faults.old) (F.contents faults.new) (order_text names.now words.now) result }
+        (F.reported faults.old) (F.reported faults.new) (order_text names.now words.now) result }
     ensures names { order_text names.now words.now ≡ Err BadList.Names → result ≡ BAD_INPUT }
     ensures unlisted { is_err (order_text names.now words.now) ≡ true → writer.new ≡ writer.old }
     ensures failed { result ≡ FAILED
-        → FailsBy (F.contents faults.old) (F.contents faults.new) writer.old writer.new }
+        → FailsBy (F.reported faults.old) (F.reported faults.new) writer.old writer.new }
     ensures run { result ≢ USAGE }
 {
     match order_run(alloc, writer, names, words) {
@@ -133,7 +134,7 @@ pub fn order_lists<W: Write, F: Write>(
 /// Runs `timeouts` for good numbers, as [`timeouts_run`] does. Gives the status, which is 0 if all was written.
 ///
 /// A run that fails is reported, and its status is [`FAILED`]. A line that `faults` doesn't take is dropped.
-pub fn timeouts_of<W: Write, F: Write>(
+pub fn timeouts_of<W: Write, F: FaultStream>(
     alloc: Global,
     numbers: &Numbers,
     writer: &mut W,
@@ -141,9 +142,9 @@ pub fn timeouts_of<W: Write, F: Write>(
 ) -> u8
     requires { are_good numbers.now ≡ true }
     ensures timed { result ≢ FAILED → RunsTimeouts (W.contents writer.old) (W.contents writer.new)
-        (F.contents faults.old) (F.contents faults.new) numbers.now result }
+        (F.reported faults.old) (F.reported faults.new) numbers.now result }
     ensures failed { result ≡ FAILED
-        → FailsBy (F.contents faults.old) (F.contents faults.new) writer.old writer.new }
+        → FailsBy (F.reported faults.old) (F.reported faults.new) writer.old writer.new }
     ensures run { result ≢ USAGE }
 {
     match timeouts_run(alloc, writer, numbers) {

@@ -2,7 +2,8 @@
 use Rattle.std.specs.Prelude.{◌≡◌, ◌≢◌, ⊤, true, ℕ, List, [], is_ok, Option, Result, Ok, Err}
 use Rattle.std.specs.Io.KnownBytes.{Appends}
 use Rattle.lg_text.specs.Meaning.Faults.{run_fault_text}
-use Rattle.lg_text.specs.Meaning.Running.{AppendsFront, RunsInput}
+use Rattle.lg_text.specs.Meaning.Reporting.{Reported, Reports}
+use Rattle.lg_text.specs.Meaning.Running.{RunsInput}
 use Rattle.lg_text.specs.declared.end.End.{End}
 use Rattle.lg_text.specs.declared.end.End.TheVariants.{Done, Faulty}
 use Rattle.lg_text.specs.declared.fault.RunFault.{RunFault}
@@ -18,9 +19,9 @@ use Rattle.lg_commands.specs.declared.timeouts.Numbers.{Numbers}
 
 -- A run fails by a fault, which is reported, as far as the report is taken. Only a fault of writing leaves anything
 -- written.
-pub record FailsBy {W : Type 0} (reported reports : Option (List ℕ)) (before after : W) : Type 0 where
+pub record FailsBy {W : Type 0} (reported reports : Reported) (before after : W) : Type 0 where
   pub fault : RunFault
-  pub line : AppendsFront reported reports (run_fault_text fault)
+  pub line : Reports reported reports (run_fault_text fault)
   pub unwritten : fault ≢ Write → after ≡ before
 
 abbrev pub status_of : End → ℕ
@@ -29,44 +30,46 @@ status_of Faulty = 3
 
 -- An input that isn't too long is read to its end, and the answer to it is written. The status is that of its end, and
 -- nothing is reported.
-pub record RunsAnswer (left rest held holds reported reports : Option (List ℕ)) (name : List ℕ) (status : ℕ)
+pub record RunsAnswer (left rest held holds : Option (List ℕ)) (reported reports : Reported) (name : List ℕ) (status : ℕ)
     : Type 0 where
   pub end : End
   pub is : status ≡ status_of end
-  pub silent : Appends reported reports []
+  pub silent : reports ≡ reported
   pub answers : RunsInput (answer_text name) answer_end left rest held holds end
 
 -- An input that isn't too long is read to its end and run as a script, and its text is written. The status is that of
 -- its end, and nothing is reported.
-pub record RunsSim (left rest held holds reported reports : Option (List ℕ)) (status : ℕ) : Type 0 where
+pub record RunsSim (left rest held holds : Option (List ℕ)) (reported reports : Reported) (status : ℕ)
+    : Type 0 where
   pub end : End
   pub is : status ≡ status_of end
-  pub silent : Appends reported reports []
+  pub silent : reports ≡ reported
   pub runs : RunsInput script_text script_end left rest held holds end
 
 -- The timeouts for some numbers are written, nothing is reported, and the status is 0.
-pub record RunsTimeouts (held holds reported reports : Option (List ℕ)) (numbers : Numbers) (status : ℕ)
+pub record RunsTimeouts (held holds : Option (List ℕ)) (reported reports : Reported) (numbers : Numbers) (status : ℕ)
     : Type 0 where
   pub is : status ≡ 0
-  pub silent : Appends reported reports []
+  pub silent : reports ≡ reported
   pub written : Appends held holds (timeouts_text numbers)
 
 -- The choices are written, nothing is reported, and the status is 0.
-pub record WritesChoices (held holds reported reports : Option (List ℕ)) (text : List ℕ) (status : ℕ)
+pub record WritesChoices (held holds : Option (List ℕ)) (reported reports : Reported) (text : List ℕ) (status : ℕ)
     : Type 0 where
   pub is : status ≡ 0
   pub written : Appends held holds text
-  pub silent : Appends reported reports []
+  pub silent : reports ≡ reported
 
 -- A list is bad. That is reported, as far as the report is taken. Nothing is written, and the status is 3.
-pub record TellsBadList (held holds reported reports : Option (List ℕ)) (list : BadList) (status : ℕ) : Type 0 where
+pub record TellsBadList (held holds : Option (List ℕ)) (reported reports : Reported) (list : BadList) (status : ℕ)
+    : Type 0 where
   pub is : status ≡ 3
   pub unwritten : Appends held holds []
-  pub told : AppendsFront reported reports (bad_list_text list)
+  pub told : Reports reported reports (bad_list_text list)
 
 -- `order` runs: the choices are written, or a list is bad.
 abbrev pub RunsOrder :
-    (held holds reported reports : Option (List ℕ)) → Result (List ℕ) BadList → ℕ → Type 0
+    (held holds : Option (List ℕ)) (reported reports : Reported) → Result (List ℕ) BadList → ℕ → Type 0
 RunsOrder held holds reported reports (Ok text) status = WritesChoices held holds reported reports text status
 RunsOrder held holds reported reports (Err list) status = TellsBadList held holds reported reports list status
 
