@@ -1,30 +1,30 @@
 -- What becomes of a command line that reading gave an error for.
-use Rattle.std.proofs.Common.{◌≡◌, ◌≢◌, ℕ, ◌⊎◌, List, Option, inl, inr, subst, sym}
+use Rattle.std.proofs.Common.{◌≡◌, ◌≢◌, ℕ, ◌⊎◌, List, inl, inr, subst, sym}
 use Rattle.std.proofs.lemmas.Bool.{cases_eq}
 use Rattle.clap.specs.Kinds.{IsAmong, Kinds}
 use Rattle.clap.specs.Walk.{Text}
 use Rattle.clap.specs.declared.error.kind.ErrorKind.{ErrorKind}
 use Rattle.clap.specs.declared.error.kind.ErrorKind.TheVariants.{OutOfMemory}
 use Rattle.lg_text.specs.Meaning.Faults.{run_fault_text}
-use Rattle.lg_text.specs.Meaning.Running.{AppendsFront}
+use Rattle.lg_text.specs.Meaning.Reporting.{Reported, Reports}
 use Rattle.lg_text.specs.declared.fault.RunFault.TheVariants.{Write}
 use Rattle.lg_command_line.specs.Meaning.Commands.{line_faults, status_of_kind, RefusesLine}
 use Rattle.lg_command_line.specs.Meaning.Leaving.{IsLeft, LacksMemory, LeavesLine}
 
 -- How an error of this kind is reported.
-pub record Reports
-    {W : Type 0} (before after : W) (reported reports : Option (List ℕ)) (kind : ErrorKind) (status : ℕ)
+pub record TellsError
+    {W : Type 0} (before after : W) (reported reports : Reported) (kind : ErrorKind) (status : ℕ)
     : Type 0 where
   pub is : status ≢ 1 → status ≡ status_of_kind kind
   pub failed : status ≡ 1 → (kind ≡ OutOfMemory) ⊎ (status_of_kind kind ≡ 0)
   pub memory : kind ≡ OutOfMemory → LacksMemory before after reported reports status
-  pub write_told : status ≡ 1 → status_of_kind kind ≡ 0 → AppendsFront reported reports (run_fault_text Write)
+  pub write_told : status ≡ 1 → status_of_kind kind ≡ 0 → Reports reported reports (run_fault_text Write)
   pub unreported : status ≡ 0 → reports ≡ reported
   pub unwritten : status ≡ 2 → after ≡ before
 
 module _
-    {W : Type 0} (before after : W) (reported reports : Option (List ℕ)) (kind : ErrorKind) (status : ℕ)
-    (told : Reports before after reported reports kind status) where
+    {W : Type 0} (before after : W) (reported reports : Reported) (kind : ErrorKind) (status : ℕ)
+    (told : TellsError before after reported reports kind status) where
   -- an error of one of the faults of a command line
   leaves : (faults : Kinds) → IsAmong kind faults
       → LeavesLine before after reported reports faults status ⊎ LacksMemory before after reported reports status

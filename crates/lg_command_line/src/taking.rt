@@ -5,7 +5,7 @@
 ghost use Rattle.std.specs.Prelude.{◌≡◌, ◌≢◌, ◌≤◌, ◌⊎◌, [], IfOk, IfErr, IfSome, map, true};
 ghost use Rattle.clap.specs.Values.{kind_of};
 ghost use Rattle.lg_text.specs.Meaning.Faults.{run_fault_text};
-ghost use Rattle.lg_text.specs.Meaning.Running.{AppendsFront};
+ghost use Rattle.lg_text.specs.Meaning.Reporting.{Reports};
 ghost use Rattle.lg_commands.specs.Meaning.Running.{FailsBy};
 ghost use Rattle.lg_commands.specs.Meaning.Timeouts.{are_good};
 ghost use Rattle.lg_command_line.specs.Meaning.Commands.{asked, line_faults, status_of_kind, IfNode, IfTimeouts};
@@ -17,9 +17,11 @@ use crate::words::read_words;
 use clap::Error;
 use clap::error::ErrorKind;
 use lg_commands::{FAILED, USAGE};
-use lg_text::{RunFault, report};
+use lg_text::{FaultStream, RunFault, report};
 use std::alloc::Global;
 use std::convert::AsStr;
+use std::fmt;
+use std::fmt::Write as _;
 use std::io::Write;
 
 /// What the words of a command line ask for. If nothing is to be run, that is told, and the `Err` is the exit status.
@@ -35,7 +37,7 @@ use std::io::Write;
 /// - 2 if the command line is refused, which is reported by a text of the parser. Nothing is written then.
 ///
 /// No contract says what the texts of help, of the version and of a refusal are: they are the parser's.
-pub fn take_words<'a, S: AsStr, W: Write, F: Write>(
+pub fn take_words<'a, S: AsStr, W: Write, F: FaultStream>(
     alloc: Global,
     words: &'a [S],
     writer: &mut W,
@@ -48,7 +50,7 @@ pub fn take_words<'a, S: AsStr, W: Write, F: Write>(
         IfSome for_ms (λ ms. (1 ≤ ms) × (ms ≤ MAX_RUN_MS)))) }
     ensures unwritten { IfOk result (λ found. writer.new ≡ writer.old) }
     ensures unreported { IfOk result (λ found. faults.new ≡ faults.old) }
-    ensures left { IfErr result (λ status. IsLeft writer.old writer.new (F.contents faults.old) (F.contents faults.new)
+    ensures left { IfErr result (λ status. IsLeft writer.old writer.new (F.reported faults.old) (F.reported faults.new)
         (map S.text words.entry.now) status) }
 {
     match read_words(alloc, words) {
@@ -62,29 +64,30 @@ pub fn take_words<'a, S: AsStr, W: Write, F: Write>(
 /// The texts of a refusal, of help and of the version are the parser's, whose contracts don't say them. So no contract
 /// says what is reported with [`USAGE`], or written with 0. `cases/command_line.case` shows that there is something,
 /// and where.
-fn report_refusal<W: Write, F: Write>(error: &Error, writer: &mut W, faults: &mut F) -> u8
+fn report_refusal<W: Write, F: FaultStream>(error: &Error, writer: &mut W, faults: &mut F) -> u8
     ensures status { result ≢ FAILED → result ≡ status_of_kind (kind_of error.now) }
     ensures memory { kind_of error.now ≡ ErrorKind.OutOfMemory → result ≡ FAILED }
     ensures memory_told { kind_of error.now ≡ ErrorKind.OutOfMemory
-        → AppendsFront (F.contents faults.old) (F.contents faults.new) (run_fault_text RunFault.Memory) }
+        → Reports (F.reported faults.old) (F.reported faults.new) (run_fault_text RunFault.Memory) }
     // Otherwise only help and the version fail, if they aren't taken.
     ensures failed { result ≡ FAILED
         → (kind_of error.now ≡ ErrorKind.OutOfMemory) ⊎ (status_of_kind (kind_of error.now) ≡ 0) }
     ensures write_told { result ≡ FAILED → status_of_kind (kind_of error.now) ≡ 0
-        → AppendsFront (F.contents faults.old) (F.contents faults.new) (run_fault_text RunFault.Write) }
+        → Reports (F.reported faults.old) (F.reported faults.new) (run_fault_text RunFault.Write) }
     // What is written reports nothing, and a refusal writes nothing.
     ensures unreported { result ≡ 0 → faults.new ≡ faults.old }
     ensures unwritten { result ≡ USAGE → writer.new ≡ writer.old }
     ensures unfit { kind_of error.now ≡ ErrorKind.OutOfMemory → writer.new ≡ writer.old }
     ensures fails { result ≡ FAILED
-        → FailsBy (F.contents faults.old) (F.contents faults.new) writer.old writer.new }
+        → FailsBy (F.reported faults.old) (F.reported faults.new) writer.old writer.new }
 {
     if error.kind() == ErrorKind::OutOfMemory {
         report(faults, RunFault::Memory.text());
         return FAILED;
     }
     if error.use_stderr() {
-        let _ = write!(faults, "{error}");
+        // The parser hands its text on in one piece, so all of it is taken if there is room for it.
+        let _ = write!(Formatted(faults), "{error}");
         return USAGE;
     }
     if write!(writer, "{error}").is_err() || writer.flush().is_err() {
@@ -92,4 +95,16 @@ fn report_refusal<W: Write, F: Write>(error: &Error, writer: &mut W, faults: &mu
         return FAILED;
     }
     0
+}
+
+/// Takes what is formatted, and hands it to a stream for faults. It fails never: what the stream doesn't take is
+/// dropped.
+#[derive(Drop)]
+struct Formatted<'a, F>(&'a mut F);
+
+impl<F: FaultStream> fmt::Write for Formatted<'_, F> {
+    fn write_str(&mut self, text: &str) -> fmt::Result {
+        self.0.take(text.as_bytes());
+        Ok(())
+    }
 }

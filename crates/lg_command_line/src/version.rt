@@ -1,10 +1,9 @@
 //! What `lg --version` tells.
 //!
 //! Defined in: this file.
-//! Tested in: `cases/command_line.case`. `gate/documents` sees that README names the same kit.
+//! Tested in: `cases/command_line.case`.
 
-/// The version of the program, the wire versions that it reads and writes, and the kit that it is proved with. The
-/// parser writes the program's name before it, and a newline after it.
+/// The version of the program, and the wire versions that it reads and writes. The parser writes the program's name
+/// before it, and a newline after it. It names no kit: a program can't know which one proved and built it.
 pub(crate) const VERSION: &str = "0.2.0\n\
-    reads and writes packets of versions 1 and 2\n\
-    proved with rattle-kit-13f";
+    reads and writes packets of versions 1 and 2";

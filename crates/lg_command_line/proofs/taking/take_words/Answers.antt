@@ -12,6 +12,6 @@ returns-in-Err-clause-left g c =
       failed = told.failed;
       memory = λ kind. record { is = told.memory kind; told = told.memory_told kind; unwritten = told.unfit kind };
       write_told = told.write_told;
-      unreported = λ zero. ap g.F.Write.contents (told.unreported zero);
+      unreported = λ zero. ap g.F.FaultStream.reported (told.unreported zero);
       unwritten = told.unwritten;
     }) (map g.S.AsStr.text c.args.words.now) c.in-Err.ensures.refused
