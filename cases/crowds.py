@@ -239,11 +239,7 @@ class Waits:
         own_before = times_of(own)
         while self.is_on:
             time.sleep(LOOK)
-            try:
-                now = self.read()
-            except OSError:
-                # A node has ended, which the check tells.
-                return
+            now = self.read()
             for place, (_, waited) in now.items():
                 self.late[place] += rounds_in(waited - last[place][1])
             gap, own_now = time.monotonic() - looked, times_of(own)
@@ -257,15 +253,19 @@ class Waits:
         self.is_on = False
         self.thread.join()
         last, late = self.read(), 0
-        for threads in self.threads.values():
+        for threads in filter(None, self.threads.values()):
             server = max(threads, key=lambda it: last[it][0] - self.first[it][0])
             late += sum(self.late[it] for it in threads if it != server)
         return late, self.still
 
 
 def times_of(place):
-    """How long a thread has run and waited, in seconds, by its file of the kernel."""
-    return tuple(int(it) / 1e9 for it in place.read_text(encoding="ascii").split()[:2])
+    """How long a thread has run and waited, in seconds, by its file of the kernel. One without such a file, that of a
+    node that has ended, counts as not late."""
+    try:
+        return tuple(int(it) / 1e9 for it in place.read_text(encoding="ascii").split()[:2])
+    except OSError:
+        return 0.0, 0.0
 
 
 def rounds_in(waited):
