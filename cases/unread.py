@@ -154,3 +154,49 @@ def unread_lines_slow_no_ack(program):
     finally:
         for it in (other, node):
             it.kill()
+
+
+# ---- A node that is to end while nobody reads
+
+# The smallest pipe that the system makes, so that it is soon full.
+SMALL_PIPE = 4096
+# How long a node has that is to end by its time: long enough for the pipe to be full before.
+LIFE_SECONDS = 8
+# How long its output may take nothing once it was told to end, and a second and a half for a busy machine.
+GRACE, BEHIND = 2, 1.5
+CUT = "lg: write\nstandard output took nothing for 2 s\n"
+
+
+def fault_of_a_stuck_reader(program, option):
+    """What is wrong with how a node ends that is told to by an option, while its pipe is full."""
+    [port] = free_ports(1)
+    begun = time.monotonic()
+    life = ["--for-ms", str(1000 * LIFE_SECONDS)] if option == "--for-ms" else [option]
+    node = Node(program, file_of("b", port, keys="interval_ms = 60000\n"), "--follow", *life, has_input=True)
+    fcntl.fcntl(node.process.stdout, fcntl.F_SETPIPE_SZ, SMALL_PIPE)
+    wait_for("b", port)
+    stranger = Stranger(port)
+    try:
+        filled = fills_up(node.process.stdout)
+    finally:
+        stranger.end()
+    if filled is None or not node.is_running():
+        return f"{option}: the pipe wasn't full: {node.kill()}"
+    told_at = begun + LIFE_SECONDS
+    if option != "--for-ms":
+        node.close_input()
+        told_at = time.monotonic()
+    wait_until(lambda: not node.is_running(), 4 * LIFE_SECONDS)
+    took = time.monotonic() - told_at
+    status, output, errors = node.end(0)
+    if status != 1 or not took < GRACE + BEHIND or not output.endswith("\n") or not errors.endswith(CUT):
+        return f"{option}: after {took:.1f} s it ended with {status}, {output[-200:]!r} and {errors!r}"
+    NOTES.append(f"{option}: ended after {took:.1f} s")
+    return faults_of_lines(output, {})
+
+
+def stuck_reader_holds_no_end(program):
+    """A node is followed by a pipe that nobody reads. Once it is told to end, by the end of its input or since its time
+    is over, it does so within two seconds. Its last line is whole, and it says that it couldn't write the others."""
+    faults = (fault_of_a_stuck_reader(program, it) for it in ("--until-input-ends", "--for-ms"))
+    return next(filter(None, faults), None)
