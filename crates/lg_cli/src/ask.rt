@@ -6,15 +6,17 @@ ghost use Rattle.lg_cli.specs.Meaning.Running.{AsksNode};
 
 use lg_ask::{Question as Asking, tell_answer, watch_changes};
 use lg_command_line::Question;
+use lg_text::FaultStream;
 use std::alloc::Global;
 use std::io::Write;
 use std::net::Net;
+use std::rt;
 
 /// Asks the node at an address what a command asks for, and writes what it answers. With `json` the answers are
 /// written as they come. Gives the exit status.
 ///
-/// `members` and `status` are [`tell_answer`], which asks once. `watch` is [`watch_changes`], which asks until that
-/// fails. Both say what is written, told and allocated.
+/// `members` and `status` are [`tell_answer`], which asks for one answer. `watch` is [`watch_changes`], which asks
+/// until that fails. Both say what is written, told and allocated, and when they ask once more.
 pub fn ask_node<M, W, F>(
     rt: &M,
     alloc: Global,
@@ -25,11 +27,11 @@ pub fn ask_node<M, W, F>(
     faults: &mut F,
 ) -> u8
 where
-    M: Net,
+    M: Net + rt::Clock,
     W: Write,
-    F: Write,
+    F: FaultStream,
     ensures { AsksNode question at.now json writer.old writer.new (W.contents writer.old) (W.contents writer.new)
-        (F.contents faults.old) (F.contents faults.new) result }
+        (F.reported faults.old) (F.reported faults.new) result }
 {
     match question {
         Question::Members => tell_answer(rt, alloc, at, Asking::Members, json, writer, faults),

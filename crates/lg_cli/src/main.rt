@@ -3,26 +3,34 @@
 
 mod ask;
 mod node;
+mod output;
 mod program;
 
+use node::Owned;
+use output::Output;
 use std::env::Env;
 use std::process::ExitCode;
 use std::{env, io};
 
 fn main(rt: HostRuntime) -> ExitCode {
+    let mut output = Output::new(rt, rt.stdout());
     let status = match words_of(&rt) {
         Ok(words) => program::run_words(
             &rt,
             rt.alloc(),
             words.as_slice(),
-            rt.stdin(),
+            Owned {
+                input: rt.stdin(),
+                output: rt.stdout(),
+            },
             &mut rt.stdin(),
-            &mut rt.stdout(),
+            &mut output,
             &mut rt.stderr(),
         ),
         Err(error) => program::refuse_words(&error, &mut rt.stderr()),
     };
-    ExitCode::from(status)
+    let told = program::end_program(status, output.is_cut(), &mut rt.stderr());
+    ExitCode::from(told)
 }
 
 /// The words of the command line. The first word is the program's name.

@@ -3,22 +3,23 @@
 //! Defined in: `specs/Meaning/Running.antt`, `specs/Meaning/Faults.antt`,
 //! `lg_command_line/specs/Meaning/Commands.antt`, `Leaving.antt`.
 //! Tested in: `cases/command_line.case`, `cases/node.case`, `cases/node_command.case`, `cases/ask.case`.
-ghost use Rattle.std.specs.Prelude.{◌≡◌, ◌≢◌, ◌≤◌, IfSome, map, true};
+ghost use Rattle.std.specs.Prelude.{◌==◌, ◌≡◌, ◌≢◌, ◌≤◌, IfSome, false, if◌then◌else◌, map, true};
 ghost use Rattle.std.specs.IoError.{error_kind};
 ghost use Rattle.lg_text.specs.Meaning.Faults.{run_fault_text};
-ghost use Rattle.lg_text.specs.Meaning.Running.{AppendsFront};
+ghost use Rattle.lg_text.specs.Meaning.Reporting.{Reports};
 ghost use Rattle.lg_commands.specs.Meaning.Timeouts.{are_good};
 ghost use Rattle.lg_command_line.specs.Meaning.Commands.{IfNode, IfTimeouts};
 ghost use Rattle.lg_command_line.specs.Support.Requests.{request_of};
-ghost use Rattle.lg_cli.specs.Meaning.Faults.{foreign_text};
+ghost use Rattle.lg_cli.specs.Meaning.Faults.{cut_text, foreign_text};
 ghost use Rattle.lg_cli.specs.Meaning.Running.{streams, RunsLine, RunsRequest};
 
 use crate::ask::ask_node;
-use crate::node::run_node;
+use crate::node::{Owned, run_node};
+use crate::output::Pumped;
 use lg_command_line::{Asked, MAX_RUN_MS, take_words};
 use lg_commands::{FAILED, USAGE, answer_named, order_lists, simulate, timeouts_of};
 use lg_launch::{Wishes, check_file};
-use lg_text::{RunFault, report};
+use lg_text::{FaultStream, RunFault, report};
 use lg_timing::Moment;
 use std::alloc::Global;
 use std::convert::AsStr;
@@ -32,8 +33,9 @@ use std::{io, rt};
 
 /// Runs the program on the words of a command line, and gives its exit status. The first word is the program's name.
 ///
-/// `reader`, `writer` and `faults` stand for standard input, output and error. Only `answer` and `sim` read. `input`
-/// is standard input too, for the thread of `node --until-input-ends`. A line that `faults` doesn't take is dropped.
+/// `reader`, `writer` and `faults` stand for standard input, output and error. Only `answer` and `sim` read. `owned`
+/// has standard input and output too, for the threads of `node --until-input-ends` and `node --follow`. A line that
+/// `faults` doesn't take is dropped.
 /// `node`, `check`, `members`, `status` and `watch` alone use the machine `rt`. The first two read their file. `node`
 /// takes sockets, a clock and threads, writes its members, and tells its end, with the statuses of
 /// [`run_file`](lg_launch::run_file); `check` has those of [`check_file`]. The other three ask a running node, with the
@@ -49,56 +51,58 @@ use std::{io, rt};
 ///   is reported.
 ///
 /// No contract says what the texts of help, of the version and of a refusal are: they are the parser's.
-pub fn run_words<M, S, I, R, W, F>(
+pub fn run_words<M, S, I, O, R, W, F>(
     rt: &M,
     alloc: Global,
     words: &[S],
-    input: I,
+    owned: Owned<I, O>,
     reader: &mut R,
     writer: &mut W,
     faults: &mut F,
 ) -> u8
 where
-    M: Wait + Threads + Net + rt::Clock + Files + RandomSource + Sync,
+    M: Wait + Threads + Net + rt::Clock + Files + RandomSource + Copy + Send + Sync + 'static,
     S: AsStr,
     I: Read + Send + Drop + 'static,
+    O: Write + Send + Drop + 'static,
     R: Read,
-    W: Write + Send,
-    F: Write,
+    W: Write + Pumped + Send,
+    F: FaultStream + Send,
     // A command line that is taken runs its command. Any other is refused, or asks for help or the version.
     ensures { RunsLine
-        (streams reader.old (R.remaining reader.old) writer.old (W.contents writer.old) (F.contents faults.old))
-        (streams reader.new (R.remaining reader.new) writer.new (W.contents writer.new) (F.contents faults.new))
+        (streams reader.old (R.remaining reader.old) writer.old (W.contents writer.old) (F.reported faults.old))
+        (streams reader.new (R.remaining reader.new) writer.new (W.contents writer.new) (F.reported faults.new))
         (map S.text words.now) result }
 {
     match take_words(alloc, words, writer, faults) {
-        Ok(asked) => run_asked(rt, alloc, asked, input, reader, writer, faults),
+        Ok(asked) => run_asked(rt, alloc, asked, owned, reader, writer, faults),
         Err(status) => status,
     }
 }
 
 /// Runs what was asked for, as [`run_words`] does.
-fn run_asked<M, I, R, W, F>(
+fn run_asked<M, I, O, R, W, F>(
     rt: &M,
     alloc: Global,
     request: Asked,
-    input: I,
+    owned: Owned<I, O>,
     reader: &mut R,
     writer: &mut W,
     faults: &mut F,
 ) -> u8
 where
-    M: Wait + Threads + Net + rt::Clock + Files + RandomSource + Sync,
+    M: Wait + Threads + Net + rt::Clock + Files + RandomSource + Copy + Send + Sync + 'static,
     I: Read + Send + Drop + 'static,
+    O: Write + Send + Drop + 'static,
     R: Read,
-    W: Write + Send,
-    F: Write,
+    W: Write + Pumped + Send,
+    F: FaultStream + Send,
     requires good { IfTimeouts (request_of request) (λ numbers. are_good numbers ≡ true) }
     requires ending { IfNode (request_of request) (λ _ for_ms _ _.
         IfSome for_ms (λ ms. (1 ≤ ms) × (ms ≤ MAX_RUN_MS))) }
     ensures { RunsRequest
-        (streams reader.old (R.remaining reader.old) writer.old (W.contents writer.old) (F.contents faults.old))
-        (streams reader.new (R.remaining reader.new) writer.new (W.contents writer.new) (F.contents faults.new))
+        (streams reader.old (R.remaining reader.old) writer.old (W.contents writer.old) (F.reported faults.old))
+        (streams reader.new (R.remaining reader.new) writer.new (W.contents writer.new) (F.reported faults.new))
         (request_of request.entry) result }
 {
     match request {
@@ -122,8 +126,12 @@ where
                 until,
                 follow,
             };
-            let input = until_input_ends.then_some(input);
-            run_node(rt, alloc, &wishes, input, writer, faults)
+            let Owned { input, output } = owned;
+            let owned = Owned {
+                input: until_input_ends.then_some(input),
+                output,
+            };
+            run_node(rt, alloc, &wishes, owned, writer, faults)
         }
     }
 }
@@ -142,13 +150,13 @@ fn end_after(for_ms: Option<u64>) -> Option<Moment>
 /// Reports why the words of the command line couldn't be read, and gives the status. Either memory was refused, or
 /// the words aren't UTF-8, which refuses the command line (this project's choice). A line that `faults` doesn't take
 /// is dropped.
-pub fn refuse_words<F: Write>(error: &io::Error, faults: &mut F) -> u8
+pub fn refuse_words<F: FaultStream>(error: &io::Error, faults: &mut F) -> u8
     ensures memory { error_kind error.now ≡ IoErrorKind.OutOfMemory → result ≡ FAILED }
     ensures memory_told { error_kind error.now ≡ IoErrorKind.OutOfMemory
-        → AppendsFront (F.contents faults.old) (F.contents faults.new) (run_fault_text RunFault.Memory) }
+        → Reports (F.reported faults.old) (F.reported faults.new) (run_fault_text RunFault.Memory) }
     ensures usage { error_kind error.now ≢ IoErrorKind.OutOfMemory → result ≡ USAGE }
     ensures usage_told { error_kind error.now ≢ IoErrorKind.OutOfMemory
-        → AppendsFront (F.contents faults.old) (F.contents faults.new) foreign_text }
+        → Reports (F.reported faults.old) (F.reported faults.new) foreign_text }
 {
     if error.kind() == IoErrorKind::OutOfMemory {
         report(faults, RunFault::Memory.text());
@@ -157,4 +165,19 @@ pub fn refuse_words<F: Write>(error: &io::Error, faults: &mut F) -> u8
         report(faults, "error: the command line isn't UTF-8\n");
         USAGE
     }
+}
+
+/// The status of the program, given that of its command. If its output is cut off, since it took nothing for 2 s after
+/// the node was to end, that is reported, and a status of 0 becomes [`FAILED`]. A line that `faults` doesn't take is
+/// dropped.
+pub fn end_program<F: FaultStream>(status: u8, is_cut: bool, faults: &mut F) -> u8
+    ensures whole { is_cut ≡ false → (result ≡ status) × (faults.new ≡ faults.old) }
+    ensures cut { is_cut ≡ true → result ≡ (if status == 0 then FAILED else status) }
+    ensures told { is_cut ≡ true → Reports (F.reported faults.old) (F.reported faults.new) cut_text }
+{
+    if !is_cut {
+        return status;
+    }
+    report(faults, "lg: write\nstandard output took nothing for 2 s\n");
+    if status == 0 { FAILED } else { status }
 }

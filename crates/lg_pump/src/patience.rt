@@ -9,7 +9,7 @@ use std::sync::atomic::Ordering::SeqCst;
 use std::time::Duration;
 
 /// How long a writer waits for its output once it was told to stop, in milliseconds (this project's choice).
-pub const GRACE_MS: u64 = 1_900;
+pub const GRACE_MS: u64 = 1_800;
 
 /// How often a writer that waits looks whether it was told to stop, in milliseconds (this project's choice).
 const LOOK_MS: u64 = 100;

@@ -2,6 +2,7 @@
 use Rattle.std.specs.Prelude.{◌≡◌, ◌≢◌, ◌⊎◌, Bool, IfOk, ℕ, true, List, [], Option}
 use Rattle.std.specs.Result.{is_err}
 use Rattle.lg_rules.specs.Meaning.Name.{name_of_text}
+use Rattle.lg_text.specs.Meaning.Reporting.{Reported}
 use Rattle.lg_text.specs.Meaning.Running.{ReadsWhole}
 use Rattle.lg_commands.specs.Meaning.Choosing.{order_text}
 use Rattle.lg_commands.specs.Meaning.Running.{FailsBy, RunsAnswer, RunsOrder, RunsSim, RunsTimeouts}
@@ -17,17 +18,17 @@ use Rattle.lg_command_line.specs.Meaning.Commands.{Request, answer, ask, check, 
 use Rattle.lg_command_line.specs.Meaning.Commands.{asked, line_faults}
 use Rattle.lg_command_line.specs.Meaning.Leaving.{LacksMemory, LeavesLine}
 
--- A reader and the bytes that it has left, a writer and the bytes that it has taken, and the bytes that were
--- reported. If a stream doesn't tell its bytes, none are known.
+-- A reader and the bytes that it has left, a writer and the bytes that it has taken, and what was reported. If a stream
+-- doesn't tell its bytes, none are known.
 pub record Streams (R W : Type 0) : Type 0 where
   pub reader : R
   pub left : Option (List ℕ)
   pub writer : W
   pub held : Option (List ℕ)
-  pub reported : Option (List ℕ)
+  pub reported : Reported
 
 abbrev pub streams :
-    {R W : Type 0} → R → Option (List ℕ) → W → Option (List ℕ) → Option (List ℕ) → Streams R W
+    {R W : Type 0} → R → Option (List ℕ) → W → Option (List ℕ) → Reported → Streams R W
 streams reader left writer held reported =
     record { reader = reader; left = left; writer = writer; held = held; reported = reported }
 
@@ -86,7 +87,7 @@ pub record RunsCheck {R W : Type 0} (before after : Streams R W) (status : ℕ) 
 -- The node at an address is asked what a command asks for, and its answer is told, or each of its answers.
 abbrev pub AsksNode :
     {W : Type 0} → Question → (at : List ℕ) (json : Bool) (before after : W)
-    (held holds reported reports : Option (List ℕ)) (status : ℕ) → Type 0
+    (held holds : Option (List ℕ)) (reported reports : Reported) (status : ℕ) → Type 0
 AsksNode Members at json before after held holds reported reports status =
     TellsAnswer at KnownMembers json before after held holds reported reports status
 AsksNode Status at json before after held holds reported reports status =

@@ -30,7 +30,8 @@ status_of Faulty = 3
 
 -- An input that isn't too long is read to its end, and the answer to it is written. The status is that of its end, and
 -- nothing is reported.
-pub record RunsAnswer (left rest held holds : Option (List ℕ)) (reported reports : Reported) (name : List ℕ) (status : ℕ)
+pub record RunsAnswer
+    (left rest held holds : Option (List ℕ)) (reported reports : Reported) (name : List ℕ) (status : ℕ)
     : Type 0 where
   pub end : End
   pub is : status ≡ status_of end

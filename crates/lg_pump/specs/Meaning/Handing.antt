@@ -13,7 +13,8 @@ abbrev pub newline : ℕ
 newline = 10
 
 -- The first piece of a text has so many bytes: no more than are written by one call, and some if the text has some. It
--- ends with a line. If it doesn't, none of its bytes ends a line, and it is all of the text or as long as a piece may be.
+-- ends with a line if any of its bytes ends one. Of the bytes behind it that a call could have taken too, none ends a
+-- line.
 pub record IsPiece (text : List ℕ) (count : ℕ) : Type 0 where
   pub within : count ≤ length text
   pub few : count ≤ most_piece

@@ -50,7 +50,7 @@ returns-in-Node g c =
     rw (c.in-Node.is) (record {
       launched = subst (λ (until : Option ℕ). RunsFile c.args.writer.now c.run_node.new.writer
           (g.W.Write.contents c.args.writer.now) (g.W.Write.contents c.run_node.new.writer)
-          (g.F.Write.contents c.args.faults.now) (g.F.Write.contents c.run_node.new.faults)
+          (g.F.FaultStream.reported c.args.faults.now) (g.F.FaultStream.reported c.run_node.new.faults)
           c.in-Node.file.now until c.in-Node.follow c.run_node.result) c.end_after-until.ensures c.run_node.ensures;
       unread = refl {a = c.args.reader.now};
     })
