@@ -14,6 +14,8 @@ mod plays;
 #[cfg(test)]
 mod ports;
 #[cfg(test)]
+mod pumping;
+#[cfg(test)]
 mod readers;
 #[cfg(test)]
 mod refused_memory;

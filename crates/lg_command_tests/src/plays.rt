@@ -1,7 +1,8 @@
 //! The commands, each with an input and what comes of it if nothing fails.
-use crate::streams::Streams;
+use crate::streams::{Pieces, Streams};
 use lg_commands::{Numbers, answer_named, order_lists, simulate, timeouts_of};
-use lg_text::{RunFault, read_input, report, write_whole};
+use lg_testing::Room;
+use lg_text::{FaultStream, RunFault, read_input, report, write_whole};
 use std::alloc::Global;
 
 /// A command that is run over streams.
@@ -80,17 +81,22 @@ pub const OTHERS: [Play; 3] = [
 ];
 
 /// Reads an input whole and writes it.
-fn copy(alloc: Global, streams: &mut Streams) -> Result<(), RunFault> {
-    let input = read_input(alloc, &mut streams.reader)?;
-    write_whole(&mut streams.writer, &input)
+fn copy(alloc: Global, reader: &mut Pieces, writer: &mut Room) -> Result<(), RunFault> {
+    let input = read_input(alloc, reader)?;
+    write_whole(writer, &input)
 }
 
 /// The status of copying an input. A fault is reported as the commands do it.
-fn copying(alloc: Global, streams: &mut Streams) -> u8 {
-    match copy(alloc, streams) {
+fn copying<F: FaultStream>(
+    alloc: Global,
+    reader: &mut Pieces,
+    writer: &mut Room,
+    faults: &mut F,
+) -> u8 {
+    match copy(alloc, reader, writer) {
         Ok(()) => 0,
         Err(fault) => {
-            report(&mut streams.faults, fault.text());
+            report(faults, fault.text());
             1
         }
     }
@@ -99,9 +105,22 @@ fn copying(alloc: Global, streams: &mut Streams) -> u8 {
 impl Command {
     /// Runs the command, and gives its status.
     pub fn run(self, alloc: Global, streams: &mut Streams) -> u8 {
-        if let Command::Copying = self {
-            return copying(alloc, streams);
-        }
+        self.run_over(
+            alloc,
+            &mut streams.reader,
+            &mut streams.writer,
+            &mut streams.faults,
+        )
+    }
+
+    /// Runs the command over these streams, and gives its status.
+    pub fn run_over<F: FaultStream>(
+        self,
+        alloc: Global,
+        reader: &mut Pieces,
+        writer: &mut Room,
+        faults: &mut F,
+    ) -> u8 {
         let numbers = Numbers {
             members: 4,
             confirmations: 3,
@@ -109,10 +128,9 @@ impl Command {
             beta: 6,
             interval_ms: 1000,
         };
-        let (reader, writer) = (&mut streams.reader, &mut streams.writer);
-        let faults = &mut streams.faults;
         match self {
-            Command::Copying | Command::Sim => simulate(alloc, reader, writer, faults),
+            Command::Copying => copying(alloc, reader, writer, faults),
+            Command::Sim => simulate(alloc, reader, writer, faults),
             Command::Answer => answer_named(alloc, "b", reader, writer, faults),
             Command::Order => order_lists(alloc, "a,b", "0,0,1,0", writer, faults),
             Command::Timeouts => timeouts_of(alloc, &numbers, writer, faults),

@@ -1,7 +1,8 @@
 //! Writers that fail.
 use crate::plays::{OTHERS, Play, READING};
 use crate::streams::Streams;
-use lg_testing::ROOM;
+use lg_commands::{answer_named, order_lists};
+use lg_testing::{ROOM, Row};
 use std::process::Abort;
 
 /// Runs a play in which each write call fails in turn, and the flush too.
@@ -52,4 +53,55 @@ fn drops_what_is_not_taken(rt: HostRuntime) {
             assert!(rt; met, "{play:?}, report call {call}: {status}");
         }
     }
+}
+
+/// A line stands whole on a stream that has room for it, and not a byte of it on one that lacks a byte.
+#[test]
+fn tells_whole_lines(rt: HostRuntime) {
+    for play in READING.iter().chain(OTHERS.iter()) {
+        let mut streams = Streams::over(play.input.as_bytes());
+        streams.writer.fails_at = 1;
+        let mut faults: Row<10> = Row::empty();
+        let status = play.command.run_over(
+            rt.alloc(),
+            &mut streams.reader,
+            &mut streams.writer,
+            &mut faults,
+        );
+        assert!(rt;
+            status == 1 && faults.text() == b"lg: write\n",
+            "{play:?}: {status}"
+        );
+    }
+    for play in READING {
+        let mut streams = Streams::over(play.input.as_bytes());
+        streams.reader.fails_at = 1;
+        let mut faults: Row<8> = Row::empty();
+        let status = play.command.run_over(
+            rt.alloc(),
+            &mut streams.reader,
+            &mut streams.writer,
+            &mut faults,
+        );
+        assert!(rt;
+            status == 1 && faults.text().is_empty(),
+            "{play:?}: {status}"
+        );
+    }
+}
+
+/// So do the lines of bad lists.
+#[test]
+fn tells_whole_lines_of_bad_lists(rt: HostRuntime) {
+    let mut streams = Streams::over(b"");
+    let (reader, writer) = (&mut streams.reader, &mut streams.writer);
+    let mut unnamed: Row<14> = Row::empty();
+    let mut unlisted: Row<14> = Row::empty();
+    let mut unspoken: Row<14> = Row::empty();
+    answer_named(rt.alloc(), "b 2", reader, writer, &mut unnamed);
+    order_lists(rt.alloc(), "a,a", "0", writer, &mut unlisted);
+    order_lists(rt.alloc(), "a", "x", writer, &mut unspoken);
+    assert!(rt; unnamed.text() == b"lg: bad names\n");
+    assert!(rt; unlisted.text() == b"lg: bad names\n");
+    assert!(rt; unspoken.text() == b"lg: bad words\n");
 }
