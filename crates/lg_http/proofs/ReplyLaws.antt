@@ -1,37 +1,109 @@
--- What a desk fills in is the site's reply.
-use Rattle.std.proofs.Common.{◌≡◌, ℕ, Bool, List, [], ◌∷◌, ◌++◌, Result, Ok, Err, OnOk, IsTrue, IsFalse, ap, ◌∙◌, rules}
+-- What a desk fills in is the reply.
+use Rattle.std.proofs.Common.{◌≡◌, ℕ, Bool, ◌||◌, List, [], ◌∷◌, ◌++◌, codes, Result, Ok, Err, OnOk, IsTrue, IsFalse, ap, subst, ◌∙◌, rules}
 use Rattle.http.specs.declared.request.Request.{Request}
 use Rattle.http.specs.Request.{head_of}
 use Rattle.http_uri.specs.Uri.{uri_path, uri_query}
 use Rattle.http_server.specs.declared.response.Response.{Response}
 use Rattle.http_server.specs.Response.{fields_of}
+use Rattle.lg_http.specs.declared.hosts.Hosts.{Hosts}
 use Rattle.lg_http.specs.declared.site.Answer.{Answer}
-use Rattle.lg_http.specs.Meaning.Answers.{SiteAnswers, IsServedMethod, IsReply, closing, content_type, status_number}
+use Rattle.lg_http.specs.declared.site.Kind.TheVariants.{Json}
+use Rattle.lg_http.specs.Meaning.Answers.{SiteAnswers, SiteVersion, IsServedMethod, IsTooMany, RepliesAmong, IsReply, closing, content_type, status_number, field_of, has_body}
+use Rattle.lg_http.specs.Meaning.Answers.{allowed, retry, method_body, crowded_body, misdirected_body}
+use Rattle.lg_http.specs.Meaning.Fronts.{WaitRule}
+use Rattle.lg_http.specs.Meaning.Hosts.{AnswersTo}
 
-never_both : (b : Bool) → IsTrue b → IsFalse b → ⊥
+pub never_both : (b : Bool) → IsTrue b → IsFalse b → ⊥
 never_both b t f = search rules
 
-pub site_reply : {S A E : Type 0} (answers : SiteAnswers S) (last full : Bool) (site : S) (request : Request (List ℕ)) (a : Answer)
-    (begun filled : Response) (r : Result A E) (P : Type 0) → P
-    → IsServedMethod (head_of request).method → IsFalse full
+-- a request for another host
+pub misdirected_reply : {S A E : Type 0} (answers : SiteAnswers S) (hosts : Hosts) (full : Bool) (site : S) (request : Request (List ℕ))
+    (begun filled : Response) (r : Result A E)
+    → ¬ (AnswersTo hosts (field_of (codes "host") request))
+    → fields_of begun ≡ closing (full || has_body request) → filled.status ≡ 421
+    → OnOk r (fields_of filled ≡ fields_of begun ++ content_type Json ∷ []) → OnOk r (filled.body.items ≡ misdirected_body)
+    → OnOk r (IsReply answers hosts full site request filled)
+misdirected_reply answers hosts full site request begun filled (Ok x) away closes status headers body = record {
+  misdirected = λ _. record {
+    status = status;
+    headers = headers ∙ ap (λ (h : List (List ℕ × List ℕ)). h ++ content_type Json ∷ []) closes;
+    body = body;
+  };
+  other = λ here. absurd (away here);
+  crowded = λ here. absurd (away here);
+  served = λ here. absurd (away here);
+}
+misdirected_reply answers hosts full site request begun filled (Err e) away closes status headers body = tt
+
+-- a method that isn't served
+pub other_reply : {S A E : Type 0} (answers : SiteAnswers S) (hosts : Hosts) (full : Bool) (site : S) (request : Request (List ℕ))
+    (begun filled : Response) (r : Result A E)
+    → AnswersTo hosts (field_of (codes "host") request) → ¬ (IsServedMethod (head_of request).method)
+    → fields_of begun ≡ closing (full || has_body request) → filled.status ≡ 405
+    → OnOk r (fields_of filled ≡ fields_of begun ++ allowed ∷ content_type Json ∷ []) → OnOk r (filled.body.items ≡ method_body)
+    → OnOk r (IsReply answers hosts full site request filled)
+other_reply answers hosts full site request begun filled (Ok x) here unserved closes status headers body = record {
+  misdirected = λ away. absurd (away here);
+  other = λ _ _. record {
+    status = status;
+    headers = headers ∙ ap (λ (h : List (List ℕ × List ℕ)). h ++ allowed ∷ content_type Json ∷ []) closes;
+    body = body;
+  };
+  crowded = λ _ is_served. absurd (unserved is_served);
+  served = λ _ is_served. absurd (unserved is_served);
+}
+other_reply answers hosts full site request begun filled (Err e) here unserved closes status headers body = tt
+
+-- a long poll too many
+pub crowded_reply : {S A E : Type 0} (answers : SiteAnswers S) (hosts : Hosts) (full : Bool) (site : S) (request : Request (List ℕ))
+    (begun filled : Response) (r : Result A E)
+    → AnswersTo hosts (field_of (codes "host") request) → IsServedMethod (head_of request).method → IsTrue full
+    → fields_of begun ≡ closing (full || has_body request) → filled.status ≡ 503
+    → OnOk r (fields_of filled ≡ fields_of begun ++ retry ∷ content_type Json ∷ []) → OnOk r (filled.body.items ≡ crowded_body)
+    → OnOk r (IsReply answers hosts full site request filled)
+crowded_reply answers hosts full site request begun filled (Ok x) here is_served is_full closes status headers body = record {
+  misdirected = λ away. absurd (away here);
+  other = λ _ no. absurd (no is_served);
+  crowded = λ _ _ _. record {
+    status = status;
+    headers = headers ∙ ap (λ (h : List (List ℕ × List ℕ)). h ++ retry ∷ content_type Json ∷ []) closes;
+    body = body;
+  };
+  served = λ _ _ free. absurd (never_both full is_full free);
+}
+crowded_reply answers hosts full site request begun filled (Err e) here is_served is_full closes status headers body = tt
+
+-- what the site answers
+pub site_reply : {S A E : Type 0} (answers : SiteAnswers S) (hosts : Hosts) (full : Bool) (site : S) (request : Request (List ℕ))
+    (begun filled : Response) (r : Result A E) (a : Answer)
+    → AnswersTo hosts (field_of (codes "host") request) → IsServedMethod (head_of request).method → IsFalse full
     → answers site (uri_path (head_of request).uri) (uri_query (head_of request).uri) a
-    → fields_of begun ≡ closing last → filled.status ≡ status_number a.status
+    → fields_of begun ≡ closing (full || has_body request) → filled.status ≡ status_number a.status
     → OnOk r (fields_of filled ≡ fields_of begun ++ content_type a.kind ∷ []) → OnOk r (filled.body.items ≡ a.body.items)
-    → OnOk r (P × IsReply answers last full site request filled)
-site_reply answers last full site request a begun filled (Ok x) P p is_served free answered closes status headers body = (
+    → OnOk r (IsReply answers hosts full site request filled)
+site_reply answers hosts full site request begun filled (Ok x) a here is_served free answered closes status headers body = record {
+  misdirected = λ away. absurd (away here);
+  other = λ _ no. absurd (no is_served);
+  crowded = λ _ _ is_full. absurd (never_both full is_full free);
+  served = λ _ _ _. (
+    a,
+    answered,
+    record {
+      status = status;
+      headers = headers ∙ ap (λ (h : List (List ℕ × List ℕ)). h ++ content_type a.kind ∷ []) closes;
+      body = body;
+    },
+  );
+}
+site_reply answers hosts full site request begun filled (Err e) a here is_served free answered closes status headers body = tt
+
+-- such a reply, of a desk that knows which version its site shows
+pub replied : {S A E : Type 0} (answers : SiteAnswers S) (version : SiteVersion S) (waits : WaitRule) (hosts : Hosts) (others known : ℕ) (full : Bool)
+    (site : S) (request : Request (List ℕ)) (filled : Response) (r : Result A E) (P : Type 0) → P
+    → IsTooMany waits known others request full → OnOk r (IsReply answers hosts full site request filled)
+    → OnOk r (P × (known ≡ version site → RepliesAmong answers version waits hosts others site (request, filled)))
+replied answers version waits hosts others known full site request filled (Ok x) P p is_full reply = (
   p,
-  record {
-    served = λ m f. (
-      a,
-      answered,
-      record {
-        status = status;
-        headers = headers ∙ ap (λ (h : List (List ℕ × List ℕ)). h ++ content_type a.kind ∷ []) closes;
-        body = body;
-      },
-    );
-    crowded = λ m t. absurd (never_both full t free);
-    other = λ no. absurd (no is_served);
-  },
+  λ knows. (full, subst (λ (v : ℕ). IsTooMany waits v others request full) knows is_full, reply),
 )
-site_reply answers last full site request a begun filled (Err e) P p is_served free answered closes status headers body = tt
+replied answers version waits hosts others known full site request filled (Err e) P p is_full reply = tt

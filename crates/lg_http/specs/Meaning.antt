@@ -2,7 +2,9 @@
 pub mod Answers
 pub mod Examples
 pub mod Fronts
+pub mod Hosts
 pub mod Own
+pub mod Parked
 pub mod Phases
 pub mod Peers
 pub mod Slots

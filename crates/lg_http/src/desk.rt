@@ -2,41 +2,52 @@
 //!
 //! Defined in: `specs/Meaning/Answers.antt`.
 //! Tested in: `lg_http_tests/src/serving.rt`.
-ghost use Rattle.std.specs.Prelude.{◌≡◌, ◌++◌, [], ◌∷◌, ◌↔◌, OnOk, IfOk, IsTrue, codes, option_map, option_copied};
+ghost use Rattle.std.specs.Prelude.{◌≡◌, ◌++◌, [], ◌∷◌, ◌↔◌, ◌||◌, OnOk, IfOk, IsTrue, codes, is_some};
+ghost use Rattle.std.specs.Prelude.{option_map, option_copied};
+ghost use Rattle.http.specs.Request.{head_of};
+ghost use Rattle.http_header.specs.HeaderMap.{get};
 ghost use Rattle.http_uri.specs.Uri.{uri_path, uri_query};
 ghost use Rattle.http_server.specs.Response.{IsBlank, IsResponse, fields_of};
 ghost use Rattle.lg_http.specs.declared.site.Kind.TheVariants.{Json};
-ghost use Rattle.lg_http.specs.Meaning.Answers.{IsReply, IsServedMethod, closing, content_type, kind_words};
-ghost use Rattle.lg_http.specs.Meaning.Answers.{status_number, method_body, crowded_body, allowed, retry};
+ghost use Rattle.lg_http.specs.Meaning.Answers.{RepliesAmong, IsTooMany, MayWait, IsServedMethod, closing};
+ghost use Rattle.lg_http.specs.Meaning.Answers.{status_number, content_type, kind_words, field_of, has_body};
+ghost use Rattle.lg_http.specs.Meaning.Answers.{would_wait, method_body, crowded_body, misdirected_body, allowed, retry};
+ghost use Rattle.lg_http.specs.Meaning.Hosts.{AnswersTo};
 
-use crate::site::{Answer, Kind, Site, Status};
+use crate::hosts::Hosts;
+use crate::site::{Answer, Kind, Site, Status, Wait};
+use crate::slots::MAX_PARKED;
 use bytes::{BufMut, Bytes};
-use http::{HeaderValue, Request, StatusCode, Uri, header};
+use http::{HeaderName, HeaderValue, Request, StatusCode, Uri, header};
 use http_server::{Response, Service};
 use std::alloc::{AllocError, Global};
 
 /// Answers the requests of all connections from one site: GET and HEAD as the site says, and another method with 405
-/// and `allow`. A long poll too many gets 503 and `retry-after`. Each error has a JSON body.
+/// and `allow`. A long poll too many gets 503 and `retry-after`, a request for another host 421. Each error has a JSON
+/// body.
 #[derive(Drop)]
 pub struct Desk<S> {
     alloc: Global,
     pub(crate) site: S,
-    /// The connection is closed behind the next answer.
-    pub(crate) is_last: bool,
-    /// The next request is a long poll, and too many wait.
-    pub(crate) is_full: bool,
+    pub(crate) hosts: Hosts,
+    /// The version of what the site shows.
+    pub(crate) version: u64,
+    /// How many long polls of other connections wait.
+    pub(crate) others: usize,
 }
 
 impl<S: Site> Desk<S> {
-    /// A desk over a site.
-    pub fn new(alloc: Global, site: S) -> Desk<S>
-        ensures { result.site ≡ site }
+    /// A desk over a site, which answers to these hosts.
+    pub fn new(alloc: Global, site: S, hosts: Hosts) -> Desk<S>
+        ensures site { result.site ≡ site }
+        ensures hosts { result.hosts ≡ hosts }
     {
         Desk {
             alloc,
             site,
-            is_last: false,
-            is_full: false,
+            hosts,
+            version: 0,
+            others: 0,
         }
     }
 
@@ -140,6 +151,20 @@ fn put_other(response: &mut Response) -> Result<(), AllocError>
         .put_slice(b"{\"error\":\"method not allowed\"}")
 }
 
+/// Turns a request away whose host isn't this server's (RFC 9110, section 15.5.20).
+fn put_misdirected(response: &mut Response) -> Result<(), AllocError>
+    requires { response.old.body.items ≡ [] }
+    ensures status { response.new.status ≡ 421 }
+    ensures headers { OnOk result (fields_of response.new ≡ fields_of response.old ++ content_type Json ∷ []) }
+    ensures body { OnOk result (response.new.body.items ≡ misdirected_body) }
+{
+    response.status = StatusCode::MISDIRECTED_REQUEST;
+    put_kind(Kind::Json, response)?;
+    response
+        .body
+        .put_slice(b"{\"error\":\"misdirected request\"}")
+}
+
 /// Turns a long poll away, since too many wait.
 fn put_crowded(response: &mut Response) -> Result<(), AllocError>
     requires { response.old.body.items ≡ [] }
@@ -182,20 +207,83 @@ fn site_answer<S: Site>(site: &S, alloc: Global, uri: &Uri) -> Result<Answer, Al
     site.answer(alloc, path, query)
 }
 
+/// What a site says that a GET of a target waits for.
+fn site_wait<S: Site>(site: &S, uri: &Uri) -> Option<Wait>
+    ensures { S.waits (uri_path uri.now) (uri_query uri.now) result }
+{
+    let path = uri.path().as_bytes();
+    let query = bytes_of(uri.query());
+    site.wait_of(path, query)
+}
+
+/// Whether a request has a field of this name.
+fn has_field(request: &Request<Bytes>, name: HeaderName) -> bool
+    ensures { result ≡ is_some (field_of name request.now) }
+{
+    request.headers().get(name).is_some()
+}
+
+/// Whether a body follows the request's head.
+fn has_body(request: &Request<Bytes>) -> bool
+    ensures { result ≡ has_body request.now }
+{
+    has_field(request, header::CONTENT_LENGTH) || has_field(request, header::TRANSFER_ENCODING)
+}
+
+/// Whether the connection is closed behind the answer to a request.
+fn is_last(is_full: bool, request: &Request<Bytes>) -> bool
+    ensures { result ≡ (is_full || has_body request.now) }
+{
+    is_full || has_body(request)
+}
+
+/// Whether a server answers a request, by the host that it names.
+fn is_answered(hosts: Hosts, request: &Request<Bytes>) -> bool
+    ensures { IsTrue result ↔ AnswersTo hosts (field_of (codes "host") request.now) }
+{
+    hosts.answer_to(request.headers().get(header::HOST))
+}
+
+/// Whether a request is a GET without a body: no other one waits.
+fn may_wait(request: &Request<Bytes>) -> bool
+    ensures { IsTrue result ↔ MayWait request.now }
+{
+    request.method().as_str() == "GET" && !has_body(request)
+}
+
+/// Whether a request is a long poll too many.
+fn is_too_many<S: Site>(desk: &Desk<S>, request: &Request<Bytes>) -> bool
+    ensures { IsTooMany S.waits desk.now.version desk.now.others request.now result }
+{
+    if desk.others < MAX_PARKED || !may_wait(request) {
+        return false;
+    }
+    match site_wait(&desk.site, request.uri()) {
+        Some(wait) => wait.lasts_at(desk.version),
+        None => false,
+    }
+}
+
 impl<S: Site> Service for Desk<S> {
+    // The answer is right if the desk knows which version its site shows.
     ghost answers = { λ old request response new.
-        (new ≡ old) × IsReply S.answers old.is_last old.is_full old.site request response };
+        (new ≡ old) × (old.version ≡ S.version old.site
+        → RepliesAmong S.answers S.version S.waits old.hosts old.others old.site (request, response)) };
 
     fn call(
         &mut self,
         request: &Request<Bytes>,
         response: &mut Response,
     ) -> Result<(), AllocError> {
-        put_close(self.is_last, response)?;
+        let is_full = is_too_many(self, request);
+        put_close(is_last(is_full, request), response)?;
+        if !is_answered(self.hosts, request) {
+            return put_misdirected(response);
+        }
         if !is_served(request.method().as_str()) {
             return put_other(response);
         }
-        if self.is_full {
+        if is_full {
             return put_crowded(response);
         }
         let answer = site_answer(&self.site, self.alloc, request.uri())?;

@@ -3,6 +3,7 @@
 
 mod desk;
 mod gate;
+mod hosts;
 mod listener;
 mod own;
 mod peer;
@@ -12,6 +13,7 @@ mod site;
 mod slots;
 
 pub use desk::Desk;
+pub use hosts::Hosts;
 pub use listener::Listener;
 pub use server::{Counts, End, Server};
 pub use signal::Signal;

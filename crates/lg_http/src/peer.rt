@@ -4,6 +4,8 @@
 //! Tested in: `lg_http_tests/src/serving.rt`, `lg_http_tests/src/late.rt`.
 ghost use Rattle.std.specs.Prelude.{◌≡◌, ◌≢◌, ℕ, ◌≤◌, ◌<◌, ◌+◌, ◌-◌, ◌↔◌, IsFalse};
 ghost use Rattle.lg_http.specs.declared.peer.Phase.TheVariants.{Parked};
+ghost use Rattle.lg_http.specs.declared.slots.TheConstants.{MAX_PARKED};
+ghost use Rattle.lg_http.specs.Meaning.Answers.{RepliesAmong};
 ghost use Rattle.lg_http.specs.Meaning.Phases.{MayBecome, IsAwake, IsDraining, may_yield};
 ghost use Rattle.lg_http.specs.Meaning.Peers.{calls_of, GoesOn, Answers, IsCurrent, IsBounded, IsNewPeer, KeepsTime};
 
@@ -108,8 +110,8 @@ pub(crate) struct Turn {
     pub(crate) at: Moment,
     /// The version of what the site shows.
     pub(crate) version: u64,
-    /// One long poll more may wait.
-    pub(crate) may_park: bool,
+    /// How many long polls of other connections wait.
+    pub(crate) others: usize,
 }
 
 /// A refusal of the server's own, and how many bytes of its text were sent.
@@ -245,12 +247,15 @@ impl Peer {
     /// Does what can be done at once, but no more than some steps.
     #[tactic(auto, using(crate::proofs::ChainLaws::adds_both))]
     pub(crate) fn run<S: Site>(&mut self, desk: &mut Desk<S>, turn: &Turn) -> Left
+        requires { turn.now.version ≡ S.version desk.old.site }
         ensures current { result ≢ Left.Gone → IsCurrent turn.now.at turn.now.version self.new }
-        ensures parks { IsAwake self.old.phase → IsFalse turn.now.may_park → result ≢ Left.Gone
+        ensures parks { IsAwake self.old.phase → MAX_PARKED ≤ turn.now.others → result ≢ Left.Gone
             → IsAwake self.new.phase }
         ensures time { result ≢ Left.Gone → KeepsTime turn.now.at self.old self.new }
-        ensures answers { Answers S.answers desk.old.site self.old self.new }
+        ensures answers { Answers (RepliesAmong S.answers S.version S.waits desk.old.hosts turn.now.others)
+            desk.old.site self.old self.new }
         ensures site { desk.new.site ≡ desk.old.site }
+        ensures hosts { desk.new.hosts ≡ desk.old.hosts }
         ensures bounded { IsBounded self.old → IsBounded self.new }
     {
         let mut step = self.step(desk, turn);
@@ -270,6 +275,7 @@ impl Peer {
     /// One step.
     #[tactic(auto, using(crate::proofs::ChainLaws::adds_nothing))]
     fn step<S: Site>(&mut self, desk: &mut Desk<S>, turn: &Turn) -> Step
+        requires { turn.now.version ≡ S.version desk.old.site }
         ensures moves { result ≢ Step.Gone → MayBecome self.old.phase self.new.phase }
         ensures current { result ≢ Step.Gone → IsCurrent turn.now.at turn.now.version self.new }
         // A client that is late loses its slot, but for a long poll, which is answered then.
@@ -278,12 +284,14 @@ impl Peer {
             → result ≢ Step.Gone → IsAwake self.new.phase }
         ensures over { (after : ℕ) → self.old.phase ≡ Parked after → self.old.until ≤ turn.now.at
             → result ≢ Step.Gone → IsAwake self.new.phase }
-        ensures parks { IsAwake self.old.phase → IsFalse turn.now.may_park → result ≢ Step.Gone
+        ensures parks { IsAwake self.old.phase → MAX_PARKED ≤ turn.now.others → result ≢ Step.Gone
             → IsAwake self.new.phase }
         ensures time { result ≢ Step.Gone → KeepsTime turn.now.at self.old self.new }
         ensures keeps { ¬ (IsDraining self.old.phase) → GoesOn self.old self.new }
-        ensures answers { Answers S.answers desk.old.site self.old self.new }
+        ensures answers { Answers (RepliesAmong S.answers S.version S.waits desk.old.hosts turn.now.others)
+            desk.old.site self.old self.new }
         ensures site { desk.new.site ≡ desk.old.site }
+        ensures hosts { desk.new.hosts ≡ desk.old.hosts }
         ensures bounded { IsBounded self.old → IsBounded self.new }
     {
         match self.phase {

@@ -2,14 +2,16 @@
 //!
 //! Defined in: `specs/Meaning/Slots.antt`.
 //! Tested in: `lg_http_tests/src/serving.rt`, `lg_http_tests/src/crowd.rt`.
-ghost use Rattle.std.specs.Prelude.{◌≡◌, IfOk, OnOk, All};
+ghost use Rattle.std.specs.Prelude.{◌≡◌, ◌≢◌, ◌≤◌, ◌+◌, min, [], ◌⊎◌, IfOk, All};
+ghost use Rattle.lg_http.specs.declared.hosts.Hosts.{Hosts};
+ghost use Rattle.lg_http.specs.Meaning.Answers.{Replies};
 ghost use Rattle.lg_http.specs.Meaning.Peers.{IsCurrent};
-ghost use Rattle.lg_http.specs.Meaning.Slots.{AreFree, AreSlots, InSlot, slots_of};
+ghost use Rattle.lg_http.specs.Meaning.Slots.{AreFree, AreSlots, AreServed, IsTold, InSlot, slots_of, ended_of};
 
 use crate::desk::Desk;
 use crate::listener::Listener;
 use crate::peer::Peer;
-use crate::signal::Signal;
+use crate::signal::{Signal, Told};
 use crate::site::Site;
 use crate::slots::{MAX_PEERS, Slots};
 use lg_clock::Clock;
@@ -50,7 +52,7 @@ pub enum End {
 /// What a server did.
 #[derive(Clone, Copy, Debug, Default, PartialEq, Eq)]
 pub struct Counts {
-    /// How often it went over its connections.
+    /// How often it went over its connections. No more than 2^64 - 1 are counted.
     pub turns: u64,
     /// Connections that got a slot.
     pub accepted: u64,
@@ -75,12 +77,15 @@ pub struct Server {
     /// No connection is taken before this moment, in milliseconds.
     accept_from: u64,
     counts: Counts,
+    /// That it was told to stop, if it was.
+    told: Option<Told>,
 }
 
 /// Notes which sockets are ready. Gives whether a client may be waiting.
 fn note_events<S: Site>(events: &Events, slots: &mut Slots) -> bool
-    ensures { (site : S) → AreSlots S.answers S.later site slots.old.slots.items
-        → AreSlots S.answers S.later site slots.new.slots.items }
+    ensures { (hosts : Hosts) (site : S)
+        → AreSlots (Replies S.answers S.version S.waits hosts) S.later site slots.old.slots.items
+        → AreServed (Replies S.answers S.version S.waits hosts) S.later site slots.old slots.new }
 {
     let mut can_accept = false;
     for event in events.iter() {
@@ -103,7 +108,8 @@ impl Server {
         alloc: Global,
         mut listener: Listener,
     ) -> io::Result<(Server, Signal)>
-        ensures { IfOk result (λ made. AreFree (slots_of made.0)) }
+        ensures free { IfOk result (λ made. AreFree (slots_of made.0)) }
+        ensures ended { IfOk result (λ made. ended_of made.0 ≡ []) }
     {
         let poll = Poll::new(rt)?;
         let signal = Signal::new(poll.registry(), SIGNAL)?;
@@ -118,6 +124,7 @@ impl Server {
             can_accept: true,
             accept_from: 0,
             counts: Counts::default(),
+            told: None,
         };
         Ok((server, signal))
     }
@@ -129,14 +136,25 @@ impl Server {
         clock: &C,
         signal: &Signal,
     ) -> (End, Counts)
-        ensures free { AreFree (slots_of self.old) → AreSlots S.answers S.later desk.new.site (slots_of self.new) }
-        ensures served { AreSlots S.answers S.later desk.old.site (slots_of self.old)
-            → AreSlots S.answers S.later desk.new.site (slots_of self.new) }
+        ensures free { AreFree (slots_of self.old)
+            → AreServed (Replies S.answers S.version S.waits desk.old.hosts) S.later desk.new.site
+            self.old.slots self.new.slots }
+        ensures served { AreSlots (Replies S.answers S.version S.waits desk.old.hosts) S.later desk.old.site
+            (slots_of self.old)
+            → AreServed (Replies S.answers S.version S.waits desk.old.hosts) S.later desk.new.site
+            self.old.slots self.new.slots }
         ensures goes_on { S.later desk.old.site desk.new.site }
+        ensures hosts { desk.new.hosts ≡ desk.old.hosts }
+        // It stops only if it was told to, or after so many turns.
+        ensures stopped { result.0 ≡ End.Stopped → IsTold self.new ⊎ (u64.MAX ≤ result.1.turns) }
+        ensures counts { result.1 ≡ self.new.counts }
     {
-        for _ in 0..u64::MAX {
-            if signal.is_stopped() {
-                break;
+        for number in 0..u64::MAX {
+            // The counter is named, so that the invariant can tell how many turns were made.
+            let _number = number;
+            self.told = signal.told();
+            if self.told.is_some() {
+                return (End::Stopped, self.counts);
             }
             if let Err(kind) = self.turn(desk, clock, signal) {
                 return (End::WaitFailed(kind), self.counts);
@@ -153,11 +171,15 @@ impl Server {
         clock: &C,
         signal: &Signal,
     ) -> Result<(), ErrorKind>
-        ensures served { AreSlots S.answers S.later desk.old.site (slots_of self.old)
-            → AreSlots S.answers S.later desk.new.site (slots_of self.new) }
+        ensures turns { self.new.counts.turns ≡ min (self.old.counts.turns + 1) u64.MAX }
+        ensures served { AreSlots (Replies S.answers S.version S.waits desk.old.hosts) S.later desk.old.site
+            (slots_of self.old)
+            → AreServed (Replies S.answers S.version S.waits desk.old.hosts) S.later desk.new.site
+            self.old.slots self.new.slots }
         ensures goes_on { S.later desk.old.site desk.new.site }
+        ensures hosts { desk.new.hosts ≡ desk.old.hosts }
     {
-        self.counts.turns = self.counts.turns.wrapping_add(1);
+        self.counts.turns = self.counts.turns.saturating_add(1);
         let wait_ms = self.run_clients(desk, clock.now(), signal);
         let timeout = Duration::from_millis(wait_ms);
         if let Err(e) = self.poll.poll(&mut self.events, Some(timeout)) {
@@ -172,9 +194,15 @@ impl Server {
 
     /// Lets each connection do what it can. Gives how long the next wait may be, in milliseconds.
     fn run_clients<S: Site>(&mut self, desk: &mut Desk<S>, at: Moment, signal: &Signal) -> u64
-        ensures served { AreSlots S.answers S.later desk.old.site (slots_of self.old)
-            → AreSlots S.answers S.later desk.new.site (slots_of self.new) }
+        // It waits only if no long poll waits for a version that came.
+        ensures current { result ≢ 0 → All (InSlot (IsCurrent at (S.version desk.new.site))) (slots_of self.new) }
+        ensures turns { self.new.counts.turns ≡ self.old.counts.turns }
+        ensures served { AreSlots (Replies S.answers S.version S.waits desk.old.hosts) S.later desk.old.site
+            (slots_of self.old)
+            → AreServed (Replies S.answers S.version S.waits desk.old.hosts) S.later desk.new.site
+            self.old.slots self.new.slots }
         ensures goes_on { S.later desk.old.site desk.new.site }
+        ensures hosts { desk.new.hosts ≡ desk.old.hosts }
     {
         let version = desk.site.refresh();
         let rest = self.slots.run(desk, at, version);
@@ -202,8 +230,10 @@ impl Server {
 
     /// Takes some of the connections that wait.
     fn accept_some<S: Site>(&mut self, at: Moment)
-        ensures { (site : S) → AreSlots S.answers S.later site (slots_of self.old)
-            → AreSlots S.answers S.later site (slots_of self.new) }
+        ensures served { (hosts : Hosts) (site : S)
+            → AreSlots (Replies S.answers S.version S.waits hosts) S.later site (slots_of self.old)
+            → AreServed (Replies S.answers S.version S.waits hosts) S.later site self.old.slots self.new.slots }
+        ensures turns { self.new.counts.turns ≡ self.old.counts.turns }
     {
         for _ in 0..ACCEPTS {
             if !self.can_accept || at.milliseconds() < self.accept_from {
@@ -218,7 +248,8 @@ impl Server {
 
     /// Notes that no connection was taken, and why.
     fn not_accepted(&mut self, kind: ErrorKind, at: Moment)
-        ensures { slots_of self.new ≡ slots_of self.old }
+        ensures slots { self.new.slots ≡ self.old.slots }
+        ensures turns { self.new.counts.turns ≡ self.old.counts.turns }
     {
         match kind {
             ErrorKind::WouldBlock => self.can_accept = false,
@@ -232,8 +263,10 @@ impl Server {
 
     /// Gives a connection a slot, or closes it if there is none.
     fn admit<S: Site>(&mut self, stream: TcpStream, at: Moment)
-        ensures { (site : S) → AreSlots S.answers S.later site (slots_of self.old)
-            → AreSlots S.answers S.later site (slots_of self.new) }
+        ensures served { (hosts : Hosts) (site : S)
+            → AreSlots (Replies S.answers S.version S.waits hosts) S.later site (slots_of self.old)
+            → AreServed (Replies S.answers S.version S.waits hosts) S.later site self.old.slots self.new.slots }
+        ensures turns { self.new.counts.turns ≡ self.old.counts.turns }
     {
         let Some(number) = self.slots.place_for(at) else {
             self.counts.turned_away = self.counts.turned_away.wrapping_add(1);
@@ -241,7 +274,7 @@ impl Server {
         };
         let mut peer = Peer::new(self.alloc, self.keys, stream, at);
         if peer.register(self.poll.registry(), Token(number)) {
-            self.slots.put::<S>(number, peer);
+            self.slots.put::<S>(number, peer, at);
             self.counts.accepted = self.counts.accepted.wrapping_add(1);
         } else {
             self.counts.failed = self.counts.failed.wrapping_add(1);

@@ -17,6 +17,12 @@ pub struct Signal {
     is_stopped: AtomicBool,
 }
 
+/// That a server was told to stop. Nothing but a look at the signal makes one.
+#[derive(Clone, Copy, Debug)]
+pub(crate) struct Told {
+    seen: (),
+}
+
 impl Signal {
     pub(crate) fn new(registry: &Registry, token: Token) -> io::Result<Signal> {
         Ok(Signal {
@@ -53,8 +59,13 @@ impl Signal {
         let _is_woken = self.waker.wake().is_ok();
     }
 
-    pub(crate) fn is_stopped(&self) -> bool {
-        self.is_stopped.load(SeqCst)
+    /// Whether the server was told to stop.
+    pub(crate) fn told(&self) -> Option<Told> {
+        if self.is_stopped.load(SeqCst) {
+            Some(Told { seen: () })
+        } else {
+            None
+        }
     }
 
     /// From now on a change wakes the server. Look at the version again after this: a change just before may have gone

@@ -5,7 +5,7 @@
 ghost use Rattle.std.specs.Prelude.{◌≡◌, ℕ, List, Option, IfOk, option_map};
 ghost use Rattle.lg_http.specs.declared.site.Answer.{Answer};
 ghost use Rattle.lg_http.specs.declared.site.Wait.{Wait};
-ghost use Rattle.lg_http.specs.Meaning.Answers.{status_number, kind_words, IsSiteOrder};
+ghost use Rattle.lg_http.specs.Meaning.Answers.{status_number, kind_words, would_wait, IsSiteOrder};
 
 use std::alloc::{AllocError, Global};
 
@@ -74,6 +74,15 @@ pub struct Answer {
 pub struct Wait {
     pub after: u64,
     pub wait_ms: u64,
+}
+
+impl Wait {
+    /// Whether a request that waits for this would wait now, if the site shows this version.
+    pub(crate) fn lasts_at(self, version: u64) -> bool
+        ensures { result ≡ would_wait version (Some self) }
+    {
+        self.wait_ms > 0 && version <= self.after
+    }
 }
 
 /// What a server shows. One thread asks it, and no call may wait for anybody.

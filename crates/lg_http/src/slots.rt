@@ -2,15 +2,20 @@
 //!
 //! Defined in: `specs/Meaning/Slots.antt`.
 //! Tested in: `lg_http_tests/src/serving.rt`, `lg_http_tests/src/crowd.rt`.
-ghost use Rattle.std.specs.Prelude.{◌≡◌, ◌≤◌, ◌<◌, ◌+◌, length, position, All, IfOk, IfSome, IsSome, IsFalse};
+ghost use Rattle.std.specs.Prelude.{◌≡◌, ◌≤◌, ◌<◌, ◌+◌, ◌-◌, [], length, get_or, position, All};
+ghost use Rattle.std.specs.Prelude.{IfOk, IfSome, IsSome};
+ghost use Rattle.lg_http.specs.declared.hosts.Hosts.{Hosts};
+ghost use Rattle.lg_http.specs.Meaning.Answers.{RepliesAmong, Replies};
+ghost use Rattle.lg_http.specs.Meaning.Parked.{parked_count, parked_in};
 ghost use Rattle.lg_http.specs.Meaning.Peers.{Answers, IsCurrent, IsBounded, IsNewPeer};
 ghost use Rattle.lg_http.specs.Meaning.Phases.{IsAwake};
-ghost use Rattle.lg_http.specs.Meaning.Slots.{InSlot, IsAnsweredSlot, AreFree, AreSlots};
-ghost use Rattle.lg_http.specs.Meaning.Slots.{is_free, is_to_have, place_for, parked_count, parked_in};
+ghost use Rattle.lg_http.specs.Meaning.Slots.{InSlot, IsAnsweredSlot, HadTurn, AreFree, AreSlots, AreServed, AddsEnded};
+ghost use Rattle.lg_http.specs.Meaning.Slots.{noted_from, is_free, is_to_have, place_for};
 
 use crate::desk::Desk;
 use crate::peer::{Left, Peer, Turn};
 use crate::site::Site;
+use http_server::Log;
 use lg_timing::Moment;
 use mio::event::Event;
 use std::alloc::{AllocError, Global};
@@ -25,7 +30,12 @@ pub const MAX_PARKED: usize = 192;
 #[derive(Drop)]
 pub(crate) struct Slots {
     slots: Vec<Option<Peer>>,
+    /// The connections that left their slots, as they stood then, and when. It is for the proofs alone, and takes no
+    /// memory.
+    ended: EndedLog,
 }
+
+type EndedLog = Log<Peer, Moment>;
 
 /// What the connections leave in a turn.
 #[derive(Clone, Copy, Debug)]
@@ -48,10 +58,13 @@ fn parked_of(slot: &Option<Peer>) -> usize
 
 /// Lets a connection do what it can. Gives how long it may wait then, in milliseconds, or nothing if it is over.
 fn run_peer<S: Site>(peer: &mut Peer, desk: &mut Desk<S>, turn: &Turn) -> Option<u64>
+    requires { turn.now.version ≡ S.version desk.old.site }
     ensures current { IsSome result → IsCurrent turn.now.at turn.now.version peer.new }
-    ensures parks { IsAwake peer.old.phase → IsFalse turn.now.may_park → IsSome result → IsAwake peer.new.phase }
-    ensures answers { Answers S.answers desk.old.site peer.old peer.new }
+    ensures parks { IsAwake peer.old.phase → MAX_PARKED ≤ turn.now.others → IsSome result → IsAwake peer.new.phase }
+    ensures answers { Answers (RepliesAmong S.answers S.version S.waits desk.old.hosts turn.now.others)
+        desk.old.site peer.old peer.new }
     ensures site { desk.new.site ≡ desk.old.site }
+    ensures hosts { desk.new.hosts ≡ desk.old.hosts }
     ensures bounded { IsBounded peer.old → IsBounded peer.new }
 {
     if !peer.is_due(turn) {
@@ -64,15 +77,22 @@ fn run_peer<S: Site>(peer: &mut Peer, desk: &mut Desk<S>, turn: &Turn) -> Option
     }
 }
 
-/// Lets the connection of a slot do what it can. Gives how long it may wait then, in milliseconds.
-#[tactic(auto, using(crate::proofs::ChainLaws::adds_answered))]
-fn run_slot<S: Site>(slot: &mut Option<Peer>, desk: &mut Desk<S>, turn: &Turn) -> u64
+/// Lets the connection of a slot do what it can. One that is over is noted among the ended, and its slot is free. Gives
+/// how long it may wait then, in milliseconds.
+fn run_slot<S: Site>(
+    slot: &mut Option<Peer>,
+    ended: &mut EndedLog,
+    desk: &mut Desk<S>,
+    turn: &Turn,
+) -> u64
+    requires { turn.now.version ≡ S.version desk.old.site }
     ensures current { InSlot (IsCurrent turn.now.at turn.now.version) slot.new }
-    ensures parks { IsFalse turn.now.may_park → parked_in slot.new ≤ parked_in slot.old }
+    ensures parks { MAX_PARKED ≤ turn.now.others → parked_in slot.new ≤ parked_in slot.old }
     ensures bounded { InSlot IsBounded slot.old → InSlot IsBounded slot.new }
-    ensures answered { IsAnsweredSlot S.answers S.later desk.old.site slot.old
-        → IsAnsweredSlot S.answers S.later desk.old.site slot.new }
+    ensures had { HadTurn (RepliesAmong S.answers S.version S.waits desk.old.hosts turn.now.others)
+        desk.old.site slot.old slot.new ended.old.items ended.new.items }
     ensures site { desk.new.site ≡ desk.old.site }
+    ensures hosts { desk.new.hosts ≡ desk.old.hosts }
 {
     let Some(peer) = slot else {
         return u64::MAX;
@@ -80,6 +100,7 @@ fn run_slot<S: Site>(slot: &mut Option<Peer>, desk: &mut Desk<S>, turn: &Turn) -
     if let Some(wait_ms) = run_peer(peer, desk, turn) {
         return wait_ms;
     }
+    *ended = ended.and(peer, &turn.at);
     *slot = None;
     u64::MAX
 }
@@ -87,42 +108,84 @@ fn run_slot<S: Site>(slot: &mut Option<Peer>, desk: &mut Desk<S>, turn: &Turn) -
 /// Lets the connection of the next slot do what it can.
 fn run_next<S: Site>(
     slot: &mut Option<Peer>,
+    ended: &mut EndedLog,
     desk: &mut Desk<S>,
     at: Moment,
     version: u64,
     rest: Rest,
 ) -> Rest
-    requires { parked_in slot.old ≤ rest.parked }
+    requires counted { parked_in slot.old ≤ rest.parked }
+    requires version { version ≡ S.version desk.old.site }
     ensures current { InSlot (IsCurrent at version) slot.new }
     ensures count { result.parked + parked_in slot.old ≡ rest.parked + parked_in slot.new }
     ensures few { rest.parked ≤ MAX_PARKED → result.parked ≤ MAX_PARKED }
     ensures bounded { InSlot IsBounded slot.old → InSlot IsBounded slot.new }
-    ensures answered { IsAnsweredSlot S.answers S.later desk.old.site slot.old
-        → IsAnsweredSlot S.answers S.later desk.old.site slot.new }
+    // Whether a long poll is one too many is by those that wait in the other slots.
+    ensures had { HadTurn (RepliesAmong S.answers S.version S.waits desk.old.hosts (rest.parked - parked_in slot.old))
+        desk.old.site slot.old slot.new ended.old.items ended.new.items }
     ensures site { desk.new.site ≡ desk.old.site }
+    ensures hosts { desk.new.hosts ≡ desk.old.hosts }
 {
+    let others = rest.parked - parked_of(slot);
     let turn = Turn {
         at,
         version,
-        may_park: rest.parked < MAX_PARKED,
+        others,
     };
-    let others = rest.parked - parked_of(slot);
-    let wait_ms = run_slot(slot, desk, &turn);
+    let wait_ms = run_slot(slot, ended, desk, &turn);
     Rest {
         parked: others.saturating_add(parked_of(slot)),
         wait_ms: rest.wait_ms.min(wait_ms),
     }
 }
 
+/// Lets the connection of each slot do what it can.
+#[tactic(auto, using(crate::proofs::SlotLaws::ends_none))]
+fn run_all<S: Site>(
+    slots: &mut Vec<Option<Peer>>,
+    ended: &mut EndedLog,
+    desk: &mut Desk<S>,
+    at: Moment,
+    version: u64,
+    start: Rest,
+) -> Rest
+    requires counted { start.parked ≡ parked_count slots.old.items }
+    requires version { version ≡ S.version desk.old.site }
+    ensures current { All (InSlot (IsCurrent at version)) slots.new.items }
+    ensures parked { result.parked ≡ parked_count slots.new.items }
+    ensures served { AreSlots (Replies S.answers S.version S.waits desk.old.hosts) S.later desk.old.site slots.old.items
+        → AreSlots (Replies S.answers S.version S.waits desk.old.hosts) S.later desk.old.site slots.new.items
+        × AddsEnded (Replies S.answers S.version S.waits desk.old.hosts) S.later desk.old.site
+        ended.old.items ended.new.items }
+    ensures site { desk.new.site ≡ desk.old.site }
+    ensures hosts { desk.new.hosts ≡ desk.old.hosts }
+{
+    let mut rest = start;
+    for slot in slots.iter_mut() {
+        rest = run_next(slot, ended, desk, at, version, rest);
+    }
+    rest
+}
+
 /// Notes what the system tells of a slot's socket.
 fn note_slot<S: Site>(slot: &mut Option<Peer>, event: &Event)
     ensures parked { parked_in slot.new ≡ parked_in slot.old }
     ensures bounded { InSlot IsBounded slot.old → InSlot IsBounded slot.new }
-    ensures answered { (site : S) → IsAnsweredSlot S.answers S.later site slot.old
-        → IsAnsweredSlot S.answers S.later site slot.new }
+    ensures answered { (hosts : Hosts) (site : S)
+        → IsAnsweredSlot (Replies S.answers S.version S.waits hosts) S.later site slot.old
+        → IsAnsweredSlot (Replies S.answers S.version S.waits hosts) S.later site slot.new }
 {
     if let Some(peer) = slot {
         peer.note(event);
+    }
+}
+
+/// Notes the connection of a slot among the ended, if it has one.
+fn note_end(ended: &mut EndedLog, slot: &Option<Peer>, at: Moment)
+    ensures { ended.new.items ≡ noted_from ended.old.items at slot.now }
+{
+    if let Some(peer) = slot {
+        *ended = ended.and(peer, &at);
     }
 }
 
@@ -156,7 +219,8 @@ fn first_to_have(slots: &[Option<Peer>], at: Moment) -> Option<usize>
 impl Slots {
     /// Free slots. The error is refused memory.
     pub(crate) fn new(alloc: Global) -> Result<Slots, AllocError>
-        ensures { IfOk result (λ s. AreFree s.slots.items) }
+        ensures free { IfOk result (λ s. AreFree s.slots.items) }
+        ensures ended { IfOk result (λ s. s.ended.items ≡ []) }
     {
         let mut slots = Vec::with_capacity(alloc, MAX_PEERS)?;
         for number in 0..MAX_PEERS {
@@ -164,7 +228,10 @@ impl Slots {
             let _number = number;
             slots.push(None)?;
         }
-        Ok(Slots { slots })
+        Ok(Slots {
+            slots,
+            ended: Log::new(),
+        })
     }
 
     /// How many long polls wait.
@@ -180,26 +247,27 @@ impl Slots {
 
     /// Lets each connection do what it can at this moment, when the site shows this version.
     pub(crate) fn run<S: Site>(&mut self, desk: &mut Desk<S>, at: Moment, version: u64) -> Rest
+        requires { version ≡ S.version desk.old.site }
         ensures current { All (InSlot (IsCurrent at version)) self.new.slots.items }
         ensures parked { result.parked ≡ parked_count self.new.slots.items }
-        ensures served { AreSlots S.answers S.later desk.old.site self.old.slots.items
-            → AreSlots S.answers S.later desk.new.site self.new.slots.items }
+        ensures served { AreSlots (Replies S.answers S.version S.waits desk.old.hosts) S.later desk.old.site
+            self.old.slots.items
+            → AreServed (Replies S.answers S.version S.waits desk.old.hosts) S.later desk.new.site self.old self.new }
         ensures site { desk.new.site ≡ desk.old.site }
+        ensures hosts { desk.new.hosts ≡ desk.old.hosts }
     {
-        let mut rest = Rest {
+        let rest = Rest {
             parked: self.parked(),
             wait_ms: u64::MAX,
         };
-        for slot in self.slots.iter_mut() {
-            rest = run_next(slot, desk, at, version, rest);
-        }
-        rest
+        run_all(&mut self.slots, &mut self.ended, desk, at, version, rest)
     }
 
     /// Notes what the system tells of a slot's socket. Other numbers than those of slots are passed over.
     pub(crate) fn note<S: Site>(&mut self, number: usize, event: &Event)
-        ensures { (site : S) → AreSlots S.answers S.later site self.old.slots.items
-            → AreSlots S.answers S.later site self.new.slots.items }
+        ensures { (hosts : Hosts) (site : S)
+            → AreSlots (Replies S.answers S.version S.waits hosts) S.later site self.old.slots.items
+            → AreServed (Replies S.answers S.version S.waits hosts) S.later site self.old self.new }
     {
         if number < self.slots.len() {
             note_slot::<S>(&mut self.slots[number], event);
@@ -217,13 +285,17 @@ impl Slots {
         }
     }
 
-    /// Puts a new connection into a slot. The one that had it is closed.
-    pub(crate) fn put<S: Site>(&mut self, number: usize, peer: Peer)
+    /// Puts a new connection into a slot. The one that had it is closed, and noted among the ended.
+    pub(crate) fn put<S: Site>(&mut self, number: usize, peer: Peer, at: Moment)
         requires room { number < length self.old.slots.items }
         requires fresh { IsNewPeer peer }
-        ensures { (site : S) → AreSlots S.answers S.later site self.old.slots.items
-            → AreSlots S.answers S.later site self.new.slots.items }
+        ensures served { (hosts : Hosts) (site : S)
+            → AreSlots (Replies S.answers S.version S.waits hosts) S.later site self.old.slots.items
+            → AreServed (Replies S.answers S.version S.waits hosts) S.later site self.old self.new }
+        ensures noted { self.new.ended.items
+            ≡ noted_from self.old.ended.items at (get_or self.old.slots.items number None) }
     {
+        note_end(&mut self.ended, &self.slots[number], at);
         self.slots[number] = Some(peer);
     }
 }

@@ -21,9 +21,36 @@ const NOTHING: Text = Text::Whole(b"");
 /// What comes for a long poll too many.
 const CROWDED: &[&[u8]] = &[
     b"HTTP/1.1 503 Service Unavailable\r\n",
+    b"connection: close\r\n",
     b"retry-after: 1\r\n",
     b"content-type: application/json\r\n",
     b"\r\n\r\n{\"error\":\"too many requests wait\"}",
+];
+
+/// What is answered at once while as many long polls wait as may, and texts that come for it.
+const MEANWHILE: &[(Text, &[&[u8]])] = &[
+    (PAGE, &[b"200 OK\r\n", b"<p>page</p>"]),
+    // It doesn't wait, since it is to wait no time, or since only a GET waits.
+    (
+        Text::Whole(b"GET /next?at-once HTTP/1.1\r\nHost: a\r\nConnection: close\r\n\r\n"),
+        &[b"200 OK\r\n", b"\r\n\r\n{\"number\":0}"],
+    ),
+    (
+        Text::Whole(b"HEAD /next?long HTTP/1.1\r\nHost: a\r\nConnection: close\r\n\r\n"),
+        &[b"200 OK\r\n", b"\r\n\r\n"],
+    ),
+    (
+        Text::Whole(b"POST /next?long HTTP/1.1\r\nHost: a\r\nConnection: close\r\n\r\n"),
+        &[
+            b"405 Method Not Allowed\r\n",
+            b"{\"error\":\"method not allowed\"}",
+        ],
+    ),
+    // Nor does one that a body follows.
+    (
+        Text::Whole(b"GET /next?long HTTP/1.1\r\nHost: a\r\nContent-Length: 1\r\n\r\na"),
+        &[b"200 OK\r\n", b"\r\n\r\n{\"number\":0}"],
+    ),
 ];
 
 /// How long the server gets for what has to happen first, in milliseconds.
@@ -114,6 +141,14 @@ pub(crate) fn ask<R: Net<Stream = TcpStream> + rt::Clock>(
         "a long poll too many",
         0,
     )?;
+    for (i, (text, parts)) in MEANWHILE.iter().enumerate() {
+        let got = answer_to(rt, place, text)?;
+        expect(
+            is_made_of(got.as_slice(), *parts),
+            "while many wait",
+            i as u64,
+        )?;
+    }
     let mut others = filled(rt, place)?;
     thread::sleep(rt, Duration::from_millis(FRESH_MS + SETTLE_MS));
     let got = answer_to(rt, place, &PAGE)?;

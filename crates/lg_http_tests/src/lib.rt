@@ -8,6 +8,8 @@ mod client;
 #[cfg(test)]
 mod crowd;
 #[cfg(test)]
+mod hosts;
+#[cfg(test)]
 mod late;
 #[cfg(test)]
 mod playing;

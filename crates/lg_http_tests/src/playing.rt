@@ -1,9 +1,9 @@
 //! A server at a free port of loopback, and a client in another thread that asks it.
 
 use super::board::Board;
-use super::{crowd, late, refused_memory, serving};
+use super::{crowd, hosts, late, refused_memory, serving};
 use lg_clock::MachineClock;
-use lg_http::{Counts, Desk, End, Listener, Server, Signal};
+use lg_http::{Counts, Desk, End, Hosts, Listener, Server, Signal};
 use std::alloc::{AllocError, Global};
 use std::net::{Ipv4Addr, Net, SocketAddr, TcpListener, TcpStream};
 use std::random::RandomSource;
@@ -18,10 +18,22 @@ pub(crate) enum Play {
     Rows,
     /// It has as many connections as it can.
     Crowd,
+    /// It names one host after another.
+    Hosts,
     /// It takes its time.
     Late,
     /// It asks the same again, if memory may be refused.
     Refused,
+}
+
+impl Play {
+    /// The hosts that the server answers to.
+    fn hosts(self) -> Hosts {
+        match self {
+            Play::Hosts => Hosts::Local,
+            Play::Rows | Play::Crowd | Play::Late | Play::Refused => Hosts::Any,
+        }
+    }
 }
 
 /// What the client has.
@@ -69,15 +81,18 @@ pub(crate) fn expect(is_so: bool, what: &'static str, number: u64) -> Result<(),
     }
 }
 
+/// What a server did.
+type Served = io::Result<(End, Counts)>;
+
 /// Serves the number until the signal says to stop.
-fn serve<R: rt::Clock>(rt: &R, place: &Place<'_>, server: Server) -> io::Result<(End, Counts)> {
+fn serve<R: rt::Clock>(rt: &R, place: &Place<'_>, server: Server, hosts: Hosts) -> Served {
     let mut server = server;
     let clock = MachineClock::new(rt)?;
     let board = Board {
         number: place.number,
         seen: 0,
     };
-    let mut desk = Desk::new(place.alloc, board);
+    let mut desk = Desk::new(place.alloc, board, hosts);
     Ok(server.serve(&mut desk, &clock, place.signal))
 }
 
@@ -90,15 +105,13 @@ fn ask_and_stop<R: Net<Stream = TcpStream> + rt::Clock>(
     let seen = match play {
         Play::Rows => serving::ask(rt, place),
         Play::Crowd => crowd::ask(rt, place),
+        Play::Hosts => hosts::ask(rt, place),
         Play::Late => late::ask(rt, place),
         Play::Refused => refused_memory::ask(rt, place),
     };
     place.signal.stop();
     seen
 }
-
-/// What a server did.
-type Served = io::Result<(End, Counts)>;
 
 /// Runs a server, and a client that asks it.
 fn both<R>(rt: &R, place: &Place<'_>, server: Server, play: Play) -> (Served, Result<(), Wrong>)
@@ -107,7 +120,7 @@ where
 {
     join(
         rt,
-        move || -> Served { serve(rt, place, server) },
+        move || -> Served { serve(rt, place, server, play.hosts()) },
         move || -> Result<(), Wrong> { ask_and_stop(rt, place, play) },
     )
 }

@@ -7,7 +7,7 @@ use Rattle.lg_http.specs.declared.peer.Peer.{Peer}
 use Rattle.lg_http.specs.declared.peer.Phase.TheVariants.{Reading, Parked}
 use Rattle.lg_http.specs.declared.peer.TheConstants.{MAX_HELD, MAX_WAIT_MS}
 use Rattle.lg_http.specs.declared.site.Wait.{Wait}
-use Rattle.lg_http.specs.Meaning.Answers.{SiteAnswers, AddsCalls}
+use Rattle.lg_http.specs.Meaning.Answers.{SiteReplies, AddsCalls}
 use Rattle.lg_http.specs.Meaning.Phases.{time_limit}
 
 -- all that the client sent, in order: what its connection was given, and what is held back
@@ -23,8 +23,8 @@ abbrev pub calls_of : Peer → List Call
 calls_of peer = (history peer.http).calls
 
 -- further requests were answered, each from this state of the site
-abbrev pub Answers : {S : Type 0} → SiteAnswers S → S → Peer → Peer → Type 0
-Answers answers site old new = AddsCalls answers site (calls_of old) (calls_of new)
+abbrev pub Answers : {S : Type 0} → SiteReplies S → S → Peer → Peer → Type 0
+Answers replies site old new = AddsCalls replies site (calls_of old) (calls_of new)
 
 -- At this moment it isn't late, and it doesn't wait for a version that came.
 abbrev pub IsCurrent : ℕ → ℕ → Peer → Type 0

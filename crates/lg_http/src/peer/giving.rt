@@ -5,7 +5,7 @@
 ghost use Rattle.std.specs.Prelude.{◌≡◌, ◌≢◌, ◌≤◌, ◌<◌, ◌+◌, length, IfOk, OnErr};
 ghost use Rattle.http_server.specs.Connection.{config_of, history};
 ghost use Rattle.http_server.specs.History.{Rests};
-ghost use Rattle.lg_http.specs.Meaning.Answers.{AddsCalls};
+ghost use Rattle.lg_http.specs.Meaning.Answers.{AddsCalls, RepliesAmong};
 ghost use Rattle.lg_http.specs.Meaning.Phases.{IsGiven};
 ghost use Rattle.lg_http.specs.Meaning.Peers.{stream_of, calls_of, Answers};
 
@@ -19,8 +19,11 @@ use std::io;
 
 /// Has a connection answer what it was given.
 fn advance<S: Site>(http: &mut Connection, desk: &mut Desk<S>)
-    ensures answers { AddsCalls S.answers desk.old.site (history http.old).calls (history http.new).calls }
+    requires { desk.old.version ≡ S.version desk.old.site }
+    ensures answers { AddsCalls (RepliesAmong S.answers S.version S.waits desk.old.hosts desk.old.others) desk.old.site
+        (history http.old).calls (history http.new).calls }
     ensures site { desk.new.site ≡ desk.old.site }
+    ensures hosts { desk.new.hosts ≡ desk.old.hosts }
     ensures rests { Rests (config_of http.new) (history http.new) }
     ensures received { (history http.new).received ≡ (history http.old).received }
 {
@@ -29,28 +32,25 @@ fn advance<S: Site>(http: &mut Connection, desk: &mut Desk<S>)
 
 impl Peer {
     /// Gives the connection the first bytes that are held, and has it answer.
-    pub(super) fn give<S: Site>(
-        &mut self,
-        desk: &mut Desk<S>,
-        turn: &Turn,
-        len: usize,
-        is_full: bool,
-    ) -> Step
-        requires { len ≤ length self.old.held.items }
+    pub(super) fn give<S: Site>(&mut self, desk: &mut Desk<S>, turn: &Turn, len: usize) -> Step
+        requires length { len ≤ length self.old.held.items }
+        requires version { turn.now.version ≡ S.version desk.old.site }
         ensures phase { result ≢ Step.Gone → IsGiven self.new.phase }
         ensures time { result ≢ Step.Gone → self.new.until ≡ turn.now.at + LIMIT_MS }
         // Each whole request that the connection was given is answered now.
         ensures rests { result ≢ Step.Gone → Rests (config_of self.new.http) (history self.new.http) }
         ensures stream { stream_of self.new ≡ stream_of self.old }
-        ensures answers { Answers S.answers desk.old.site self.old self.new }
+        ensures answers { Answers (RepliesAmong S.answers S.version S.waits desk.old.hosts turn.now.others)
+            desk.old.site self.old self.new }
         ensures site { desk.new.site ≡ desk.old.site }
+        ensures hosts { desk.new.hosts ≡ desk.old.hosts }
         ensures bounded { length self.new.held.items ≤ length self.old.held.items }
     {
         if self.feed(len).is_err() {
             return Step::Gone;
         }
-        desk.is_last = self.is_last || is_full;
-        desk.is_full = is_full;
+        desk.version = turn.version;
+        desk.others = turn.others;
         advance(&mut self.http, desk);
         self.until = turn.at.milliseconds().saturating_add(LIMIT_MS);
         self.turn_to_answer()

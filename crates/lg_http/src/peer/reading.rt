@@ -2,8 +2,9 @@
 //!
 //! Defined in: `specs/Meaning/Phases.antt`, `specs/Meaning/Peers.antt`.
 //! Tested in: `lg_http_tests/src/serving.rt`, `lg_http_tests/src/late.rt`.
-ghost use Rattle.std.specs.Prelude.{◌≡◌, ◌≢◌, ◌≤◌, ◌<◌, ◌+◌, ◌⊎◌, length, IsFalse, MatchOption};
+ghost use Rattle.std.specs.Prelude.{◌≡◌, ◌≢◌, ◌≤◌, ◌<◌, ◌+◌, ◌⊎◌, length, MatchOption};
 ghost use Rattle.lg_http.specs.declared.peer.Phase.TheVariants.{Parked};
+ghost use Rattle.lg_http.specs.Meaning.Answers.{RepliesAmong};
 ghost use Rattle.lg_http.specs.Meaning.Phases.{MayBecome, IsAwake};
 ghost use Rattle.lg_http.specs.Meaning.Peers.{GoesOn, Answers, IsCurrent, IsBounded, KeepsTime, WaitsFrom};
 ghost use Rattle.lg_http.specs.Meaning.Peers.{calls_of, stream_of};
@@ -12,6 +13,7 @@ use super::{MAX_WAIT_MS, Peer, Phase, ROOM, Step, Turn};
 use crate::desk::Desk;
 use crate::gate::{Front, MAX_HEAD, look_at};
 use crate::site::{Site, Wait};
+use crate::slots::MAX_PARKED;
 use std::io::Read;
 
 impl Peer {
@@ -57,20 +59,23 @@ impl Peer {
     /// A step of a long poll. One whose client has sent all that it will is closed: the client may be gone.
     #[tactic(auto, using(crate::proofs::ChainLaws::adds_nothing))]
     pub(super) fn wait<S: Site>(&mut self, desk: &mut Desk<S>, turn: &Turn, after: u64) -> Step
-        requires { self.old.phase ≡ Parked after }
+        requires phase { self.old.phase ≡ Parked after }
+        requires version { turn.now.version ≡ S.version desk.old.site }
         ensures moves { result ≢ Step.Gone → MayBecome self.old.phase self.new.phase }
         ensures current { result ≢ Step.Gone → IsCurrent turn.now.at turn.now.version self.new }
         ensures came { after < turn.now.version → result ≢ Step.Gone → IsAwake self.new.phase }
         ensures over { self.old.until ≤ turn.now.at → result ≢ Step.Gone → IsAwake self.new.phase }
         ensures time { result ≢ Step.Gone → KeepsTime turn.now.at self.old self.new }
         ensures stream { GoesOn self.old self.new }
-        ensures answers { Answers S.answers desk.old.site self.old self.new }
+        ensures answers { Answers (RepliesAmong S.answers S.version S.waits desk.old.hosts turn.now.others)
+            desk.old.site self.old self.new }
         ensures site { desk.new.site ≡ desk.old.site }
+        ensures hosts { desk.new.hosts ≡ desk.old.hosts }
         ensures bounded { IsBounded self.old → IsBounded self.new }
     {
         if after < turn.version || turn.at.milliseconds() >= self.until {
             return match look_at(&desk.site, self.held.as_slice()) {
-                Front::Request(len, _) => self.give(desk, turn, len, false),
+                Front::Request(len, _) => self.give(desk, turn, len),
                 Front::Partial | Front::Other => Step::Gone,
             };
         }
@@ -85,13 +90,16 @@ impl Peer {
     pub(super) fn read<S: Site>(&mut self, desk: &mut Desk<S>, turn: &Turn) -> Step
         requires phase { self.old.phase ≡ Phase.Reading }
         requires timely { turn.now.at < self.old.until }
+        requires version { turn.now.version ≡ S.version desk.old.site }
         ensures moves { result ≢ Step.Gone → MayBecome self.old.phase self.new.phase }
         ensures current { result ≢ Step.Gone → IsCurrent turn.now.at turn.now.version self.new }
-        ensures parks { IsFalse turn.now.may_park → result ≢ Step.Gone → IsAwake self.new.phase }
+        ensures parks { MAX_PARKED ≤ turn.now.others → result ≢ Step.Gone → IsAwake self.new.phase }
         ensures time { result ≢ Step.Gone → KeepsTime turn.now.at self.old self.new }
         ensures stream { GoesOn self.old self.new }
-        ensures answers { Answers S.answers desk.old.site self.old self.new }
+        ensures answers { Answers (RepliesAmong S.answers S.version S.waits desk.old.hosts turn.now.others)
+            desk.old.site self.old self.new }
         ensures site { desk.new.site ≡ desk.old.site }
+        ensures hosts { desk.new.hosts ≡ desk.old.hosts }
         ensures bounded { IsBounded self.old → IsBounded self.new }
     {
         if !self.is_fresh {
@@ -100,7 +108,7 @@ impl Peer {
         self.is_fresh = false;
         let len = self.held.len();
         if self.is_last {
-            return self.give(desk, turn, len, false);
+            return self.give(desk, turn, len);
         }
         match look_at(&desk.site, self.held.as_slice()) {
             Front::Request(front, wait) => self.begin(desk, turn, front, wait),
@@ -108,12 +116,12 @@ impl Peer {
             Front::Partial if len == 0 => Step::Gone,
             Front::Partial | Front::Other => {
                 self.is_last = true;
-                self.give(desk, turn, len, false)
+                self.give(desk, turn, len)
             }
         }
     }
 
-    /// Answers the request at the front, or parks it.
+    /// Answers the request at the front, or parks it. One that too many others keep from waiting is answered so.
     #[tactic(auto, using(crate::proofs::ChainLaws::adds_nothing))]
     fn begin<S: Site>(
         &mut self,
@@ -124,30 +132,30 @@ impl Peer {
     ) -> Step
         requires phase { self.old.phase ≡ Phase.Reading }
         requires front { front ≤ length self.old.held.items }
+        requires version { turn.now.version ≡ S.version desk.old.site }
         ensures moves { result ≢ Step.Gone → MayBecome self.old.phase self.new.phase }
         ensures current { result ≢ Step.Gone → IsCurrent turn.now.at turn.now.version self.new }
-        ensures parks { IsFalse turn.now.may_park → result ≢ Step.Gone → IsAwake self.new.phase }
+        ensures parks { MAX_PARKED ≤ turn.now.others → result ≢ Step.Gone → IsAwake self.new.phase }
         ensures waits { result ≢ Step.Gone → IsAwake self.new.phase
             ⊎ MatchOption wait ⊥ (λ w. WaitsFrom turn.now.at w self.new) }
         ensures time { result ≢ Step.Gone → KeepsTime turn.now.at self.old self.new }
         ensures stream { stream_of self.new ≡ stream_of self.old }
-        ensures answers { Answers S.answers desk.old.site self.old self.new }
+        ensures answers { Answers (RepliesAmong S.answers S.version S.waits desk.old.hosts turn.now.others)
+            desk.old.site self.old self.new }
         ensures site { desk.new.site ≡ desk.old.site }
+        ensures hosts { desk.new.hosts ≡ desk.old.hosts }
         ensures bounded { IsBounded self.old → IsBounded self.new }
     {
         match wait {
-            Some(Wait { after, wait_ms }) if wait_ms > 0 && turn.version <= after => {
-                if !turn.may_park {
-                    return self.give(desk, turn, front, true);
-                }
-                self.phase = Phase::Parked(after);
+            Some(wait) if wait.lasts_at(turn.version) && turn.others < MAX_PARKED => {
+                self.phase = Phase::Parked(wait.after);
                 self.until = turn
                     .at
                     .milliseconds()
-                    .saturating_add(wait_ms.min(MAX_WAIT_MS));
+                    .saturating_add(wait.wait_ms.min(MAX_WAIT_MS));
                 Step::On
             }
-            _ => self.give(desk, turn, front, false),
+            _ => self.give(desk, turn, front),
         }
     }
 }

@@ -1,6 +1,10 @@
-use Rattle.lg_http.proofs.ChainLaws.{adds_answered}
+use Rattle.std.proofs.Common.{refl, inl, inr}
 use Rattle.lg_http.proofs.slots.run_slot.Goals as goal
 
-pub returns-in-Some-run_peer-clause-answered : goal.returns-in-Some-run_peer-clause-answered
-returns-in-Some-run_peer-clause-answered g c = λ h.
-    adds_answered g.S.Site.answers g.S.Site.later g.met.S.Site.order c.args.desk.now.site _ _ c.run_peer.ensures.answers (rw c.in-Some.is at h)
+pub returns-in-Some-run_peer-clause-had : goal.returns-in-Some-run_peer-clause-had
+returns-in-Some-run_peer-clause-had g c =
+    rw c.in-Some.is (c.run_peer.new.peer, c.run_peer.ensures.answers, inl (refl, refl))
+
+pub returns-clause-had : goal.returns-clause-had
+returns-clause-had g c =
+    rw c.in-Some.is (c.run_peer.new.peer, c.run_peer.ensures.answers, inr (refl, (c.args.turn.now.at, c.and.ensures)))

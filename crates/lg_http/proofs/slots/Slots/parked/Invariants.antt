@@ -1,5 +1,5 @@
 use Rattle.std.proofs.Common.{◌≡◌, ◌≤◌, take}
-use Rattle.lg_http.specs.Meaning.Slots.{parked_count}
+use Rattle.lg_http.specs.Meaning.Parked.{parked_count}
 use Rattle.lg_http.proofs.slots.Slots.parked.Given as goal
 
 abbrev pub invariant-loop-slot : goal.invariant-loop-slot
