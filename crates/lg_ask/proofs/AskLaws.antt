@@ -1,19 +1,37 @@
 -- What is told of an answer, by the steps to it.
-use Rattle.std.proofs.Common.{◌≡◌, ℕ, List, Option, Result, Ok, Err, inl, inr, subst, sym}
+use Rattle.std.proofs.Common.{◌≡◌, ℕ, List, [], Option, Result, Ok, Err, inl, inr, refl, subst, sym}
 use Rattle.lg_ask.specs.declared.fault.AskFault.{AskFault}
-use Rattle.lg_ask.specs.declared.fault.AskFault.TheVariants.{Address, Bad, Memory, Unanswered, Write}
+use Rattle.lg_ask.specs.declared.fault.AskFault.TheVariants.{Address, Bad, Busy, Memory, Unanswered, Write}
 use Rattle.lg_ask.specs.Meaning.Addresses.{HasNodeAddress}
 use Rattle.lg_ask.specs.Meaning.Answers.{IsAnswerBody}
 use Rattle.lg_ask.specs.Meaning.Telling.{IsWhyUntold}
 use Rattle.lg_ask.specs.Support.Asking.{AnswersQuestion, IsToldAt, IsWhyUnheard}
 use Rattle.lg_ask.specs.Support.Reading.{IsReadAs}
-use Rattle.lg_ask.specs.Support.Receiving.{IsFetched}
+use Rattle.lg_ask.specs.Support.Receiving.{IsFetched, IsHeard}
+use Rattle.lg_ask.specs.Meaning.Waiting.{fault_of, told_of}
+use Rattle.lg_ask.specs.declared.receiving.Answer.{Answer}
+use Rattle.lg_ask.specs.declared.unheard.Delay.TheVariants.{Closed, Told}
+use Rattle.lg_ask.specs.declared.unheard.Unheard.{Unheard}
+use Rattle.lg_ask.specs.declared.unheard.Unheard.TheVariants.{Lacking, Later, NoMemory, Wrong}
+
+-- a question that isn't asked again
+pub fetched_from : (allowed : List ℕ) (why : Unheard) → IsHeard allowed (Err why) → IsFetched allowed (Err (fault_of why))
+fetched_from allowed (Later (Told seconds)) heard = (heard.0, inr (seconds, heard.1, heard.2))
+fetched_from allowed (Later Closed) heard = ([], inl refl)
+fetched_from allowed Lacking heard = heard
+fetched_from allowed Wrong heard = heard
+fetched_from allowed NoMemory heard = tt
+
+pub fetched_by : (allowed : List ℕ) (outcome : Result Answer Unheard) (result : Result Answer AskFault) → IsHeard allowed outcome → result ≡ told_of outcome → IsFetched allowed result
+fetched_by allowed (Ok answer) result heard is = subst (IsFetched allowed) (sym is) heard
+fetched_by allowed (Err why) result heard is = subst (IsFetched allowed) (sym is) (fetched_from allowed why heard)
 
 -- no answer came
 pub unheard_from : {A : Type 0} (allowed : List ℕ) (told : List ℕ → Option A) (fault : AskFault) → IsFetched allowed (Err fault) → IsWhyUnheard allowed told fault
 unheard_from allowed told Address why = absurd why
 unheard_from allowed told Unanswered why = why
 unheard_from allowed told Bad why = inl why
+unheard_from allowed told Busy why = why
 unheard_from allowed told Memory why = tt
 unheard_from allowed told Write why = absurd why
 
@@ -24,6 +42,7 @@ answers_from allowed shown told body (Ok it) answered read = (body, answered, re
 answers_from allowed shown told body (Err Address) answered read = absurd read
 answers_from allowed shown told body (Err Unanswered) answered read = absurd read
 answers_from allowed shown told body (Err Bad) answered read = inr (body, answered, read)
+answers_from allowed shown told body (Err Busy) answered read = absurd read
 answers_from allowed shown told body (Err Memory) answered read = tt
 answers_from allowed shown told body (Err Write) answered read = absurd read
 
@@ -33,6 +52,7 @@ pub untold_at : {A : Type 0} (at allowed : List ℕ) (told : List ℕ → Option
 untold_at at allowed told Address address why = absurd why
 untold_at at allowed told Unanswered address why = (address, why)
 untold_at at allowed told Bad address why = (address, why)
+untold_at at allowed told Busy address why = (address, why)
 untold_at at allowed told Memory address why = address
 untold_at at allowed told Write address why = absurd why
 

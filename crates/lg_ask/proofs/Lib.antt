@@ -1,5 +1,7 @@
 pub mod AnswerLaws
 pub mod AskLaws
+pub mod AskerLaws
+pub mod DelayLaws
 pub mod EachLaws
 pub mod TextLaws
 pub mod WatchLaws

@@ -3,6 +3,7 @@ use Rattle.std.proofs.Common.{◌≡◌, ℕ, Bool, true, false, List, [], ◌�
 use Rattle.std.specs.Result.{is_err}
 use Rattle.std.proofs.KnownBytes.{Appends-nil, Appends-trans}
 use Rattle.std.specs.Io.KnownBytes.{Appends}
+use Rattle.lg_text.specs.Meaning.Reporting.{Reported, Reports}
 use Rattle.lg_text.specs.Meaning.Running.{AppendsFront}
 use Rattle.lg_ask.specs.declared.fault.AskFault.{AskFault}
 use Rattle.lg_ask.specs.declared.fault.AskFault.TheVariants.{Address, Write}
@@ -17,18 +18,18 @@ use Rattle.lg_ask.specs.Support.Asking.{IsWatching, IsWhyUnheard}
 use Rattle.lg_ask.proofs.AskLaws.{untold_at}
 
 -- no answer yet
-pub watching_begins : {W : Type 0} (json : Bool) (before : W) (held reported : Option (List ℕ)) → IsWatching json before before held held reported reported 0 true
+pub watching_begins : {W : Type 0} (json : Bool) (before : W) (held : Option (List ℕ)) (reported : Reported) → IsWatching json before before held held reported reported 0 true
 watching_begins json before held reported = record {
   bodies = [];
   watched = record { text = []; version = 0 };
-  watches = record { answered = tt; told = refl; written = Appends-nil held; silent = Appends-nil reported };
+  watches = record { answered = tt; told = refl; written = Appends-nil held; silent = refl };
   begins = λ _. refl;
   version_is = refl;
   first_is = refl;
 }
 
 -- one answer more
-pub watching_more : {W : Type 0} (json : Bool) (before between after : W) (held has holds reported told : Option (List ℕ)) (version : ℕ) (is_first : Bool)
+pub watching_more : {W : Type 0} (json : Bool) (before between after : W) (held has holds : Option (List ℕ)) (reported told : Reported) (version : ℕ) (is_first : Bool)
     → IsWatching json before between held has reported told version is_first → (body : List ℕ) → IsAnswerBody changes_codes body → (news : NewsText)
     → changes_told json is_first body ≡ Some news → Appends has holds news.text
     → IsWatching json before after held holds reported told (next_version version news.version) false
@@ -49,7 +50,7 @@ watching_more json before between after held has holds reported told version is_
     }
 
 -- the end
-ended : {W : Type 0} (at : List ℕ) (json : Bool) (before between after : W) (held has holds reported told reports : Option (List ℕ)) (version : ℕ) (is_first : Bool) (status : ℕ)
+ended : {W : Type 0} (at : List ℕ) (json : Bool) (before between after : W) (held has holds : Option (List ℕ)) (reported told reports : Reported) (version : ℕ) (is_first : Bool) (status : ℕ)
     → HasNodeAddress at → (w : IsWatching json before between held has reported told version is_first)
     → EndsNews at json w.bodies between after has holds told reports status → WatchesChanges at json before after held holds reported reports status
 ended at json before between after held has holds reported told reports version is_first status address w ends = record {
@@ -65,9 +66,9 @@ ended at json before between after held has holds reported told reports version 
 }
 
 -- the next answer isn't told
-pub ends_untold : {W : Type 0} (at : List ℕ) (json : Bool) (before between : W) (held has reported told reports : Option (List ℕ)) (version : ℕ) (is_first : Bool) (fault : AskFault) (status : ℕ)
+pub ends_untold : {W : Type 0} (at : List ℕ) (json : Bool) (before between : W) (held has : Option (List ℕ)) (reported told reports : Reported) (version : ℕ) (is_first : Bool) (fault : AskFault) (status : ℕ)
     → HasNodeAddress at → IsWatching json before between held has reported told version is_first → IsWhyUnheard changes_codes (changes_told json is_first) fault
-    → AppendsFront told reports (ask_fault_text fault) → status ≡ ask_fault_status fault → WatchesChanges at json before between held has reported reports status
+    → Reports told reports (ask_fault_text fault) → status ≡ ask_fault_status fault → WatchesChanges at json before between held has reported reports status
 ends_untold at json before between held has reported told reports version is_first fault status address w why line is =
     ended at json before between between held has has reported told reports version is_first status address w (inl record {
       fault = fault;
@@ -79,9 +80,9 @@ ends_untold at json before between held has reported told reports version is_fir
     })
 
 -- its text isn't written whole
-pub ends_broken : {W : Type 0} (at : List ℕ) (json : Bool) (before between after : W) (held has holds reported told reports : Option (List ℕ)) (version : ℕ) (is_first : Bool) (status : ℕ)
+pub ends_broken : {W : Type 0} (at : List ℕ) (json : Bool) (before between after : W) (held has holds : Option (List ℕ)) (reported told reports : Reported) (version : ℕ) (is_first : Bool) (status : ℕ)
     → HasNodeAddress at → IsWatching json before between held has reported told version is_first → (body : List ℕ) → IsAnswerBody changes_codes body → (news : NewsText)
-    → changes_told json is_first body ≡ Some news → AppendsFront has holds news.text → AppendsFront told reports (ask_fault_text Write) → status ≡ ask_fault_status Write
+    → changes_told json is_first body ≡ Some news → AppendsFront has holds news.text → Reports told reports (ask_fault_text Write) → status ≡ ask_fault_status Write
     → WatchesChanges at json before after held holds reported reports status
 ends_broken at json before between after held has holds reported told reports version is_first status address w body answered news tells partly line is =
     ended at json before between after held has holds reported told reports version is_first status address w (inr record {
@@ -93,15 +94,15 @@ ends_broken at json before between after held has holds reported told reports ve
     })
 
 -- nobody is asked
-pub ends_unasked : {W : Type 0} (at : List ℕ) (json : Bool) (before : W) (held reported reports : Option (List ℕ)) (fault : AskFault) (status : ℕ) → fault ≡ Address → ¬ (HasNodeAddress at)
-    → AppendsFront reported reports (ask_fault_text fault) → status ≡ ask_fault_status fault → WatchesChanges at json before before held held reported reports status
+pub ends_unasked : {W : Type 0} (at : List ℕ) (json : Bool) (before : W) (held : Option (List ℕ)) (reported reports : Reported) (fault : AskFault) (status : ℕ) → fault ≡ Address → ¬ (HasNodeAddress at)
+    → Reports reported reports (ask_fault_text fault) → status ≡ ask_fault_status fault → WatchesChanges at json before before held held reported reports status
 ends_unasked at json before held reported reports fault status is none line ends = record {
   bodies = [];
   watched = record { text = []; version = 0 };
   between = before;
   has = held;
   told = reported;
-  watches = record { answered = tt; told = refl; written = Appends-nil held; silent = Appends-nil reported };
+  watches = record { answered = tt; told = refl; written = Appends-nil held; silent = refl };
   begins = λ _. refl;
   ends = inl record {
     fault = fault;

@@ -12,4 +12,5 @@ pub mod Members
 pub mod Questions
 pub mod Telling
 pub mod Told
+pub mod Waiting
 pub mod Watching

@@ -1,7 +1,7 @@
 //! Why nothing is told of a node, or not all.
 //!
 //! Defined in: `specs/Meaning/Faults.antt`.
-//! Tested in: `cases/ask.case`, `lg_ask_tests/src/damaged.rt`.
+//! Tested in: `cases/ask.case`, `lg_ask_tests/src/damaged.rt`, `lg_ask_tests/src/waiting.rt`.
 ghost use Rattle.std.specs.Prelude.{◌≡◌};
 ghost use Rattle.lg_ask.specs.Meaning.Faults.{ask_fault_status, ask_fault_text};
 
@@ -16,6 +16,9 @@ pub enum AskFault {
     /// Nobody listens there, or the answer didn't come whole in time.
     #[error("nobody answers, or not to the end")]
     Unanswered,
+    /// The node has no room for the question now, and it was asked again.
+    #[error("the node is too busy to answer")]
+    Busy,
     /// What came is no answer of a node.
     #[error("the answer is none of a node's status server")]
     Bad,
@@ -28,8 +31,8 @@ pub enum AskFault {
 }
 
 impl AskFault {
-    /// The exit status: 3 for [`AskFault::Address`], 7 for [`AskFault::Unanswered`], 8 for [`AskFault::Bad`], and 1 for
-    /// the others.
+    /// The exit status: 3 for [`AskFault::Address`], 7 for [`AskFault::Unanswered`], 8 for [`AskFault::Bad`], 10 for
+    /// [`AskFault::Busy`], and 1 for the others.
     pub fn status(self) -> u8
         ensures { result ≡ ask_fault_status self }
     {
@@ -37,6 +40,7 @@ impl AskFault {
             AskFault::Address => 3,
             AskFault::Unanswered => 7,
             AskFault::Bad => 8,
+            AskFault::Busy => 10,
             AskFault::Memory | AskFault::Write => 1,
         }
     }
@@ -49,6 +53,7 @@ impl AskFault {
             AskFault::Address => "lg: bad address\n",
             AskFault::Unanswered => "lg: no answer\n",
             AskFault::Bad => "lg: bad answer\n",
+            AskFault::Busy => "lg: busy\n",
             AskFault::Memory => "lg: memory\n",
             AskFault::Write => "lg: write\n",
         }

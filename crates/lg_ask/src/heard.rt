@@ -16,7 +16,7 @@ use lg_text::number_in;
 pub(crate) const MAX_ANSWER: usize = 1_048_576;
 
 /// The most fields of its head: 64 (this project's choice).
-const MAX_FIELDS: usize = 64;
+pub(crate) const MAX_FIELDS: usize = 64;
 
 /// What some bytes are.
 #[derive(Clone, Copy, Debug, PartialEq, Eq)]

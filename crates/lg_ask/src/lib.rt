@@ -5,6 +5,7 @@
 #![tactic(auto)]
 
 mod address;
+mod asker;
 mod asking;
 mod changes;
 mod fault;
@@ -12,12 +13,14 @@ mod fields;
 mod health;
 mod heard;
 mod json;
+mod later;
 mod lines;
 mod members;
 mod question;
 mod receiving;
 mod telling;
 mod told;
+mod unheard;
 mod watching;
 
 pub use fault::AskFault;

@@ -5,42 +5,17 @@
 ghost use Rattle.std.specs.Prelude.{◌≡◌};
 ghost use Rattle.serde_json.specs.View.{items_view, view};
 ghost use Rattle.lg_ask.specs.Meaning.Fields.{each_read};
-ghost use Rattle.lg_ask.specs.Meaning.Members.{addr_said, incarnation_said, member_said, members_of_answer, octet_said};
-ghost use Rattle.lg_ask.specs.Meaning.Members.{incarnation_among, octets_said, plain_status, standing_said};
+ghost use Rattle.lg_ask.specs.Meaning.Members.{addr_said, incarnation_said, member_said, members_of_answer};
+ghost use Rattle.lg_ask.specs.Meaning.Members.{incarnation_among, plain_status, standing_said};
 ghost use Rattle.lg_ask.specs.Meaning.Members.{status_said, suspicion_said};
 ghost use Rattle.lg_ask.specs.Support.Reading.{IsReadAs, PutsRow};
 
 use crate::fault::AskFault;
 use crate::fields::{name_at, natural_at, rows_at, text_at};
 use lg_rules::{Addr, Claim, Incarnation, Record, Status};
-use lg_text::{cut_at, number_in, port_among};
+use lg_text::{octets_in, port_among};
 use serde_json::Value;
 use std::alloc::Global;
-
-/// The number of an address that a text spells, 0 to 255, without leading zeros.
-fn octet_in(text: &[u8]) -> Option<u8>
-    ensures { result ≡ octet_said text.now }
-{
-    if text.len() > 1 && text[0] == b'0' {
-        return None;
-    }
-    u8::try_from(number_in(text)?).ok()
-}
-
-/// The four numbers of the address that a text spells: A.B.C.D.
-#[tactic(auto, unfolding(crate::specs::Meaning::Members::octets_said))]
-fn octets_in(text: &[u8]) -> Option<[u8; 4]>
-    ensures { result ≡ octets_said text.now }
-{
-    let (first, rest) = cut_at(text, b'.');
-    let (second, rest) = cut_at(rest?, b'.');
-    let (third, fourth) = cut_at(rest?, b'.');
-    let first = octet_in(first)?;
-    let second = octet_in(second)?;
-    let third = octet_in(third)?;
-    let fourth = octet_in(fourth?)?;
-    Some([first, second, third, fourth])
-}
 
 /// The address and the port of a member.
 #[tactic(auto, unfolding(crate::specs::Meaning::Members::addr_said))]

@@ -2,11 +2,11 @@
 //!
 //! Defined in: `specs/Meaning/Answers.antt`.
 //! Tested in: `lg_ask_tests/src/asking.rt`, `lg_ask_tests/src/damaged.rt`.
-ghost use Rattle.std.specs.Prelude.{◌≡◌, ◌⊎◌, ◌≤◌, IfErr, drop, length};
-ghost use Rattle.lg_ask.specs.Support.Receiving.{IsReceived};
+ghost use Rattle.std.specs.Prelude.{◌≡◌, ◌≤◌, Err, IfErr, drop, length};
+ghost use Rattle.lg_ask.specs.Support.Receiving.{IsEndOf, IsReceived};
 
-use crate::fault::AskFault;
 use crate::heard::{Heard, hear};
+use crate::unheard::{Delay, Unheard};
 use std::alloc::Global;
 use std::io::{ErrorKind, Read};
 
@@ -31,31 +31,51 @@ impl Answer {
     }
 }
 
-/// Reads once, and appends what came. An interrupted call gives nothing. If the other side is at its end, is silent or
-/// fails, that is [`AskFault::Unanswered`].
+/// What the end of a connection means behind these bytes: a busy node closes it before the first.
+fn ended(bytes: &[u8]) -> Unheard
+    ensures { IsEndOf result }
+{
+    if bytes.is_empty() {
+        Unheard::Later(Delay::Closed)
+    } else {
+        Unheard::Lacking
+    }
+}
+
+/// Whether an error says that the other side has closed the connection.
+fn is_closing(kind: ErrorKind) -> bool {
+    matches!(
+        kind,
+        ErrorKind::ConnectionReset | ErrorKind::ConnectionAborted | ErrorKind::BrokenPipe
+    )
+}
+
+/// Reads once, and appends what came. An interrupted call gives nothing. The error says that the other side is at its
+/// end, is silent or fails, or that memory was refused.
 fn receive_part<S: Read>(
     stream: &mut S,
     room: &mut [u8],
     bytes: &mut Vec<u8>,
-) -> Result<(), AskFault>
-    ensures { IfErr result (λ fault. (fault ≡ AskFault.Unanswered) ⊎ (fault ≡ AskFault.Memory)) }
+) -> Result<(), Unheard>
+    ensures { IfErr result IsEndOf }
 {
     match stream.read(room) {
-        Ok(0) => Err(AskFault::Unanswered),
+        Ok(0) => Err(ended(bytes)),
         Ok(count) => match bytes.extend_from_slice(&room[..count]) {
             Ok(()) => Ok(()),
-            Err(_) => Err(AskFault::Memory),
+            Err(_) => Err(Unheard::NoMemory),
         },
         Err(error) if error.kind() == ErrorKind::Interrupted => Ok(()),
-        Err(_) => Err(AskFault::Unanswered),
+        Err(error) if is_closing(error.kind()) => Err(ended(bytes)),
+        Err(_) => Err(Unheard::Lacking),
     }
 }
 
 /// Receives until the bytes are an answer, or can't become one.
 ///
 /// Memory is allocated for the bytes that come: at most [`MAX_ANSWER`](crate::heard::MAX_ANSWER) and one part more.
-#[tactic(auto, using(crate::proofs::AnswerLaws::nothing_cut))]
-pub(crate) fn receive<S: Read>(alloc: Global, stream: &mut S) -> Result<Answer, AskFault>
+#[tactic(auto, using(crate::proofs::AnswerLaws::nothing_cut, crate::proofs::DelayLaws::received_end))]
+pub(crate) fn receive<S: Read>(alloc: Global, stream: &mut S) -> Result<Answer, Unheard>
     ensures { IsReceived result }
 {
     let mut bytes = Vec::new(alloc);
@@ -63,13 +83,13 @@ pub(crate) fn receive<S: Read>(alloc: Global, stream: &mut S) -> Result<Answer, 
     for _ in 0..u64::MAX {
         match hear(&bytes) {
             Heard::Whole(code, start) => return Ok(Answer { bytes, code, start }),
-            Heard::Other => return Err(AskFault::Bad),
+            Heard::Other => return Err(Unheard::Wrong),
             Heard::Cut => {}
         }
         match receive_part(stream, &mut room, &mut bytes) {
             Ok(()) => {}
-            Err(fault) => return Err(fault),
+            Err(why) => return Err(why),
         }
     }
-    Err(AskFault::Unanswered)
+    Err(Unheard::Lacking)
 }

@@ -1,9 +1,10 @@
 //! Asks a node a question, and tells what it answers.
 //!
 //! Defined in: `specs/Meaning/Telling.antt`, `specs/Meaning/Told.antt`.
-//! Tested in: `cases/ask.case`, `lg_ask_tests/src/asking.rt`, `lg_ask_tests/src/damaged.rt`.
+//! Tested in: `cases/ask.case`, `lg_ask_tests/src/asking.rt`, `lg_ask_tests/src/damaged.rt`,
+//! `lg_ask_tests/src/waiting.rt`.
 ghost use Rattle.std.specs.Prelude.{◌≡◌};
-ghost use Rattle.lg_text.specs.Meaning.Running.{AppendsFront};
+ghost use Rattle.lg_text.specs.Meaning.Reporting.{Reports};
 ghost use Rattle.lg_ask.specs.Meaning.Faults.{ask_fault_status, ask_fault_text};
 ghost use Rattle.lg_ask.specs.Meaning.Questions.{codes_of};
 ghost use Rattle.lg_ask.specs.Meaning.Telling.{IsTold, TellsAnswer, told_status};
@@ -13,19 +14,21 @@ ghost use Rattle.lg_ask.specs.Support.Receiving.{IsFetched};
 ghost use Rattle.lg_ask.specs.Support.Asking.{AnswersQuestion, IsToldAt};
 
 use crate::address::address_in;
-use crate::asking::{Node, PATIENCE_MS, fetch};
+use crate::asker::ask_twice;
+use crate::asking::{NetAsker, Node, PATIENCE_MS};
 use crate::fault::AskFault;
 use crate::question::Question;
 use crate::receiving::Answer;
 use crate::told::{Told, told_in};
-use lg_text::{report, write_whole};
+use lg_text::{FaultStream, report, write_whole};
 use std::alloc::Global;
 use std::io::Write;
 use std::net::Net;
+use std::rt;
 
 /// Reports a fault, and gives its status.
-pub(crate) fn tell<F: Write>(fault: AskFault, faults: &mut F) -> u8
-    ensures line { AppendsFront (F.contents faults.old) (F.contents faults.new) (ask_fault_text fault) }
+pub(crate) fn tell<F: FaultStream>(fault: AskFault, faults: &mut F) -> u8
+    ensures line { Reports (F.reported faults.old) (F.reported faults.new) (ask_fault_text fault) }
     ensures status { result ≡ ask_fault_status fault }
 {
     report(faults, fault.text());
@@ -51,7 +54,7 @@ fn told_from(
 
 /// What the node at an address answers.
 #[tactic(auto, using(crate::proofs::AskLaws::told_at, crate::proofs::AskLaws::unasked_at))]
-fn told_at<M: Net>(
+fn told_at<M: Net + rt::Clock>(
     rt: &M,
     alloc: Global,
     at: &str,
@@ -69,7 +72,8 @@ fn told_at<M: Net>(
         address,
         patience_ms: PATIENCE_MS,
     };
-    let fetched = fetch(rt, alloc, &node, question.target(), question.codes());
+    let mut asker = NetAsker { rt, alloc, node };
+    let fetched = ask_twice(&mut asker, question.target(), question.codes());
     told_from(alloc, question, json, fetched)
 }
 
@@ -81,8 +85,8 @@ fn told_status(is_ousted: bool) -> u8
 }
 
 /// Writes what an answer tells, and gives the status.
-fn write_told<W: Write, F: Write>(told: &Told, writer: &mut W, faults: &mut F) -> u8
-    ensures { IsTold (W.contents writer.old) (W.contents writer.new) (F.contents faults.old) (F.contents faults.new)
+fn write_told<W: Write, F: FaultStream>(told: &Told, writer: &mut W, faults: &mut F) -> u8
+    ensures { IsTold (W.contents writer.old) (W.contents writer.new) (F.reported faults.old) (F.reported faults.new)
         (told_shown told.now) result }
 {
     match write_whole(writer, &told.text) {
@@ -102,11 +106,15 @@ fn write_told<W: Write, F: Write>(told: &Told, writer: &mut W, faults: &mut F) -
 /// The status is 0, or 4 if the node says that it was ousted. If nothing can be told, that is reported in a line, and
 /// the status is that of the fault ([`AskFault::status`]): 3 if the text spells no address, 7 if nobody takes the
 /// connection within 2 seconds, or it ends or is silent for 10 seconds before the answer is whole, 8 if what came is no
-/// answer of a node, 1 if memory is refused. Then nothing is written. If the text isn't written whole, the status is 1.
-/// A line that `faults` doesn't take is dropped.
+/// answer of a node, 10 if the node is busy, 1 if memory is refused. Then nothing is written. If the text isn't written
+/// whole, the status is 1. A line that `faults` doesn't take is dropped.
+///
+/// The node is busy if it closes the connection before a byte came, or answers 503 with `Retry-After` in seconds. (A
+/// health may have the code 503, so its text is told in any case.) Then this waits, and asks once more: after a second,
+/// or after as many as the answer says, at least 1 and at most 5. The status is 10 if the node is busy again.
 ///
 /// Memory is allocated in proportion to the answer. Which bytes come is up to the network: no contract says it.
-pub fn tell_answer<M: Net, W: Write, F: Write>(
+pub fn tell_answer<M: Net + rt::Clock, W: Write, F: FaultStream>(
     rt: &M,
     alloc: Global,
     at: &str,
@@ -116,7 +124,7 @@ pub fn tell_answer<M: Net, W: Write, F: Write>(
     faults: &mut F,
 ) -> u8
     ensures { TellsAnswer at.now question json writer.old writer.new (W.contents writer.old) (W.contents writer.new)
-        (F.contents faults.old) (F.contents faults.new) result }
+        (F.reported faults.old) (F.reported faults.new) result }
 {
     match told_at(rt, alloc, at, question, json) {
         Ok(told) => write_told(&told, writer, faults),

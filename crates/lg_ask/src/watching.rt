@@ -1,7 +1,7 @@
 //! Asks a node for changes, again and again, and tells what it answers.
 //!
 //! Defined in: `specs/Meaning/Watching.antt`, `specs/Meaning/Told.antt`.
-//! Tested in: `cases/ask.case`, `lg_ask_tests/src/watching.rt`.
+//! Tested in: `cases/ask.case`, `lg_ask_tests/src/watching.rt`, `lg_ask_tests/src/waiting.rt`.
 ghost use Rattle.std.specs.Prelude.{◌≡◌};
 ghost use Rattle.lg_ask.specs.Meaning.Addresses.{HasNodeAddress};
 ghost use Rattle.lg_ask.specs.Meaning.Questions.{changes_codes};
@@ -12,16 +12,18 @@ ghost use Rattle.lg_ask.specs.Support.Reading.{told_news_shown};
 ghost use Rattle.lg_ask.specs.Support.Receiving.{IsFetched};
 
 use crate::address::address_in;
-use crate::asking::{Node, WATCH_PATIENCE_MS, fetch};
+use crate::asker::{Asker, ask_again};
+use crate::asking::{NetAsker, Node, WATCH_PATIENCE_MS};
 use crate::fault::AskFault;
 use crate::question::changes_target;
 use crate::receiving::Answer;
 use crate::telling::tell;
 use crate::told::{ToldNews, news_told_in};
-use lg_text::write_whole;
+use lg_text::{FaultStream, write_whole};
 use std::alloc::Global;
 use std::io::Write;
 use std::net::Net;
+use std::rt;
 
 /// The status codes that an answer with changes may have.
 const CODES: [u16; 1] = [200];
@@ -60,10 +62,9 @@ fn news_from(
 }
 
 /// What a node answers if it is asked for changes.
-fn news_at<M: Net>(
-    rt: &M,
+fn news_at<A: Asker>(
     alloc: Global,
-    node: &Node<'_>,
+    asker: &mut A,
     json: bool,
     place: Place,
 ) -> Result<ToldNews, AskFault>
@@ -72,29 +73,28 @@ fn news_at<M: Net>(
     let Ok(target) = changes_target(alloc, place.version) else {
         return Err(AskFault::Memory);
     };
-    let fetched = fetch(rt, alloc, node, target.as_str(), &CODES);
+    let fetched = ask_again(asker, target.as_str(), &CODES);
     news_from(alloc, json, place.is_first, fetched)
 }
 
 /// Asks a node for changes until that fails.
-fn watch<M: Net, W: Write, F: Write>(
-    rt: &M,
+fn watch<M: Net + rt::Clock, W: Write, F: FaultStream>(
     alloc: Global,
-    node: &Node<'_>,
+    asker: &mut NetAsker<'_, M>,
     json: bool,
     writer: &mut W,
     faults: &mut F,
 ) -> u8
-    requires { HasNodeAddress node.now.at.now }
-    ensures { WatchesChanges node.now.at.now json writer.old writer.new (W.contents writer.old) (W.contents writer.new)
-        (F.contents faults.old) (F.contents faults.new) result }
+    requires { HasNodeAddress asker.old.node.at.now }
+    ensures { WatchesChanges asker.old.node.at.now json writer.old writer.new (W.contents writer.old) (W.contents writer.new)
+        (F.reported faults.old) (F.reported faults.new) result }
 {
     let mut place = Place {
         version: 0,
         is_first: true,
     };
     for _ in 0..u64::MAX {
-        let news = match news_at(rt, alloc, node, json, place) {
+        let news = match news_at(alloc, asker, json, place) {
             Ok(news) => news,
             Err(fault) => return tell(fault, faults),
         };
@@ -119,9 +119,10 @@ fn watch<M: Net, W: Write, F: Write>(
 /// its first byte is written.
 ///
 /// It ends by a fault alone, with the statuses and lines of [`tell_answer`](crate::tell_answer); but the connection may
-/// be silent for 40 seconds, since the node waits for a change. Memory is allocated in proportion to an answer, and
-/// given back before the next.
-pub fn watch_changes<M: Net, W: Write, F: Write>(
+/// be silent for 40 seconds, since the node waits for a change. A busy node doesn't end it: this waits, and asks again.
+/// Only if the connection is closed before a byte came for the 60th time in a row, the status is 10. Memory is allocated
+/// in proportion to an answer, and given back before the next.
+pub fn watch_changes<M: Net + rt::Clock, W: Write, F: FaultStream>(
     rt: &M,
     alloc: Global,
     at: &str,
@@ -130,7 +131,7 @@ pub fn watch_changes<M: Net, W: Write, F: Write>(
     faults: &mut F,
 ) -> u8
     ensures { WatchesChanges at.now json writer.old writer.new (W.contents writer.old) (W.contents writer.new)
-        (F.contents faults.old) (F.contents faults.new) result }
+        (F.reported faults.old) (F.reported faults.new) result }
 {
     match address_in(at) {
         Ok(address) => {
@@ -139,7 +140,8 @@ pub fn watch_changes<M: Net, W: Write, F: Write>(
                 address,
                 patience_ms: WATCH_PATIENCE_MS,
             };
-            watch(rt, alloc, &node, json, writer, faults)
+            let mut asker = NetAsker { rt, alloc, node };
+            watch(alloc, &mut asker, json, writer, faults)
         }
         Err(fault) => tell(fault, faults),
     }

@@ -1,4 +1,4 @@
--- A worked answer.
+-- Two worked answers.
 use Rattle.std.specs.Prelude.{[], ◌∷◌, Some, codes, refl}
 use Rattle.std.proofs.lemmas.List.Sums.{AllPass-from_list_all}
 use Rattle.std.proofs.lemmas.List.Elements.{All-cons, All-nil}
@@ -8,6 +8,7 @@ use Rattle.httparse.proofs.OnLiterals.{httparse_on_literals}
 use Rattle.httparse.specs.Grammar.{Field, IsField, IsResponseHead, ResponseHead, crlf, is_token_byte, is_value_byte}
 use Rattle.lg_ask.specs.Meaning.Answers.{IsAnswerBody, IsHttpAnswer}
 use Rattle.lg_ask.specs.Meaning.Questions.{changes_codes}
+use Rattle.lg_ask.specs.Meaning.Waiting.{SaysLater}
 
 abbrev field : Field
 field = record { name = codes "Content-Length"; raw = codes " 2"; end = crlf }
@@ -56,4 +57,49 @@ a-body = record {
   code = 200;
   is = an-answer;
   allows = refl;
+}
+
+-- an answer of a server that is busy
+abbrev retry : Field
+retry = record { name = codes "Retry-After"; raw = codes " 1"; end = crlf }
+
+abbrev busy-head : ResponseHead
+busy-head = record {
+  blank = [];
+  minor = 1;
+  digits = codes "503";
+  reason = Some (codes "Busy");
+  line_end = crlf;
+  fields = retry ∷ field ∷ [];
+  last = crlf;
+}
+
+is-retry : IsField retry
+unfolding httparse_on_literals
+is-retry = record {
+  name = (lit< tt, AllPass-from_list_all is_token_byte (codes "Retry-After") refl);
+  raw = AllPass-from_list_all is_value_byte (codes " 1") refl;
+}
+
+is-busy-head : IsResponseHead busy-head
+is-busy-head = record {
+  minor = lit≤ tt;
+  digits = (refl, AllPass-from_list_all is_ascii_digit (codes "503") refl);
+  reason = AllPass-from_list_all is_value_byte (codes "Busy") refl;
+  fields = All-cons IsField retry (field ∷ []) is-retry (All-cons IsField field [] is-field (All-nil IsField));
+}
+
+a-busy-answer : SaysLater (codes "HTTP/1.1 503 Busy\r\nRetry-After: 1\r\nContent-Length: 2\r\n\r\n{}") 1
+unfolding httparse_on_literals
+a-busy-answer = record {
+  body = codes "{}";
+  is = record {
+    head = busy-head;
+    reads = (is-busy-head, refl);
+    few_fields = lit≤ tt;
+    is = refl;
+    ends = refl;
+    few = lit≤ tt;
+  };
+  says = refl;
 }

@@ -6,22 +6,25 @@ use Rattle.std.specs.Str.{chars, is_utf8}
 use Rattle.serde_json.proofs.OnLiterals.{serde_json_on_literals}
 use Rattle.lg_text.specs.Meaning.Cutting.{before, behind}
 use Rattle.lg_text.specs.Meaning.Lines.{newline}
+use Rattle.lg_text.specs.Meaning.Octets.{octets_of}
 use Rattle.lg_report.specs.Meaning.Records.{table_text}
 use Rattle.lg_ask.specs.declared.heard.Said.TheVariants.{Length, Nothing, Unclear}
 use Rattle.lg_ask.specs.declared.question.Question.TheVariants.{Health, Members}
+use Rattle.lg_ask.specs.declared.unheard.Delay.TheVariants.{Closed, Told}
 use Rattle.lg_ask.specs.Meaning.Answers.{end_by, end_said}
 use Rattle.lg_ask.specs.Meaning.Changes.{change_said, news_said}
 use Rattle.lg_ask.specs.Meaning.Health.{health_said}
 use Rattle.lg_ask.specs.Meaning.Lines.{health_lines, news_text, pair_line}
-use Rattle.lg_ask.specs.Meaning.Members.{addr_said, member_said, octet_said, octets_said}
+use Rattle.lg_ask.specs.Meaning.Members.{addr_said, member_said}
 use Rattle.lg_ask.specs.Meaning.Questions.{changes_target, codes_of, is_code_of, request_text}
 use Rattle.lg_ask.specs.Meaning.Told.{changes_told, question_told}
+use Rattle.lg_ask.specs.Meaning.Waiting.{closed_in_row, delay_said, seconds_of}
 use Rattle.lg_ask.specs.Meaning.Watching.{bodies_told, next_version}
 
 -- what the rows have to unfold
 unfoldable by_reading : ⊤
 unfolding digits chars is_utf8 serde_json_on_literals before behind table_text change_said news_said health_said
-    health_lines news_text pair_line addr_said member_said octets_said request_text changes_told question_told
+    health_lines news_text pair_line addr_said member_said octets_of request_text changes_told question_told
 by_reading = tt
 
 -- some lines, each with its newline
@@ -65,19 +68,31 @@ coded = refl
 ends-behind-head : end_by 40 (Length 17) ≡ Some 57
 ends-behind-head = refl
 
--- ---- the numbers of an address
+-- ---- when to ask again
 
-an-octet : octet_said (codes "127") ≡ Some 127
-an-octet = refl
+delay-in-seconds : delay_said ((codes "Retry-After", codes "120") ∷ []) ≡ Some 120
+delay-in-seconds = refl
 
-zero-octet : octet_said (codes "0") ≡ Some 0
-zero-octet = refl
+no-delay : delay_said ((codes "content-length", codes "17") ∷ []) ≡ None
+no-delay = refl
 
-octet-with-zero : octet_said (codes "01") ≡ None
-octet-with-zero = refl
+delay-by-date : delay_said ((codes "retry-after", codes "Fri, 31 Dec 1999 23:59:59 GMT") ∷ []) ≡ None
+delay-by-date = refl
 
-great-octet : octet_said (codes "256") ≡ None
-great-octet = refl
+first-delay : delay_said ((codes "retry-after", codes "1") ∷ (codes "retry-after", codes "2") ∷ []) ≡ Some 1
+first-delay = refl
+
+waits-as-told : seconds_of (Told 3) ≡ 3
+waits-as-told = refl
+
+waits-a-second : seconds_of (Told 0) ≡ 1
+waits-a-second = refl
+
+waits-five-seconds : seconds_of (Told 120) ≡ 5
+waits-five-seconds = refl
+
+closed-twice-since : closed_in_row (Closed ∷ Closed ∷ Told 1 ∷ Closed ∷ []) ≡ 2
+closed-twice-since = refl
 
 -- ---- bodies
 

@@ -1,6 +1,6 @@
 -- The members that an answer says (this project's choice). Nothing is said if one of them isn't what is documented.
-use Rattle.std.specs.Prelude.{ℕ, ◌==◌, ◌&&◌, nat_le, nat_lt, List, [], ◌∷◌, length, slice_index, codes}
-use Rattle.std.specs.Prelude.{Option, Some, None, option_and_then, option_map, if◌then◌else◌}
+use Rattle.std.specs.Prelude.{ℕ, nat_le, List, codes, Option, Some, None, option_and_then, option_map}
+use Rattle.std.specs.Prelude.{if◌then◌else◌}
 use Rattle.std.specs.Str.{bytes_eq}
 use Rattle.serde_json.specs.Data.{Data}
 use Rattle.serde_json.specs.Find.{as_null, get}
@@ -9,37 +9,16 @@ use Rattle.lg_rules.specs.declared.claim.Claim.{Claim}
 use Rattle.lg_rules.specs.declared.claim.Status.{Status}
 use Rattle.lg_rules.specs.declared.claim.Status.TheVariants.{Alive, Failed, Suspect}
 use Rattle.lg_rules.specs.Meaning.Bounds.{greatest_incarnation}
-use Rattle.lg_text.specs.Meaning.Numbers.{number_within, port_among}
+use Rattle.lg_text.specs.Meaning.Octets.{octets_of}
+use Rattle.lg_text.specs.Meaning.Numbers.{port_among}
 use Rattle.lg_text.specs.Meaning.Steps.{◌>>=◌}
 use Rattle.lg_ask.specs.Meaning.Fields.{each_read, name_at_key, natural_at_key, rows_at_key, text_at_key}
-use Rattle.lg_text.specs.Meaning.Cutting.{before, behind}
-
--- the byte `.`
-abbrev pub full_stop : ℕ
-full_stop = 46
-
--- one of the four numbers of an address: 0 to 255, without leading zeros
-abbrev pub octet_said : List ℕ → Option ℕ
-octet_said text =
-    if nat_lt 1 (length text) && (slice_index text 0 == 48) then None else number_within 0 255 text
-
--- an address, cut at its first three dots: a number stands before each, and the fourth number after the last
-unfoldable pub octets_said : List ℕ → Option (List ℕ)
-octets_said text = do
-  second ← behind full_stop text
-  third ← behind full_stop second
-  first-number ← octet_said (before full_stop text)
-  second-number ← octet_said (before full_stop second)
-  third-number ← octet_said (before full_stop third)
-  fourth ← behind full_stop third
-  fourth-number ← octet_said fourth
-  Some (first-number ∷ second-number ∷ third-number ∷ fourth-number ∷ [])
 
 -- the address and the port of a member
 unfoldable pub addr_said : Data → Option Addr
 addr_said member = do
   text ← text_at_key (codes "address") member
-  octets ← octets_said text
+  octets ← octets_of text
   number ← natural_at_key (codes "port") member
   port ← port_among number
   Some record { octets = octets; port = port }

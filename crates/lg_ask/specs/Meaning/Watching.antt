@@ -2,6 +2,7 @@
 use Rattle.std.specs.Prelude.{◌≡◌, ◌⊎◌, ℕ, Bool, true, false, nat_lt, List, [], ◌∷◌, ◌++◌, Option, Some, ⊤}
 use Rattle.std.specs.Prelude.{if◌then◌else◌}
 use Rattle.std.specs.Io.KnownBytes.{Appends}
+use Rattle.lg_text.specs.Meaning.Reporting.{Reported}
 use Rattle.lg_text.specs.Meaning.Steps.{◌>>=◌}
 use Rattle.lg_ask.specs.Meaning.Addresses.{HasNodeAddress}
 use Rattle.lg_ask.specs.Meaning.Answers.{IsAnswerBody}
@@ -43,16 +44,17 @@ AreAnswerBodies (body ∷ earlier) = IsAnswerBody changes_codes body × AreAnswe
 
 -- The texts of some answers are written, one behind another. Nothing is reported.
 pub record Watches
-    (json : Bool) (bodies : List (List ℕ)) (watched : Watched) (held holds reported reports : Option (List ℕ))
+    (json : Bool) (bodies : List (List ℕ)) (watched : Watched) (held holds : Option (List ℕ))
+    (reported reports : Reported)
     : Type 0 where
   pub answered : AreAnswerBodies bodies
   pub told : bodies_told json bodies ≡ Some watched
   pub written : Appends held holds watched.text
-  pub silent : Appends reported reports []
+  pub silent : reports ≡ reported
 
 -- The next answer's text isn't written whole.
 pub record BreaksOff
-    (json : Bool) (bodies : List (List ℕ)) (held holds reported reports : Option (List ℕ)) (status : ℕ)
+    (json : Bool) (bodies : List (List ℕ)) (held holds : Option (List ℕ)) (reported reports : Reported) (status : ℕ)
     : Type 0 where
   pub body : List ℕ
   pub answered : IsAnswerBody changes_codes body
@@ -63,7 +65,7 @@ pub record BreaksOff
 -- The end, behind some answers: the next isn't told, or isn't written whole.
 abbrev pub EndsNews :
     {W : Type 0} → (at : List ℕ) (json : Bool) (bodies : List (List ℕ)) (before after : W)
-    (held holds reported reports : Option (List ℕ)) (status : ℕ) → Type 0
+    (held holds : Option (List ℕ)) (reported reports : Reported) (status : ℕ) → Type 0
 EndsNews at json bodies before after held holds reported reports status =
     TellsFaultAlone at changes_codes (changes_told json (is_none_yet bodies)) before after reported reports status
     ⊎ BreaksOff json bodies held holds reported reports status
@@ -71,14 +73,14 @@ EndsNews at json bodies before after held holds reported reports status =
 -- A node is asked for changes. The texts of some answers are written, one behind another, and then it ends. If there is
 -- no address, there is no answer.
 pub record WatchesChanges
-    {W : Type 0} (at : List ℕ) (json : Bool) (before after : W) (held holds reported reports : Option (List ℕ))
-    (status : ℕ)
+    {W : Type 0} (at : List ℕ) (json : Bool) (before after : W) (held holds : Option (List ℕ))
+    (reported reports : Reported) (status : ℕ)
     : Type 0 where
   pub bodies : List (List ℕ)
   pub watched : Watched
   pub between : W
   pub has : Option (List ℕ)
-  pub told : Option (List ℕ)
+  pub told : Reported
   pub watches : Watches json bodies watched held has reported told
   pub begins : bodies ≡ [] → between ≡ before
   pub ends : EndsNews at json bodies between after has holds told reports status

@@ -1,10 +1,12 @@
 -- What the steps of asking give.
 use Rattle.std.specs.Prelude.{◌≡◌, ℕ, Bool, List, [], ⊤, Option, Some, Result, Ok, Err}
+use Rattle.lg_text.specs.Meaning.Reporting.{Reported}
 use Rattle.lg_ask.specs.declared.fault.AskFault.{AskFault}
-use Rattle.lg_ask.specs.declared.fault.AskFault.TheVariants.{Address, Bad, Memory, Unanswered, Write}
+use Rattle.lg_ask.specs.declared.fault.AskFault.TheVariants.{Address, Bad, Busy, Memory, Unanswered, Write}
 use Rattle.lg_ask.specs.Meaning.Addresses.{HasNodeAddress}
 use Rattle.lg_ask.specs.Meaning.Answers.{IsAnswerBody, IsCutShort}
 use Rattle.lg_ask.specs.Meaning.Telling.{IsBad, IsWhyUntold}
+use Rattle.lg_ask.specs.Meaning.Waiting.{IsPutOff}
 use Rattle.lg_ask.specs.Meaning.Watching.{Watched, Watches, is_none_yet}
 
 -- why nothing is told of an answer, once there is an address
@@ -12,6 +14,7 @@ abbrev pub IsWhyUnheard : {A : Type 0} → List ℕ → (List ℕ → Option A) 
 IsWhyUnheard allowed told Address = ⊥
 IsWhyUnheard allowed told Unanswered = (bytes : List ℕ) × IsCutShort bytes
 IsWhyUnheard allowed told Bad = IsBad allowed told
+IsWhyUnheard allowed told Busy = (bytes : List ℕ) × IsPutOff allowed bytes
 IsWhyUnheard allowed told Memory = ⊤
 IsWhyUnheard allowed told Write = ⊥
 
@@ -30,8 +33,8 @@ IsToldAt at allowed shown told (Err fault) = IsWhyUntold at allowed told fault
 
 -- Some answers were told, and where this leaves the watching: the version to ask from, and whether there was none yet.
 pub record IsWatching
-    {W : Type 0} (json : Bool) (before after : W) (held holds reported reports : Option (List ℕ)) (version : ℕ)
-    (is_first : Bool)
+    {W : Type 0} (json : Bool) (before after : W) (held holds : Option (List ℕ)) (reported reports : Reported)
+    (version : ℕ) (is_first : Bool)
     : Type 0 where
   pub bodies : List (List ℕ)
   pub watched : Watched

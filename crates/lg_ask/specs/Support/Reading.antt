@@ -4,7 +4,7 @@ use Rattle.std.specs.Borrow.{Bor}
 use Rattle.std.specs.Str.{is_utf8}
 use Rattle.lg_ask.specs.declared.changes.News.{News}
 use Rattle.lg_ask.specs.declared.fault.AskFault.{AskFault}
-use Rattle.lg_ask.specs.declared.fault.AskFault.TheVariants.{Address, Bad, Memory, Unanswered, Write}
+use Rattle.lg_ask.specs.declared.fault.AskFault.TheVariants.{Address, Bad, Busy, Memory, Unanswered, Write}
 use Rattle.lg_ask.specs.declared.told.Told.{Told}
 use Rattle.lg_ask.specs.declared.told.ToldNews.{ToldNews}
 use Rattle.lg_ask.specs.Meaning.Changes.{NewsSaid}
@@ -16,6 +16,7 @@ IsReadAs shown said (Ok read) = said ≡ Some (shown read)
 IsReadAs shown said (Err Address) = ⊥
 IsReadAs shown said (Err Unanswered) = ⊥
 IsReadAs shown said (Err Bad) = said ≡ None
+IsReadAs shown said (Err Busy) = ⊥
 IsReadAs shown said (Err Memory) = ⊤
 IsReadAs shown said (Err Write) = ⊥
 

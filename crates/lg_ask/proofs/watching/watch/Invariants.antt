@@ -5,4 +5,4 @@ use Rattle.lg_ask.proofs.watching.watch.Given as goal
 abbrev pub invariant-loop : goal.invariant-loop
 invariant-loop g l =
     IsWatching l.json l.initial.writer l.writer (g.W.Write.contents l.initial.writer) (g.W.Write.contents l.writer)
-    (g.F.Write.contents l.initial.faults) (g.F.Write.contents l.faults) l.place.version l.place.is_first
+    (g.F.FaultStream.reported l.initial.faults) (g.F.FaultStream.reported l.faults) l.place.version l.place.is_first
