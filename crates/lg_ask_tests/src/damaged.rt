@@ -123,6 +123,12 @@ const OTHERS: &[(Command, Head, &str)] = &[
     (Command::Watch, FINE, HEALTH),
     (Command::Watch, NOT_FOUND, CHANGE),
     (Command::Watch, UNAVAILABLE, CHANGE),
+    // Nothing says when to ask again.
+    (
+        Command::Members,
+        UNAVAILABLE,
+        "{\"error\":\"too many requests wait\"}",
+    ),
     (
         Command::Watch,
         UNAVAILABLE,

@@ -22,6 +22,8 @@ mod server;
 #[cfg(test)]
 mod unanswered;
 #[cfg(test)]
+mod waiting;
+#[cfg(test)]
 mod watching;
 #[cfg(test)]
 mod writing;

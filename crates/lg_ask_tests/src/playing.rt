@@ -62,7 +62,7 @@ impl Asking {
     }
 
     /// Asks at an address.
-    pub(crate) fn run<R: Net>(&self, rt: &R, alloc: Global, at: &str) -> Outcome {
+    pub(crate) fn run<R: Net + rt::Clock>(&self, rt: &R, alloc: Global, at: &str) -> Outcome {
         let mut writer = Room::until(self.writer);
         let mut faults = Room::until(self.faults);
         let (out, told) = (&mut writer, &mut faults);

@@ -28,6 +28,8 @@ pub(crate) struct Reply<'a> {
     piece: usize,
     /// Whether the connection stays open behind them, until the client has ended.
     is_held: bool,
+    /// Whether the connection is closed at once, with the request unread.
+    is_dropped: bool,
 }
 
 impl<'a> Reply<'a> {
@@ -37,6 +39,7 @@ impl<'a> Reply<'a> {
             bytes,
             piece: usize::MAX,
             is_held: false,
+            is_dropped: false,
         }
     }
 
@@ -46,6 +49,7 @@ impl<'a> Reply<'a> {
             bytes,
             piece,
             is_held: false,
+            is_dropped: false,
         }
     }
 
@@ -55,6 +59,17 @@ impl<'a> Reply<'a> {
             bytes,
             piece: usize::MAX,
             is_held: true,
+            is_dropped: false,
+        }
+    }
+
+    /// Nothing: the connection is closed at once, and the request isn't read.
+    pub(crate) fn dropped() -> Reply<'a> {
+        Reply {
+            bytes: b"",
+            piece: usize::MAX,
+            is_held: false,
+            is_dropped: true,
         }
     }
 }
@@ -126,6 +141,9 @@ fn answer_next<R: rt::Clock>(
     let (mut stream, _) = listener.accept()?;
     if place.is_over.load(SeqCst) {
         return Ok(false);
+    }
+    if reply.is_dropped {
+        return Ok(true);
     }
     stream.set_read_timeout(Some(Duration::from_millis(PATIENCE_MS)))?;
     hear(&mut stream, requests)?;

@@ -53,7 +53,7 @@ fn no_addresses(rt: HostRuntime) {
 /// What comes of a command if nobody listens.
 fn alone<R>(rt: &R, alloc: Global, asking: &Asking) -> io::Result<Outcome>
 where
-    R: Net<Listener = TcpListener, Stream = TcpStream>,
+    R: Net<Listener = TcpListener, Stream = TcpStream> + rt::Clock,
 {
     let at = deserted(rt, alloc)?;
     Ok(asking.run(rt, alloc, at.as_str()))
@@ -81,7 +81,7 @@ const WELL: &[(Command, &str)] = &[
 ];
 
 /// The place of the first byte of an answer behind which the end isn't told as it should be: nothing is written, and
-/// nobody has answered.
+/// nobody has answered. Behind no byte it is asked again, and nobody listens any more.
 fn first_untold<R>(rt: &R, alloc: Global, command: Command, body: &str) -> io::Result<Option<usize>>
 where
     R: Net<Listener = TcpListener, Stream = TcpStream> + rt::Clock + Threads + Sync,

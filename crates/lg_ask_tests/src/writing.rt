@@ -102,7 +102,7 @@ fn failing_flush_of_watch(rt: HostRuntime) {
 enum Of {
     /// A text that is no address.
     NoAddress,
-    /// A server that closes the connection.
+    /// A server that closes the connection behind a part of its answer.
     NoAnswer,
     /// A bad answer.
     BadAnswer,
@@ -135,7 +135,7 @@ where
     let bytes = answer(alloc, FINE, ALL.as_bytes())?;
     let outcome = match of {
         Of::NoAddress => asking.run(rt, alloc, "x"),
-        Of::NoAnswer => played(rt, alloc, &[Reply::whole(b"")], &asking)?.outcome,
+        Of::NoAnswer => played(rt, alloc, &[Reply::whole(b"HTTP/1.1 200")], &asking)?.outcome,
         Of::BadAnswer => played(rt, alloc, &[Reply::whole(b"220 mail\r\n\r\n")], &asking)?.outcome,
         Of::NoWrite => played(rt, alloc, &[Reply::whole(bytes.as_slice())], &asking)?.outcome,
     };
