@@ -8,14 +8,14 @@ use Rattle.lg_ask.specs.Meaning.Telling.{IsWhyUntold}
 use Rattle.lg_ask.specs.Support.Asking.{AnswersQuestion, IsToldAt, IsWhyUnheard}
 use Rattle.lg_ask.specs.Support.Reading.{IsReadAs}
 use Rattle.lg_ask.specs.Support.Receiving.{IsFetched, IsHeard}
-use Rattle.lg_ask.specs.Meaning.Waiting.{fault_of, told_of}
+use Rattle.lg_ask.specs.Meaning.Waiting.{ask_fault_of, told_of}
 use Rattle.lg_ask.specs.declared.receiving.Answer.{Answer}
 use Rattle.lg_ask.specs.declared.unheard.Delay.TheVariants.{Closed, Told}
 use Rattle.lg_ask.specs.declared.unheard.Unheard.{Unheard}
 use Rattle.lg_ask.specs.declared.unheard.Unheard.TheVariants.{Lacking, Later, NoMemory, Wrong}
 
 -- a question that isn't asked again
-pub fetched_from : (allowed : List ℕ) (why : Unheard) → IsHeard allowed (Err why) → IsFetched allowed (Err (fault_of why))
+pub fetched_from : (allowed : List ℕ) (why : Unheard) → IsHeard allowed (Err why) → IsFetched allowed (Err (ask_fault_of why))
 fetched_from allowed (Later (Told seconds)) heard = (heard.0, inr (seconds, heard.1, heard.2))
 fetched_from allowed (Later Closed) heard = ([], inl refl)
 fetched_from allowed Lacking heard = heard

@@ -7,7 +7,7 @@ ghost use Rattle.std.specs.Prelude.{◌≡◌};
 ghost use Rattle.lg_text.specs.Meaning.Reporting.{Reports};
 ghost use Rattle.lg_ask.specs.Meaning.Faults.{ask_fault_status, ask_fault_text};
 ghost use Rattle.lg_ask.specs.Meaning.Questions.{codes_of};
-ghost use Rattle.lg_ask.specs.Meaning.Telling.{IsTold, TellsAnswer, told_status};
+ghost use Rattle.lg_ask.specs.Meaning.Telling.{IsAnswerTold, TellsAnswer, told_status};
 ghost use Rattle.lg_ask.specs.Meaning.Told.{question_told};
 ghost use Rattle.lg_ask.specs.Support.Reading.{told_shown};
 ghost use Rattle.lg_ask.specs.Support.Receiving.{IsFetched};
@@ -86,7 +86,7 @@ fn told_status(is_ousted: bool) -> u8
 
 /// Writes what an answer tells, and gives the status.
 fn write_told<W: Write, F: FaultStream>(told: &Told, writer: &mut W, faults: &mut F) -> u8
-    ensures { IsTold (W.contents writer.old) (W.contents writer.new) (F.reported faults.old) (F.reported faults.new)
+    ensures { IsAnswerTold (W.contents writer.old) (W.contents writer.new) (F.reported faults.old) (F.reported faults.new)
         (told_shown told.now) result }
 {
     match write_whole(writer, &told.text) {

@@ -3,7 +3,7 @@
 //! Defined in: `specs/Meaning/Waiting.antt`.
 //! Tested in: `lg_ask_tests/src/waiting.rt`.
 ghost use Rattle.std.specs.Prelude.{◌≡◌};
-ghost use Rattle.lg_ask.specs.Meaning.Waiting.{fault_of, put_off_by, seconds_of};
+ghost use Rattle.lg_ask.specs.Meaning.Waiting.{ask_fault_of, put_off_by, seconds_of};
 
 use crate::fault::AskFault;
 
@@ -60,7 +60,7 @@ impl Unheard {
 
     /// The fault that is told if the question isn't asked again.
     pub(crate) fn fault(self) -> AskFault
-        ensures { result ≡ fault_of self }
+        ensures { result ≡ ask_fault_of self }
     {
         match self {
             Unheard::Later(_) => AskFault::Busy,

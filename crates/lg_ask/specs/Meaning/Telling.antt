@@ -58,8 +58,8 @@ abbrev pub told_status : Bool → ℕ
 told_status ousted = if ousted then 4 else 0
 
 -- What an answer tells is written, with its status; or a beginning of it.
-abbrev pub IsTold : (held holds : Option (List ℕ)) (reported reports : Reported) → AnswerText → ℕ → Type 0
-IsTold held holds reported reports told status =
+abbrev pub IsAnswerTold : (held holds : Option (List ℕ)) (reported reports : Reported) → AnswerText → ℕ → Type 0
+IsAnswerTold held holds reported reports told status =
     (WritesWhole held holds reported reports told.text × (status ≡ told_status told.ousted))
     ⊎ WritesFront held holds reported reports told.text status
 
@@ -73,7 +73,7 @@ pub record TellsTold
   pub answered : IsAnswerBody (codes_of question) body
   pub told : AnswerText
   pub says : question_told question json body ≡ Some told
-  pub ends : IsTold held holds reported reports told status
+  pub ends : IsAnswerTold held holds reported reports told status
 
 -- A node is asked a question. What some answer tells is written, or it is told why nothing is.
 abbrev pub TellsAnswer :

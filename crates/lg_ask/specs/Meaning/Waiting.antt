@@ -68,15 +68,15 @@ pub data AskEvent : Type 0 where
   Waited : ℕ → AskEvent
 
 -- the fault that is told if a question has this outcome and isn't asked again
-abbrev pub fault_of : Unheard → AskFault
-fault_of (Later delay) = Busy
-fault_of Lacking = Unanswered
-fault_of Wrong = Bad
-fault_of NoMemory = Memory
+abbrev pub ask_fault_of : Unheard → AskFault
+ask_fault_of (Later delay) = Busy
+ask_fault_of Lacking = Unanswered
+ask_fault_of Wrong = Bad
+ask_fault_of NoMemory = Memory
 
 abbrev pub told_of : Result Answer Unheard → Result Answer AskFault
 told_of (Ok answer) = Ok answer
-told_of (Err why) = Err (fault_of why)
+told_of (Err why) = Err (ask_fault_of why)
 
 -- why a question is to be asked later, if its outcome says so
 abbrev pub put_off_by : Unheard → Option Delay
