@@ -17,7 +17,7 @@ use Rattle.lg_status.specs.declared.ring.Changes.{Changes}
 use Rattle.lg_status.specs.declared.snapshot.ShownConfig.{ShownConfig}
 use Rattle.lg_status.specs.declared.snapshot.Snapshot.{Snapshot}
 use Rattle.lg_status.specs.Meaning.Changes.{Recorded}
-use Rattle.lg_status.specs.Support.Kept.{HasRecorded}
+use Rattle.lg_status.specs.Meaning.Kept.{HasRecorded}
 use Rattle.lg_serve.specs.Meaning.Shown.{recorded_at, recorded_from, IsShown, SiteValue, IsLater}
 use Rattle.lg_serve.specs.Support.Showing.{Showing, SameLook}
 

@@ -11,7 +11,7 @@ ghost use Rattle.lg_agent.specs.Meaning.Calls.{IsLook};
 ghost use Rattle.lg_view.specs.Meaning.Views.{IsOverview};
 ghost use Rattle.lg_watch.specs.Meaning.Sights.{OnlyLooked};
 ghost use Rattle.lg_status.specs.Meaning.Changes.{Recorded};
-ghost use Rattle.lg_status.specs.Support.Kept.{HasRecorded};
+ghost use Rattle.lg_status.specs.Meaning.Kept.{HasRecorded};
 ghost use Rattle.lg_serve.specs.Meaning.Shown.{IsShown, IsAnswerOf, IsLater};
 ghost use Rattle.lg_serve.specs.Support.Showing.{SameLook};
 

@@ -8,7 +8,7 @@ use Rattle.std.proofs.lemmas.List.Elements.{filter-append}
 use Rattle.lg_status.specs.declared.ring.Change.{Change}
 use Rattle.lg_status.specs.Meaning.Changes.{changes_after, forgotten, is_after, last_version, most_changes}
 use Rattle.lg_status.specs.declared.ring.Changes.{Changes}
-use Rattle.lg_status.specs.Support.Kept.{greatest_version, KeepsNewest}
+use Rattle.lg_status.specs.Meaning.Kept.{greatest_version, KeepsNewest}
 use Rattle.std.specs.VecDeque.{deque_capacity, deque_len}
 
 pub greatest_more : (xs : List Change) (y : Change) → greatest_version (xs ++ y ∷ []) ≡ max (greatest_version xs) y.version

@@ -1,4 +1,3 @@
 -- What only carries the proofs.
 pub mod Bounds
-pub mod Kept
 pub mod Pieces

@@ -7,7 +7,7 @@ ghost use Rattle.std.specs.Option.{option_map};
 ghost use Rattle.lg_status.specs.Meaning.Answers.{answer_to, answer_value, error_answer, found_answer, health_answer};
 ghost use Rattle.lg_status.specs.Meaning.Answers.{health_status, member_answer, record_named, route_answer};
 ghost use Rattle.lg_status.specs.Meaning.Changes.{all_changes, Recorded};
-ghost use Rattle.lg_status.specs.Support.Kept.{HasRecorded};
+ghost use Rattle.lg_status.specs.Meaning.Kept.{HasRecorded};
 
 use crate::changes::changes_body;
 use crate::config::config_body;

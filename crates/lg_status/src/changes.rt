@@ -7,7 +7,7 @@ ghost use Rattle.std.specs.List.{flat_map};
 ghost use Rattle.lg_status.specs.Meaning.Changes.{all_changes, as_changes, change_at, change_json, changes_body};
 ghost use Rattle.lg_status.specs.Meaning.Changes.{changes_json, Recorded};
 ghost use Rattle.lg_status.specs.Meaning.Members.{behind_comma, comma_separated};
-ghost use Rattle.lg_status.specs.Support.Kept.{HasRecorded};
+ghost use Rattle.lg_status.specs.Meaning.Kept.{HasRecorded};
 
 use crate::health::truth_word;
 use crate::members::{put_fields, put_moment};

@@ -1,6 +1,6 @@
 //! Keeps the newest changes of records, and finds those behind a version.
 //!
-//! Defined in: `specs/Meaning/Changes.antt`, `lg_rules/specs/Meaning/View.antt`; `specs/Support/Kept.antt`.
+//! Defined in: `specs/Meaning/Changes.antt`, `specs/Meaning/Kept.antt`, `lg_rules/specs/Meaning/View.antt`.
 //! Tested in: `lg_status_tests/src/ring.rt`.
 ghost use Rattle.std.specs.Prelude.{◌≡◌, ◌+◌, ◌<◌, List, [], ◌∷◌, ◌++◌, IfOk, filter, map};
 ghost use Rattle.std.specs.Option.{option_map};
@@ -11,7 +11,7 @@ ghost use Rattle.lg_rules.specs.Meaning.View.{changed, is_row};
 ghost use Rattle.lg_status.specs.declared.ring.Change.{Change};
 ghost use Rattle.lg_status.specs.Meaning.Changes.{all_changes, change_at, changes_after, is_after};
 ghost use Rattle.lg_status.specs.Meaning.Changes.{last_version, Recorded};
-ghost use Rattle.lg_status.specs.Support.Kept.{HasRecorded, KeepsNewest};
+ghost use Rattle.lg_status.specs.Meaning.Kept.{HasRecorded, KeepsNewest};
 
 use lg_rules::{Claim, Record, index_of};
 use lg_timing::Moment;

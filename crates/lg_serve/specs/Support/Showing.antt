@@ -5,7 +5,7 @@ use Rattle.lg_agent.specs.Meaning.Values.{PassValue}
 use Rattle.lg_watch.specs.Meaning.Sights.{Sight, SightsGrow, EndsAt}
 use Rattle.lg_status.specs.declared.ring.Changes.{Changes}
 use Rattle.lg_status.specs.declared.snapshot.Snapshot.{Snapshot}
-use Rattle.lg_status.specs.Support.Kept.{HasRecorded}
+use Rattle.lg_status.specs.Meaning.Kept.{HasRecorded}
 use Rattle.lg_serve.specs.Meaning.Shown.{IsShown, recorded_from}
 
 -- The sights so far, whose changes are recorded; the last of them is shown.

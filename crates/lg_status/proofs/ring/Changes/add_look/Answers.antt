@@ -1,7 +1,7 @@
 use Rattle.std.proofs.Common.{List, subst}
 use Rattle.lg_status.specs.declared.ring.Change.{Change}
 use Rattle.lg_status.specs.Meaning.Changes.{Recorded, all_changes}
-use Rattle.lg_status.specs.Support.Kept.{KeepsNewest}
+use Rattle.lg_status.specs.Meaning.Kept.{KeepsNewest}
 use Rattle.lg_status.proofs.RingLaws.{all_more}
 use Rattle.lg_status.proofs.ring.Changes.add_look.Goals as goal
 

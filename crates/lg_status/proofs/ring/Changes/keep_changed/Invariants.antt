@@ -2,7 +2,7 @@ use Rattle.std.proofs.Common.{List, ◌++◌, map, take}
 use Rattle.lg_rules.specs.Meaning.View.{changed}
 use Rattle.lg_status.specs.declared.ring.Change.{Change}
 use Rattle.lg_status.specs.Meaning.Changes.{change_at}
-use Rattle.lg_status.specs.Support.Kept.{KeepsNewest}
+use Rattle.lg_status.specs.Meaning.Kept.{KeepsNewest}
 use Rattle.lg_status.proofs.ring.Changes.keep_changed.Given as goal
 
 -- the ring has the changes of the records so far
