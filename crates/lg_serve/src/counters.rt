@@ -1,17 +1,15 @@
 //! What the loops of a node count while they run.
 //!
-//! Defined in: this file.
+//! Defined in: `specs/Meaning/Readings.antt`.
 //! Tested in: `lg_status_tests/src/counting.rt`, `lg_status_tests/src/showing.rt`, `cases/status`.
+ghost use Rattle.std.specs.Prelude.{◌≡◌, ◌<◌, [], get_or};
+ghost use Rattle.lg_serve.specs.Meaning.Readings.{AreOfFaults, fault_name, fault_names};
 
-ghost use Rattle.std.specs.Prelude.{◌≡◌, ◌<◌};
-
-use crate::tally::Tally;
-use lg_detector::Reply;
+use crate::noted::Noted;
 use lg_packet::Fault;
 use lg_rules::Name;
 use lg_status::{Counts, Drops};
 use lg_timing::Moment;
-use std::alloc::{AllocError, Global};
 use std::sync::atomic::AtomicU64;
 use std::sync::atomic::Ordering::Relaxed;
 
@@ -25,23 +23,7 @@ const UNSIGNED: usize = 9;
 /// The index of a datagram that isn't sealed with one of the keys.
 const FORGED: usize = 10;
 
-/// Each fault by its name: those of a packet in the order of their numbers, and then the others.
-const FAULT_NAMES: [&str; FAULTS] = [
-    "Short",
-    "Magic",
-    "Version",
-    "Kind",
-    "Name",
-    "Count",
-    "ClaimKind",
-    "Incarnation",
-    "Trailing",
-    "Unsigned",
-    "Forged",
-];
-
-/// What a node counts from its start on. Threads share it by reference. No call waits, and none allocates but
-/// [`Counters::drops`]. A count that has come to 2^64 - 1 goes on from 0.
+/// What a node counts from its start on. Threads share it by reference. No call waits, and none allocates. A count that has come to 2^64 - 1 goes on from 0.
 #[derive(Drop)]
 pub struct Counters {
     name: Name,
@@ -57,6 +39,7 @@ pub struct Counters {
     rotations: AtomicU64,
     refused: AtomicU64,
     last_event: AtomicU64,
+    /// For each fault, in the order in which [`Counters::drops`] names them.
     dropped: [AtomicU64; FAULTS],
 }
 
@@ -69,7 +52,9 @@ fn add(count: &AtomicU64, more: u64) {
 
 impl Counters {
     /// The counts of a node whose member has this name. The opening is its first event.
-    pub fn new(name: Name, opened: Moment) -> Counters {
+    pub fn new(name: Name, opened: Moment) -> Counters
+        ensures { result.name ≡ name }
+    {
         Counters {
             name,
             received: AtomicU64::new(0),
@@ -139,15 +124,13 @@ impl Counters {
         add(&self.rotations, 1);
     }
 
-    /// A call was answered at a moment by this reply. So many of its packets weren't sent.
-    pub fn note_reply(&self, now: Moment, reply: &Reply, unsent: u64) {
-        let tally = Tally::of(&self.name, reply);
+    /// A call was answered at this moment, which makes one entry of the history. Each part of what it counts is added
+    /// by itself.
+    pub fn note(&self, now: Moment, noted: &Noted) {
+        let tally = noted.tally;
         add(&self.entries, 1);
-        add(
-            &self.sent,
-            (reply.sends.len() as u64).saturating_sub(unsent),
-        );
-        add(&self.unsent, unsent);
+        add(&self.sent, noted.sent);
+        add(&self.unsent, noted.unsent);
         add(&self.probes_begun, u64::from(tally.probe_begun));
         add(&self.probes_failed, u64::from(tally.probe_failed));
         add(&self.probes_helped, u64::from(tally.probe_helped));
@@ -178,30 +161,54 @@ impl Counters {
         self.last_event.load(Relaxed)
     }
 
-    /// A row for each fault, in the order of their names above, with how many datagrams were dropped for it. Allocates the
-    /// list. The only error is that memory was refused.
-    pub fn drops(&self, alloc: Global) -> Result<Vec<Drops>, AllocError> {
-        FAULT_NAMES
-            .iter()
-            .zip(&self.dropped)
-            .map(|(fault, count)| Drops {
-                fault,
-                count: count.load(Relaxed),
-            })
-            .collect(alloc)
+    /// A row for each fault: how many datagrams were dropped for it, each read by itself. The faults of a packet come
+    /// in the order of their numbers, and then those of a datagram that isn't sealed.
+    pub fn drops(&self) -> [Drops; FAULTS]
+        ensures { AreOfFaults result }
+    {
+        let [
+            short,
+            magic,
+            version,
+            kind,
+            name,
+            count,
+            claim_kind,
+            incarnation,
+            trailing,
+            unsigned,
+            forged,
+        ] = &self.dropped;
+        [
+            drops_of("Short", short),
+            drops_of("Magic", magic),
+            drops_of("Version", version),
+            drops_of("Kind", kind),
+            drops_of("Name", name),
+            drops_of("Count", count),
+            drops_of("ClaimKind", claim_kind),
+            drops_of("Incarnation", incarnation),
+            drops_of("Trailing", trailing),
+            drops_of("Unsigned", unsigned),
+            drops_of("Forged", forged),
+        ]
     }
+}
 
-    /// Brings such rows up to date. Allocates nothing.
-    pub fn read_drops(&self, rows: &mut [Drops]) {
-        for (row, count) in rows.iter_mut().zip(&self.dropped) {
-            row.count = count.load(Relaxed);
-        }
+/// How many datagrams were dropped for a fault, as its count is read.
+fn drops_of(fault: &'static str, count: &AtomicU64) -> Drops
+    ensures { result.fault.now ≡ fault.now }
+{
+    Drops {
+        fault,
+        count: count.load(Relaxed),
     }
 }
 
 /// The index of a fault in the order of their numbers.
 fn index_of(fault: Fault) -> usize
-    ensures { result < FAULTS }
+    ensures range { result < FAULTS }
+    ensures named { get_or fault_names result [] ≡ fault_name fault }
 {
     match fault {
         Fault::Short => 0,

@@ -5,11 +5,15 @@
 #![tactic(auto)]
 
 mod counters;
+mod looked;
+mod noted;
+mod reading;
 mod serving;
 mod site;
 mod tally;
 
 pub use counters::Counters;
+pub use noted::Noted;
 pub use serving::{Served, bind, serve};
 pub use site::{NodeSite, SiteBasis};
 pub use tally::Tally;

@@ -1,10 +1,11 @@
 //! The status server of a node, from its socket to its end.
 //!
-//! Defined in: `specs/Meaning/Shown.antt`, `lg_http/specs/Meaning/Slots.antt`.
+//! Defined in: `specs/Meaning/Served.antt`, `specs/Meaning/Shown.antt`, `lg_http/specs/Meaning/Slots.antt`.
 //! Tested in: `cases/status`.
 ghost use Rattle.std.specs.Prelude.{◌≡◌, IfOk};
 ghost use Rattle.lg_watch.specs.Meaning.Sights.{OnlyLooked};
 ghost use Rattle.lg_http.specs.Meaning.Slots.{AreFree, slots_of};
+ghost use Rattle.lg_serve.specs.Meaning.Served.{HasServed, served_line};
 
 use crate::site::{NodeSite, SiteBasis};
 use lg_agent::{AgentName, Pass, Refusal};
@@ -23,6 +24,20 @@ pub enum Served {
     Refused(Refusal),
     /// It served until it was told to stop, or until the system's wait failed.
     Ended(End, Counts),
+}
+
+impl Served {
+    /// Why the server ended before its node, as a line. It is empty if it was told to stop.
+    pub fn line(&self) -> &'static str
+        ensures { result.now ≡ served_line self.now }
+    {
+        match self {
+            Served::Refused(_) => "the status server couldn't begin: memory is refused\n",
+            Served::Ended(End::Stopped, _) => "",
+            Served::Ended(End::WaitFailed(_), _) =>
+                "the status server ended early: the machine's wait failed\n",
+        }
+    }
 }
 
 /// A server at an address, and the signal by which other threads reach it. Its memory for 256 connections is allocated
@@ -46,20 +61,21 @@ pub fn bind(
 /// Serves what a node shows until the signal tells the server to stop, by looks of a pass, which it gives back. The
 /// machine's clock is for the deadlines of connections: they go on while the node stands still.
 pub fn serve<'p, A: AgentName, C: Clock, M: Clock>(
-    server: Server,
+    server: &mut Server,
     signal: &Signal,
     machine: &M,
     pass: Pass<'p, A>,
     basis: SiteBasis<'_, C>,
 ) -> (Pass<'p, A>, Served)
-    ensures { OnlyLooked pass.entry result.0 }
+    ensures looked { OnlyLooked pass.entry result.0 }
+    ensures served { HasServed result.1 basis.entry.counters.now.name basis.entry.config pass.entry result.0
+        (slots_of server.old) (slots_of server.new) }
 {
     let alloc = basis.alloc;
     let site = match NodeSite::new(pass, basis) {
         Ok(site) => site,
         Err((refusal, pass)) => return (pass, Served::Refused(refusal)),
     };
-    let mut server = server;
     let mut desk = Desk::new(alloc, site);
     let (end, counts) = server.serve(&mut desk, machine, signal);
     (desk.finish().finish(), Served::Ended(end, counts))

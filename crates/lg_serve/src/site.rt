@@ -1,29 +1,27 @@
 //! The site of a node: what its status server shows, from looks at the agent.
 //!
-//! Defined in: `specs/Meaning/Shown.antt`, `specs/Support/Showing.antt`, `lg_status/specs/Meaning/Answers.antt`.
+//! Defined in: `specs/Meaning/Shown.antt`, `specs/Meaning/Readings.antt`, `specs/Support/Showing.antt`,
+//! `lg_status/specs/Meaning/Answers.antt`.
 //! Tested in: `lg_status_tests/src/showing.rt`, `cases/status`.
-ghost use Rattle.std.specs.Prelude.{◌≡◌, ◌++◌, ◌∷◌, [], ℕ, List, length, map, IfOk, MatchResult};
-ghost use Rattle.lg_rules.specs.Meaning.Claim.{name_of};
-ghost use Rattle.lg_rules.specs.Meaning.Rows.{name_cmp, Rises};
+ghost use Rattle.std.specs.Prelude.{◌≡◌, ◌⊎◌, ◌∷◌, [], ℕ, List, IfErr, IfOk, MatchResult};
 ghost use Rattle.lg_detector.specs.declared.event.Event.{Event as Happened};
 ghost use Rattle.lg_agent.specs.declared.refusal.Refusal.TheVariants.{NoMemory, NoView};
-ghost use Rattle.lg_agent.specs.Meaning.Calls.{IsLook};
 ghost use Rattle.lg_view.specs.Meaning.Views.{IsOverview};
 ghost use Rattle.lg_watch.specs.Meaning.Sights.{OnlyLooked};
-ghost use Rattle.lg_status.specs.Meaning.Changes.{Recorded};
 ghost use Rattle.lg_status.specs.Meaning.Kept.{HasRecorded};
-ghost use Rattle.lg_serve.specs.Meaning.Shown.{IsShown, IsAnswerOf, IsLater};
-ghost use Rattle.lg_serve.specs.Support.Showing.{SameLook};
+ghost use Rattle.lg_serve.specs.Meaning.Readings.{HasRead};
+ghost use Rattle.lg_serve.specs.Meaning.Shown.{IsFirst, IsLater, IsShown};
 
 use crate::counters::Counters;
+use crate::looked::{Looked, look, show};
+use crate::reading::Reading;
 use left_right::Absorb;
 use lg_agent::{AgentName, Overview, Pass, Refusal};
 use lg_clock::Clock;
 use lg_detector::Event;
 use lg_http::{Answer, Site, Wait};
 use lg_rules::Incarnation;
-use lg_status::{Changes, Counts, ShownConfig, Snapshot, answer_to, wait_of};
-use lg_timing::Moment;
+use lg_status::{Changes, ShownConfig, Snapshot, answer_to, wait_of};
 use lg_view::{Published, Update};
 use std::alloc::{AllocError, Global};
 use std::marker::Model;
@@ -56,6 +54,8 @@ where
     changes: Changes,
     /// The version of the newest change.
     changed: u64,
+    /// What came of the last look.
+    looked: Looked,
 }
 
 impl<'p, 'n, A: AgentName, C> Model for NodeSite<'p, 'n, A, C>
@@ -63,59 +63,39 @@ where
     Published<A>: Absorb<Update<A>, State = [Event; 0]>,
 {
     ghost use Rattle.lg_serve.specs.Meaning.Shown.{SiteValue};
-    ghost use Rattle.lg_serve.specs.Support.Showing.{Showing};
+    ghost use Rattle.lg_serve.specs.Support.Showing.{IsSite};
 
     ghost Value = { SiteValue };
 
     ghost view = { λ s. record {
       pass = s.pass;
+      name = s.basis.counters.now.name;
       snapshot = s.snapshot;
+      changes = s.changes;
       config = s.basis.config;
       changed = s.changed;
+      looked = s.looked;
     } };
 
-    ghost invariant = { λ s. Showing s.pass s.snapshot s.changes };
-}
-
-/// Puts what a look found into a snapshot, and its changes behind those that were recorded.
-fn show(snapshot: &mut Snapshot, changes: &mut Changes, found: Overview, moment: Moment)
-    requires { Rises name_cmp (map name_of snapshot.old.records.items) }
-    ensures shown { (events : List Happened) → IsOverview found events → IsShown snapshot.new events }
-    ensures recorded { (looks : List Recorded) → HasRecorded changes.old looks
-        → HasRecorded changes.new (looks ++ record {
-          told = snapshot.old.records.items;
-          found = found.records.items;
-          version = found.version;
-          moment = moment;
-        } ∷ []) }
-{
-    changes.add_look(&snapshot.records, &found.records, found.version, moment);
-    snapshot.version = found.version;
-    snapshot.records = found.records;
-    snapshot.score = found.standing.score;
-    snapshot.incarnation = found.standing.number;
-    snapshot.ousted = found.standing.ousted;
-}
-
-/// Puts the moment and the counts into a snapshot.
-fn note<C: Clock>(snapshot: &mut Snapshot, clock: &C, counters: &Counters)
-    ensures { SameLook snapshot.old snapshot.new }
-{
-    let now = clock.now();
-    snapshot.moment = now;
-    snapshot.stood_still_ms = clock.stood_still();
-    snapshot.uptime_ms = now.milliseconds().saturating_add(snapshot.stood_still_ms);
-    snapshot.last_event_ms = counters.last_event();
-    snapshot.counts = counters.counts();
-    counters.read_drops(snapshot.dropped.as_mut_slice());
+    ghost invariant = { λ s. IsSite record {
+      pass = s.pass;
+      name = s.basis.counters.now.name;
+      snapshot = s.snapshot;
+      changes = s.changes;
+      config = s.basis.config;
+      changed = s.changed;
+      looked = s.looked;
+    } };
 }
 
 /// What a site shows after its first look: each record is a change.
+#[tactic(auto, using(crate::proofs::ShownLaws::shown_first))]
 fn first_shown<C: Clock>(
     basis: &SiteBasis<'_, C>,
     found: Overview,
 ) -> Result<(Snapshot, Changes), AllocError>
-    ensures shown { IfOk result (λ made. (events : List Happened) → IsOverview found events → IsShown made.0 events) }
+    ensures shown { IfOk result (λ made. (events : List Happened) → IsOverview found events
+        → IsShown made.0 basis.now.counters.now.name events) }
     ensures recorded { IfOk result (λ made. (moment : ℕ) × HasRecorded made.1 (record {
       told = [];
       found = found.records.items;
@@ -123,30 +103,32 @@ fn first_shown<C: Clock>(
       moment = moment;
     } ∷ [])) }
 {
-    let moment = basis.clock.now();
-    let mut snapshot = blank(basis, moment)?;
+    let reading = Reading::of(basis.clock, basis.counters);
+    let mut snapshot = blank(basis.alloc, basis.counters, &reading)?;
     let mut changes = Changes::new(basis.alloc)?;
-    show(&mut snapshot, &mut changes, found, moment);
+    show(&mut snapshot, &mut changes, found, reading.moment);
     Ok((snapshot, changes))
 }
 
 /// A snapshot that shows no member yet.
-fn blank<C>(basis: &SiteBasis<'_, C>, moment: Moment) -> Result<Snapshot, AllocError>
-    ensures { IfOk result (λ s. s.records.items ≡ []) }
+fn blank(alloc: Global, counters: &Counters, reading: &Reading) -> Result<Snapshot, AllocError>
+    ensures records { IfOk result (λ s. s.records.items ≡ []) }
+    ensures named { IfOk result (λ s. s.name ≡ counters.now.name) }
+    ensures read { IfOk result (λ s. HasRead s reading.now) }
 {
     Ok(Snapshot {
         version: 0,
-        moment,
-        name: basis.counters.name(),
-        records: Vec::new(basis.alloc),
+        moment: reading.moment,
+        name: counters.name(),
+        records: Vec::new(alloc),
         score: 0,
         incarnation: Incarnation::default(),
         ousted: false,
-        uptime_ms: 0,
-        stood_still_ms: 0,
-        last_event_ms: 0,
-        counts: Counts::default(),
-        dropped: basis.counters.drops(basis.alloc)?,
+        uptime_ms: reading.uptime_ms(),
+        stood_still_ms: reading.stood_still_ms,
+        last_event_ms: reading.last_event_ms,
+        counts: reading.counts,
+        dropped: Vec::from_array(alloc, counters.drops())?,
     })
 }
 
@@ -157,8 +139,10 @@ impl<'p, 'n, A: AgentName, C: Clock> NodeSite<'p, 'n, A, C> {
         pass: Pass<'p, A>,
         basis: SiteBasis<'n, C>,
     ) -> Result<NodeSite<'p, 'n, A, C>, (Refusal, Pass<'p, A>)>
-        ensures { MatchResult result (λ site. OnlyLooked pass.entry site.pass × (site.config ≡ basis.entry.config))
+        ensures looked { MatchResult result (λ site. OnlyLooked pass.entry site.pass)
             (λ refused. OnlyLooked pass.entry refused.1) }
+        ensures refusal { IfErr result (λ refused. (refused.0 ≡ NoMemory) ⊎ (refused.0 ≡ NoView)) }
+        ensures first { IfOk result (λ site. IsFirst site basis.entry.counters.now.name basis.entry.config) }
     {
         let mut pass = pass;
         let found = match pass.overview(basis.alloc) {
@@ -175,28 +159,26 @@ impl<'p, 'n, A: AgentName, C: Clock> NodeSite<'p, 'n, A, C> {
             snapshot,
             changes,
             changed,
+            looked: Looked::Taken,
         })
     }
 
-    /// Shows what a look finds, if there are events that weren't shown yet.
-    fn look(&mut self)
+    /// Looks, and shows what it finds and what the node counts. If the look is refused, the members that are shown stay
+    /// as they are.
+    fn bring_up_to_date(&mut self)
         ensures { IsLater self.old self.new }
     {
-        match self.pass.version() {
-            Ok(version) if version != self.snapshot.version => self.take_in(),
-            _ => {}
-        }
-    }
-
-    /// Shows what a look finds. If it is refused, what is shown stays as it is.
-    fn take_in(&mut self)
-        ensures { IsLater self.old self.new }
-    {
-        if let Ok(found) = self.pass.overview(self.basis.alloc) {
-            let moment = self.basis.clock.now();
-            show(&mut self.snapshot, &mut self.changes, found, moment);
-            self.changed = self.changes.last_version();
-        }
+        self.looked = look(
+            &mut self.pass,
+            self.basis.alloc,
+            self.basis.clock,
+            &mut self.snapshot,
+            &mut self.changes,
+        );
+        self.changed = self.changes.last_version();
+        let reading = Reading::of(self.basis.clock, self.basis.counters);
+        let drops = self.basis.counters.drops();
+        reading.put(&drops, &mut self.snapshot);
     }
 
     /// Ends the site, and gives its pass.
@@ -224,8 +206,7 @@ impl<'p, 'n, A: AgentName, C: Clock> Site for NodeSite<'p, 'n, A, C> {
     ghost order = { record { same = later_itself; both = later_on } };
 
     fn refresh(&mut self) -> u64 {
-        self.look();
-        note(&mut self.snapshot, self.basis.clock, self.basis.counters);
+        self.bring_up_to_date();
         self.changed
     }
 

@@ -23,4 +23,6 @@ mod route;
 #[cfg(test)]
 mod showing;
 #[cfg(test)]
+mod steps;
+#[cfg(test)]
 mod target;

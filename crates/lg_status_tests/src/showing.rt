@@ -1,49 +1,11 @@
 //! What a node shows over HTTP, from looks at an agent of b in memory, and what it counts. Another pass hears packets.
-ghost use Rattle.std.specs.Prelude.{◌≡◌};
 
-use arrayvec::ArrayVec;
-use lg_agent::{Agent, AgentName, Pass, Refusal};
-use lg_clock::Clock;
-use lg_http::{Answer, Kind, Site, Status, Wait as Waits};
-use lg_packet::{Body, Packet, encode};
-use lg_rules::Claim;
-use lg_serve::{Counters, NodeSite, SiteBasis};
-use lg_status::{Counts, ShownConfig};
-use lg_testing::{alive, at, letter, local, packet, ping, suspect};
-use lg_timing::{Config, Moment};
-use lg_view::UnnamedBook;
-use std::alloc::Global;
-use std::marker::Brand;
-use std::sync::Wait;
-use std::sync::atomic::AtomicU64;
-use std::sync::atomic::Ordering::SeqCst;
-
-/// What is done with a site and an agent, in order.
-#[derive(Clone, Copy, Debug)]
-enum Step<'a> {
-    /// b hears in a Ping of a, at this moment, that the member named by a letter is alive.
-    Alive(u64, u8),
-    /// The same that it is suspected by a.
-    Suspect(u64, u8),
-    /// b hears, at this moment, a packet that asks it to probe c.
-    Asked(u64),
-    /// b ticks at this moment.
-    Tick(u64),
-    /// A datagram with bytes that are no packet comes.
-    Garbage(u64),
-    /// The site looks at this moment, and the newest change that it shows has this version.
-    Shows(u64, u64),
-    /// A request for this path and query is answered so.
-    Gets(&'a str, Option<&'a str>, Status, &'a str),
-    /// A request for this path and query waits for a change behind this version, for so many milliseconds.
-    Waits(&'a str, Option<&'a str>, u64, u64),
-    /// A request for this path doesn't wait.
-    Goes(&'a str),
-    /// So much was counted: datagrams sent, probes begun, failed and helped, suspicions raised and refuted, entries.
-    Counted([u64; 7]),
-}
-
-use Step::{Alive, Asked, Counted, Garbage, Gets, Goes, Shows, Suspect, Tick, Waits as ToWait};
+use crate::steps::Step::{
+    self, Alive, Asked, Counted, Garbage, Gets, Goes, Shows, Stood, Suspect, Tells, Tick, Unsent,
+    Waits as ToWait,
+};
+use crate::steps::play;
+use lg_http::Status;
 
 /// The steps of a case, and what they show.
 const CASES: &[(&str, &[Step])] = &[
@@ -131,246 +93,78 @@ const CASES: &[(&str, &[Step])] = &[
             Counted([4, 1, 1, 1, 1, 0, 6]),
         ],
     ),
+    (
+        "each look shows what happened since the one before",
+        &[
+            Shows(7, 1),
+            Alive(20, b'c'),
+            Shows(25, 2),
+            Alive(30, b'd'),
+            Shows(35, 3),
+            Suspect(40, b'c'),
+            Shows(45, 4),
+            Gets(
+                "/v1/changes",
+                Some("after=2&wait_ms=0"),
+                Status::Fine,
+                "{\"version\":4,\"missed\":false,\"changes\":[{\"version\":3,\"moment_ms\":35,\"name\":\"d\",\
+                 \"status\":\"alive\",\"incarnation\":0,\"address\":\"127.0.0.1\",\"port\":7000,\"accuser\":null},\
+                 {\"version\":4,\"moment_ms\":45,\"name\":\"c\",\"status\":\"suspect\",\"incarnation\":0,\
+                 \"address\":\"127.0.0.1\",\"port\":7000,\"accuser\":\"a\"}]}",
+            ),
+            Gets(
+                "/v1/members/c",
+                None,
+                Status::Fine,
+                "{\"version\":4,\"name\":\"c\",\"status\":\"suspect\",\"incarnation\":0,\"address\":\"127.0.0.1\",\
+                 \"port\":7000,\"accuser\":\"a\"}",
+            ),
+        ],
+    ),
+    (
+        "the time in which the node stood still",
+        &[
+            Stood(7),
+            Shows(25, 1),
+            Gets(
+                "/v1/health",
+                None,
+                Status::Fine,
+                "{\"name\":\"b\",\"score\":0,\"incarnation\":0,\"live\":1,\"known\":1,\"ousted\":false,\
+                 \"uptime_ms\":32,\"stood_still_ms\":7}",
+            ),
+            Tells("/metrics", "\nlg_uptime_seconds 0.032\n"),
+            Tells("/metrics", "\nlg_stood_still_seconds_total 0.007\n"),
+        ],
+    ),
+    (
+        "the metrics tell what was counted",
+        &[
+            Unsent(20, b'c'),
+            Garbage(30),
+            Shows(35, 2),
+            Tells("/metrics", "\nlg_datagrams_sent_total 0\n"),
+            Tells("/metrics", "\nlg_datagrams_unsent_total 1\n"),
+            Tells("/metrics", "\nlg_history_entries_total 2\n"),
+            Tells("/metrics", "\nlg_last_event_seconds 0.020\n"),
+            Tells(
+                "/metrics",
+                "\nlg_datagrams_dropped_total{fault=\"Magic\"} 1\n",
+            ),
+            Tells(
+                "/metrics",
+                "\nlg_datagrams_dropped_total{fault=\"Forged\"} 0\n",
+            ),
+        ],
+    ),
+    (
+        "the configuration that is shown is the one that was handed in",
+        &[
+            Tells("/v1/config", "\"status\":\"127.0.0.1:8946\""),
+            Tells("/v1/config", "\"status_open\":true"),
+        ],
+    ),
 ];
-
-/// A clock that somebody sets.
-#[derive(Drop)]
-struct SetClock {
-    now: AtomicU64,
-}
-
-impl Clock for SetClock {
-    fn now(&self) -> Moment {
-        at(self.now.load(SeqCst))
-    }
-
-    fn pause(&self, _ms: u64) {}
-}
-
-/// What the steps are done with, besides the site.
-#[derive(Drop)]
-struct Doing<'a, R> {
-    rt: &'a R,
-    alloc: Global,
-    clock: &'a SetClock,
-    counters: &'a Counters,
-    /// Whether each look is made twice, and a step that went otherwise is done once more: memory may be refused.
-    twice: bool,
-}
-
-/// A packet of a for b: a Ping with a claim, or the wish that b probes c.
-fn packet_of(claims: &[Claim], body: Body) -> Packet {
-    packet(b'a', body, claims)
-}
-
-impl<'a, R: Wait> Doing<'a, R> {
-    /// b hears some bytes from a. Whether they were taken is counted, as a node does.
-    fn hear<A: AgentName>(&self, pass: &mut Pass<'_, A>, now: u64, bytes: &[u8]) -> bool {
-        self.counters.note_received();
-        match pass.datagram(self.rt, self.alloc, at(now), local(7001), bytes) {
-            Ok(receipt) => {
-                self.counters.note_reply(at(now), &receipt.reply, 0);
-                true
-            }
-            Err(Refusal::BadPacket(fault)) => {
-                self.counters.note_dropped(fault);
-                true
-            }
-            Err(_) => false,
-        }
-    }
-
-    /// b hears a packet from a.
-    fn hear_packet<A: AgentName>(&self, pass: &mut Pass<'_, A>, now: u64, packet: &Packet) -> bool {
-        let mut bytes = ArrayVec::new();
-        encode(packet, &mut bytes);
-        self.hear(pass, now, bytes.as_slice())
-    }
-
-    /// b ticks.
-    fn tick<A: AgentName>(&self, pass: &mut Pass<'_, A>, now: u64) -> bool {
-        match pass.tick(self.rt, self.alloc, at(now), [0; 8]) {
-            Ok(receipt) => {
-                self.counters.note_reply(at(now), &receipt.reply, 0);
-                true
-            }
-            Err(_) => false,
-        }
-    }
-
-    /// Does a step with the agent. Returns whether it went well, or none if the step is for the site.
-    fn happens<A: AgentName>(&self, step: Step<'_>, pass: &mut Pass<'_, A>) -> Option<bool> {
-        let asks = Body::PingReq {
-            number: 9,
-            target: letter(b'c'),
-            addr: local(7000),
-        };
-        match step {
-            Alive(now, member) => {
-                let packet = packet_of(&[alive(member, 0)], ping(1, b'b'));
-                Some(self.hear_packet(pass, now, &packet))
-            }
-            Suspect(now, member) => {
-                let packet = packet_of(&[suspect(member, 0, b'a')], ping(1, b'b'));
-                Some(self.hear_packet(pass, now, &packet))
-            }
-            Asked(now) => Some(self.hear_packet(pass, now, &packet_of(&[], asks))),
-            Garbage(now) => Some(self.hear(pass, now, b"garbage")),
-            Tick(now) => Some(self.tick(pass, now)),
-            _ => None,
-        }
-    }
-
-    /// Whether the site answers so.
-    fn is_answered<S: Site>(
-        &self,
-        site: &S,
-        path: &str,
-        query: Option<&str>,
-        status: Status,
-        body: &str,
-    ) -> bool {
-        match site.answer(self.alloc, path.as_bytes(), query.map(str::as_bytes)) {
-            Ok(answer) => is_of(&answer, status, body),
-            Err(_) => false,
-        }
-    }
-
-    /// Whether the site does what a step says.
-    fn shows<S: Site>(&self, step: Step<'_>, site: &mut S) -> bool {
-        match step {
-            Shows(now, version) => {
-                self.clock.now.store(now, SeqCst);
-                if self.twice {
-                    site.refresh();
-                }
-                site.refresh() == version
-            }
-            Gets(path, query, status, body) => self.is_answered(site, path, query, status, body),
-            ToWait(path, query, after, wait_ms) => {
-                site.wait_of(path.as_bytes(), query.map(str::as_bytes))
-                    == Some(Waits { after, wait_ms })
-            }
-            Goes(path) => site.wait_of(path.as_bytes(), None) == None,
-            Counted(counted) => sums(&self.counters.counts()) == counted,
-            _ => false,
-        }
-    }
-
-    /// Whether a step goes as it should with the agent or the site.
-    fn goes<A: AgentName, S: Site>(
-        &self,
-        step: Step<'_>,
-        pass: &mut Pass<'_, A>,
-        site: &mut S,
-    ) -> bool {
-        match self.happens(step, pass) {
-            Some(went) => went,
-            None => self.shows(step, site),
-        }
-    }
-}
-
-/// Whether an answer has this status and this body, in JSON.
-fn is_of(answer: &Answer, status: Status, body: &str) -> bool {
-    answer.status == status
-        && answer.kind == Kind::Json
-        && answer.body.as_slice() == body.as_bytes()
-}
-
-/// The counts that the steps name.
-fn sums(counts: &Counts) -> [u64; 7] {
-    [
-        counts.sent,
-        counts.probes_begun,
-        counts.probes_failed,
-        counts.probes_helped,
-        counts.suspicions_raised,
-        counts.suspicions_refuted,
-        counts.history_entries,
-    ]
-}
-
-/// Does the steps with a pass and a site. Returns the index of the first that went otherwise.
-fn first_unmet<A: AgentName, S: Site, R: Wait>(
-    doing: &Doing<'_, R>,
-    pass: &mut Pass<'_, A>,
-    site: &mut S,
-    steps: &[Step<'_>],
-) -> Option<usize> {
-    for (index, step) in steps.iter().enumerate() {
-        let met = doing.goes(*step, pass, site) || doing.twice && doing.goes(*step, pass, site);
-        if !met {
-            return Some(index);
-        }
-    }
-    None
-}
-
-/// Does the steps with two passes of an agent: one that hears, and one that the site looks with. There is no outcome if
-/// memory was refused.
-fn play_with<A: AgentName, R: Wait>(
-    rt: &R,
-    alloc: Global,
-    passes: Vec<Pass<'_, A>>,
-    config: &Config,
-    steps: &[Step<'_>],
-    twice: bool,
-) -> Option<Option<usize>> {
-    let mut passes = passes;
-    let mut hearer = passes.pop()?;
-    let clock = SetClock {
-        now: AtomicU64::new(0),
-    };
-    let counters = Counters::new(letter(b'b'), at(0));
-    let basis = SiteBasis {
-        alloc,
-        clock: &clock,
-        counters: &counters,
-        config: ShownConfig {
-            config: config.copy(),
-            numbers: Vec::new(alloc),
-            status: None,
-            status_open: false,
-        },
-    };
-    let mut site = NodeSite::new(passes.pop()?, basis).ok()?;
-    let doing = Doing {
-        rt,
-        alloc,
-        clock: &clock,
-        counters: &counters,
-        twice,
-    };
-    Some(first_unmet(&doing, &mut hearer, &mut site, steps))
-}
-
-/// Opens an agent of two places, and does the steps with it.
-fn play_in<A: AgentName, R: Wait>(
-    rt: &R,
-    alloc: Global,
-    book: UnnamedBook,
-    places: usize,
-    steps: &[Step<'_>],
-    twice: bool,
-) -> Option<Option<usize>>
-    requires book { book.seen.book ≡ A.book }
-    requires places { (places ≡ A.places) × (places ≡ 2) }
-{
-    let config = Config::new(letter(b'b'), local(7000));
-    let mut agent = Agent::<A>::open(rt, alloc, book, at(0), config.copy(), places).ok()?;
-    let outcome = match agent.passes(alloc) {
-        Ok(passes) => play_with(rt, alloc, passes, &config, steps, twice),
-        Err(_) => None,
-    };
-    agent.abandon(rt);
-    outcome
-}
-
-/// Does the steps with an agent of its own. If memory may be refused, steps are done twice.
-fn play<R: Wait>(rt: &R, alloc: Global, steps: &[Step<'_>], twice: bool) -> Option<Option<usize>> {
-    play_in::<Brand, R>(rt, alloc, UnnamedBook::new(), 2, steps, twice)
-}
 
 #[test]
 fn shows_what_looks_find(rt: HostRuntime) {

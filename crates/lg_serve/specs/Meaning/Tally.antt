@@ -1,5 +1,5 @@
 -- What one reply counts for the metrics of a node.
-use Rattle.std.specs.Prelude.{ℕ, Bool, true, false, ◌&&◌, is_none, List, Option, Some, None, count_by}
+use Rattle.std.specs.Prelude.{ℕ, ◌-◌, length, Bool, true, false, ◌&&◌, is_none, List, Option, Some, None, count_by}
 use Rattle.std.specs.List.{list_any}
 use Rattle.std.specs.Str.{bytes_eq}
 use Rattle.lg_rules.specs.declared.claim.Claim.{Claim}
@@ -13,6 +13,7 @@ use Rattle.lg_timers.specs.declared.timer.TimerId.TheVariants.{RoundStart, Direc
 use Rattle.lg_detector.specs.declared.reply.Outgoing.{Outgoing}
 use Rattle.lg_detector.specs.declared.reply.Reply.{Reply}
 use Rattle.lg_serve.specs.declared.tally.Tally.{Tally}
+use Rattle.lg_serve.specs.declared.noted.Noted.{Noted}
 
 -- whether a packet is a Ping, and whether a reply sends one
 abbrev pub is_ping_body : Body → Bool
@@ -62,4 +63,12 @@ tally_of name r = record {
   probe_helped = pings r && is_none r.fired;
   suspicions_raised = count_by is_suspected r.changed.items;
   refuted = list_any (is_of_member name) r.changed.items;
+}
+
+-- What a node counts of a reply of which so many packets weren't sent: the others were.
+abbrev pub noted_of : List ℕ → Reply → ℕ → Noted
+noted_of name r unsent = record {
+  sent = length r.sends.items - unsent;
+  unsent = unsent;
+  tally = tally_of name r;
 }
