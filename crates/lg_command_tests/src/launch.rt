@@ -2,6 +2,7 @@
 //! or while memory is refused.
 mod checks;
 mod ends;
+mod keys;
 mod order;
 mod starts;
 mod told;

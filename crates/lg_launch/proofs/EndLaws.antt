@@ -1,7 +1,7 @@
 -- What is written and told at the end of a node, by the steps to it.
 use Rattle.std.proofs.Common.{◌≡◌, ℕ, Bool, true, false, List, Option, Result, Ok, Err, MatchResult, OnErr, is_some, refl, ap, sym, ◌∙◌, subst}
 use Rattle.lg_config.specs.declared.node.NodeConfig.{NodeConfig}
-use Rattle.lg_text.specs.Meaning.Running.{AppendsFront}
+use Rattle.lg_text.specs.Meaning.Reporting.{Reported, Reports}
 use Rattle.lg_text.specs.declared.fault.RunFault.{RunFault}
 use Rattle.lg_node.specs.declared.node.NodeEnd.{NodeEnd}
 use Rattle.lg_node.specs.declared.node.NodeFault.{NodeFault}
@@ -19,13 +19,13 @@ end-written contents false before between after ran written same wrote =
     subst (λ w. Writes w after (contents w) (contents after) (table_at_end ran) written) (same refl) wrote
 
 -- two lines that are told are two others that are the same
-pub both-as : (reported reports : Option (List ℕ)) (first first' second second' : List ℕ) → ReportsBoth reported reports first second → first ≡ first' → second ≡ second'
+pub both-as : (reported reports : Reported) (first first' second second' : List ℕ) → ReportsBoth reported reports first second → first ≡ first' → second ≡ second'
     → ReportsBoth reported reports first' second'
 both-as reported reports first first' second second' both same same' =
     record {
       between = both.between;
-      first_taken = subst (λ line. AppendsFront reported both.between line) same both.first_taken;
-      second_taken = subst (λ line. AppendsFront both.between reports line) same' both.second_taken;
+      first_taken = subst (λ line. Reports reported both.between line) same both.first_taken;
+      second_taken = subst (λ line. Reports both.between reports line) same' both.second_taken;
     }
 
 -- a node that didn't follow ran, whatever bytes a writer had taken

@@ -3,37 +3,36 @@
 //! Defined in: `specs/Meaning/Checking.antt`, `lg_check/specs/Meaning/Checks.antt`.
 //! Tested in: `cases/check.case`, `lg_command_tests/src/launch/checks.rt`.
 ghost use Rattle.std.specs.Prelude.{◌≡◌};
-ghost use Rattle.lg_text.specs.Meaning.Running.{AppendsFront};
 ghost use Rattle.lg_timing.specs.Meaning.Config.{IsChecked};
 ghost use Rattle.lg_check.specs.Meaning.Checks.{check_text};
 ghost use Rattle.lg_launch.specs.Meaning.Checking.{check_told, ChecksBytes, ChecksFile, ChecksNode, WritesText};
 
-use crate::file::file_bytes;
-use crate::reporting::{tell, tell_fault};
+use crate::file::{file_bytes, tell_no_bytes};
+use crate::reporting::{tell, tell_both, tell_fault};
 use crate::told::Told;
 use lg_check::check_text;
 use lg_config::{NodeConfig, ReadFault};
-use lg_text::{RunFault, write_whole};
+use lg_text::{FaultStream, RunFault, write_whole};
 use std::alloc::Global;
 use std::io::Write;
 use std::rt::Files;
 
 /// Checks a configuration file, as [`check_bytes`] does its bytes.
 ///
-/// At most 65,537 bytes of the file are read. A file that can't be read is told by [`Told::Read`]. Memory that is
-/// refused for its bytes is told by [`Told::Memory`]. In both cases nothing is written. No contract can say what a
-/// file holds.
+/// At most 65,537 bytes of the file are read. A file that can't be read is told by [`Told::Read`], and a second line
+/// names it, and says why. Memory that is refused for its bytes is told by [`Told::Memory`]. In both cases nothing is
+/// written. No contract can say what a file holds.
 pub fn check_file<R, W, F>(rt: &R, alloc: Global, path: &str, writer: &mut W, faults: &mut F) -> u8
 where
     R: Files,
     W: Write,
-    F: Write,
+    F: FaultStream,
     ensures { ChecksFile writer.old writer.new (W.contents writer.old) (W.contents writer.new)
-        (F.contents faults.old) (F.contents faults.new) result }
+        (F.reported faults.old) (F.reported faults.new) path.now result }
 {
     match file_bytes(rt, alloc, path) {
         Ok(bytes) => check_bytes(alloc, &bytes, writer, faults),
-        Err(fault) => tell(Told::from(fault), faults),
+        Err(none) => tell_no_bytes(alloc, path, none, faults),
     }
 }
 
@@ -42,13 +41,14 @@ where
 ///
 /// Bytes that mean no configuration are told by [`Told::Config`], as [`NodeConfig::read`] answers, and a second line
 /// says in words what is wrong with them. Memory that is refused is told by [`Told::Memory`]. In both cases nothing is
-/// written. A text that isn't written whole is told by [`Told::Write`]; a beginning of it may have been.
+/// written. A text that isn't written whole is told by [`Told::Write`], with a second line; a beginning of it may have
+/// been.
 pub fn check_bytes<W, F>(alloc: Global, bytes: &[u8], writer: &mut W, faults: &mut F) -> u8
 where
     W: Write,
-    F: Write,
+    F: FaultStream,
     ensures { ChecksBytes writer.old writer.new (W.contents writer.old) (W.contents writer.new)
-        (F.contents faults.old) (F.contents faults.new) bytes.now result }
+        (F.reported faults.old) (F.reported faults.new) bytes.now result }
 {
     match NodeConfig::read(alloc, bytes) {
         Ok(node) => check_config(alloc, &node, writer, faults),
@@ -61,13 +61,13 @@ where
 fn check_config<W, F>(alloc: Global, node: &NodeConfig, writer: &mut W, faults: &mut F) -> u8
 where
     W: Write,
-    F: Write,
+    F: FaultStream,
     requires { IsChecked node.now.config }
     ensures { ChecksNode writer.old writer.new (W.contents writer.old) (W.contents writer.new)
-        (F.contents faults.old) (F.contents faults.new) node.now result }
+        (F.reported faults.old) (F.reported faults.new) node.now result }
 {
-    let written = write_check(alloc, node, writer);
-    tell(told_of(written), faults)
+    let told = told_of(write_check(alloc, node, writer));
+    tell_both(told, told.second(), faults)
 }
 
 /// Writes what a configuration means. The whole text is made before its first byte is written.

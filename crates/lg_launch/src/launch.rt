@@ -6,7 +6,8 @@
 ghost use Rattle.std.specs.Prelude.{◌≡◌, ◌⊎◌, ℕ, List, [], Err, false, MatchResult, OnErr, OnOk, string_bytes};
 ghost use Rattle.std.specs.Option.{option_map};
 ghost use Rattle.lg_timing.specs.Meaning.Config.{IsChecked};
-ghost use Rattle.lg_launch.specs.Meaning.Running.{table_wished, Announces, HasRun, IsSecond, RunsBytes};
+ghost use Rattle.lg_launch.specs.declared.told.Told.{Told as OneTold};
+ghost use Rattle.lg_launch.specs.Meaning.Running.{end_second, table_wished, Announces, HasRun, IsSecond, RunsBytes};
 ghost use Rattle.lg_launch.specs.Meaning.Running.{RunsFile, RunsKeyed, RunsNode, RunsOrRefused, Writes};
 ghost use Rattle.lg_launch.specs.Meaning.Wishes.{end_wished};
 ghost use Rattle.lg_node.specs.Meaning.Nodes.{IsEarly};
@@ -14,7 +15,7 @@ ghost use Rattle.lg_launch.specs.Meaning.Reporting.{ReportsBoth};
 ghost use Rattle.lg_launch.specs.Meaning.Telling.{line_of, status_told};
 ghost use Rattle.lg_launch.specs.Meaning.Words.{link_reason, start_line};
 
-use crate::file::file_bytes;
+use crate::file::{file_bytes, tell_no_bytes};
 use crate::key_file::{keys_at, tell_no_keys};
 use crate::reporting::{tell, tell_both, tell_fault};
 use crate::telling::table_of;
@@ -26,7 +27,8 @@ use lg_key::Keys;
 use lg_node::{NodeEnd, NodeFault, Settings, run_node};
 use lg_report::put_table;
 use lg_rules::{Addr, Record};
-use lg_text::{RunFault, report, write_whole};
+use lg_serve::Served;
+use lg_text::{FaultStream, RunFault, report, write_whole};
 use std::alloc::{AllocError, Global};
 use std::io::{ErrorKind, Write};
 use std::net::Net;
@@ -39,9 +41,9 @@ use std::thread::Threads;
 
 /// Runs the node of the configuration file that the wishes name, as [`run_bytes`] does from its bytes.
 ///
-/// At most 65,537 bytes of the file are read. A file that can't be read is told by [`Told::Read`]. Memory that is
-/// refused for its bytes is told by [`Told::Memory`]. In both cases nothing is written. No contract can say what a
-/// file holds.
+/// At most 65,537 bytes of the file are read. A file that can't be read is told by [`Told::Read`], and a second line
+/// names it, and says why. Memory that is refused for its bytes is told by [`Told::Memory`]. In both cases nothing is
+/// written. No contract can say what a file holds.
 pub fn run_file<R, W, F>(
     rt: &R,
     alloc: Global,
@@ -53,22 +55,23 @@ pub fn run_file<R, W, F>(
 where
     R: Wait + Threads + Net + rt::Clock + Files + RandomSource + Sync,
     W: Write + Send,
-    F: Write,
+    F: FaultStream,
     ensures { RunsFile writer.old writer.new (W.contents writer.old) (W.contents writer.new)
-        (F.contents faults.old) (F.contents faults.new) wishes.now.file.now wishes.now.until wishes.now.follow
+        (F.reported faults.old) (F.reported faults.new) wishes.now.file.now wishes.now.until wishes.now.follow
         result }
 {
     match file_bytes(rt, alloc, wishes.file) {
         Ok(bytes) => run_bytes(rt, alloc, &bytes, wishes, stop, writer, faults),
-        Err(fault) => tell(Told::from(fault), faults),
+        Err(none) => tell_no_bytes(alloc, wishes.file, none, faults),
     }
 }
 
 /// Runs the node that the bytes of a configuration file mean, as [`run_config`] does, with the keys of the file that it
 /// names, if it names one.
 ///
-/// A key file that gives none is told by [`Told::Key`], and a second line says why: it can't be read, others than
-/// its owner may use it, or it spells no keys. At most 131 bytes of it are read. No contract can say what it holds.
+/// A key file that gives none is told by [`Told::Key`], and a second line says why: it can't be read, it is no regular
+/// file, it belongs to another user, others than its owner may use it, or it spells no keys. At most 131 bytes of it
+/// are read. No contract can say what it holds.
 ///
 /// Bytes that mean no configuration are told by [`Told::Config`], as [`NodeConfig::read`] answers, and a second line
 /// says in words what is wrong with them. Memory that is refused for them is told by [`Told::Memory`]. In both cases
@@ -85,9 +88,9 @@ pub fn run_bytes<R, W, F>(
 where
     R: Wait + Threads + Net + rt::Clock + Files + RandomSource + Sync,
     W: Write + Send,
-    F: Write,
+    F: FaultStream,
     ensures { RunsBytes writer.old writer.new (W.contents writer.old) (W.contents writer.new)
-        (F.contents faults.old) (F.contents faults.new) bytes.now wishes.now.file.now wishes.now.until
+        (F.reported faults.old) (F.reported faults.new) bytes.now wishes.now.file.now wishes.now.until
         wishes.now.follow result }
 {
     match NodeConfig::read(alloc, bytes) {
@@ -110,10 +113,10 @@ fn run_keyed<R, W, F>(
 where
     R: Wait + Threads + Net + rt::Clock + Files + RandomSource + Sync,
     W: Write + Send,
-    F: Write,
+    F: FaultStream,
     requires { IsChecked node.now.config }
     ensures { RunsKeyed writer.old writer.new (W.contents writer.old) (W.contents writer.new)
-        (F.contents faults.old) (F.contents faults.new) wishes.now.file.now node.now wishes.now.until
+        (F.reported faults.old) (F.reported faults.new) wishes.now.file.now node.now wishes.now.until
         wishes.now.follow result }
 {
     match keys_at(rt, alloc, &node.key_file) {
@@ -134,8 +137,8 @@ where
 /// Otherwise, if both loops stopped or the node was ousted, the members are written as
 /// [`put_table`](lg_report::put_table) does, a line each. In all other cases nothing is written. A socket that can't be
 /// bound has a second line, which says to which address and why. So has a status server, and one that ended before the
-/// node. A line that `faults` doesn't take is dropped. The configuration has to be checked. Apart from what the node
-/// allocates, memory is allocated only for these texts.
+/// node, and so have members that couldn't be written. A line that `faults` doesn't take is dropped. The configuration
+/// has to be checked. Apart from what the node allocates, memory is allocated only for these texts.
 ///
 /// What is said of bytes holds for writers that tell their bytes, as those over memory do.
 pub fn run_config<R, W, F>(
@@ -151,10 +154,10 @@ pub fn run_config<R, W, F>(
 where
     R: Wait + Threads + Net + rt::Clock + RandomSource + Sync,
     W: Write + Send,
-    F: Write,
+    F: FaultStream,
     requires { IsChecked node.now.config }
     ensures { RunsOrRefused writer.old writer.new (W.contents writer.old) (W.contents writer.new)
-        (F.contents faults.old) (F.contents faults.new) wishes.now.file.now node.now wishes.now.until
+        (F.reported faults.old) (F.reported faults.new) wishes.now.file.now node.now wishes.now.until
         wishes.now.follow result }
 {
     match announce(alloc, wishes, node, faults) {
@@ -164,14 +167,14 @@ where
 }
 
 /// Announces a node, if it is to be announced. If memory for the line is refused, nothing is reported.
-fn announce<F: Write>(
+fn announce<F: FaultStream>(
     alloc: Global,
     wishes: &Wishes<'_>,
     node: &NodeConfig,
     faults: &mut F,
 ) -> Result<(), AllocError>
-    ensures said { OnOk result (Announces wishes.now.until wishes.now.follow (F.contents faults.old)
-        (F.contents faults.new) (start_line wishes.now.file.now node.now)) }
+    ensures said { OnOk result (Announces wishes.now.until wishes.now.follow (F.reported faults.old)
+        (F.reported faults.new) (start_line wishes.now.file.now node.now)) }
     ensures refused { OnErr result (faults.new ≡ faults.old) }
 {
     if is_announced(wishes) {
@@ -195,10 +198,10 @@ fn run_announced<R, W, F>(
 where
     R: Wait + Threads + Net + rt::Clock + RandomSource + Sync,
     W: Write + Send,
-    F: Write,
+    F: FaultStream,
     requires { IsChecked node.now.config }
     ensures { RunsNode writer.old writer.new (W.contents writer.old) (W.contents writer.new)
-        (F.contents faults.old) (F.contents faults.new) node.now wishes.now.until wishes.now.follow result }
+        (F.reported faults.old) (F.reported faults.new) node.now wishes.now.until wishes.now.follow result }
 {
     let ran = run(rt, alloc, node, keys, wishes, stop, writer);
     let written = write_table(alloc, &ran, wishes.follow, writer);
@@ -249,7 +252,7 @@ fn bind_line(alloc: Global, addr: Addr, kind: ErrorKind) -> String
 
 /// The second line of a node that couldn't be bound. It is empty if there is none, or if memory for it was refused.
 fn fault_line(alloc: Global, node: &NodeConfig, fault: &NodeFault) -> String
-    ensures { IsSecond node.now (Err fault.now) (string_bytes result) }
+    ensures { (told : OneTold) → IsSecond node.now (Err fault.now) told (string_bytes result) }
 {
     match (fault, node.status) {
         (NodeFault::Socket(kind), _) => bind_line(alloc, node.config.addr, *kind),
@@ -258,20 +261,30 @@ fn fault_line(alloc: Global, node: &NodeConfig, fault: &NodeFault) -> String
     }
 }
 
+/// The second line of a node whose loops had begun. It is empty if there is none.
+fn end_second(told: Told, served: Option<Served>) -> &'static str
+    ensures { result.now ≡ end_second told served }
+{
+    match told {
+        Told::Write => told.second(),
+        _ => served_line(served),
+    }
+}
+
 /// Reports what is told of a node that was run, with the second line if there is one, and gives the status.
-fn tell_run<F: Write>(
+fn tell_run<F: FaultStream>(
     alloc: Global,
     node: &NodeConfig,
     ran: &Result<NodeEnd, NodeFault>,
     told: Told,
     faults: &mut F,
 ) -> u8
-    ensures lines { (second : List ℕ) × IsSecond node.now ran.now second
-        × ReportsBoth (F.contents faults.old) (F.contents faults.new) (line_of told) second }
+    ensures lines { (second : List ℕ) × IsSecond node.now ran.now told second
+        × ReportsBoth (F.reported faults.old) (F.reported faults.new) (line_of told) second }
     ensures status { result ≡ status_told told }
 {
     match ran {
-        Ok(end) => tell_both(told, served_line(end.served), faults),
+        Ok(end) => tell_both(told, end_second(told, end.served), faults),
         Err(fault) => {
             let line = fault_line(alloc, node, fault);
             tell_both(told, line.as_str(), faults)

@@ -17,7 +17,8 @@ mod wishes;
 mod words;
 
 pub use checking::{check_bytes, check_file};
-pub use key_file::NoKeys;
+pub use file::NoBytes;
+pub use key_file::{NoKeys, keys_at};
 pub use launch::{run_bytes, run_config, run_file};
 pub use told::{MAX_LINE, Told};
 pub use wishes::Wishes;

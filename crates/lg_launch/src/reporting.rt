@@ -3,28 +3,25 @@
 //! Defined in: `specs/Meaning/Reporting.antt`.
 //! Tested in: `cases/node.case`, `cases/config_reasons.case`.
 ghost use Rattle.std.specs.Prelude.{◌≡◌};
-ghost use Rattle.lg_text.specs.Meaning.Running.{AppendsFront};
-ghost use Rattle.lg_launch.specs.Meaning.Reporting.{ReportsBoth, TellsFault};
+ghost use Rattle.lg_launch.specs.Meaning.Reporting.{ReportsBoth, TellsFault, TellsLine};
 ghost use Rattle.lg_launch.specs.Meaning.Telling.{line_of, status_told};
 
 use crate::told::Told;
 use lg_config::{FileFault, reason};
-use lg_text::report;
+use lg_text::{FaultStream, report};
 use std::alloc::Global;
-use std::io::Write;
 
 /// Reports what is told, and gives its status.
-pub(crate) fn tell<F: Write>(told: Told, faults: &mut F) -> u8
-    ensures line { AppendsFront (F.contents faults.old) (F.contents faults.new) (line_of told) }
-    ensures status { result ≡ status_told told }
+pub(crate) fn tell<F: FaultStream>(told: Told, faults: &mut F) -> u8
+    ensures { TellsLine (F.reported faults.old) (F.reported faults.new) told result }
 {
     report(faults, told.line().as_str());
     told.status()
 }
 
 /// Reports what is told and a second line, and gives the status.
-pub(crate) fn tell_both<F: Write>(told: Told, second: &str, faults: &mut F) -> u8
-    ensures lines { ReportsBoth (F.contents faults.old) (F.contents faults.new) (line_of told) second.now }
+pub(crate) fn tell_both<F: FaultStream>(told: Told, second: &str, faults: &mut F) -> u8
+    ensures lines { ReportsBoth (F.reported faults.old) (F.reported faults.new) (line_of told) second.now }
     ensures status { result ≡ status_told told }
 {
     report(faults, told.line().as_str());
@@ -34,13 +31,13 @@ pub(crate) fn tell_both<F: Write>(told: Told, second: &str, faults: &mut F) -> u
 
 /// Reports a faulty configuration file in two lines: the number of its fault, and in words what is wrong. If memory for
 /// the words is refused, only the first is reported.
-pub(crate) fn tell_fault<F: Write>(
+pub(crate) fn tell_fault<F: FaultStream>(
     alloc: Global,
     bytes: &[u8],
     fault: FileFault,
     faults: &mut F,
 ) -> u8
-    ensures { TellsFault (F.contents faults.old) (F.contents faults.new) bytes.now fault result }
+    ensures { TellsFault (F.reported faults.old) (F.reported faults.new) bytes.now fault result }
 {
     match reason(alloc, bytes, fault) {
         Ok(line) => tell_both(Told::Config(fault), line.as_str(), faults),

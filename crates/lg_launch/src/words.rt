@@ -1,9 +1,11 @@
-//! The lines in words: who starts, why a socket can't be bound, and why a status server ended early.
+//! The lines in words: who starts, why a socket can't be bound, why a file can't be read, and why a status server ended
+//! early.
 //!
 //! Defined in: `specs/Meaning/Words.antt`.
 //! Tested in: `lg_command_tests/src/launch/starts.rt`, `cases/node.case`.
 ghost use Rattle.std.specs.Prelude.{◌≡◌, IfOk, string_bytes};
-ghost use Rattle.lg_launch.specs.Meaning.Words.{bind_words, link_reason, seed_count, served_line, start_line};
+ghost use Rattle.lg_launch.specs.Meaning.Words.{bind_words, link_reason, read_reason, read_words};
+ghost use Rattle.lg_launch.specs.Meaning.Words.{seed_count, served_line, start_line};
 
 use lg_check::{addr_text, text_of_name};
 use lg_config::NodeConfig;
@@ -57,6 +59,27 @@ pub(crate) fn link_reason(alloc: Global, addr: Addr, kind: ErrorKind) -> Result<
     let addr = addr_text(alloc, addr)?;
     let words = bind_words(kind);
     format!(in alloc; "{addr} can't be bound: {words}\n")
+}
+
+/// Why a file can't be read.
+fn read_words(kind: ErrorKind) -> &'static str
+    ensures { result.now ≡ read_words kind }
+{
+    match kind {
+        ErrorKind::NotFound => "there is no such file",
+        ErrorKind::IsADirectory => "it is a folder",
+        ErrorKind::NotADirectory => "a part of its path is no folder",
+        ErrorKind::PermissionDenied => "permission is denied",
+        _ => "the machine refuses it",
+    }
+}
+
+/// The reason of a file that can't be read, as a line. Allocates the line; the only error is that memory was refused.
+pub(crate) fn read_reason(alloc: Global, file: &str, kind: ErrorKind) -> Result<String, AllocError>
+    ensures { IfOk result (λ text. string_bytes text ≡ read_reason file.now kind) }
+{
+    let words = read_words(kind);
+    format!(in alloc; "the file {file} can't be read: {words}\n")
 }
 
 /// Why a status server ended before its node, as a line. It is empty if it was told to stop, or if there was none.

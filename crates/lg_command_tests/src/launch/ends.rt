@@ -103,11 +103,14 @@ where
     Ok(outcome.is(status, written.as_slice(), told))
 }
 
+/// What is told if the members can't be written.
+const UNWRITTEN: &str = "lg: write\nstandard output can't be written\n";
+
 /// A node alone and a seeded one. An output that fails at its first byte, at a later one, and at the flush after the
 /// 33 bytes of the table. Files that can't be read or mean no configuration: no such file, a path that is none, an
-/// empty path, a folder, an empty file and one without an end. Key files that give none: no such file, and one that
-/// others than its owner can use.
-const ROWS: [Row; 13] = [
+/// empty path, a folder, an empty file and one without an end. Key files that give none: no such file, a device, and a
+/// file that others than its owner can use.
+const ROWS: [Row; 14] = [
     (
         Bytes("name = \"b\"\nport = #"),
         0,
@@ -122,19 +125,43 @@ const ROWS: [Row; 13] = [
         "record a alive 0 127.0.0.1:17199\nrecord b alive 0 127.0.0.1:#\n",
         "",
     ),
-    (Bytes("name = \"b\"\nport = #"), 1, 1, "", "lg: write\n"),
-    (Bytes("name = \"b\"\nport = #"), 4, 1, "rec", "lg: write\n"),
+    (Bytes("name = \"b\"\nport = #"), 1, 1, "", UNWRITTEN),
+    (Bytes("name = \"b\"\nport = #"), 4, 1, "rec", UNWRITTEN),
     (
         Bytes("name = \"b\"\nport = #"),
         34,
         1,
         "record b alive 0 127.0.0.1:#\n",
-        "lg: write\n",
+        UNWRITTEN,
     ),
-    (Path("/nowhere/b.toml"), 0, 1, "", "lg: read\n"),
-    (Path("b\0.toml"), 0, 1, "", "lg: read\n"),
-    (Path(""), 0, 1, "", "lg: read\n"),
-    (Path("/"), 0, 1, "", "lg: read\n"),
+    (
+        Path("/nowhere/b.toml"),
+        0,
+        1,
+        "",
+        "lg: read\nthe file /nowhere/b.toml can't be read: there is no such file\n",
+    ),
+    (
+        Path("b\0.toml"),
+        0,
+        1,
+        "",
+        "lg: read\nthe file b\0.toml can't be read: the machine refuses it\n",
+    ),
+    (
+        Path(""),
+        0,
+        1,
+        "",
+        "lg: read\nthe file  can't be read: there is no such file\n",
+    ),
+    (
+        Path("/"),
+        0,
+        1,
+        "",
+        "lg: read\nthe file / can't be read: it is a folder\n",
+    ),
     (
         Path("/dev/null"),
         0,
@@ -158,6 +185,13 @@ const ROWS: [Row; 13] = [
     ),
     (
         Bytes("name = \"b\"\nport = #\nkey_file = \"/dev/null\""),
+        0,
+        9,
+        "",
+        "lg: key\nthe key file is no regular file\n",
+    ),
+    (
+        Bytes("name = \"b\"\nport = #\nkey_file = \"/proc/self/stat\""),
         0,
         9,
         "",

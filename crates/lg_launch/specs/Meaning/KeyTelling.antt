@@ -1,13 +1,41 @@
--- What is told of a key file that gives none (this project's choice).
-use Rattle.std.specs.Prelude.{◌≡◌, ℕ, List, [], ◌++◌, codes, decimal, Option}
-use Rattle.lg_text.specs.Meaning.Running.{AppendsFront}
+-- Which file gives keys, and what is told of one that gives none (this project's choice).
+use Rattle.std.specs.Prelude.{◌≡◌, ℕ, ◌==◌, Bool, ◌||◌, not, bit_and, List, [], ◌++◌, codes, decimal}
+use Rattle.std.specs.Prelude.{Option, Some, None, if◌then◌else◌}
+use Rattle.lg_text.specs.Meaning.Reporting.{Reported}
 use Rattle.lg_key.specs.declared.fault.KeyFault.{KeyFault}
 use Rattle.lg_key.specs.declared.fault.KeyFault.TheVariants.{NoKey, BadLine, TooManyLines, SameKeys}
 use Rattle.lg_launch.specs.declared.key_file.NoKeys.{NoKeys}
 use Rattle.lg_launch.specs.declared.key_file.NoKeys.TheVariants as none
 use Rattle.lg_launch.specs.declared.told.Told.TheVariants.{Key, Memory}
-use Rattle.lg_launch.specs.Meaning.Reporting.{ReportsBoth}
+use Rattle.lg_launch.specs.Meaning.Reporting.{ReportsBoth, TellsLine}
 use Rattle.lg_launch.specs.Meaning.Telling.{line_of, status_told}
+
+-- the bits of a mode by which others than its owner may read a file, write to it or run it
+abbrev pub others : ℕ
+others = 0o077
+
+-- whether a file belongs to root, whose number is 0, or to the user who runs the node, if it is known who that is
+abbrev pub is_owner : Option ℕ → ℕ → Bool
+is_owner None owner = owner == 0
+is_owner (Some user) owner = (owner == 0) || (owner == user)
+
+-- Why an opened file gives no keys, by whether it is a regular file, its owner and its mode. The first of these counts:
+-- it is no regular file, it belongs to another user, others can use it.
+abbrev pub refusal_of : (is_file : Bool) (user : Option ℕ) (owner mode : ℕ) → Option NoKeys
+refusal_of is_file user owner mode =
+    if not is_file then Some none.Irregular
+    else if not (is_owner user owner) then Some none.Foreign
+    else if bit_and mode others == 0 then None
+    else Some none.Shared
+
+-- a file gives no text that could have keys
+abbrev pub IsTextless : NoKeys → Type 0
+IsTextless none.Memory = Unit {0}
+IsTextless none.Read = Unit {0}
+IsTextless none.Irregular = Unit {0}
+IsTextless none.Foreign = Unit {0}
+IsTextless none.Shared = Unit {0}
+IsTextless (none.Text fault) = ⊥
 
 -- line N of the key file isn't 64 hex digits
 abbrev pub bad_line : ℕ → List ℕ
@@ -24,22 +52,21 @@ key_fault_line SameKeys = codes "both keys of the key file are the same\n"
 abbrev pub no_keys_line : NoKeys → List ℕ
 no_keys_line none.Memory = []
 no_keys_line none.Read = codes "the key file can't be read\n"
+no_keys_line none.Irregular = codes "the key file is no regular file\n"
+no_keys_line none.Foreign = codes "the key file belongs to another user\n"
 no_keys_line none.Shared = codes "others than its owner can use the key file\n"
 no_keys_line (none.Text fault) = key_fault_line fault
 
 -- what is told in two lines
-pub record TellsKey (reported reports : Option (List ℕ)) (second : List ℕ) (status : ℕ) : Type 0 where
+pub record TellsKey (reported reports : Reported) (second : List ℕ) (status : ℕ) : Type 0 where
   pub lines : ReportsBoth reported reports (line_of Key) second
   pub is : status ≡ status_told Key
 
--- what is told in one
-pub record TellsMemory (reported reports : Option (List ℕ)) (status : ℕ) : Type 0 where
-  pub line : AppendsFront reported reports (line_of Memory)
-  pub is : status ≡ status_told Memory
-
 -- A file gives no keys: that memory was refused is told, or else why, in two lines.
-abbrev pub TellsNoKeys : (reported reports : Option (List ℕ)) → NoKeys → (status : ℕ) → Type 0
-TellsNoKeys reported reports none.Memory status = TellsMemory reported reports status
+abbrev pub TellsNoKeys : (reported reports : Reported) → NoKeys → (status : ℕ) → Type 0
+TellsNoKeys reported reports none.Memory status = TellsLine reported reports Memory status
 TellsNoKeys reported reports none.Read status = TellsKey reported reports (no_keys_line none.Read) status
+TellsNoKeys reported reports none.Irregular status = TellsKey reported reports (no_keys_line none.Irregular) status
+TellsNoKeys reported reports none.Foreign status = TellsKey reported reports (no_keys_line none.Foreign) status
 TellsNoKeys reported reports none.Shared status = TellsKey reported reports (no_keys_line none.Shared) status
 TellsNoKeys reported reports (none.Text fault) status = TellsKey reported reports (key_fault_line fault) status

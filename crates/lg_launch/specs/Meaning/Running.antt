@@ -5,7 +5,7 @@ use Rattle.std.specs.Option.{option_map}
 use Rattle.std.specs.Result.{result_ok}
 use Rattle.lg_rules.specs.declared.addr.Addr.{Addr}
 use Rattle.lg_rules.specs.declared.claim.Claim.{Claim}
-use Rattle.lg_text.specs.Meaning.Running.{AppendsFront}
+use Rattle.lg_text.specs.Meaning.Reporting.{Reported, Reports}
 use Rattle.lg_text.specs.declared.fault.RunFault.{RunFault}
 use Rattle.lg_report.specs.Meaning.Records.{table_text}
 use Rattle.lg_config.specs.declared.fault.ReadFault.{ReadFault}
@@ -15,15 +15,18 @@ use Rattle.lg_config.specs.Meaning.Answer.{IsAnswer}
 use Rattle.lg_node.specs.declared.node.NodeEnd.{NodeEnd}
 use Rattle.lg_node.specs.declared.node.NodeFault.{NodeFault}
 use Rattle.lg_node.specs.declared.node.NodeFault.TheVariants as node
+use Rattle.lg_serve.specs.declared.serving.Served.{Served}
 use Rattle.lg_node.specs.Meaning.Nodes.{IsRun, IsEarly}
 use Rattle.lg_node.specs.Meaning.Turns.{LinkValue}
 use Rattle.lg_node.specs.Meaning.Words.{seeded, DrawsEight}
-use Rattle.lg_launch.specs.declared.told.Told.TheVariants.{Memory, Read}
+use Rattle.lg_launch.specs.declared.file.NoBytes.{NoBytes}
+use Rattle.lg_launch.specs.declared.told.Told.{Told}
+use Rattle.lg_launch.specs.declared.told.Told.TheVariants.{Memory, Write}
 use Rattle.lg_launch.specs.Meaning.Checking.{WritesText}
 use Rattle.lg_launch.specs.declared.key_file.NoKeys.{NoKeys}
 use Rattle.lg_launch.specs.Meaning.KeyTelling.{TellsNoKeys}
-use Rattle.lg_launch.specs.Meaning.Reporting.{ReportsBoth, TellsAlone, TellsFault}
-use Rattle.lg_launch.specs.Meaning.Telling.{ending, line_of, run_told, status_told}
+use Rattle.lg_launch.specs.Meaning.Reporting.{ReportsBoth, TellsAlone, TellsFault, TellsNoBytes}
+use Rattle.lg_launch.specs.Meaning.Telling.{ending, line_of, run_told, second_of, status_told}
 use Rattle.lg_launch.specs.Meaning.Wishes.{end_wished, is_announced}
 use Rattle.lg_launch.specs.Meaning.Words.{link_reason, served_line, start_line}
 
@@ -55,22 +58,28 @@ WritesEnd true before after held holds table written = written ≡ Ok tt
 WritesEnd false before after held holds table written = Writes before after held holds table written
 
 -- A node is announced by this line, if it is to be, by the moment that was wished and whether it follows.
-abbrev pub AnnouncesIf : Bool → (reported reports : Option (List ℕ)) (line : List ℕ) → Type 0
-AnnouncesIf true reported reports line = AppendsFront reported reports line
+abbrev pub AnnouncesIf : Bool → (reported reports : Reported) (line : List ℕ) → Type 0
+AnnouncesIf true reported reports line = Reports reported reports line
 AnnouncesIf false reported reports line = reports ≡ reported
 
-abbrev pub Announces : Option ℕ → Bool → (reported reports : Option (List ℕ)) (line : List ℕ) → Type 0
+abbrev pub Announces : Option ℕ → Bool → (reported reports : Reported) (line : List ℕ) → Type 0
 Announces until follow reported reports line = AnnouncesIf (is_announced until follow) reported reports line
 
+-- The second line of a node whose loops had begun: that its table couldn't be written, or else why its status server
+-- ended before it.
+abbrev pub end_second : Told → Option Served → List ℕ
+end_second Write served = second_of Write
+end_second _ served = served_line served
+
 -- The second line of what is told of a node that was run: why its socket or that of its status server can't be bound,
--- or why its status server ended before it. If memory for it is refused, there is none.
-abbrev pub IsSecond : NodeConfig → Result NodeEnd NodeFault → List ℕ → Type 0
-IsSecond n (Err (node.Socket kind)) second = (second ≡ []) ⊎ (second ≡ link_reason n.config.addr kind)
-IsSecond n (Err (node.Status kind)) second =
+-- or that of a node whose loops had begun. If memory for it is refused, there is none.
+abbrev pub IsSecond : NodeConfig → Result NodeEnd NodeFault → Told → List ℕ → Type 0
+IsSecond n (Err (node.Socket kind)) told second = (second ≡ []) ⊎ (second ≡ link_reason n.config.addr kind)
+IsSecond n (Err (node.Status kind)) told second =
     (second ≡ []) ⊎ ((addr : Addr) × (n.status ≡ Some addr) × (second ≡ link_reason addr kind))
-IsSecond n (Err node.Clock) second = second ≡ []
-IsSecond n (Err (node.Refused refusal)) second = second ≡ []
-IsSecond n (Ok e) second = second ≡ served_line e.served
+IsSecond n (Err node.Clock) told second = second ≡ []
+IsSecond n (Err (node.Refused refusal)) told second = second ≡ []
+IsSecond n (Ok e) told second = second ≡ end_second told e.served
 
 -- The node of a configuration ran until a moment. If it followed, its watcher wrote all that the writer gained. Its
 -- links tell nothing but their failures. Each loop counts its turns anew after 1,000,000,000.
@@ -84,7 +93,7 @@ HasRun n until follow held holds e =
 -- watcher wrote what it saw. Otherwise its table was written, if it was to be. What is told of it was reported, and a
 -- second line if there is one.
 pub record RunsNode
-    {W : Type 0} (before after : W) (held holds reported reports : Option (List ℕ)) (n : NodeConfig)
+    {W : Type 0} (before after : W) (held holds : Option (List ℕ)) (reported reports : Reported) (n : NodeConfig)
     (until : Option ℕ) (follow : Bool) (status : ℕ)
     : Type 0 where
   pub ran : Result NodeEnd NodeFault
@@ -93,23 +102,23 @@ pub record RunsNode
   pub run : MatchResult ran (HasRun n (end_wished until) follow held holds) (IsEarly n.config)
   pub unwritten : OnErr ran (after ≡ before)
   pub table : WritesEnd follow before after held holds (table_at_end ran) written
-  pub reason : IsSecond n ran second
+  pub reason : IsSecond n ran (run_told ran written) second
   pub lines : ReportsBoth reported reports (line_of (run_told ran written)) second
   pub is : status ≡ status_told (run_told ran written)
 
 -- The node of a configuration is announced, if it is to be, and run.
 pub record RunsAnnounced
-    {W : Type 0} (before after : W) (held holds reported reports : Option (List ℕ)) (file : List ℕ) (n : NodeConfig)
-    (until : Option ℕ) (follow : Bool) (status : ℕ)
+    {W : Type 0} (before after : W) (held holds : Option (List ℕ)) (reported reports : Reported) (file : List ℕ)
+    (n : NodeConfig) (until : Option ℕ) (follow : Bool) (status : ℕ)
     : Type 0 where
-  pub announced : Option (List ℕ)
+  pub announced : Reported
   pub start : Announces until follow reported announced (start_line file n)
   pub runs : RunsNode before after held holds announced reports n until follow status
 
 -- That is done, or memory for the announcement is refused, and that is told.
 abbrev pub RunsOrRefused :
-    {W : Type 0} → (before after : W) (held holds reported reports : Option (List ℕ)) (file : List ℕ) (n : NodeConfig)
-    (until : Option ℕ) (follow : Bool) (status : ℕ) → Type 0
+    {W : Type 0} → (before after : W) (held holds : Option (List ℕ)) (reported reports : Reported) (file : List ℕ)
+    (n : NodeConfig) (until : Option ℕ) (follow : Bool) (status : ℕ) → Type 0
 RunsOrRefused before after held holds reported reports file n until follow status =
     RunsAnnounced before after held holds reported reports file n until follow status
     ⊎ TellsAlone before after reported reports Memory status
@@ -117,15 +126,15 @@ RunsOrRefused before after held holds reported reports file n until follow statu
 -- That is done. Or the key file that the configuration names gives no keys, and it is told why. What a file holds no
 -- contract can say, nor that the node's link seals with its keys.
 abbrev pub RunsKeyed :
-    {W : Type 0} → (before after : W) (held holds reported reports : Option (List ℕ)) (file : List ℕ) (n : NodeConfig)
-    (until : Option ℕ) (follow : Bool) (status : ℕ) → Type 0
+    {W : Type 0} → (before after : W) (held holds : Option (List ℕ)) (reported reports : Reported) (file : List ℕ)
+    (n : NodeConfig) (until : Option ℕ) (follow : Bool) (status : ℕ) → Type 0
 RunsKeyed before after held holds reported reports file n until follow status =
     RunsOrRefused before after held holds reported reports file n until follow status
     ⊎ ((fault : NoKeys) × IsSome n.key_file × (after ≡ before) × TellsNoKeys reported reports fault status)
 
 -- A configuration that was read is run. If none was read, the reason is told.
 abbrev pub RunsConfig :
-    {W : Type 0} → (before after : W) (held holds reported reports : Option (List ℕ)) (bytes file : List ℕ)
+    {W : Type 0} → (before after : W) (held holds : Option (List ℕ)) (reported reports : Reported) (bytes file : List ℕ)
     → Result NodeConfig ReadFault → (until : Option ℕ) (follow : Bool) (status : ℕ) → Type 0
 RunsConfig before after held holds reported reports bytes file (Ok n) until follow status =
     RunsKeyed before after held holds reported reports file n until follow status
@@ -136,17 +145,18 @@ RunsConfig before after held holds reported reports bytes file (Err (File fault)
 
 -- The bytes of a file are read as a configuration, and the configuration is run.
 pub record RunsBytes
-    {W : Type 0} (before after : W) (held holds reported reports : Option (List ℕ)) (bytes file : List ℕ)
+    {W : Type 0} (before after : W) (held holds : Option (List ℕ)) (reported reports : Reported) (bytes file : List ℕ)
     (until : Option ℕ) (follow : Bool) (status : ℕ)
     : Type 0 where
   pub answer : Result NodeConfig ReadFault
   pub read : IsAnswer bytes answer
   pub runs : RunsConfig before after held holds reported reports bytes file answer until follow status
 
--- A file gives some bytes, and these are run. Or it can't be read, or memory is refused for it, and that is told.
+-- A file gives some bytes, and these are run. Or it gives none, since it can't be read or memory is refused for it;
+-- then nothing is written, and it is told why.
 abbrev pub RunsFile :
-    {W : Type 0} → (before after : W) (held holds reported reports : Option (List ℕ)) (file : List ℕ)
+    {W : Type 0} → (before after : W) (held holds : Option (List ℕ)) (reported reports : Reported) (file : List ℕ)
     (until : Option ℕ) (follow : Bool) (status : ℕ) → Type 0
 RunsFile before after held holds reported reports file until follow status =
-    TellsAlone before after reported reports Read status ⊎ TellsAlone before after reported reports Memory status
+    ((after ≡ before) × ((none : NoBytes) × TellsNoBytes reported reports file none status))
     ⊎ ((bytes : List ℕ) × RunsBytes before after held holds reported reports bytes file until follow status)

@@ -1,5 +1,5 @@
--- The lines in words: who starts, why a socket can't be bound, and why a status server ended early (this project's
--- choice).
+-- The lines in words: who starts, why a socket can't be bound, why a file can't be read, and why a status server ended
+-- early (this project's choice).
 use Rattle.std.specs.Prelude.{ℕ, ◌==◌, List, [], ◌++◌, codes, decimal, length, Option, Some, None, if◌then◌else◌}
 use Rattle.std.specs.declared.io.ErrorKind.{ErrorKind}
 use Rattle.std.specs.declared.io.ErrorKind.TheVariants as error
@@ -33,6 +33,18 @@ bind_words _ = codes "the machine refuses it"
 -- A.B.C.D:PORT can't be bound: WHY
 abbrev pub link_reason : Addr → ErrorKind → List ℕ
 link_reason addr kind = addr_text addr ++ (codes " can't be bound: " ++ (bind_words kind ++ newline))
+
+-- why a file can't be read, by the kind of the error
+abbrev pub read_words : ErrorKind → List ℕ
+read_words error.NotFound = codes "there is no such file"
+read_words error.IsADirectory = codes "it is a folder"
+read_words error.NotADirectory = codes "a part of its path is no folder"
+read_words error.PermissionDenied = codes "permission is denied"
+read_words _ = codes "the machine refuses it"
+
+-- the file FILE can't be read: WHY
+abbrev pub read_reason : List ℕ → ErrorKind → List ℕ
+read_reason file kind = codes "the file " ++ (file ++ (codes " can't be read: " ++ (read_words kind ++ newline)))
 
 -- why a status server ended before its node; there is no line if it was told to stop, or if there was none
 abbrev pub served_line : Option Served → List ℕ

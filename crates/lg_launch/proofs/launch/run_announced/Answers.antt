@@ -1,4 +1,5 @@
-use Rattle.std.proofs.Common.{ap, refl, ◌∙◌}
+use Rattle.std.proofs.Common.{ap, refl, subst, ◌∙◌}
+use Rattle.lg_launch.specs.Meaning.Running.{IsSecond}
 use Rattle.lg_launch.specs.Meaning.Wishes.{end_wished}
 use Rattle.lg_launch.specs.Meaning.Telling.{line_of, status_told}
 use Rattle.lg_launch.proofs.EndLaws.{both-as, end-written, run-written, unwritten-early}
@@ -20,7 +21,9 @@ returns g c =
       table =
           end-written g.W.Write.contents c.args.wishes.now.follow c.args.writer.now c.run-ran.new.writer c.write_table-written.new.writer
           c.run-ran.result c.write_table-written.result c.run-ran.ensures.alone c.write_table-written.ensures;
-      reason = c.tell_run.ensures.lines.1;
+      reason =
+          subst (λ told. IsSecond c.args.node.now c.run-ran.result told c.tell_run.ensures.lines.0) c.of.ensures
+          c.tell_run.ensures.lines.1;
       lines = both-as _ _ _ _ _ _ c.tell_run.ensures.lines.2 (ap line_of c.of.ensures) refl;
       is = c.tell_run.ensures.status ∙ ap status_told c.of.ensures;
     }
