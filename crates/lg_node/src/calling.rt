@@ -2,7 +2,7 @@
 //! An answered call writes its reply over the one that the loop keeps, and returns the position of its entry.
 //!
 //! Defined in: `lg_agent/specs/Meaning/Calls.antt`, `specs/Meaning/Turns.antt`.
-//! Tested in: `lg_node_tests/src/node/rotating.rt`.
+//! Tested in: `lg_node_tests/src/node/rotating.rt`, `lg_node_tests/src/node/receiving.rt`.
 ghost use Rattle.std.specs.Prelude.{◌≡◌, ◌⊎◌, ℕ, Ok, Err, MatchResult, IfOk, IfErr, OnErr};
 ghost use Rattle.lg_packet.specs.declared.fault.Fault.{Fault as Broken};
 ghost use Rattle.lg_packet.specs.declared.packet.Packet.{Packet as Read};
@@ -19,8 +19,8 @@ use lg_rules::Addr;
 use lg_timing::Moment;
 use std::sync::Wait;
 
-/// Rotates a pass whose call was refused, if that was because the history is full. The error means that the call
-/// isn't to be made again: it was refused for something else, or memory for the rotation was refused.
+/// Rotates a pass whose call was refused, if that was because the history is full, and counts that. The error means
+/// that the call isn't to be made again: it was refused for something else, or memory for the rotation was refused.
 fn make_room<A: AgentName, R: Wait, C>(
     shared: &Shared<'_, R, C>,
     pass: &mut Pass<'_, A>,
@@ -36,11 +36,7 @@ fn make_room<A: AgentName, R: Wait, C>(
             shared.counters.note_rotated();
             Ok(())
         }
-        Refusal::BadPacket(_) => Err(refusal),
-        _ => {
-            shared.counters.note_refused();
-            Err(refusal)
-        }
+        _ => Err(refusal),
     }
 }
 

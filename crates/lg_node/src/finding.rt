@@ -16,7 +16,6 @@ ghost use Rattle.lg_node.specs.Support.Acted.{Acted, IsDuty};
 use crate::agenda::Agenda;
 use crate::calling;
 use crate::dice::Dice;
-use crate::ending::Why;
 use crate::link::Link;
 use crate::plan::Plan;
 use crate::shared::{Shared, Side};
@@ -79,7 +78,7 @@ pub(crate) fn ask_seed<A: AgentName, R: Wait, L: Link, C>(
     agenda.note_seed();
     match calling::pull(shared, &mut side.pass, now, peer, reply) {
         Ok(_) => Turned::of(shared, &mut side.link, now, reply),
-        Err(refusal) => Turned::end(Why::Refused(refusal)),
+        Err(refusal) => Turned::refused(shared, refusal),
     }
 }
 
@@ -134,6 +133,6 @@ pub(crate) fn ask_member<A: AgentName, R: Wait, L: Link, C, D: Dice>(
     let peer = chosen(records.as_slice(), &words);
     match calling::pull(shared, &mut side.pass, now, peer, reply) {
         Ok(_) => Turned::of(shared, &mut side.link, now, reply),
-        Err(refusal) => Turned::end(Why::Refused(refusal)),
+        Err(refusal) => Turned::refused(shared, refusal),
     }
 }

@@ -59,7 +59,7 @@ fn hear<A: AgentName, R: Wait, L: Link, C>(
                 shared.counters.note_dropped(fault);
                 Turned::dropped()
             }
-            _ => Turned::end(Why::Refused(refusal)),
+            _ => Turned::refused(shared, refusal),
         },
     }
 }

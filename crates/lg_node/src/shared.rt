@@ -7,7 +7,7 @@ use left_right::Absorb;
 use lg_agent::{AgentName, Pass};
 use lg_detector::{Event, Reply};
 use lg_http::Signal;
-use lg_serve::Counters;
+use lg_serve::{Counters, Noted};
 use lg_timing::Moment;
 use lg_view::{Published, Update};
 use std::alloc::Global;
@@ -42,10 +42,10 @@ pub struct Shared<'a, R, C> {
 }
 
 impl<'a, R, C> Shared<'a, R, C> {
-    /// Counts a call that was answered at a moment by this reply, and wakes the status server if a record changed. So
-    /// many of the reply's packets weren't sent. Waits for nobody, and allocates nothing.
-    pub(crate) fn note_reply(&self, now: Moment, reply: &Reply, unsent: u64) {
-        self.counters.note_reply(now, reply, unsent);
+    /// Adds what a call counts that was answered at a moment by this reply, and wakes the status server if a record
+    /// changed. Waits for nobody, and allocates nothing.
+    pub(crate) fn note(&self, now: Moment, reply: &Reply, noted: &Noted) {
+        self.counters.note(now, noted);
         if let Some(signal) = self.signal
             && reply.changed.len() > 0
         {

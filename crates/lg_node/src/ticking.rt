@@ -40,7 +40,7 @@ fn tick<A: AgentName, R: Wait, L: Link, C, D: Dice>(
 {
     match calling::tick(shared, &mut side.pass, now, dice.words(), reply) {
         Ok(_) => Turned::of(shared, &mut side.link, now, reply),
-        Err(refusal) => Turned::end(Why::Refused(refusal)),
+        Err(refusal) => Turned::refused(shared, refusal),
     }
 }
 

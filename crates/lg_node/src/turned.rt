@@ -1,15 +1,16 @@
 //! What one turn reports to its loop.
 //!
 //! Defined in: `specs/Meaning/Links.antt`.
-//! Tested in: `lg_node_tests/src/node/receiving.rt`.
+//! Tested in: `lg_node_tests/src/node/receiving.rt`, `lg_node_tests/src/node/refused_memory.rt`.
 ghost use Rattle.std.specs.Prelude.{◌≡◌, ◌≤◌, None, Some, if◌then◌else◌};
-ghost use Rattle.lg_node.specs.declared.ending.Why.TheVariants.{Ousted};
+ghost use Rattle.lg_node.specs.declared.ending.Why.TheVariants.{Ousted, Refused};
 ghost use Rattle.lg_node.specs.Meaning.Links.{WereHanded};
 
 use crate::ending::Why;
 use crate::link::Link;
-use crate::sending::send_all;
+use crate::sending::hand_over;
 use crate::shared::Shared;
+use lg_agent::Refusal;
 use lg_detector::Reply;
 use lg_timing::Moment;
 
@@ -64,6 +65,16 @@ impl Turned {
         }
     }
 
+    /// A call was refused, for another reason than that bytes are no packet: counts it, and the loop ends.
+    pub(crate) fn refused<R, C>(shared: &Shared<'_, R, C>, refusal: Refusal) -> Turned
+        ensures why { result.why ≡ Some (Refused refusal) }
+        ensures dropped { result.dropped ≡ 0 }
+        ensures unsent { result.unsent ≡ 0 }
+    {
+        shared.counters.note_refused();
+        Turned::end(Why::Refused(refusal))
+    }
+
     /// A call was answered at a moment by this reply: hands its packets to the link, and counts. The loop ends then if
     /// the member was ousted.
     pub(crate) fn of<R, C, L: Link>(
@@ -78,8 +89,8 @@ impl Turned {
         ensures why { result.why ≡ (if reply.now.ousted then Some Ousted else None) }
         ensures dropped { result.dropped ≡ 0 }
     {
-        let unsent = send_all(link, reply.sends.as_slice());
-        shared.note_reply(now, reply, unsent);
+        let noted = hand_over(link, &shared.counters.name(), reply);
+        shared.note(now, reply, &noted);
         let why = if reply.ousted {
             Some(Why::Ousted)
         } else {
@@ -88,7 +99,7 @@ impl Turned {
         Turned {
             why,
             dropped: 0,
-            unsent,
+            unsent: noted.unsent,
         }
     }
 }

@@ -53,6 +53,16 @@ const BLOCKED: &[Row] = &[
     (4130, None, 270, 3860),
 ];
 
+/// The same stop as the first, with a stall of 1,000 ms: so much of it counts.
+const STOPPED_WITH_LONG_STALL: &[Row] = &[
+    (20, Some(Ticking), 20, 0),
+    (20, Some(Receiving), 20, 0),
+    (4020, Some(Ticking), 1020, 3000),
+    (4021, None, 1020, 3001),
+    (4021, Some(Receiving), 1020, 3001),
+    (4041, Some(Ticking), 1040, 3001),
+];
+
 /// The same stops, and nothing is left out.
 const WITHOUT_STALL: &[Row] = &[
     (20, Some(Ticking), 20, 0),
@@ -114,6 +124,7 @@ fn leaves_out_what_it_should(rt: HostRuntime) {
     let plays = [
         (100, TURNING),
         (100, STOPPED),
+        (1000, STOPPED_WITH_LONG_STALL),
         (100, BLOCKED),
         (0, WITHOUT_STALL),
         (100, BEFORE_THE_FIRST_TURN),

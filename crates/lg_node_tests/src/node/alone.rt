@@ -1,11 +1,13 @@
 //! One loop of a node, of at most a hundred turns. A run says what the loop meets, and a row what is seen of it.
-use super::clocks::{MemoryClock, Pauses};
+ghost use Rattle.std.specs.Prelude.{◌≤◌};
+
+use super::clocks::{FixedDice, MemoryClock, Pauses};
 use super::links::{Call, MemoryLink, QUIET, Script};
-use super::loops::{receive, tick};
+use super::loops::{Noted, shared, ticks_until};
 use super::playing::{Play, Shown};
 use arrayvec::ArrayVec;
 use lg_agent::{AgentName, Pass, Spent};
-use lg_node::{End, Ended, Why};
+use lg_node::{Counters, End, Ended, MAX_TURNS, Shared, Side, Why, receive_loop, tick_loop};
 use lg_playing::{Case, Left, Outcome, last_pass};
 use lg_testing::at;
 use std::alloc::Global;
@@ -64,11 +66,38 @@ impl Run {
     }
 }
 
+/// What a loop counted for the status server.
+#[derive(Clone, Copy, PartialEq, Eq)]
+pub struct Counted {
+    /// Packets that were sent, and packets that weren't.
+    pub sent: u64,
+    pub unsent: u64,
+    /// Rotations of the history.
+    pub rotations: u64,
+    /// Calls that were refused, for another reason than the bytes of a datagram.
+    pub refused: u64,
+}
+
+impl Counted {
+    /// What these counters have counted.
+    fn of(counters: &Counters) -> Counted {
+        let counts = counters.counts();
+        Counted {
+            sent: counts.sent,
+            unsent: counts.unsent,
+            rotations: counts.history_rotations,
+            refused: counts.calls_refused,
+        }
+    }
+}
+
 /// What a loop did.
 #[derive(Drop)]
 pub struct LoopSeen {
     /// How it ended.
     pub end: End,
+    /// What it counted.
+    pub counted: Counted,
     /// The first calls of its link, how many waited for a datagram, and how many failed.
     pub calls: ArrayVec<Call, 16>,
     pub received: u64,
@@ -81,19 +110,20 @@ pub struct LoopSeen {
     pub answered: usize,
 }
 
-/// Runs the loop with a pass.
+/// Runs the loop with a pass. The random words of a ticking loop are all 0.
 fn run_loop<'a, A: AgentName, R: Wait>(
-    rt: &R,
-    alloc: Global,
-    pass: Pass<'_, A>,
-    link: MemoryLink<'a>,
-    clock: &MemoryClock,
+    shared: &Shared<'_, R, MemoryClock>,
+    side: Side<'_, MemoryLink<'a>, A>,
     runs: Loop,
-    stop: &AtomicBool,
-) -> Ended<MemoryLink<'a>, A> {
+) -> Ended<MemoryLink<'a>, A>
+    requires { shared.now.bound ≤ MAX_TURNS }
+{
     match runs {
-        Loop::Receiving => receive(rt, alloc, pass, link, clock, stop, BOUND),
-        Loop::Ticking { until } => tick(rt, alloc, pass, link, clock, until, stop, BOUND),
+        Loop::Receiving => receive_loop(shared, side),
+        Loop::Ticking { until } => {
+            let dice = FixedDice { word: 0 };
+            tick_loop(shared, side, dice, &ticks_until(at(until)))
+        }
     }
 }
 
@@ -111,9 +141,12 @@ fn run_pass<A: AgentName, R: Wait>(
     let stop = AtomicBool::new(false);
     let clock = MemoryClock::new(run.now);
     let link = MemoryLink::new(run.script, &stop);
-    let Ended { link, spent, end } = run_loop(rt, alloc, pass, link, &clock, run.runs, &stop);
+    let noted = Noted::new(false);
+    let shared = shared(rt, alloc, &clock, &stop, &noted, BOUND, false);
+    let Ended { link, spent, end } = run_loop(&shared, Side { pass, link }, run.runs);
     let seen = LoopSeen {
         end,
+        counted: Counted::of(&noted.counters),
         received: link.received,
         failures: link.failures,
         calls: link.calls,
@@ -157,7 +190,20 @@ fn are_sent(calls: &[Call], wanted: &[bool]) -> bool {
         })
 }
 
+/// Whether a call handed over a packet that was sent.
+fn is_sent(call: &Call) -> bool {
+    matches!(call, Call::Send { sent: true, .. })
+}
+
 impl<'a> Calls<'a> {
+    /// How many packets were sent.
+    fn sent(self) -> usize {
+        match self {
+            Calls::Are(wanted) => wanted.iter().filter(|call| is_sent(call)).count(),
+            Calls::Sent(wanted) => wanted.iter().filter(|sent| **sent).count(),
+        }
+    }
+
     /// Whether the calls are what they should be.
     fn are(self, calls: &[Call]) -> bool {
         match self {
@@ -179,16 +225,28 @@ pub(super) struct Want<'a> {
     pub(super) pauses: Pauses,
     pub(super) calls: Calls<'a>,
     pub(super) entries: u64,
-    /// How many of these were cut off.
+    /// How many of these were cut off, and by how many rotations.
     pub(super) base: u64,
+    pub(super) rotations: u64,
 }
 
 impl<'a> Want<'a> {
-    /// The same, if this many entries were cut off.
+    /// The same, if this many entries were cut off by one rotation.
     pub(super) fn behind(self, base: u64) -> Want<'a> {
         let mut want = self;
         want.base = base;
+        want.rotations = 1;
         want
+    }
+
+    /// What the loop should count. No call is refused.
+    fn counted(&self) -> Counted {
+        Counted {
+            sent: self.calls.sent() as u64,
+            unsent: self.unsent,
+            rotations: self.rotations,
+            refused: 0,
+        }
     }
 
     /// Whether an outcome is what it should be. Whatever the end, the others are told to stop.
@@ -202,6 +260,7 @@ impl<'a> Want<'a> {
         match &outcome.seen {
             Some(Shown::Loop(seen)) => {
                 seen.end == end
+                    && seen.counted == self.counted()
                     && seen.received == self.received
                     && seen.failures == self.failures
                     && seen.pauses == self.pauses

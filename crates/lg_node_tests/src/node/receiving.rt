@@ -53,6 +53,7 @@ fn ended(why: Why, turns: u64, calls: &[Call], entries: u64) -> Want<'_> {
         calls: Calls::Are(calls),
         entries,
         base: 0,
+        rotations: 0,
     }
 }
 

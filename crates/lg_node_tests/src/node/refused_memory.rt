@@ -50,22 +50,24 @@ impl Turns {
     }
 }
 
-/// Whether the loop ended after these turns, at the call that met the refusal if one did. Each answered call, and no
-/// other, is in the pass's list and in the history, and handed its packets over.
+/// Whether the loop ended after these turns, at the call that met the refusal if one did, and counted that call for the
+/// status server. Each answered call, and no other, is in the pass's list and in the history, and handed its packets
+/// over.
 fn is_whole(outcome: &Outcome<Shown>, want: Turns) -> bool {
     let Some(Shown::Loop(seen)) = &outcome.seen else {
         return false;
     };
     let refused = Why::Refused(Refusal::NoMemory);
-    let (why, turns) = match seen.answered {
-        0 => (refused, want.first),
-        1 => (refused, want.second),
-        _ => (Why::Stopped, want.neither),
+    let (why, turns, calls_refused) = match seen.answered {
+        0 => (refused, want.first, 1),
+        1 => (refused, want.second, 1),
+        _ => (Why::Stopped, want.neither, 0),
     };
     let packets = want.packets.wrapping_mul(seen.answered);
     let entries = (seen.answered as u64).wrapping_add(1);
     seen.end.why == why
         && seen.end.turns == turns
+        && seen.counted.refused == calls_refused
         && seen.stop
         && outcome.ending.entries == Some(entries)
         && want.allow(seen.answered, outcome.ending.base)

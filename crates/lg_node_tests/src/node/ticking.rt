@@ -38,6 +38,7 @@ fn ended(why: Why, turns: u64, count: u64, sum: u64, entries: u64) -> Want<'stat
         calls: Calls::Are(&[]),
         entries,
         base: 0,
+        rotations: 0,
     }
 }
 

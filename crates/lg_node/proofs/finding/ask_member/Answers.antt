@@ -87,7 +87,7 @@ pub returns : goal.returns
 returns g c = λ p look low duty.
     let e = c.in-Some.ensures in
     let f = c.in-Err.ensures in
-    let end = c.end.ensures in
+    let end = c.refused.ensures in
     let t : Turn = UnaskedMember c.args.now c.words-words.result c.others.new.pass.seen c.chosen-peer.result c.in-Err.refusal in
     let one : IsChosen c.words-words.result (others_of c.args.plan.now.name (view_after c.others.new.pass.seen)) c.chosen-peer.result = subst (λ (l : List Claim). IsChosen c.words-words.result l c.chosen-peer.result) (c.as_slice.ensures.value ∙ e.0) c.chosen-peer.ensures in (
       record {

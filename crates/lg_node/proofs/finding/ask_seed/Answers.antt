@@ -32,7 +32,7 @@ returns-in-Ok g c = λ plan p look low duty.
 pub returns-in-Err : goal.returns-in-Err
 returns-in-Err g c = λ plan p look low duty.
     let e = c.in-Err.ensures in
-    let end = c.end.ensures in
+    let end = c.refused.ensures in
     let t : Turn = UnaskedSeed c.args.now c.args.peer c.in-Err.refusal in (
       record {
         took = record {

@@ -41,7 +41,7 @@ returns-in-BadPacket g c = λ log came. let e = c.in-Err in let b = c.in-BadPack
 }
 
 pub returns-in_default : goal.returns-in_default
-returns-in_default g c = λ log came. let e = c.in-Err in let end = c.end.ensures in record {
+returns-in_default g c = λ log came. let e = c.in-Err in let end = c.refused.ensures in record {
   turn = Unheard c.args.now c.args.source c.args.bytes.now e.refusal;
   kind_is = refl;
   is = (e.ensures.refused, elim e.ensures.refusal [ inl bad ↦ absurd (c.in_default.not-BadPacket bad.0 bad.1) | inr other ↦ other ]);

@@ -32,7 +32,7 @@ returns-in-Ok g c = λ plan agenda p due low.
 pub returns-in-Err : goal.returns-in-Err
 returns-in-Err g c = λ plan agenda p due low.
     let e = c.in-Err.ensures in
-    let end = c.end.ensures in
+    let end = c.refused.ensures in
     let t : Turn = Unticked c.args.now c.words.result c.in-Err.refusal in (
       record {
         took = record {
