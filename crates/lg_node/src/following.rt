@@ -30,7 +30,7 @@ fn watch_by<'p, 'w, A: AgentName, R, C: Clock, W: Write>(
 }
 
 /// Does nothing. By this use a returned reference stays tied to the parameter that lent it.
-fn take_back<T>(returned: &mut T)
+pub(crate) fn take_back<T>(returned: &mut T)
     ensures { returned.new ≡ returned.old }
 {}
 

@@ -4,7 +4,7 @@
 //! Tested in: `lg_node_tests/src/node/asking.rt`, `cases/nodes`.
 ghost use Rattle.std.specs.Prelude.{◌≡◌, false, is_some, IfOk, IfErr, OnErr};
 ghost use Rattle.lg_timing.specs.Meaning.Config.{IsChecked};
-ghost use Rattle.lg_node.specs.Meaning.Nodes.{IsRun, IsEarly};
+ghost use Rattle.lg_node.specs.Meaning.Nodes.{IsRun, IsEarly, TellsServed};
 ghost use Rattle.lg_node.specs.Meaning.Turns.{LinkValue};
 ghost use Rattle.lg_node.specs.Meaning.Words.{seeded, DrawsEight};
 
@@ -17,6 +17,7 @@ use lg_agent::{CloseFault, Closed, Refusal};
 use lg_key::Keys;
 use lg_rules::{Addr, Record};
 use lg_serve::Served;
+use lg_text::FaultStream;
 use lg_timing::{Config, Moment};
 use lg_view::UnnamedBook;
 use lg_watch::Watched;
@@ -105,7 +106,8 @@ pub enum NodeFault {
 ///
 /// If the settings have an address for a status server, it is bound before the agent is opened. It serves beside the
 /// loops ([`lg_serve::serve`]), in a thread of its own and with a pass of its own, until the loops have ended, and
-/// [`NodeEnd::served`] says how that ended. A server that fails ends nothing else.
+/// [`NodeEnd::served`] says how that ended. A server that fails ends nothing else. It is told on `faults` when it fails,
+/// before the node ends, by [`Served::line`](lg_serve::Served::line). Nothing else is written there.
 ///
 /// A turn of a loop waits a tenth of the configuration's `timeout_ms` at most, but at least 5 and at most 50
 /// milliseconds, and at most half of the clock's stall.
@@ -119,7 +121,7 @@ pub enum NodeFault {
 /// [`NodeFault::Status`], [`NodeFault::Clock`], or [`NodeFault::Refused`] if memory was refused or there was no reader
 /// for a pass. If a seed's call was refused, it may also be [`Refusal::HistoryFull`] or [`Refusal::Behind`], but
 /// neither should ever happen.
-pub fn run_node<'n, R, W>(
+pub fn run_node<'n, R, W, F>(
     rt: &R,
     alloc: Global,
     config: &'n Config,
@@ -127,10 +129,12 @@ pub fn run_node<'n, R, W>(
     until: Moment,
     stop: &'n AtomicBool,
     writer: &mut W,
+    faults: &mut F,
 ) -> Result<NodeEnd, NodeFault>
 where
     R: Wait + Threads + Net + rt::Clock + RandomSource + Sync,
     W: Write + Send,
+    F: FaultStream + Send,
     requires { IsChecked config.now }
     // Of a link over UDP contracts see only the failures.
     ensures ran { IfOk result (λ e. (hears : LinkValue) × (hears' : LinkValue) × (sends : LinkValue)
@@ -141,6 +145,8 @@ where
     ensures refused { IfErr result (IsEarly config.now) }
     ensures alone { settings.now.follow ≡ false → writer.new ≡ writer.old }
     ensures unwritten { OnErr result (writer.new ≡ writer.old) }
+    ensures told { IfOk result (λ e. TellsServed e.served (F.reported faults.old) (F.reported faults.new)) }
+    ensures untold { OnErr result (faults.new ≡ faults.old) }
 {
     let sockets = match Sockets::bind(rt, alloc, config, settings) {
         Ok(sockets) => sockets,
@@ -163,5 +169,13 @@ where
         Ok(status) => status,
         Err(fault) => return Err(fault),
     };
-    open_and_serve::<Brand, R, W>(rt, alloc, UnnamedBook::new(), &setup, status, writer)
+    open_and_serve::<Brand, R, W, F>(
+        rt,
+        alloc,
+        UnnamedBook::new(),
+        &setup,
+        status,
+        writer,
+        faults,
+    )
 }

@@ -1,8 +1,8 @@
 //! The link of a node: over UDP, with keys or without.
 //!
-//! Defined in: `specs/Meaning/Turns.antt`.
+//! Defined in: `specs/Meaning/Starts.antt`, `specs/Meaning/Turns.antt`.
 //! Tested in: `lg_node_tests/src/node/asking.rt`, `cases/nodes`, `cases/keys`.
-ghost use Rattle.std.specs.Prelude.{◌≡◌, ◌+◌, ◌≤◌, IfOk, IfSome, OnErr, OnOk};
+ghost use Rattle.std.specs.Prelude.{◌≡◌, ◌+◌, ◌≤◌, IfOk, IfSome, OnErr, OnOk, option_copied};
 
 use crate::keyed::{Counted, KeyedLink};
 use crate::link::{Link, LinkFault, MAX_DATAGRAM};
@@ -56,12 +56,17 @@ impl<'s, 'c> NotedLink<'s, 'c> {
 }
 
 impl<'s, 'c> NodeLink<'s, 'c> {
-    /// A link that uses this one, with these keys if there are any.
+    ghost use Rattle.lg_node.specs.Meaning.Starts.{link_keys, udp_of};
+
+    /// A link that uses this one: with exactly these keys if there are any, and else without.
     pub(crate) fn new(
         udp: UdpLink<'s>,
         keys: Option<&Keys>,
         counters: &'c Counters,
-    ) -> NodeLink<'s, 'c> {
+    ) -> NodeLink<'s, 'c>
+        ensures keys { link_keys result ≡ option_copied keys.entry }
+        ensures inner { udp_of result ≡ udp.entry }
+    {
         match keys {
             Some(keys) => NodeLink::Keyed(NotedLink {
                 link: KeyedLink::new(udp, keys),

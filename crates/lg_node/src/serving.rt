@@ -1,20 +1,25 @@
 //! The status server of a node, in a thread beside the loops.
 //!
-//! Defined in: `specs/Meaning/Nodes.antt`, `lg_serve/specs/Meaning/Shown.antt`.
+//! Defined in: `specs/Meaning/Nodes.antt`, `specs/Meaning/Starts.antt`,
+//! `lg_serve/specs/Meaning/Shown.antt`.
 //! Tested in: `cases/status`.
-ghost use Rattle.std.specs.Prelude.{◌≡◌, is_some, IfErr, IfOk};
+ghost use Rattle.std.specs.Prelude.{◌≡◌, is_some, IfErr, IfOk, IfSome, Some};
 ghost use Rattle.lg_timing.specs.declared.config.Config.{Config as Opened};
 ghost use Rattle.lg_watch.specs.Meaning.Sights.{OnlyLooked};
-ghost use Rattle.lg_node.specs.Meaning.Nodes.{IsEarly, ServesIf};
+ghost use Rattle.lg_http.specs.Meaning.Slots.{AreFree, slots_of};
+ghost use Rattle.lg_node.specs.Meaning.Nodes.{IsEarly, ServesIf, TellsServed};
+ghost use Rattle.lg_node.specs.Meaning.Starts.{Shows};
 
+use crate::following::take_back;
 use crate::node::{NodeFault, Settings};
 use crate::shared::Shared;
 use crate::start::Setup;
 use lg_agent::{AgentName, Pass, Refusal};
 use lg_clock::{Clock, MachineClock};
-use lg_http::{Server, Signal};
+use lg_http::{End, Server, Signal};
 use lg_serve::{Served, SiteBasis, serve};
 use lg_status::{NodeNumber, ShownConfig};
+use lg_text::{FaultStream, report};
 use lg_timing::Config;
 use std::alloc::{AllocError, Global};
 use std::rt;
@@ -34,24 +39,27 @@ pub(crate) struct StatusServer<'n, 's, 'r, R> {
     pub(crate) settings: &'n Settings,
 }
 
+/// One of the numbers of the node's own.
+fn own_number(key: &'static str, value: u64) -> NodeNumber
+    ensures key { result.key.now ≡ key.now }
+    ensures value { result.value ≡ value }
+{
+    NodeNumber { key, value }
+}
+
 /// The configuration that a status server shows. Allocates memory for a copy of it. The only error is that this was
 /// refused.
-fn shown_of(
-    alloc: Global,
-    config: &Config,
-    settings: &Settings,
-) -> Result<ShownConfig, AllocError> {
+fn shown_of(alloc: Global, config: &Config, settings: &Settings) -> Result<ShownConfig, AllocError>
+    ensures { IfOk result (Shows config.now settings.now) }
+{
     let numbers = [
-        ("dice", settings.dice),
-        ("pull_ms", settings.pull_ms),
-        ("stall_ms", settings.stall_ms),
+        own_number("dice", settings.dice),
+        own_number("pull_ms", settings.pull_ms),
+        own_number("stall_ms", settings.stall_ms),
     ];
     Ok(ShownConfig {
         config: config.copy(),
-        numbers: numbers
-            .iter()
-            .map(|(key, value)| NodeNumber { key, value: *value })
-            .collect(alloc)?,
+        numbers: Vec::from_array(alloc, numbers)?,
         status: settings.status,
         status_open: settings.status_open,
     })
@@ -63,8 +71,10 @@ pub(crate) fn status_server<'n, 's, 'r, R: rt::Clock>(
     setup: &Setup<'n, 's>,
     server: Option<Server>,
 ) -> Result<Option<StatusServer<'n, 's, 'r, R>>, NodeFault>
-    requires { is_some setup.now.signal ≡ is_some server }
+    requires bound { is_some setup.now.signal ≡ is_some server }
+    requires free { IfSome server (λ server. AreFree (slots_of server)) }
     ensures ready { IfOk result (λ status. is_some status ≡ is_some server) }
+    ensures free { IfOk result (λ status. IfSome status (λ status. AreFree (slots_of status.server))) }
     ensures early { (config : Opened) → IfErr result (IsEarly config) }
 {
     let (Some(server), Some(signal)) = (server, setup.signal) else {
@@ -83,11 +93,12 @@ pub(crate) fn status_server<'n, 's, 'r, R: rt::Clock>(
 }
 
 /// Serves with a pass until the loops have ended, and gives it back.
-fn serve_by<'p, A: AgentName, R: rt::Clock, C: Clock>(
+fn serve_with<'p, A: AgentName, R: rt::Clock, C: Clock>(
     shared: &Shared<'_, R, C>,
     status: StatusServer<'_, '_, '_, R>,
     pass: Pass<'p, A>,
 ) -> (Pass<'p, A>, Served)
+    requires { AreFree (slots_of status.server) }
     ensures { OnlyLooked pass.entry result.0 }
 {
     let StatusServer {
@@ -109,29 +120,65 @@ fn serve_by<'p, A: AgentName, R: rt::Clock, C: Clock>(
     serve(server, signal, &machine, pass, basis)
 }
 
-/// Does some work, and beside it serves in a thread of its own, until the work is done. If no thread can be started for
-/// that, nobody is served.
-fn serve_beside<'p, A, R, C, G, B>(
+/// Reports how a status server ended, unless it was told to stop.
+fn report_end<F: FaultStream>(served: Served, faults: &mut F)
+    ensures { TellsServed (Some served) (F.reported faults.old) (F.reported faults.new) }
+{
+    match served {
+        Served::Ended(End::Stopped, _) => {}
+        Served::Ended(End::WaitFailed(_), _) => report(faults, served.line()),
+        Served::Refused(_) => report(faults, served.line()),
+    }
+}
+
+/// Serves with a pass until the loops have ended. If the server ends before that by itself, this is reported. Gives the
+/// pass and the stream back, with how the server ended.
+fn serve_by<'p, 'f, A: AgentName, R: rt::Clock, C: Clock, F: FaultStream>(
     shared: &Shared<'_, R, C>,
     status: StatusServer<'_, '_, '_, R>,
     pass: Pass<'p, A>,
+    faults: &'f mut F,
+) -> (Pass<'p, A>, (&'f mut F, Served))
+    requires { AreFree (slots_of status.server) }
+    ensures same { result.1.0.ghost_name ≡ faults.entry.ghost_name }
+    ensures looked { OnlyLooked pass.entry result.0 }
+    ensures told { TellsServed (Some result.1.1) (F.reported faults.entry.now) (F.reported result.1.0.now) }
+{
+    let (pass, served) = serve_with(shared, status, pass);
+    report_end(served, faults);
+    (pass, (faults, served))
+}
+
+/// Does some work, and beside it serves in a thread of its own, until the work is done. If no thread can be started for
+/// that, nobody is served.
+fn serve_beside<'p, A, R, C, F, G, B>(
+    shared: &Shared<'_, R, C>,
+    status: StatusServer<'_, '_, '_, R>,
+    pass: Pass<'p, A>,
+    faults: &mut F,
     work: G,
 ) -> ((Pass<'p, A>, Served), B)
 where
     A: AgentName + Send + Sync,
     R: Wait + Threads + rt::Clock + Sync,
     C: Clock + Sync,
+    F: FaultStream + Send,
     G: FnOnce() -> B,
-    requires { G.pre work }
+    requires work { G.pre work }
+    requires free { AreFree (slots_of status.server) }
     ensures looked { OnlyLooked pass.entry result.0.0 }
+    ensures told { TellsServed (Some result.0.1) (F.reported faults.old) (F.reported faults.new) }
     ensures gave { G.post work result.1 }
 {
     let signal = status.signal;
-    join(
+    let (given, gave) = join(
         shared.rt,
-        move || -> (Pass<'_, A>, Served)
-            ensures { OnlyLooked pass.entry result.0 }
-        { serve_by(shared, status, pass) },
+        move || -> (Pass<'_, A>, (&mut F, Served))
+            requires { AreFree (slots_of status.server) }
+            ensures same { result.1.0.ghost_name ≡ faults.entry.ghost_name }
+            ensures looked { OnlyLooked pass.entry result.0 }
+            ensures told { TellsServed (Some result.1.1) (F.reported faults.entry.now) (F.reported result.1.0.now) }
+        { serve_by(shared, status, pass, faults) },
         move || -> B
             requires { G.pre work }
             ensures { G.post work result }
@@ -140,28 +187,37 @@ where
             signal.stop();
             gave
         },
-    )
+    );
+    let (pass, (faults, served)) = given;
+    take_back(faults);
+    ((pass, served), gave)
 }
 
-/// Does some work. If there is a status server, it serves beside that, as [`serve_beside`] does.
-pub(crate) fn serve_if<'p, A, R, C, G, B>(
+/// Does some work. If there is a status server, it serves beside that, as [`serve_beside`] does. Gives the stream back
+/// beside what the work gave.
+pub(crate) fn serve_if<'p, 'f, A, R, C, F, G, B>(
     shared: &Shared<'_, R, C>,
     status: Option<StatusServer<'_, '_, '_, R>>,
     pass: Pass<'p, A>,
+    faults: &'f mut F,
     work: G,
-) -> ((Pass<'p, A>, Option<Served>), B)
+) -> ((Pass<'p, A>, Option<Served>), (&'f mut F, B))
 where
     A: AgentName + Send + Sync,
     R: Wait + Threads + rt::Clock + Sync,
     C: Clock + Sync,
+    F: FaultStream + Send,
     G: FnOnce() -> B,
-    requires { G.pre work }
+    requires work { G.pre work }
+    requires free { IfSome status (λ status. AreFree (slots_of status.server)) }
+    ensures same { result.1.0.ghost_name ≡ faults.entry.ghost_name }
     ensures looked { ServesIf (is_some status.entry) pass.entry result.0.0 result.0.1 }
-    ensures gave { G.post work result.1 }
+    ensures told { TellsServed result.0.1 (F.reported faults.entry.now) (F.reported result.1.0.now) }
+    ensures gave { G.post work result.1.1 }
 {
     let Some(status) = status else {
-        return ((pass, None), work());
+        return ((pass, None), (faults, work()));
     };
-    let ((pass, served), gave) = serve_beside(shared, status, pass, work);
-    ((pass, Some(served)), gave)
+    let ((pass, served), gave) = serve_beside(shared, status, pass, faults, work);
+    ((pass, Some(served)), (faults, gave))
 }

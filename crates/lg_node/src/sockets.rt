@@ -2,8 +2,9 @@
 //!
 //! Defined in: this file.
 //! Tested in: `cases/nodes`, `cases/status`.
-ghost use Rattle.std.specs.Prelude.{◌≡◌, is_some, IfErr, IfOk};
+ghost use Rattle.std.specs.Prelude.{◌≡◌, is_some, IfErr, IfOk, IfSome};
 ghost use Rattle.lg_timing.specs.declared.config.Config.{Config as Opened};
+ghost use Rattle.lg_http.specs.Meaning.Slots.{AreFree, slots_of};
 ghost use Rattle.lg_node.specs.Meaning.Nodes.{IsEarly};
 
 use crate::node::{NodeFault, Settings};
@@ -44,6 +45,7 @@ impl Sockets {
     ) -> Result<Sockets, NodeFault>
         ensures server { IfOk result (λ sockets. is_some sockets.server ≡ is_some settings.now.status) }
         ensures signal { IfOk result (λ sockets. is_some sockets.signal ≡ is_some settings.now.status) }
+        ensures free { IfOk result (λ sockets. IfSome sockets.server (λ server. AreFree (slots_of server))) }
         ensures early { (config : Opened) → IfErr result (IsEarly config) }
     {
         let socket = match bind_socket(rt, config.addr) {

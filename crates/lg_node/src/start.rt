@@ -3,7 +3,8 @@
 //! [`open_and_serve`] reads the clock, opens the agent and closes it. Between these [`serve`] hands out the passes,
 //! asks the seeds, runs both loops and what is beside them, and reads the members.
 //!
-//! Defined in: `specs/Meaning/Nodes.antt`, `specs/Meaning/Turns.antt`, `specs/Meaning/Words.antt`.
+//! Defined in: `specs/Meaning/Starts.antt`, `specs/Meaning/Nodes.antt`, `specs/Meaning/Turns.antt`,
+//! `specs/Meaning/Words.antt`.
 //! Tested in: `lg_node_tests/src/node/asking.rt`, `cases/nodes`.
 ghost use Rattle.std.specs.Prelude.{◌≡◌, ◌≤◌, ◌⊎◌, ◌∷◌, [], ℕ, false, true};
 ghost use Rattle.std.specs.Prelude.{All, IfOk, IfErr, IfSome, MatchResult, OnErr, is_some, length};
@@ -16,10 +17,13 @@ ghost use Rattle.lg_agent.specs.declared.refusal.Refusal.TheVariants.{NoMemory, 
 ghost use Rattle.lg_agent.specs.Meaning.Values.{PassValue};
 ghost use Rattle.lg_agent.specs.Meaning.Calls.{IsLook};
 ghost use Rattle.lg_agent.specs.Meaning.Closing.{IsClosed, IsRefusedClosing};
+ghost use Rattle.lg_http.specs.Meaning.Slots.{AreFree, slots_of};
 ghost use Rattle.lg_node.specs.Meaning.Nodes.{HasServed, ServesIf, WatchesIf, IsRun, IsRefusedEarly, IsEarly};
-ghost use Rattle.lg_node.specs.Meaning.Nodes.{fresh_own};
+ghost use Rattle.lg_node.specs.Meaning.Nodes.{fresh_own, TellsServed};
+ghost use Rattle.lg_node.specs.Meaning.Starts.{link_keys, stall_of, wait_of};
 ghost use Rattle.lg_node.specs.Meaning.Turns.{LinkValue};
 ghost use Rattle.lg_node.specs.Meaning.Words.{seeded, DrawsEight};
+ghost use Rattle.lg_node.specs.Support.Failing.{failures_of};
 
 use crate::asking::ask_each;
 use crate::ending::End;
@@ -35,6 +39,7 @@ use lg_clock::{Clock, SteadyClock};
 use lg_http::Signal;
 use lg_rules::Record;
 use lg_serve::{Counters, Served};
+use lg_text::FaultStream;
 use lg_timing::{Config, Moment};
 use lg_view::UnnamedBook;
 use lg_watch::Watched;
@@ -66,21 +71,24 @@ pub(crate) struct Setup<'n, 's> {
 }
 
 /// Opens a node over its socket, serves until one of its loops ends, and closes it.
-pub(crate) fn open_and_serve<A, R, W>(
+pub(crate) fn open_and_serve<A, R, W, F>(
     rt: &R,
     alloc: Global,
     book: UnnamedBook,
     setup: &Setup<'_, '_>,
     status: Option<StatusServer<'_, '_, '_, R>>,
     writer: &mut W,
+    faults: &mut F,
 ) -> Result<NodeEnd, NodeFault>
 where
     A: AgentName + Send + Sync,
     R: Wait + Threads + rt::Clock + Sync,
     W: Write + Send,
+    F: FaultStream + Send,
     requires book { book.seen.book ≡ A.book }
     requires places { A.places ≡ PLACES }
     requires config { IsChecked setup.now.config.now }
+    requires free { IfSome status (λ status. AreFree (slots_of status.server)) }
     ensures ran { IfOk result (λ e. (hears : LinkValue) × (hears' : LinkValue) × (sends : LinkValue)
         × (sends' : LinkValue)
         × IsRun DrawsEight (seeded setup.now.settings.now.dice) false MAX_TURNS setup.now.config.now
@@ -89,6 +97,8 @@ where
     ensures refused { IfErr result (IsEarly setup.now.config.now) }
     ensures alone { setup.now.settings.now.follow ≡ false → writer.new ≡ writer.old }
     ensures unwritten { OnErr result (writer.new ≡ writer.old) }
+    ensures told { IfOk result (λ e. TellsServed e.served (F.reported faults.old) (F.reported faults.new)) }
+    ensures untold { OnErr result (faults.new ≡ faults.old) }
 {
     let config = setup.config;
     let stall = stall_of(setup.settings);
@@ -117,7 +127,7 @@ where
         endless: true,
         wait_ms: wait_of(config, stall),
     };
-    match serve(&shared, &mut agent, setup, status, writer) {
+    match serve(&shared, &mut agent, setup, status, writer, faults) {
         Ok(left) => Ok(close(rt, agent, left, clock.stood_still(), room)),
         Err(refusal) => {
             agent.abandon(rt);
@@ -128,7 +138,9 @@ where
 
 /// The stall of a node's clock, in milliseconds: the `stall_ms` of its settings, but at least 25. With a `stall_ms` of
 /// 0 the clock is the machine's, and this is 0.
-fn stall_of(settings: &Settings) -> u64 {
+fn stall_of(settings: &Settings) -> u64
+    ensures { result ≡ stall_of settings.now.stall_ms }
+{
     match settings.stall_ms {
         0 => 0,
         stall_ms => stall_ms.max(MIN_STALL_MS),
@@ -137,7 +149,9 @@ fn stall_of(settings: &Settings) -> u64 {
 
 /// How long a turn of a node waits at most, in milliseconds: a tenth of the configuration's `timeout_ms`, but at least
 /// 5 and at most 50, and at most half the stall of its clock, if there is one.
-fn wait_of(config: &Config, stall: u64) -> u64 {
+fn wait_of(config: &Config, stall: u64) -> u64
+    ensures { result ≡ wait_of config.now.timeout_ms stall }
+{
     let wait = (config.timeout_ms / 10).clamp(5, 50);
     match stall {
         0 => wait,
@@ -160,7 +174,10 @@ struct Left<A: AgentName> {
 }
 
 /// A link over the socket of a node, with its keys if it has any. It hasn't failed yet.
-fn link_of<'n, 's, 'c>(counters: &'c Counters, setup: &Setup<'n, 's>) -> NodeLink<'s, 'c> {
+fn link_of<'n, 's, 'c>(counters: &'c Counters, setup: &Setup<'n, 's>) -> NodeLink<'s, 'c>
+    ensures keys { link_keys result ≡ setup.now.settings.now.keys }
+    ensures unfailed { failures_of result ≡ 0 }
+{
     NodeLink::new(
         UdpLink::new(setup.socket),
         setup.settings.keys.as_ref(),
@@ -170,20 +187,25 @@ fn link_of<'n, 's, 'c>(counters: &'c Counters, setup: &Setup<'n, 's>) -> NodeLin
 
 /// Hands out the passes of a fresh agent, asks the seeds, runs both loops over the socket until one of them ends, with
 /// a watcher and a status server beside them if they are wanted, and reads the members.
-fn serve<A, R, C, W>(
+fn serve<A, R, C, W, F>(
     shared: &Shared<'_, R, C>,
     agent: &mut Agent<A>,
     setup: &Setup<'_, '_>,
     status: Option<StatusServer<'_, '_, '_, R>>,
     writer: &mut W,
+    faults: &mut F,
 ) -> Result<Left<A>, Refusal>
 where
     A: AgentName + Send + Sync,
     R: Wait + Threads + rt::Clock + Sync,
     C: Clock + Sync,
     W: Write + Send,
+    F: FaultStream + Send,
     requires places { length agent.old.told ≡ PLACES }
     requires bound { (shared.now.bound ≤ MAX_TURNS) × (shared.now.endless ≡ true) }
+    requires free { IfSome status (λ status. AreFree (slots_of status.server)) }
+    requires wait { shared.now.wait_ms
+        ≡ wait_of setup.now.config.now.timeout_ms (stall_of setup.now.settings.now.stall_ms) }
     ensures left { (start : ℕ) → agent.old.name ≡ setup.now.config.now.name
         → All (λ seen. seen ≡ Open start setup.now.config.now ∷ []) agent.old.told
         → IfOk result (λ l. (hears : LinkValue) × (hears' : LinkValue) × (sends : LinkValue) × (sends' : LinkValue)
@@ -201,6 +223,8 @@ where
         → IfErr result (IsRefusedEarly setup.now.config.now) }
     ensures alone { setup.now.settings.now.follow ≡ false → writer.new ≡ writer.old }
     ensures unwritten { OnErr result (writer.new ≡ writer.old) }
+    ensures told { IfOk result (λ l. TellsServed l.served (F.reported faults.old) (F.reported faults.new)) }
+    ensures untold { OnErr result (faults.new ≡ faults.old) }
 {
     let Some(passes) = passes_of(shared.alloc, agent) else {
         return Err(Refusal::NoMemory);
@@ -238,6 +262,7 @@ where
         lookers,
         status,
         writer,
+        faults,
     );
     let (mut ticked, mut watcher) = (ticked, watcher);
     ticked.end.unsent = ticked.end.unsent.saturating_add(unsent);

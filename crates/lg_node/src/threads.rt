@@ -2,16 +2,17 @@
 //!
 //! Defined in: `specs/Meaning/Nodes.antt`, `specs/Meaning/Turns.antt`, `specs/Meaning/Pulling.antt`.
 //! Tested in: `cases/nodes`, `cases/status`.
-ghost use Rattle.std.specs.Prelude.{◌≡◌, ◌≤◌, ◌⊎◌, false, is_some};
+ghost use Rattle.std.specs.Prelude.{◌≡◌, ◌≤◌, ◌⊎◌, false, is_some, IfSome};
+ghost use Rattle.lg_http.specs.Meaning.Slots.{AreFree, slots_of};
 ghost use Rattle.lg_node.specs.declared.ending.Why.TheVariants.{Stopped};
-ghost use Rattle.lg_node.specs.Meaning.Nodes.{ServesIf, WatchesIf};
+ghost use Rattle.lg_node.specs.Meaning.Nodes.{ServesIf, TellsServed, WatchesIf};
 ghost use Rattle.lg_node.specs.Meaning.Pulling.{Ticking};
 ghost use Rattle.lg_node.specs.Meaning.Turns.{line, receives, Lasted, HadNoThread};
 ghost use Rattle.lg_node.specs.Meaning.Words.{seeded, DrawsEight};
 
 use crate::dice::PcgDice;
 use crate::ending::Ended;
-use crate::following::watch_if;
+use crate::following::{take_back, watch_if};
 use crate::link::Link;
 use crate::node::Settings;
 use crate::plan::Plan;
@@ -23,6 +24,7 @@ use lg_agent::{AgentName, Pass};
 use lg_clock::Clock;
 use lg_detector::Event;
 use lg_serve::Served;
+use lg_text::FaultStream;
 use lg_view::{Published, Update};
 use lg_watch::Watched;
 use std::io::Write;
@@ -55,12 +57,13 @@ where
 
 /// Does some work. Beside it, it watches if the settings say that the node is followed, and serves if there is a status
 /// server. Returns for each of the two its pass and how it ended, if there was one, and what the work gave.
-fn work_beside<'p, A, R, C, W, G, B>(
+fn work_beside<'p, A, R, C, W, F, G, B>(
     shared: &Shared<'_, R, C>,
     follow: bool,
     lookers: Lookers<'p, A>,
     status: Option<StatusServer<'_, '_, '_, R>>,
     writer: &mut W,
+    faults: &mut F,
     work: G,
 ) -> (
     (Pass<'p, A>, Option<Watched>),
@@ -71,38 +74,47 @@ where
     R: Wait + Threads + rt::Clock + Sync,
     C: Clock + Sync,
     W: Write + Send,
+    F: FaultStream + Send,
     G: FnOnce() -> B,
-    requires { G.pre work }
+    requires work { G.pre work }
+    requires free { IfSome status (λ status. AreFree (slots_of status.server)) }
     ensures watched { WatchesIf follow lookers.entry.watcher result.0.0 (W.contents writer.old)
         (W.contents writer.new) result.0.1 }
     ensures alone { follow ≡ false → writer.new ≡ writer.old }
     ensures served { ServesIf (is_some status.entry) lookers.entry.status result.1.0.0 result.1.0.1 }
+    ensures told { TellsServed result.1.0.1 (F.reported faults.old) (F.reported faults.new) }
     ensures gave { G.post work result.1.1 }
 {
     let Lookers {
         watcher,
         status: pass,
     } = lookers;
-    watch_if(
+    let (watched, (served, (faults, gave))) = watch_if(
         shared,
         follow,
         watcher,
         writer,
-        move || -> ((Pass<'_, A>, Option<Served>), B)
-            requires { G.pre work }
+        move || -> ((Pass<'_, A>, Option<Served>), (&mut F, B))
+            requires work { G.pre work }
+            requires free { IfSome status (λ status. AreFree (slots_of status.server)) }
+            ensures same { result.1.0.ghost_name ≡ faults.entry.ghost_name }
             ensures served { ServesIf (is_some status.entry) pass.entry result.0.0 result.0.1 }
-            ensures gave { G.post work result.1 }
-        { serve_if(shared, status, pass, work) },
-    )
+            ensures told { TellsServed result.0.1 (F.reported faults.entry.now) (F.reported result.1.0.now) }
+            ensures gave { G.post work result.1.1 }
+        { serve_if(shared, status, pass, faults, work) },
+    );
+    take_back(faults);
+    (watched, (served, gave))
 }
 
 /// Runs both loops, as [`run_loops`] does, with the dice that the settings seed. If the settings say that the node is
 /// followed, a watcher tells on the writer what the node learns, in a thread of its own, until the loops end. If there
-/// is a status server, it serves in a thread of its own, until the loops have ended.
+/// is a status server, it serves in a thread of its own, until the loops have ended. One that ends by itself is
+/// reported on `faults` when it ends.
 ///
 /// Returns the watcher's pass and the server's, which did nothing but look, how each ended if there was one, and both
 /// ends of the loops, the receiving one's first.
-pub(crate) fn run_threads<'p, A, R, L, C, W>(
+pub(crate) fn run_threads<'p, A, R, L, C, W, F>(
     shared: &Shared<'_, R, C>,
     sides: Sides<'_, L, A>,
     settings: &Settings,
@@ -110,6 +122,7 @@ pub(crate) fn run_threads<'p, A, R, L, C, W>(
     lookers: Lookers<'p, A>,
     status: Option<StatusServer<'_, '_, '_, R>>,
     writer: &mut W,
+    faults: &mut F,
 ) -> (
     (Pass<'p, A>, Option<Watched>),
     ((Pass<'p, A>, Option<Served>), Both<L, A>),
@@ -120,11 +133,14 @@ where
     L: Link + Send + Drop,
     C: Clock + Sync,
     W: Write + Send,
-    requires { shared.now.bound ≤ MAX_TURNS }
+    F: FaultStream + Send,
+    requires bound { shared.now.bound ≤ MAX_TURNS }
+    requires free { IfSome status (λ status. AreFree (slots_of status.server)) }
     ensures watched { WatchesIf settings.now.follow lookers.entry.watcher result.0.0 (W.contents writer.old)
         (W.contents writer.new) result.0.1 }
     ensures alone { settings.now.follow ≡ false → writer.new ≡ writer.old }
     ensures served { ServesIf (is_some status.entry) lookers.entry.status result.1.0.0 result.1.0.1 }
+    ensures told { TellsServed result.1.0.1 (F.reported faults.old) (F.reported faults.new) }
     ensures received { Lasted receives L.tells shared.now.bound shared.now.endless
         (line (L.log sides.entry.receiver.link) (L.failed sides.entry.receiver.link))
         (line (L.log result.1.1.0.link) (L.failed result.1.1.0.link)) sides.entry.receiver.pass result.1.1.0.spent
@@ -147,6 +163,7 @@ where
         lookers,
         status,
         writer,
+        faults,
         move || -> Both<L, A>
             requires { shared.now.bound ≤ MAX_TURNS }
             ensures received { Lasted receives L.tells shared.entry.now.bound shared.entry.now.endless

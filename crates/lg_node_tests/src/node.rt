@@ -13,5 +13,6 @@ mod playing;
 mod receiving;
 mod refused_memory;
 mod rotating;
+mod serving;
 mod ticking;
 mod wire;

@@ -4,6 +4,7 @@ use Rattle.std.specs.Prelude.{Option, Some, None, MatchResult}
 use Rattle.std.specs.List.{flat_map, sum_by}
 use Rattle.lg_timing.specs.declared.config.Config.{Config}
 use Rattle.lg_timing.specs.declared.config.Seed.{Seed}
+use Rattle.lg_text.specs.Meaning.Reporting.{Reported, Reports}
 use Rattle.lg_detector.specs.declared.event.Event.TheVariants.{Open}
 use Rattle.lg_detector.specs.Meaning.Step.{view_after, most_events}
 use Rattle.lg_agent.specs.declared.refusal.Refusal.{Refusal}
@@ -14,7 +15,10 @@ use Rattle.lg_agent.specs.Meaning.Calls.{IsLook}
 use Rattle.lg_agent.specs.Meaning.Closing.{IsClosed, IsRefusedClosing}
 use Rattle.lg_watch.specs.declared.watched.Watched.{Watched}
 use Rattle.lg_watch.specs.Meaning.Sights.{HasWatched, OnlyLooked}
+use Rattle.lg_http.specs.declared.server.End.TheVariants as server
 use Rattle.lg_serve.specs.declared.serving.Served.{Served}
+use Rattle.lg_serve.specs.declared.serving.Served.TheVariants.{Ended}
+use Rattle.lg_serve.specs.Meaning.Served.{served_line}
 use Rattle.lg_node.specs.declared.ending.End.{End}
 use Rattle.lg_node.specs.declared.ending.Why.TheVariants.{Stopped}
 use Rattle.lg_node.specs.declared.node.NodeEnd.{NodeEnd}
@@ -74,6 +78,13 @@ ServesIf true before after (Some end) = OnlyLooked before after
 ServesIf true before after None = ⊥
 ServesIf false before after (Some end) = ⊥
 ServesIf false before after None = after ≡ before
+
+-- What the stream of faults gained by a status server that ended so, if there was one. If it ended by itself, its line
+-- was reported. If it was told to stop, nothing was.
+abbrev pub TellsServed : Option Served → (before after : Reported) → Type 0
+TellsServed None before after = after ≡ before
+TellsServed (Some (Ended server.Stopped counts)) before after = after ≡ before
+TellsServed (Some end) before after = Reports before after (served_line end)
 
 -- A node ran. It opened an agent with four places, asked its seeds and ran its loops. The pass that had asked the
 -- seeds watched beside the loops, if the node was followed, and a fourth pass looked for the status server, if there

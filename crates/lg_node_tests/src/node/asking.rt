@@ -88,7 +88,7 @@ impl Listener {
 }
 
 /// A port that is free: that of a socket which is closed again.
-fn free_port<R: Net>(rt: &R) -> io::Result<u16> {
+pub(super) fn free_port<R: Net>(rt: &R) -> io::Result<u16> {
     let Listener { socket: _, port } = Listener::new(rt)?;
     Ok(port)
 }
@@ -125,8 +125,18 @@ where
         keys: None,
     };
     let stop = AtomicBool::new(false);
-    let mut unread = Room::failing(0);
-    let ran = run_node(rt, alloc, config, &settings, at(0), &stop, &mut unread).ok()?;
+    let (mut unread, mut faults) = (Room::failing(0), Room::failing(0));
+    let ran = run_node(
+        rt,
+        alloc,
+        config,
+        &settings,
+        at(0),
+        &stop,
+        &mut unread,
+        &mut faults,
+    )
+    .ok()?;
     Some((ran.ticked, asked(&ran.closed)))
 }
 

@@ -1,0 +1,49 @@
+-- With what a node starts: the stall of its clock, the wait of its turns, the keys of its links, and the configuration
+-- that its status server shows.
+use Rattle.std.specs.Prelude.{◌≡◌, ℕ, ◌/◌, ◌==◌, min, max, if◌then◌else◌, codes}
+use Rattle.std.specs.Prelude.{List, [], ◌∷◌, map, Option, Some, None}
+use Rattle.lg_timing.specs.declared.config.Config.{Config}
+use Rattle.lg_key.specs.declared.key.Keys.{Keys}
+use Rattle.lg_status.specs.declared.snapshot.NodeNumber.{NodeNumber}
+use Rattle.lg_status.specs.declared.snapshot.ShownConfig.{ShownConfig}
+use Rattle.lg_node.specs.declared.node.Settings.{Settings}
+use Rattle.lg_node.specs.declared.node_link.NodeLink.{NodeLink}
+use Rattle.lg_node.specs.declared.node_link.NodeLink.TheVariants.{Plain, Keyed}
+use Rattle.lg_node.specs.declared.udp.UdpLink.{UdpLink}
+
+-- The stall of a node's clock by its `stall_ms`: one below 25 is taken as 25. With 0 the clock is the machine's, and
+-- has no stall.
+abbrev pub stall_of : ℕ → ℕ
+stall_of stall_ms = if stall_ms == 0 then 0 else max stall_ms 25
+
+-- How long a turn waits at most, by the configuration's `timeout_ms` and the stall of the clock: a tenth of the timeout,
+-- but at least 5 and at most 50, and at most half the stall, if there is one.
+abbrev pub tenth_of : ℕ → ℕ
+tenth_of timeout_ms = max 5 (min (timeout_ms / 10) 50)
+
+abbrev pub wait_of : (timeout_ms stall : ℕ) → ℕ
+wait_of timeout_ms stall = if stall == 0 then tenth_of timeout_ms else min (tenth_of timeout_ms) (stall / 2)
+
+-- the keys with which a link seals and opens, if it has any
+abbrev pub link_keys : NodeLink → Option Keys
+link_keys (Plain udp) = None
+link_keys (Keyed noted) = Some noted.link.keys
+
+-- the link over UDP that it uses
+abbrev pub udp_of : NodeLink → UdpLink
+udp_of (Plain udp) = udp
+udp_of (Keyed noted) = noted.link.inner
+
+-- the numbers of the node's own that it shows, in order, each behind its key
+abbrev pub own_numbers : Settings → List (List ℕ × ℕ)
+own_numbers s = (codes "dice", s.dice) ∷ (codes "pull_ms", s.pull_ms) ∷ (codes "stall_ms", s.stall_ms) ∷ []
+
+abbrev pub numbers_of : List NodeNumber → List (List ℕ × ℕ)
+numbers_of numbers = map (λ own. (own.key.now, own.value)) numbers
+
+-- What a node shows of itself: its configuration, and its settings.
+pub record Shows (config : Config) (settings : Settings) (shown : ShownConfig) : Type 0 where
+  pub config_is : shown.config ≡ config
+  pub numbers_are : numbers_of shown.numbers.items ≡ own_numbers settings
+  pub status_is : shown.status ≡ settings.status
+  pub open_is : shown.status_open ≡ settings.status_open
