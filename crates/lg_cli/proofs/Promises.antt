@@ -88,14 +88,14 @@ module _ (R W : Type 0) (before after : Streams R W) (status : ℕ) where
   of_node P (check file) run give = tt
   of_node P (ask question at json) run give = tt
 
-  of_check : (P : Type 0) (r : Request) → RunsRequest before after r status
-      → (RunsCheck before after status → P) → IfCheck r (λ file. P)
+  of_check : (P : List ℕ → Type 0) (r : Request) → RunsRequest before after r status
+      → ((file : List ℕ) → RunsCheck before after file status → P file) → IfCheck r P
   of_check P (answer text) run give = tt
   of_check P (order names words) run give = tt
   of_check P (timeouts numbers) run give = tt
   of_check P sim run give = tt
   of_check P (node file for_ms follow until_input_ends) run give = tt
-  of_check P (check file) run give = give run
+  of_check P (check file) run give = give file run
   of_check P (ask question at json) run give = tt
 
   of_ask : (P : Question → List ℕ → Bool → Type 0) (r : Request) → RunsRequest before after r status
@@ -184,13 +184,13 @@ all_node P (node file for_ms follow until_input_ends) give = give file for_ms fo
 all_node P (check file) give = tt
 all_node P (ask question at json) give = tt
 
-all_check : (P : Type 0) (r : Request) → P → IfCheck r (λ file. P)
+all_check : (P : List ℕ → Type 0) (r : Request) → ((file : List ℕ) → P file) → IfCheck r P
 all_check P (answer text) give = tt
 all_check P (order names words) give = tt
 all_check P (timeouts numbers) give = tt
 all_check P sim give = tt
 all_check P (node file for_ms follow until_input_ends) give = tt
-all_check P (check file) give = give
+all_check P (check file) give = give file
 all_check P (ask question at json) give = tt
 
 all_ask : (P : Question → List ℕ → Bool → Type 0) (r : Request)
@@ -332,24 +332,24 @@ module _ (R W : Type 0) (before after : Streams R W) (line : List (List ℕ)) (s
 
   -- `check` is run, unless memory was refused for reading the line
   pub checked : line_faults line ≡ [] → IfCheck (asked line) (λ file.
-      ChecksFile before.writer after.writer before.held after.held before.reported after.reported status
+      ChecksFile before.writer after.writer before.held after.held before.reported after.reported file status
       ⊎ ((status ≡ 1) × FailsBy before.reported after.reported before.writer after.writer))
   checked none = elim (runs.taken none) [
-    | inl run ↦ of_check R W before after status (ChecksFile before.writer after.writer before.held after.held before.reported after.reported status
-        ⊎ ((status ≡ 1) × FailsBy before.reported after.reported before.writer after.writer)) (asked line) run (λ r. inl r.checked)
-    | inr lacks ↦ all_check (ChecksFile before.writer after.writer before.held after.held before.reported after.reported status
-        ⊎ ((status ≡ 1) × FailsBy before.reported after.reported before.writer after.writer)) (asked line) (inr (lacks.1.is, lacks_fails R W before after status lacks))
+    | inl run ↦ of_check R W before after status (λ file. ChecksFile before.writer after.writer before.held after.held before.reported after.reported file status
+        ⊎ ((status ≡ 1) × FailsBy before.reported after.reported before.writer after.writer)) (asked line) run (λ file r. inl r.checked)
+    | inr lacks ↦ all_check (λ file. ChecksFile before.writer after.writer before.held after.held before.reported after.reported file status
+        ⊎ ((status ≡ 1) × FailsBy before.reported after.reported before.writer after.writer)) (asked line) (λ file. inr (lacks.1.is, lacks_fails R W before after status lacks))
   ]
 
   pub checked_unread : IfCheck (asked line) (λ file. after.reader ≡ before.reader)
   checked_unread = elim (nil_or (line_faults line)) [
     | inl none ↦ elim (runs.taken none) [
-      | inl run ↦ of_check R W before after status (after.reader ≡ before.reader) (asked line) run (λ r. r.unread)
-      | inr lacks ↦ all_check (after.reader ≡ before.reader) (asked line) lacks.0
+      | inl run ↦ of_check R W before after status (λ file. after.reader ≡ before.reader) (asked line) run (λ file r. r.unread)
+      | inr lacks ↦ all_check (λ file. after.reader ≡ before.reader) (asked line) (λ file. lacks.0)
     ]
     | inr some ↦ elim (runs.left some) [
-      | inl leaves ↦ all_check (after.reader ≡ before.reader) (asked line) leaves.0
-      | inr lacks ↦ all_check (after.reader ≡ before.reader) (asked line) lacks.0
+      | inl leaves ↦ all_check (λ file. after.reader ≡ before.reader) (asked line) (λ file. leaves.0)
+      | inr lacks ↦ all_check (λ file. after.reader ≡ before.reader) (asked line) (λ file. lacks.0)
     ]
   ]
 

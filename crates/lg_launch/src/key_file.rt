@@ -6,7 +6,7 @@ ghost use Rattle.std.specs.Prelude.{◌≡◌, ◌≤◌, ℕ, List, length, Err
 ghost use Rattle.lg_key.specs.declared.fault.KeyFault.{KeyFault};
 ghost use Rattle.lg_key.specs.Meaning.Reading.{keys_of};
 ghost use Rattle.lg_launch.specs.Meaning.KeyTelling.{bad_line, is_owner, key_fault_line, no_keys_line};
-ghost use Rattle.lg_launch.specs.Meaning.KeyTelling.{refusal_of, IsTextless, TellsNoKeys};
+ghost use Rattle.lg_launch.specs.Meaning.KeyTelling.{refused_by, IsTextless, TellsNoKeys};
 
 use crate::reporting::{tell, tell_both};
 use crate::told::Told;
@@ -84,7 +84,7 @@ fn is_owner(user: Option<u32>, owner: u32) -> bool
 
 /// Why an opened file gives no keys, by whether it is a regular file, its owner and its mode.
 fn refusal_of(is_file: bool, user: Option<u32>, owner: u32, mode: u32) -> Option<NoKeys>
-    ensures is { result ≡ refusal_of is_file user owner mode }
+    ensures is { result ≡ refused_by is_file user owner mode }
     ensures textless { IfSome result IsTextless }
 {
     if !is_file {

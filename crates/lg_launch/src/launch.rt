@@ -7,8 +7,8 @@ ghost use Rattle.std.specs.Prelude.{◌≡◌, ◌⊎◌, ℕ, List, [], Err, fa
 ghost use Rattle.std.specs.Option.{option_map};
 ghost use Rattle.lg_timing.specs.Meaning.Config.{IsChecked};
 ghost use Rattle.lg_launch.specs.declared.told.Told.{Told as OneTold};
-ghost use Rattle.lg_launch.specs.Meaning.Running.{end_second, table_wished, Announces, HasRun, IsSecond, RunsBytes};
-ghost use Rattle.lg_launch.specs.Meaning.Running.{RunsFile, RunsKeyed, RunsNode, RunsOrRefused, Writes};
+ghost use Rattle.lg_launch.specs.Meaning.Running.{table_wished, Announces, HasRun, IsSecond, RunsBytes};
+ghost use Rattle.lg_launch.specs.Meaning.Running.{RunsFile, RunsKeyed, RunsNode, RunsOrRefused, TellsMeanwhile, Writes};
 ghost use Rattle.lg_launch.specs.Meaning.Wishes.{end_wished};
 ghost use Rattle.lg_node.specs.Meaning.Nodes.{IsEarly};
 ghost use Rattle.lg_launch.specs.Meaning.Reporting.{ReportsBoth};
@@ -21,13 +21,12 @@ use crate::reporting::{tell, tell_both, tell_fault};
 use crate::telling::table_of;
 use crate::told::Told;
 use crate::wishes::{Wishes, end_wished, is_announced};
-use crate::words::{link_reason, served_line, start_line};
+use crate::words::{link_reason, start_line};
 use lg_config::{NodeConfig, ReadFault};
 use lg_key::Keys;
 use lg_node::{NodeEnd, NodeFault, Settings, run_node};
 use lg_report::put_table;
 use lg_rules::{Addr, Record};
-use lg_serve::Served;
 use lg_text::{FaultStream, RunFault, report, write_whole};
 use std::alloc::{AllocError, Global};
 use std::io::{ErrorKind, Write};
@@ -55,7 +54,7 @@ pub fn run_file<R, W, F>(
 where
     R: Wait + Threads + Net + rt::Clock + Files + RandomSource + Sync,
     W: Write + Send,
-    F: FaultStream,
+    F: FaultStream + Send,
     ensures { RunsFile writer.old writer.new (W.contents writer.old) (W.contents writer.new)
         (F.reported faults.old) (F.reported faults.new) wishes.now.file.now wishes.now.until wishes.now.follow
         result }
@@ -88,7 +87,7 @@ pub fn run_bytes<R, W, F>(
 where
     R: Wait + Threads + Net + rt::Clock + Files + RandomSource + Sync,
     W: Write + Send,
-    F: FaultStream,
+    F: FaultStream + Send,
     ensures { RunsBytes writer.old writer.new (W.contents writer.old) (W.contents writer.new)
         (F.reported faults.old) (F.reported faults.new) bytes.now wishes.now.file.now wishes.now.until
         wishes.now.follow result }
@@ -113,7 +112,7 @@ fn run_keyed<R, W, F>(
 where
     R: Wait + Threads + Net + rt::Clock + Files + RandomSource + Sync,
     W: Write + Send,
-    F: FaultStream,
+    F: FaultStream + Send,
     requires { IsChecked node.now.config }
     ensures { RunsKeyed writer.old writer.new (W.contents writer.old) (W.contents writer.new)
         (F.reported faults.old) (F.reported faults.new) wishes.now.file.now node.now wishes.now.until
@@ -154,7 +153,7 @@ pub fn run_config<R, W, F>(
 where
     R: Wait + Threads + Net + rt::Clock + RandomSource + Sync,
     W: Write + Send,
-    F: FaultStream,
+    F: FaultStream + Send,
     requires { IsChecked node.now.config }
     ensures { RunsOrRefused writer.old writer.new (W.contents writer.old) (W.contents writer.new)
         (F.reported faults.old) (F.reported faults.new) wishes.now.file.now node.now wishes.now.until
@@ -198,18 +197,19 @@ fn run_announced<R, W, F>(
 where
     R: Wait + Threads + Net + rt::Clock + RandomSource + Sync,
     W: Write + Send,
-    F: FaultStream,
+    F: FaultStream + Send,
     requires { IsChecked node.now.config }
     ensures { RunsNode writer.old writer.new (W.contents writer.old) (W.contents writer.new)
         (F.reported faults.old) (F.reported faults.new) node.now wishes.now.until wishes.now.follow result }
 {
-    let ran = run(rt, alloc, node, keys, wishes, stop, writer);
+    let ran = run(rt, alloc, node, keys, wishes, stop, writer, faults);
     let written = write_table(alloc, &ran, wishes.follow, writer);
     tell_run(alloc, node, &ran, Told::of(&ran, written), faults)
 }
 
-/// Runs the node of a configuration. The writer is written to only if it follows, and else stays as it is.
-fn run<R, W>(
+/// Runs the node of a configuration. The writer is written to only if it follows, and else stays as it is. A status
+/// server that ends before the node is reported when it does.
+fn run<R, W, F>(
     rt: &R,
     alloc: Global,
     node: &NodeConfig,
@@ -217,15 +217,18 @@ fn run<R, W>(
     wishes: &Wishes<'_>,
     stop: &AtomicBool,
     writer: &mut W,
+    faults: &mut F,
 ) -> Result<NodeEnd, NodeFault>
 where
     R: Wait + Threads + Net + rt::Clock + RandomSource + Sync,
     W: Write + Send,
+    F: FaultStream + Send,
     requires { IsChecked node.now.config }
     ensures ran { MatchResult result (HasRun node.now (end_wished wishes.now.until) wishes.now.follow
         (W.contents writer.old) (W.contents writer.new)) (IsEarly node.now.config) }
     ensures alone { wishes.now.follow ≡ false → writer.new ≡ writer.old }
     ensures unwritten { OnErr result (writer.new ≡ writer.old) }
+    ensures told { TellsMeanwhile result (F.reported faults.old) (F.reported faults.new) }
 {
     let settings = Settings {
         dice: node.dice,
@@ -237,7 +240,16 @@ where
         keys,
     };
     let until = end_wished(wishes.until);
-    run_node(rt, alloc, &node.config, &settings, until, stop, writer)
+    run_node(
+        rt,
+        alloc,
+        &node.config,
+        &settings,
+        until,
+        stop,
+        writer,
+        faults,
+    )
 }
 
 /// Why an address can't be bound. It is empty if memory for it was refused.
@@ -261,16 +273,6 @@ fn fault_line(alloc: Global, node: &NodeConfig, fault: &NodeFault) -> String
     }
 }
 
-/// The second line of a node whose loops had begun. It is empty if there is none.
-fn end_second(told: Told, served: Option<Served>) -> &'static str
-    ensures { result.now ≡ end_second told served }
-{
-    match told {
-        Told::Write => told.second(),
-        _ => served_line(served),
-    }
-}
-
 /// Reports what is told of a node that was run, with the second line if there is one, and gives the status.
 fn tell_run<F: FaultStream>(
     alloc: Global,
@@ -284,7 +286,7 @@ fn tell_run<F: FaultStream>(
     ensures status { result ≡ status_told told }
 {
     match ran {
-        Ok(end) => tell_both(told, end_second(told, end.served), faults),
+        Ok(_) => tell_both(told, told.second(), faults),
         Err(fault) => {
             let line = fault_line(alloc, node, fault);
             tell_both(told, line.as_str(), faults)

@@ -5,13 +5,11 @@
 //! Tested in: `lg_command_tests/src/launch/starts.rt`, `cases/node.case`.
 ghost use Rattle.std.specs.Prelude.{◌≡◌, IfOk, string_bytes};
 ghost use Rattle.lg_launch.specs.Meaning.Words.{bind_words, link_reason, read_reason, read_words};
-ghost use Rattle.lg_launch.specs.Meaning.Words.{seed_count, served_line, start_line};
+ghost use Rattle.lg_launch.specs.Meaning.Words.{seed_count, start_line};
 
 use lg_check::{addr_text, text_of_name};
 use lg_config::NodeConfig;
-use lg_http::End;
 use lg_rules::Addr;
-use lg_serve::Served;
 use std::alloc::{AllocError, Global};
 use std::io::ErrorKind;
 
@@ -80,16 +78,4 @@ pub(crate) fn read_reason(alloc: Global, file: &str, kind: ErrorKind) -> Result<
 {
     let words = read_words(kind);
     format!(in alloc; "the file {file} can't be read: {words}\n")
-}
-
-/// Why a status server ended before its node, as a line. It is empty if it was told to stop, or if there was none.
-pub(crate) fn served_line(served: Option<Served>) -> &'static str
-    ensures { result.now ≡ served_line served }
-{
-    match served {
-        None | Some(Served::Ended(End::Stopped, _)) => "",
-        Some(Served::Refused(_)) => "the status server couldn't begin: memory is refused\n",
-        Some(Served::Ended(End::WaitFailed(_), _)) =>
-            "the status server ended early: the machine's wait failed\n",
-    }
 }

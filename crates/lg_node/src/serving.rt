@@ -8,7 +8,7 @@ ghost use Rattle.lg_timing.specs.declared.config.Config.{Config as Opened};
 ghost use Rattle.lg_watch.specs.Meaning.Sights.{OnlyLooked};
 ghost use Rattle.lg_http.specs.Meaning.Slots.{AreFree, slots_of};
 ghost use Rattle.lg_node.specs.Meaning.Nodes.{IsEarly, ServesIf, TellsServed};
-ghost use Rattle.lg_node.specs.Meaning.Starts.{Shows};
+ghost use Rattle.lg_node.specs.Meaning.Starts.{Shows, hosts_of};
 
 use crate::following::take_back;
 use crate::node::{NodeFault, Settings};
@@ -16,7 +16,8 @@ use crate::shared::Shared;
 use crate::start::Setup;
 use lg_agent::{AgentName, Pass, Refusal};
 use lg_clock::{Clock, MachineClock};
-use lg_http::{End, Server, Signal};
+use lg_http::{End, Hosts, Server, Signal};
+use lg_rules::Addr;
 use lg_serve::{Served, SiteBasis, serve};
 use lg_status::{NodeNumber, ShownConfig};
 use lg_text::{FaultStream, report};
@@ -65,6 +66,16 @@ fn shown_of(alloc: Global, config: &Config, settings: &Settings) -> Result<Shown
     })
 }
 
+/// The hosts that a status server at an address answers to.
+fn hosts_of(addr: Option<Addr>) -> Hosts
+    ensures { result ≡ hosts_of addr }
+{
+    match addr {
+        Some(addr) if addr.octets[0] == 127 => Hosts::Local,
+        _ => Hosts::Any,
+    }
+}
+
 /// A status server that is ready to serve, if one is bound. The error is the machine's clock, if it can't be read.
 pub(crate) fn status_server<'n, 's, 'r, R: rt::Clock>(
     rt: &'r R,
@@ -102,7 +113,7 @@ fn serve_with<'p, A: AgentName, R: rt::Clock, C: Clock>(
     ensures { OnlyLooked pass.entry result.0 }
 {
     let StatusServer {
-        server,
+        mut server,
         signal,
         machine,
         config,
@@ -117,7 +128,8 @@ fn serve_with<'p, A: AgentName, R: rt::Clock, C: Clock>(
         counters: shared.counters,
         config,
     };
-    serve(server, signal, &machine, pass, basis)
+    let hosts = hosts_of(settings.status);
+    serve(&mut server, signal, &machine, pass, basis, hosts)
 }
 
 /// Reports how a status server ended, unless it was told to stop.

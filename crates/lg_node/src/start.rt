@@ -20,7 +20,7 @@ ghost use Rattle.lg_agent.specs.Meaning.Closing.{IsClosed, IsRefusedClosing};
 ghost use Rattle.lg_http.specs.Meaning.Slots.{AreFree, slots_of};
 ghost use Rattle.lg_node.specs.Meaning.Nodes.{HasServed, ServesIf, WatchesIf, IsRun, IsRefusedEarly, IsEarly};
 ghost use Rattle.lg_node.specs.Meaning.Nodes.{fresh_own, TellsServed};
-ghost use Rattle.lg_node.specs.Meaning.Starts.{link_keys, stall_of, wait_of};
+ghost use Rattle.lg_node.specs.Meaning.Starts.{link_keys, stall_of, turn_wait};
 ghost use Rattle.lg_node.specs.Meaning.Turns.{LinkValue};
 ghost use Rattle.lg_node.specs.Meaning.Words.{seeded, DrawsEight};
 ghost use Rattle.lg_node.specs.Support.Failing.{failures_of};
@@ -150,7 +150,7 @@ fn stall_of(settings: &Settings) -> u64
 /// How long a turn of a node waits at most, in milliseconds: a tenth of the configuration's `timeout_ms`, but at least
 /// 5 and at most 50, and at most half the stall of its clock, if there is one.
 fn wait_of(config: &Config, stall: u64) -> u64
-    ensures { result ≡ wait_of config.now.timeout_ms stall }
+    ensures { result ≡ turn_wait config.now.timeout_ms stall }
 {
     let wait = (config.timeout_ms / 10).clamp(5, 50);
     match stall {
@@ -205,7 +205,7 @@ where
     requires bound { (shared.now.bound ≤ MAX_TURNS) × (shared.now.endless ≡ true) }
     requires free { IfSome status (λ status. AreFree (slots_of status.server)) }
     requires wait { shared.now.wait_ms
-        ≡ wait_of setup.now.config.now.timeout_ms (stall_of setup.now.settings.now.stall_ms) }
+        ≡ turn_wait setup.now.config.now.timeout_ms (stall_of setup.now.settings.now.stall_ms) }
     ensures left { (start : ℕ) → agent.old.name ≡ setup.now.config.now.name
         → All (λ seen. seen ≡ Open start setup.now.config.now ∷ []) agent.old.told
         → IfOk result (λ l. (hears : LinkValue) × (hears' : LinkValue) × (sends : LinkValue) × (sends' : LinkValue)

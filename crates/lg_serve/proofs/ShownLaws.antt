@@ -1,12 +1,12 @@
 -- What a site has made and shows after its first sight, after a look, and after a reading.
-use Rattle.std.proofs.Common.{◌≡◌, ℕ, ◌+◌, ◌≤◌, List, [], ◌∷◌, ◌++◌, length, map, refl, sym, ap, ◌∙◌, subst, inr, arith, true, length-append, append-nil}
+use Rattle.std.proofs.Common.{◌≡◌, ℕ, ◌≤◌, List, [], ◌∷◌, ◌++◌, length, map, refl, sym, ap, ◌∙◌, subst, inr, arith, true, length-append, append-nil}
 use mathlib.Core.List.{IsPrefix}
 use Rattle.std.proofs.lemmas.List.{length-map}
 use Rattle.lg_rules.specs.declared.claim.Claim.{Claim}
 use Rattle.lg_rules.specs.Meaning.Claim.{name_of}
 use Rattle.lg_rules.specs.Meaning.Rows.{name_cmp, Rises}
 use Rattle.lg_detector.specs.declared.event.Event.{Event}
-use Rattle.lg_detector.specs.Meaning.Step.{view_after, own_standing_after, is_accepted}
+use Rattle.lg_detector.specs.Meaning.Step.{view_after, is_accepted}
 use Rattle.lg_view.specs.declared.overview.Overview.{Overview}
 use Rattle.lg_view.specs.Meaning.Views.{IsOverview}
 use Rattle.lg_agent.specs.Meaning.Values.{PassValue}
@@ -23,7 +23,7 @@ use Rattle.lg_status.specs.Meaning.Kept.{HasRecorded}
 use Rattle.lg_serve.specs.declared.looked.Looked.{Looked}
 use Rattle.lg_serve.specs.declared.looked.Looked.TheVariants.{Same, Taken, Refused}
 use Rattle.lg_serve.specs.declared.reading.Reading.{Reading}
-use Rattle.lg_serve.specs.Meaning.Readings.{AreOfFaults, HasRead, fault_names}
+use Rattle.lg_serve.specs.Meaning.Readings.{AreOfFaults, HasRead}
 use Rattle.lg_serve.specs.Meaning.Shown.{recorded_at, recorded_from, IsNewest, ShowsEvents, IsShown, HasMade, SiteValue, IsLater}
 use Rattle.lg_serve.specs.Support.Later.{made_none}
 use Rattle.lg_serve.specs.Support.Showing.{IsSite, SameLook, SameReading, AddsLook, TakesLook, LeavesLook, LooksAs}

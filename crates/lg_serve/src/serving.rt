@@ -5,12 +5,12 @@
 ghost use Rattle.std.specs.Prelude.{◌≡◌, IfOk};
 ghost use Rattle.lg_watch.specs.Meaning.Sights.{OnlyLooked};
 ghost use Rattle.lg_http.specs.Meaning.Slots.{AreFree, slots_of};
-ghost use Rattle.lg_serve.specs.Meaning.Served.{HasServed, served_line};
+ghost use Rattle.lg_serve.specs.Meaning.Served.{ServedAs, served_line};
 
 use crate::site::{NodeSite, SiteBasis};
 use lg_agent::{AgentName, Pass, Refusal};
 use lg_clock::Clock;
-use lg_http::{Counts, Desk, End, Listener, Server, Signal};
+use lg_http::{Counts, Desk, End, Hosts, Listener, Server, Signal};
 use lg_rules::Addr;
 use std::alloc::Global;
 use std::io::ErrorKind;
@@ -66,17 +66,18 @@ pub fn serve<'p, A: AgentName, C: Clock, M: Clock>(
     machine: &M,
     pass: Pass<'p, A>,
     basis: SiteBasis<'_, C>,
+    hosts: Hosts,
 ) -> (Pass<'p, A>, Served)
     ensures looked { OnlyLooked pass.entry result.0 }
-    ensures served { HasServed result.1 basis.entry.counters.now.name basis.entry.config pass.entry result.0
-        (slots_of server.old) (slots_of server.new) }
+    ensures served { ServedAs result.1 basis.entry.counters.now.name basis.entry.config hosts pass.entry result.0
+        server.old server.new }
 {
     let alloc = basis.alloc;
     let site = match NodeSite::new(pass, basis) {
         Ok(site) => site,
         Err((refusal, pass)) => return (pass, Served::Refused(refusal)),
     };
-    let mut desk = Desk::new(alloc, site);
+    let mut desk = Desk::new(alloc, site, hosts);
     let (end, counts) = server.serve(&mut desk, machine, signal);
     (desk.finish().finish(), Served::Ended(end, counts))
 }

@@ -79,9 +79,9 @@ pub record RunsNodeFile
   pub unread : after.reader ≡ before.reader
 
 -- `check` is run for its file. Nothing is read from the reader.
-pub record RunsCheck {R W : Type 0} (before after : Streams R W) (status : ℕ) : Type 0 where
+pub record RunsCheck {R W : Type 0} (before after : Streams R W) (file : List ℕ) (status : ℕ) : Type 0 where
   pub checked :
-      ChecksFile before.writer after.writer before.held after.held before.reported after.reported status
+      ChecksFile before.writer after.writer before.held after.held before.reported after.reported file status
   pub unread : after.reader ≡ before.reader
 
 -- The node at an address is asked what a command asks for, and its answer is told, or each of its answers.
@@ -120,7 +120,7 @@ RunsRequest before after (timeouts numbers) status = RunsNumbers before after nu
 RunsRequest before after sim status = RunsScript before after status
 RunsRequest before after (node file for_ms follow until_input_ends) status =
     RunsNodeFile before after file for_ms follow status
-RunsRequest before after (check file) status = RunsCheck before after status
+RunsRequest before after (check file) status = RunsCheck before after file status
 RunsRequest before after (ask question at json) status = RunsAsking before after question at json status
 
 -- A command line that is taken runs its command, and any other is left; or memory was refused for reading it. Nothing

@@ -11,8 +11,8 @@ use Rattle.lg_launch.specs.Meaning.Reporting.{ReportsBoth, TellsLine}
 use Rattle.lg_launch.specs.Meaning.Telling.{line_of, status_told}
 
 -- the bits of a mode by which others than its owner may read a file, write to it or run it
-abbrev pub others : ℕ
-others = 0o077
+abbrev pub bits_of_others : ℕ
+bits_of_others = 0o077
 
 -- whether a file belongs to root, whose number is 0, or to the user who runs the node, if it is known who that is
 abbrev pub is_owner : Option ℕ → ℕ → Bool
@@ -21,11 +21,11 @@ is_owner (Some user) owner = (owner == 0) || (owner == user)
 
 -- Why an opened file gives no keys, by whether it is a regular file, its owner and its mode. The first of these counts:
 -- it is no regular file, it belongs to another user, others can use it.
-abbrev pub refusal_of : (is_file : Bool) (user : Option ℕ) (owner mode : ℕ) → Option NoKeys
-refusal_of is_file user owner mode =
+abbrev pub refused_by : (is_file : Bool) (user : Option ℕ) (owner mode : ℕ) → Option NoKeys
+refused_by is_file user owner mode =
     if not is_file then Some none.Irregular
     else if not (is_owner user owner) then Some none.Foreign
-    else if bit_and mode others == 0 then None
+    else if bit_and mode bits_of_others == 0 then None
     else Some none.Shared
 
 -- a file gives no text that could have keys

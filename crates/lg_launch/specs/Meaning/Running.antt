@@ -15,20 +15,19 @@ use Rattle.lg_config.specs.Meaning.Answer.{IsAnswer}
 use Rattle.lg_node.specs.declared.node.NodeEnd.{NodeEnd}
 use Rattle.lg_node.specs.declared.node.NodeFault.{NodeFault}
 use Rattle.lg_node.specs.declared.node.NodeFault.TheVariants as node
-use Rattle.lg_serve.specs.declared.serving.Served.{Served}
-use Rattle.lg_node.specs.Meaning.Nodes.{IsRun, IsEarly}
+use Rattle.lg_node.specs.Meaning.Nodes.{IsRun, IsEarly, TellsServed}
 use Rattle.lg_node.specs.Meaning.Turns.{LinkValue}
 use Rattle.lg_node.specs.Meaning.Words.{seeded, DrawsEight}
 use Rattle.lg_launch.specs.declared.file.NoBytes.{NoBytes}
 use Rattle.lg_launch.specs.declared.told.Told.{Told}
-use Rattle.lg_launch.specs.declared.told.Told.TheVariants.{Memory, Write}
+use Rattle.lg_launch.specs.declared.told.Told.TheVariants.{Memory}
 use Rattle.lg_launch.specs.Meaning.Checking.{WritesText}
 use Rattle.lg_launch.specs.declared.key_file.NoKeys.{NoKeys}
 use Rattle.lg_launch.specs.Meaning.KeyTelling.{TellsNoKeys}
 use Rattle.lg_launch.specs.Meaning.Reporting.{ReportsBoth, TellsAlone, TellsFault, TellsNoBytes}
 use Rattle.lg_launch.specs.Meaning.Telling.{ending, line_of, run_told, second_of, status_told}
 use Rattle.lg_launch.specs.Meaning.Wishes.{end_wished, is_announced}
-use Rattle.lg_launch.specs.Meaning.Words.{link_reason, served_line, start_line}
+use Rattle.lg_launch.specs.Meaning.Words.{link_reason, start_line}
 
 -- the records of the table that is to be written, if one is to be
 abbrev pub table_at_end : Result NodeEnd NodeFault → Option (List Claim)
@@ -65,21 +64,15 @@ AnnouncesIf false reported reports line = reports ≡ reported
 abbrev pub Announces : Option ℕ → Bool → (reported reports : Reported) (line : List ℕ) → Type 0
 Announces until follow reported reports line = AnnouncesIf (is_announced until follow) reported reports line
 
--- The second line of a node whose loops had begun: that its table couldn't be written, or else why its status server
--- ended before it.
-abbrev pub end_second : Told → Option Served → List ℕ
-end_second Write served = second_of Write
-end_second _ served = served_line served
-
 -- The second line of what is told of a node that was run: why its socket or that of its status server can't be bound,
--- or that of a node whose loops had begun. If memory for it is refused, there is none.
+-- or what couldn't be written of a node whose loops had begun. If memory for it is refused, there is none.
 abbrev pub IsSecond : NodeConfig → Result NodeEnd NodeFault → Told → List ℕ → Type 0
 IsSecond n (Err (node.Socket kind)) told second = (second ≡ []) ⊎ (second ≡ link_reason n.config.addr kind)
 IsSecond n (Err (node.Status kind)) told second =
     (second ≡ []) ⊎ ((addr : Addr) × (n.status ≡ Some addr) × (second ≡ link_reason addr kind))
 IsSecond n (Err node.Clock) told second = second ≡ []
 IsSecond n (Err (node.Refused refusal)) told second = second ≡ []
-IsSecond n (Ok e) told second = second ≡ end_second told e.served
+IsSecond n (Ok e) told second = second ≡ second_of told
 
 -- The node of a configuration ran until a moment. If it followed, its watcher wrote all that the writer gained. Its
 -- links tell nothing but their failures. Each loop counts its turns anew after 1,000,000,000.
@@ -89,9 +82,15 @@ HasRun n until follow held holds e =
     × IsRun DrawsEight (seeded n.dice) false 1000000000 n.config n.pull_ms until hears hears' sends sends' follow held
     holds (is_some n.status) e
 
+-- What a node reports while it runs: why its status server ended before it, if it did. One that ended before its loops
+-- reports nothing.
+abbrev pub TellsMeanwhile : Result NodeEnd NodeFault → (reported reports : Reported) → Type 0
+TellsMeanwhile (Ok e) reported reports = TellsServed e.served reported reports
+TellsMeanwhile (Err fault) reported reports = reports ≡ reported
+
 -- The node of a configuration ran, or it ended before its loops, and then nothing was written. If it followed, its
--- watcher wrote what it saw. Otherwise its table was written, if it was to be. What is told of it was reported, and a
--- second line if there is one.
+-- watcher wrote what it saw. Otherwise its table was written, if it was to be. What is told of it was reported behind
+-- what it had reported itself, and a second line if there is one.
 pub record RunsNode
     {W : Type 0} (before after : W) (held holds : Option (List ℕ)) (reported reports : Reported) (n : NodeConfig)
     (until : Option ℕ) (follow : Bool) (status : ℕ)
@@ -102,8 +101,10 @@ pub record RunsNode
   pub run : MatchResult ran (HasRun n (end_wished until) follow held holds) (IsEarly n.config)
   pub unwritten : OnErr ran (after ≡ before)
   pub table : WritesEnd follow before after held holds (table_at_end ran) written
+  pub meanwhile : Reported
+  pub told : TellsMeanwhile ran reported meanwhile
   pub reason : IsSecond n ran (run_told ran written) second
-  pub lines : ReportsBoth reported reports (line_of (run_told ran written)) second
+  pub lines : ReportsBoth meanwhile reports (line_of (run_told ran written)) second
   pub is : status ≡ status_told (run_told ran written)
 
 -- The node of a configuration is announced, if it is to be, and run.

@@ -12,7 +12,7 @@ use Rattle.lg_http.specs.declared.server.Counts.{Counts}
 use Rattle.lg_http.specs.declared.server.End.TheVariants.{Stopped, WaitFailed}
 use Rattle.lg_agent.specs.declared.refusal.Refusal.TheVariants.{NoMemory}
 use Rattle.lg_serve.specs.declared.serving.Served.TheVariants.{Refused, Ended}
-use Rattle.lg_launch.specs.Meaning.Words.{link_reason, served_line, start_line}
+use Rattle.lg_launch.specs.Meaning.Words.{link_reason, start_line}
 
 -- 127.0.0.1 with a port
 abbrev local_at : ℕ → Addr
@@ -60,22 +60,6 @@ another-error :
     link_reason (local_at 80) error.InvalidInput ≡ codes "127.0.0.1:80 can't be bound: the machine refuses it\n"
 unfolding digits
 another-error = refl
-
--- a status server that was told to stop has no line, and one whose wait failed has
-abbrev counted : Counts
-counted = record { turns = 1; accepted = 0; turned_away = 0; failed = 0 }
-
-served-to-the-end : served_line (Some (Ended Stopped counted)) ≡ []
-served-to-the-end = refl
-
-served-not-to-the-end :
-    served_line (Some (Ended (WaitFailed error.InvalidInput) counted))
-    ≡ codes "the status server ended early: the machine's wait failed\n"
-served-not-to-the-end = refl
-
-not-served-at-all :
-    served_line (Some (Refused NoMemory)) ≡ codes "the status server couldn't begin: memory is refused\n"
-not-served-at-all = refl
 
 -- a node that a time ends says nothing while it runs, unless it follows
 timed : is_announced (Some 60000) false ≡ false

@@ -7,9 +7,6 @@ use Rattle.lg_rules.specs.declared.addr.Addr.{Addr}
 use Rattle.lg_text.specs.Meaning.Lines.{newline}
 use Rattle.lg_report.specs.Meaning.Records.{addr_text}
 use Rattle.lg_config.specs.declared.node.NodeConfig.{NodeConfig}
-use Rattle.lg_http.specs.declared.server.End.TheVariants.{Stopped, WaitFailed}
-use Rattle.lg_serve.specs.declared.serving.Served.{Served}
-use Rattle.lg_serve.specs.declared.serving.Served.TheVariants.{Refused, Ended}
 
 abbrev pub seed_count : ℕ → List ℕ
 seed_count n = if n == 1 then codes "1 seed" else decimal n ++ codes " seeds"
@@ -45,11 +42,3 @@ read_words _ = codes "the machine refuses it"
 -- the file FILE can't be read: WHY
 abbrev pub read_reason : List ℕ → ErrorKind → List ℕ
 read_reason file kind = codes "the file " ++ (file ++ (codes " can't be read: " ++ (read_words kind ++ newline)))
-
--- why a status server ended before its node; there is no line if it was told to stop, or if there was none
-abbrev pub served_line : Option Served → List ℕ
-served_line None = []
-served_line (Some (Refused refusal)) = codes "the status server couldn't begin: memory is refused" ++ newline
-served_line (Some (Ended Stopped counts)) = []
-served_line (Some (Ended (WaitFailed kind) counts)) =
-    codes "the status server ended early: the machine's wait failed" ++ newline

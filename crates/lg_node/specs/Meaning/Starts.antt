@@ -1,9 +1,12 @@
 -- With what a node starts: the stall of its clock, the wait of its turns, the keys of its links, and the configuration
 -- that its status server shows.
 use Rattle.std.specs.Prelude.{◌≡◌, ℕ, ◌/◌, ◌==◌, min, max, if◌then◌else◌, codes}
-use Rattle.std.specs.Prelude.{List, [], ◌∷◌, map, Option, Some, None}
+use Rattle.std.specs.Prelude.{List, [], ◌∷◌, map, Option, Some, None, Bool, false}
+use Rattle.lg_rules.specs.declared.addr.Addr.{Addr}
 use Rattle.lg_timing.specs.declared.config.Config.{Config}
 use Rattle.lg_key.specs.declared.key.Keys.{Keys}
+use Rattle.lg_http.specs.declared.hosts.Hosts.{Hosts}
+use Rattle.lg_http.specs.declared.hosts.Hosts.TheVariants.{Any, Local}
 use Rattle.lg_status.specs.declared.snapshot.NodeNumber.{NodeNumber}
 use Rattle.lg_status.specs.declared.snapshot.ShownConfig.{ShownConfig}
 use Rattle.lg_node.specs.declared.node.Settings.{Settings}
@@ -21,8 +24,22 @@ stall_of stall_ms = if stall_ms == 0 then 0 else max stall_ms 25
 abbrev pub tenth_of : ℕ → ℕ
 tenth_of timeout_ms = max 5 (min (timeout_ms / 10) 50)
 
-abbrev pub wait_of : (timeout_ms stall : ℕ) → ℕ
-wait_of timeout_ms stall = if stall == 0 then tenth_of timeout_ms else min (tenth_of timeout_ms) (stall / 2)
+abbrev pub turn_wait : (timeout_ms stall : ℕ) → ℕ
+turn_wait timeout_ms stall = if stall == 0 then tenth_of timeout_ms else min (tenth_of timeout_ms) (stall / 2)
+
+-- whether the first of some bytes is this one
+abbrev pub begins_with : List ℕ → ℕ → Bool
+begins_with [] byte = false
+begins_with (first ∷ rest) byte = first == byte
+
+-- The hosts that a status server at this address answers to: if it is a loopback address, addresses and `localhost`
+-- alone, so that no page of another name can read the answers in a browser on this machine.
+abbrev pub hosts_at : Addr → Hosts
+hosts_at addr = if begins_with addr.octets 127 then Local else Any
+
+abbrev pub hosts_of : Option Addr → Hosts
+hosts_of None = Any
+hosts_of (Some addr) = hosts_at addr
 
 -- the keys with which a link seals and opens, if it has any
 abbrev pub link_keys : NodeLink → Option Keys
@@ -38,12 +55,12 @@ udp_of (Keyed noted) = noted.link.inner
 abbrev pub own_numbers : Settings → List (List ℕ × ℕ)
 own_numbers s = (codes "dice", s.dice) ∷ (codes "pull_ms", s.pull_ms) ∷ (codes "stall_ms", s.stall_ms) ∷ []
 
-abbrev pub numbers_of : List NodeNumber → List (List ℕ × ℕ)
-numbers_of numbers = map (λ own. (own.key.now, own.value)) numbers
+abbrev pub numbers_shown : List NodeNumber → List (List ℕ × ℕ)
+numbers_shown numbers = map (λ own. (own.key.now, own.value)) numbers
 
 -- What a node shows of itself: its configuration, and its settings.
 pub record Shows (config : Config) (settings : Settings) (shown : ShownConfig) : Type 0 where
   pub config_is : shown.config ≡ config
-  pub numbers_are : numbers_of shown.numbers.items ≡ own_numbers settings
+  pub numbers_are : numbers_shown shown.numbers.items ≡ own_numbers settings
   pub status_is : shown.status ≡ settings.status
   pub open_is : shown.status_open ≡ settings.status_open

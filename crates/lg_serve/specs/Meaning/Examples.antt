@@ -1,15 +1,12 @@
 -- Worked rows of what replies count, and of the changes that sights record. b is opened at 0; the others are a, c and
 -- d.
-use Rattle.std.specs.Prelude.{◌≡◌, ℕ, true, false, List, [], ◌∷◌, Option, Some, None, refl}
-use Rattle.lg_rules.specs.declared.claim.Claim.{Claim}
-use Rattle.lg_packet.specs.declared.packet.Body.TheVariants.{PingReq, Ack}
+use Rattle.std.specs.Prelude.{◌≡◌, ℕ, true, false, List, [], ◌∷◌, refl}
+use Rattle.lg_packet.specs.declared.packet.Body.TheVariants.{PingReq}
 use Rattle.lg_detector.specs.declared.event.Event.{Event}
-use Rattle.lg_detector.specs.declared.reply.Reply.{Reply}
 use Rattle.lg_detector.specs.Meaning.Examples.{by_computing, a, b, c, at, alive, failed, suspect}
 use Rattle.lg_detector.specs.Meaning.Examples.{opening, pings, says, ticks}
 use Rattle.lg_detector.specs.Meaning.Step.{reply_after}
 use Rattle.lg_watch.specs.Meaning.Sights.{Sight}
-use Rattle.lg_status.specs.declared.ring.Change.{Change}
 use Rattle.lg_status.specs.Meaning.Changes.{all_changes, change_at}
 use Rattle.lg_serve.specs.declared.tally.Tally.{Tally}
 use Rattle.lg_serve.specs.Meaning.Tally.{tally_of}

@@ -1,36 +1,48 @@
 -- What a status server does from its start to its end, and how it says why it ended (this project's choice).
-use Rattle.std.specs.Prelude.{◌≡◌, ◌⊎◌, ℕ, List, [], codes}
+use Rattle.std.specs.Prelude.{◌≡◌, ◌⊎◌, ℕ, ◌-◌, ◌^◌, ◌≤◌, List, [], codes}
 use Rattle.lg_agent.specs.declared.refusal.Refusal.TheVariants.{NoMemory, NoView}
 use Rattle.lg_agent.specs.Meaning.Values.{PassValue}
 use Rattle.lg_watch.specs.Meaning.Sights.{OnlyLooked}
+use Rattle.lg_http.specs.declared.hosts.Hosts.{Hosts}
 use Rattle.lg_http.specs.declared.server.End.TheVariants.{Stopped, WaitFailed}
-use Rattle.lg_http.specs.Meaning.Slots.{AreFree, AreSlots, Slot}
+use Rattle.lg_http.specs.declared.server.Server.{Server}
+use Rattle.lg_http.specs.Meaning.Answers.{Replies, SiteReplies}
+use Rattle.lg_http.specs.Meaning.Slots.{AreFree, AreServed, IsTold, slots_of}
 use Rattle.lg_status.specs.declared.snapshot.ShownConfig.{ShownConfig}
+use Rattle.lg_status.specs.Meaning.Routes.{wait_of}
 use Rattle.lg_serve.specs.declared.serving.Served.{Served}
 use Rattle.lg_serve.specs.declared.serving.Served.TheVariants.{Refused, Ended}
 use Rattle.lg_serve.specs.Meaning.Shown.{IsAnswerOf, IsFirst, IsLater, SiteValue}
 
--- A status server served a site from its first look on, with slots that were free: the site went on from there, each
--- request was answered from a state that it had on the way, and its pass is what is left of it. `slots` and `slots'` are
--- those of the server before and after.
+-- what a status server that answers to these hosts replies to a request, from a state of its site
+abbrev pub SiteRepliesTo : Hosts → SiteReplies SiteValue
+SiteRepliesTo hosts =
+    Replies IsAnswerOf (λ site. site.changed) (λ path query wait. wait ≡ wait_of path query) hosts
+
+-- A status server served a site from its first look on: the site went on from there, and its pass is what is left of
+-- it. If the server's slots were free, each request was answered from a state that the site had on the way, those of
+-- connections that have ended too.
 pub record HasServedSite
-    (name : List ℕ) (config : ShownConfig) (before after : PassValue) (slots slots' : List Slot)
+    (name : List ℕ) (config : ShownConfig) (hosts : Hosts) (before after : PassValue) (server server' : Server)
     : Type 0 where
   pub first : SiteValue
   pub last : SiteValue
   pub looked : OnlyLooked before first.pass
   pub is_first : IsFirst first name config
   pub goes_on : IsLater first last
-  pub free : AreFree slots → AreSlots IsAnswerOf IsLater last slots'
+  pub free : AreFree (slots_of server)
+      → AreServed (SiteRepliesTo hosts) IsLater last server.slots server'.slots
   pub left : last.pass ≡ after
 
--- What a status server did, by how it ended. If its first look was refused, it served nobody.
-abbrev pub HasServed :
-    Served → List ℕ → ShownConfig → (before after : PassValue) → (slots slots' : List Slot) → Type 0
-HasServed (Refused refusal) name config before after slots slots' =
-    OnlyLooked before after × (slots' ≡ slots) × ((refusal ≡ NoMemory) ⊎ (refusal ≡ NoView))
-HasServed (Ended end counts) name config before after slots slots' =
-    HasServedSite name config before after slots slots'
+-- What a status server did, by how it ended. If its first look was refused, it served nobody. It stopped only if it was
+-- told to, or after so many turns.
+abbrev pub ServedAs :
+    Served → List ℕ → ShownConfig → Hosts → (before after : PassValue) → (server server' : Server) → Type 0
+ServedAs (Refused refusal) name config hosts before after server server' =
+    OnlyLooked before after × (server' ≡ server) × ((refusal ≡ NoMemory) ⊎ (refusal ≡ NoView))
+ServedAs (Ended end counts) name config hosts before after server server' =
+    HasServedSite name config hosts before after server server'
+    × (end ≡ Stopped → IsTold server' ⊎ (2 ^ 64 - 1 ≤ counts.turns))
 
 -- why a status server ended before its node; there is no line if it was told to stop
 abbrev pub served_line : Served → List ℕ

@@ -1,5 +1,5 @@
 -- Each state of a site is later than itself, and what is later than a later state is later.
-use Rattle.std.proofs.Common.{◌≡◌, ◌≤◌, List, [], ◌++◌, refl, sym, ◌∙◌, inl, arith, subst, append_assoc, append-nil}
+use Rattle.std.proofs.Common.{List, [], ◌++◌, refl, sym, ◌∙◌, inl, arith, subst, append_assoc, append-nil}
 use Rattle.lg_watch.specs.Meaning.Sights.{Sight}
 use Rattle.lg_watch.proofs.SightLaws.{looked_through}
 use Rattle.lg_serve.specs.Meaning.Shown.{HasMade, SiteValue, IsLater}

@@ -1,6 +1,5 @@
 -- What a site keeps, and what a look leaves.
 use Rattle.std.specs.Prelude.{◌≡◌, ℕ, List, [], ◌∷◌, ◌++◌, length}
-use Rattle.lg_detector.specs.declared.event.Event.{Event}
 use Rattle.lg_detector.specs.Meaning.Step.{view_after}
 use Rattle.lg_agent.specs.Meaning.Values.{PassValue}
 use Rattle.lg_agent.specs.Meaning.Calls.{IsLook}

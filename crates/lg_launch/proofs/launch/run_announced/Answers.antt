@@ -21,6 +21,8 @@ returns g c =
       table =
           end-written g.W.Write.contents c.args.wishes.now.follow c.args.writer.now c.run-ran.new.writer c.write_table-written.new.writer
           c.run-ran.result c.write_table-written.result c.run-ran.ensures.alone c.write_table-written.ensures;
+      meanwhile = g.F.FaultStream.reported c.run-ran.new.faults;
+      told = c.run-ran.ensures.told;
       reason =
           subst (λ told. IsSecond c.args.node.now c.run-ran.result told c.tell_run.ensures.lines.0) c.of.ensures
           c.tell_run.ensures.lines.1;

@@ -10,4 +10,4 @@ few_lost : (tells : Bool) (log log' : List LinkEvent) (failed failed' : ℕ) (se
 few_lost tells log log' failed failed' sends unsent was short = omega (arith, count_by-le-length not was.sent, was.each, was.unsent_is, short)
 
 pub returns-clause-few : goal.returns-clause-few
-returns-clause-few g c = few_lost _ _ _ _ _ _ _ c.send_all-unsent.ensures c.as_slice.ensures.fits
+returns-clause-few g c = rw c.of.ensures (few_lost _ _ _ _ _ _ _ c.send_all-unsent.ensures c.as_slice.ensures.fits)
