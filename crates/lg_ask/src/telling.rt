@@ -86,8 +86,8 @@ fn told_status(is_ousted: bool) -> u8
 
 /// Writes what an answer tells, and gives the status.
 fn write_told<W: Write, F: FaultStream>(told: &Told, writer: &mut W, faults: &mut F) -> u8
-    ensures { IsAnswerTold (W.contents writer.old) (W.contents writer.new) (F.reported faults.old) (F.reported faults.new)
-        (told_shown told.now) result }
+    ensures { IsAnswerTold (W.contents writer.old) (W.contents writer.new)
+        (F.reported faults.old) (F.reported faults.new) (told_shown told.now) result }
 {
     match write_whole(writer, &told.text) {
         Ok(()) => told_status(told.is_ousted),

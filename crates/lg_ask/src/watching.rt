@@ -86,8 +86,8 @@ fn watch<M: Net + rt::Clock, W: Write, F: FaultStream>(
     faults: &mut F,
 ) -> u8
     requires { HasNodeAddress asker.old.node.at.now }
-    ensures { WatchesChanges asker.old.node.at.now json writer.old writer.new (W.contents writer.old) (W.contents writer.new)
-        (F.reported faults.old) (F.reported faults.new) result }
+    ensures { WatchesChanges asker.old.node.at.now json writer.old writer.new
+        (W.contents writer.old) (W.contents writer.new) (F.reported faults.old) (F.reported faults.new) result }
 {
     let mut place = Place {
         version: 0,
@@ -120,8 +120,8 @@ fn watch<M: Net + rt::Clock, W: Write, F: FaultStream>(
 ///
 /// It ends by a fault alone, with the statuses and lines of [`tell_answer`](crate::tell_answer); but the connection may
 /// be silent for 40 seconds, since the node waits for a change. A busy node doesn't end it: this waits, and asks again.
-/// Only if the connection is closed before a byte came for the 60th time in a row, the status is 10. Memory is allocated
-/// in proportion to an answer, and given back before the next.
+/// Only if the connection is closed before a byte came for the 60th time in a row, the status is 10. Memory is
+/// allocated in proportion to an answer, and given back before the next.
 pub fn watch_changes<M: Net + rt::Clock, W: Write, F: FaultStream>(
     rt: &M,
     alloc: Global,

@@ -227,7 +227,9 @@ const UNKNOWN_KEYS: [(&str, Option<&str>); 14] = [
 fn names(alloc: Global, key: &str, nearest: Option<&str>) -> Result<bool, AllocError> {
     let text = format!(in alloc; "name = \"b\"\n{key} = 1\n")?;
     let wanted = match nearest {
-        Some(known) => format!(in alloc; "the key \"{key}\" is unknown, and the nearest is \"{known}\"\n")?,
+        Some(known) => format!(in alloc;
+            "the key \"{key}\" is unknown, and the nearest is \"{known}\"\n"
+        )?,
         None => format!(in alloc; "the key \"{key}\" is unknown\n")?,
     };
     let line = match reason(alloc, text.as_bytes(), FileFault::Key) {

@@ -218,7 +218,9 @@ fn writes_a_long_line_in_pieces(rt: HostRuntime) {
     let mut text = [b'x'; MAX_PIECE + 10];
     text[MAX_PIECE + 9] = b'\n';
     let met = match play(&rt, Takes::AtOnce, false, &text, 1) {
-        Ok(played) => played.failed.is_none() && !played.whole && played.text.as_slice() == text.as_slice(),
+        Ok(played) => played.failed.is_none()
+            && !played.whole
+            && played.text.as_slice() == text.as_slice(),
         Err(_) => false,
     };
     assert!(rt; met);

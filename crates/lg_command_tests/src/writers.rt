@@ -69,7 +69,7 @@ fn tells_whole_lines(rt: HostRuntime) {
             &mut faults,
         );
         assert!(rt;
-            status == 1 && faults.text() == b"lg: write\n",
+            status == 1 && faults.text() == b"lg: write\n".as_slice(),
             "{play:?}: {status}"
         );
     }
@@ -101,7 +101,7 @@ fn tells_whole_lines_of_bad_lists(rt: HostRuntime) {
     answer_named(rt.alloc(), "b 2", reader, writer, &mut unnamed);
     order_lists(rt.alloc(), "a,a", "0", writer, &mut unlisted);
     order_lists(rt.alloc(), "a", "x", writer, &mut unspoken);
-    assert!(rt; unnamed.text() == b"lg: bad names\n");
-    assert!(rt; unlisted.text() == b"lg: bad names\n");
-    assert!(rt; unspoken.text() == b"lg: bad words\n");
+    assert!(rt; unnamed.text() == b"lg: bad names\n".as_slice());
+    assert!(rt; unlisted.text() == b"lg: bad names\n".as_slice());
+    assert!(rt; unspoken.text() == b"lg: bad words\n".as_slice());
 }

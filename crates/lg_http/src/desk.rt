@@ -11,7 +11,8 @@ ghost use Rattle.http_server.specs.Response.{IsBlank, IsResponse, fields_of};
 ghost use Rattle.lg_http.specs.declared.site.Kind.TheVariants.{Json};
 ghost use Rattle.lg_http.specs.Meaning.Answers.{RepliesAmong, IsTooMany, MayWait, IsServedMethod, closing};
 ghost use Rattle.lg_http.specs.Meaning.Answers.{status_number, content_type, kind_words, field_of, has_body};
-ghost use Rattle.lg_http.specs.Meaning.Answers.{would_wait, method_body, crowded_body, misdirected_body, allowed, retry};
+ghost use Rattle.lg_http.specs.Meaning.Answers.{would_wait, method_body, crowded_body, misdirected_body};
+ghost use Rattle.lg_http.specs.Meaning.Answers.{allowed, retry};
 ghost use Rattle.lg_http.specs.Meaning.Hosts.{AnswersTo};
 
 use crate::hosts::Hosts;

@@ -106,8 +106,8 @@ pub enum NodeFault {
 ///
 /// If the settings have an address for a status server, it is bound before the agent is opened. It serves beside the
 /// loops ([`lg_serve::serve`]), in a thread of its own and with a pass of its own, until the loops have ended, and
-/// [`NodeEnd::served`] says how that ended. A server that fails ends nothing else. It is told on `faults` when it fails,
-/// before the node ends, by [`Served::line`](lg_serve::Served::line). Nothing else is written there.
+/// [`NodeEnd::served`] says how that ended. A server that fails ends nothing else. It is told on `faults` when it
+/// fails, before the node ends, by [`Served::line`](lg_serve::Served::line). Nothing else is written there.
 ///
 /// A turn of a loop waits a tenth of the configuration's `timeout_ms` at most, but at least 5 and at most 50
 /// milliseconds, and at most half of the clock's stall.

@@ -23,7 +23,8 @@ const UNSIGNED: usize = 9;
 /// The index of a datagram that isn't sealed with one of the keys.
 const FORGED: usize = 10;
 
-/// What a node counts from its start on. Threads share it by reference. No call waits, and none allocates. A count that has come to 2^64 - 1 goes on from 0.
+/// What a node counts from its start on. Threads share it by reference. No call waits, and none allocates. A count that
+/// has come to 2^64 - 1 goes on from 0.
 #[derive(Drop)]
 pub struct Counters {
     name: Name,

@@ -130,8 +130,8 @@ most_closed = 60
 abbrev pub most_put_off : ℕ
 most_put_off = 2 ^ 64 - 1
 
--- A question is asked, and again for as long as the outcome says to ask later. One waits before each. It ends by another
--- outcome, or by the connection that is closed for the 60th time in a row.
+-- A question is asked, and again for as long as the outcome says to ask later. One waits before each. It ends by
+-- another outcome, or by the connection that is closed for the 60th time in a row.
 pub record AsksAgain (log log' : List AskEvent) (result : Result Answer AskFault) : Type 0 where
   pub delays : List Delay
   pub last : Result Answer Unheard

@@ -15,8 +15,8 @@ use Rattle.lg_ask.specs.declared.unheard.Unheard.{Unheard}
 use Rattle.lg_ask.specs.declared.unheard.Unheard.TheVariants.{Lacking, Later, NoMemory, Wrong}
 use Rattle.lg_ask.specs.Meaning.Answers.{IsAnswerBody, IsCutShort, IsHttpAnswer, IsOther, most_answer}
 use Rattle.lg_ask.specs.Meaning.Questions.{is_code_of}
-use Rattle.lg_ask.specs.Meaning.Waiting.{AskEvent, IsPutOff, IsTurnedDown, SaysLater, closed_in_row, delay_said, put_off}
-use Rattle.lg_ask.specs.Meaning.Waiting.{unavailable}
+use Rattle.lg_ask.specs.Meaning.Waiting.{AskEvent, IsPutOff, IsTurnedDown, SaysLater}
+use Rattle.lg_ask.specs.Meaning.Waiting.{closed_in_row, delay_said, put_off, unavailable}
 
 -- what so many bytes are if the body ends there
 abbrev pub heard_until : ℕ → ℕ → ℕ → ℕ → Heard

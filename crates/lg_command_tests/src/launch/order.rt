@@ -190,7 +190,17 @@ where
     };
     let stop = AtomicBool::new(false);
     let mut unread = Room::failing(0);
-    run_node(rt, alloc, &config(0), &settings, at(0), &stop, &mut unread)
+    let mut untold = Room::failing(0);
+    run_node(
+        rt,
+        alloc,
+        &config(0),
+        &settings,
+        at(0),
+        &stop,
+        &mut unread,
+        &mut untold,
+    )
 }
 
 /// A node that ran. A run fails if memory is refused, and while another program has the port for a moment.

@@ -19,11 +19,12 @@ use Rattle.lg_node.specs.declared.udp.UdpLink.{UdpLink}
 abbrev pub stall_of : ℕ → ℕ
 stall_of stall_ms = if stall_ms == 0 then 0 else max stall_ms 25
 
--- How long a turn waits at most, by the configuration's `timeout_ms` and the stall of the clock: a tenth of the timeout,
--- but at least 5 and at most 50, and at most half the stall, if there is one.
+-- a tenth of a timeout, but at least 5 and at most 50
 abbrev pub tenth_of : ℕ → ℕ
 tenth_of timeout_ms = max 5 (min (timeout_ms / 10) 50)
 
+-- How long a turn waits at most, by the configuration's `timeout_ms` and the stall of the clock: a tenth of the
+-- timeout, within its bounds, and at most half the stall, if there is one.
 abbrev pub turn_wait : (timeout_ms stall : ℕ) → ℕ
 turn_wait timeout_ms stall = if stall == 0 then tenth_of timeout_ms else min (tenth_of timeout_ms) (stall / 2)
 

@@ -1,6 +1,7 @@
 -- The four numbers of an IPv4 address, as a text spells them (RFC 1123, section 2.1). No number has a leading zero,
 -- which some read as a sign of octal digits (this project's choice).
-use Rattle.std.specs.Prelude.{ℕ, ◌==◌, ◌&&◌, nat_lt, List, [], ◌∷◌, length, slice_index, Option, Some, None, if◌then◌else◌}
+use Rattle.std.specs.Prelude.{ℕ, ◌==◌, ◌&&◌, nat_lt, List, [], ◌∷◌, length, slice_index}
+use Rattle.std.specs.Prelude.{Option, Some, None, if◌then◌else◌}
 use Rattle.lg_text.specs.Meaning.Cutting.{before, behind}
 use Rattle.lg_text.specs.Meaning.Numbers.{number_within}
 use Rattle.lg_text.specs.Meaning.Ranges.{most_octet}

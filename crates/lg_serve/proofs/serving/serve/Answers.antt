@@ -21,4 +21,5 @@ returns-clause-served g c =
         free = rw c.new-desk.ensures.hosts at c.serve-end.ensures.free;
         left = refl;
       },
-      c.serve-end.ensures.stopped)
+      c.serve-end.ensures.stopped,
+    )
