@@ -26,9 +26,11 @@ def are_answered(node):
 
 
 def growth(node, before):
-    """By how much the samples of a node have grown, apart from its two moments, of which both have to grow."""
+    """By how much the samples of a node have grown, apart from its two moments, of which both have to grow, and from the
+    time for which it stood still, as it does now and then on a busy machine."""
     after = samples(node)
     grown = {key: after[key] - before[key] for key in after if after[key] != before[key]}
+    grown.pop("lg_stood_still_seconds_total", None)
     moments = [grown.pop(key, None) for key in ("lg_last_event_seconds", "lg_uptime_seconds")]
     return grown if None not in moments else f"the moments grew by {moments}"
 
