@@ -9,27 +9,33 @@ use Rattle.lg_http.specs.declared.desk.Desk.{Desk}
 use Rattle.lg_http.specs.declared.hosts.Hosts.{Hosts}
 use Rattle.lg_http.specs.Meaning.Fronts.{WaitRule}
 use Rattle.lg_http.specs.Meaning.Parked.{Slot, parked_count}
-use Rattle.lg_http.specs.Meaning.Answers.{SiteAnswers, SiteVersion, SiteReplies, SiteOrder, IsSiteOrder, RepliesAmong, Replies, AreAnswered, AddsCalls}
+use Rattle.lg_http.specs.Meaning.Answers.{SiteAnswers, SiteVersion, SiteReplies, SiteOrder, IsSiteOrder, IsTooMany, RepliesAmong, Replies, AreAnswered, AddsCalls}
 
--- what a desk answers
-abbrev pub DeskAnswers : {S : Type 0} → SiteAnswers S → SiteVersion S → WaitRule → Desk S → Request (List ℕ) → Response → Desk S → Type 0
-DeskAnswers answers version waits old request response new =
-    (new ≡ old) × (old.version ≡ version old.site
-    → RepliesAmong answers version waits old.hosts old.others old.site (request, response))
+-- what a desk answers, by the version that it has been told
+abbrev pub DeskAnswers : {S : Type 0} → SiteAnswers S → WaitRule → Desk S → Request (List ℕ) → Response → Desk S → Type 0
+DeskAnswers answers waits old request response new =
+    (new ≡ old) × RepliesAmong answers (λ _. old.version) waits old.hosts old.others old.site (request, response)
 
 -- what a desk answers to one call after another
 abbrev pub DeskReplies : {S : Type 0} → SiteAnswers S → SiteVersion S → WaitRule → Desk S → Call → Type 0
 DeskReplies answers version waits desk = RepliesAmong answers version waits desk.hosts desk.others desk.site
 
+-- if the desk knows which version its site shows, its reply is right by that
+known_reply : {S : Type 0} (answers : SiteAnswers S) (version : SiteVersion S) (waits : WaitRule) (desk : Desk S) (call : Call)
+    → desk.version ≡ version desk.site → RepliesAmong answers (λ _. desk.version) waits desk.hosts desk.others desk.site call
+    → DeskReplies answers version waits desk call
+known_reply answers version waits desk call knows reply =
+    (reply.0, subst (λ (v : ℕ). IsTooMany waits v desk.others call.0 reply.0) knows reply.1, reply.2)
+
 pub chain_answered : {S : Type 0} (answers : SiteAnswers S) (version : SiteVersion S) (waits : WaitRule) (calls : List Call) (old new : Desk S)
     → old.version ≡ version old.site
-    → Chain (DeskAnswers answers version waits) old calls new → (new ≡ old) × All (DeskReplies answers version waits old) calls
+    → Chain (DeskAnswers answers waits) old calls new → (new ≡ old) × All (DeskReplies answers version waits old) calls
 chain_answered answers version waits [] old new knows x = (x, All-nil (DeskReplies answers version waits old))
 chain_answered {S} answers version waits (c ∷ calls) old new knows x =
     let still : x.0.version ≡ version x.0.site = subst (λ (d : Desk S). d.version ≡ version d.site) (sym x.1.0) knows in
     let later = chain_answered answers version waits calls x.0 new still x.2 in (
       later.0 ∙ x.1.0,
-      All-cons (DeskReplies answers version waits old) c calls (x.1.1 knows)
+      All-cons (DeskReplies answers version waits old) c calls (known_reply answers version waits old c knows x.1.1)
           (subst (λ (d : Desk S). All (DeskReplies answers version waits d) calls) x.1.0 later.1),
     )
 

@@ -1,5 +1,5 @@
 -- What a desk fills in is the reply.
-use Rattle.std.proofs.Common.{◌≡◌, ℕ, Bool, ◌||◌, List, [], ◌∷◌, ◌++◌, codes, Result, Ok, Err, OnOk, IsTrue, IsFalse, ap, subst, ◌∙◌, rules}
+use Rattle.std.proofs.Common.{◌≡◌, ℕ, Bool, ◌||◌, List, [], ◌∷◌, ◌++◌, codes, Result, Ok, Err, OnOk, IsTrue, IsFalse, ap, ◌∙◌, rules}
 use Rattle.http.specs.declared.request.Request.{Request}
 use Rattle.http.specs.Request.{head_of}
 use Rattle.http_uri.specs.Uri.{uri_path, uri_query}
@@ -8,7 +8,7 @@ use Rattle.http_server.specs.Response.{fields_of}
 use Rattle.lg_http.specs.declared.hosts.Hosts.{Hosts}
 use Rattle.lg_http.specs.declared.site.Answer.{Answer}
 use Rattle.lg_http.specs.declared.site.Kind.TheVariants.{Json}
-use Rattle.lg_http.specs.Meaning.Answers.{SiteAnswers, SiteVersion, IsServedMethod, IsTooMany, RepliesAmong, IsReply, closing, content_type, status_number, field_of, has_body}
+use Rattle.lg_http.specs.Meaning.Answers.{SiteAnswers, IsServedMethod, IsTooMany, RepliesAmong, IsReply, closing, content_type, status_number, field_of, has_body}
 use Rattle.lg_http.specs.Meaning.Answers.{allowed, retry, method_body, crowded_body, misdirected_body}
 use Rattle.lg_http.specs.Meaning.Fronts.{WaitRule}
 use Rattle.lg_http.specs.Meaning.Hosts.{AnswersTo}
@@ -97,13 +97,10 @@ site_reply answers hosts full site request begun filled (Ok x) a here is_served 
 }
 site_reply answers hosts full site request begun filled (Err e) a here is_served free answered closes status headers body = tt
 
--- such a reply, of a desk that knows which version its site shows
-pub replied : {S A E : Type 0} (answers : SiteAnswers S) (version : SiteVersion S) (waits : WaitRule) (hosts : Hosts) (others known : ℕ) (full : Bool)
+-- such a reply, by the version that a desk has been told
+pub replied : {S A E : Type 0} (answers : SiteAnswers S) (waits : WaitRule) (hosts : Hosts) (others known : ℕ) (full : Bool)
     (site : S) (request : Request (List ℕ)) (filled : Response) (r : Result A E) (P : Type 0) → P
     → IsTooMany waits known others request full → OnOk r (IsReply answers hosts full site request filled)
-    → OnOk r (P × (known ≡ version site → RepliesAmong answers version waits hosts others site (request, filled)))
-replied answers version waits hosts others known full site request filled (Ok x) P p is_full reply = (
-  p,
-  λ knows. (full, subst (λ (v : ℕ). IsTooMany waits v others request full) knows is_full, reply),
-)
-replied answers version waits hosts others known full site request filled (Err e) P p is_full reply = tt
+    → OnOk r (P × RepliesAmong answers (λ _. known) waits hosts others site (request, filled))
+replied answers waits hosts others known full site request filled (Ok x) P p is_full reply = (p, (full, is_full, reply))
+replied answers waits hosts others known full site request filled (Err e) P p is_full reply = tt

@@ -266,10 +266,10 @@ fn is_too_many<S: Site>(desk: &Desk<S>, request: &Request<Bytes>) -> bool
 }
 
 impl<S: Site> Service for Desk<S> {
-    // The answer is right if the desk knows which version its site shows.
+    // Whether a long poll is one too many goes by the version that the desk has been told. In a server it is the site's.
     ghost answers = { λ old request response new.
-        (new ≡ old) × (old.version ≡ S.version old.site
-        → RepliesAmong S.answers S.version S.waits old.hosts old.others old.site (request, response)) };
+        (new ≡ old) × RepliesAmong S.answers (λ _. old.version) S.waits old.hosts old.others old.site
+        (request, response) };
 
     fn call(
         &mut self,
