@@ -61,13 +61,12 @@ fn tells_whole_lines(rt: HostRuntime) {
     for play in READING.iter().chain(OTHERS.iter()) {
         let mut streams = Streams::over(play.input.as_bytes());
         streams.writer.fails_at = 1;
+        let Streams { reader, writer, .. } = streams;
+        let (mut reader, mut writer) = (reader, writer);
         let mut faults: Row<10> = Row::empty();
-        let status = play.command.run_over(
-            rt.alloc(),
-            &mut streams.reader,
-            &mut streams.writer,
-            &mut faults,
-        );
+        let status = play
+            .command
+            .run_over(rt.alloc(), &mut reader, &mut writer, &mut faults);
         assert!(rt;
             status == 1 && faults.text() == b"lg: write\n".as_slice(),
             "{play:?}: {status}"
@@ -76,13 +75,12 @@ fn tells_whole_lines(rt: HostRuntime) {
     for play in READING {
         let mut streams = Streams::over(play.input.as_bytes());
         streams.reader.fails_at = 1;
+        let Streams { reader, writer, .. } = streams;
+        let (mut reader, mut writer) = (reader, writer);
         let mut faults: Row<8> = Row::empty();
-        let status = play.command.run_over(
-            rt.alloc(),
-            &mut streams.reader,
-            &mut streams.writer,
-            &mut faults,
-        );
+        let status = play
+            .command
+            .run_over(rt.alloc(), &mut reader, &mut writer, &mut faults);
         assert!(rt;
             status == 1 && faults.text().is_empty(),
             "{play:?}: {status}"
@@ -93,14 +91,14 @@ fn tells_whole_lines(rt: HostRuntime) {
 /// So do the lines of bad lists.
 #[test]
 fn tells_whole_lines_of_bad_lists(rt: HostRuntime) {
-    let mut streams = Streams::over(b"");
-    let (reader, writer) = (&mut streams.reader, &mut streams.writer);
+    let Streams { reader, writer, .. } = Streams::over(b"");
+    let (mut reader, mut writer) = (reader, writer);
     let mut unnamed: Row<14> = Row::empty();
     let mut unlisted: Row<14> = Row::empty();
     let mut unspoken: Row<14> = Row::empty();
-    answer_named(rt.alloc(), "b 2", reader, writer, &mut unnamed);
-    order_lists(rt.alloc(), "a,a", "0", writer, &mut unlisted);
-    order_lists(rt.alloc(), "a", "x", writer, &mut unspoken);
+    answer_named(rt.alloc(), "b 2", &mut reader, &mut writer, &mut unnamed);
+    order_lists(rt.alloc(), "a,a", "0", &mut writer, &mut unlisted);
+    order_lists(rt.alloc(), "a", "x", &mut writer, &mut unspoken);
     assert!(rt; unnamed.text() == b"lg: bad names\n".as_slice());
     assert!(rt; unlisted.text() == b"lg: bad names\n".as_slice());
     assert!(rt; unspoken.text() == b"lg: bad words\n".as_slice());

@@ -122,7 +122,11 @@ fn comes<R: Files>(
 /// The mode, the owner and the kind are those of the opened file. One of another kind isn't opened.
 #[test]
 fn of_the_opened_file(rt: HostRuntime) {
-    let node = NodeConfig::read(rt.alloc(), b"name = \"b\"\nkey_file = \"k\"").unwrap();
+    let read = NodeConfig::read(rt.alloc(), b"name = \"b\"\nkey_file = \"k\"");
+    assert!(rt; read.is_ok(), "no configuration");
+    let Ok(node) = read else {
+        return;
+    };
     let is_root = rt.metadata("/proc/self").is_ok_and(|seen| seen.uid() == 0);
     for row in ROWS {
         let (seen, opened, program, came) = row;
