@@ -83,16 +83,17 @@ def unread_bytes(source):
     return struct.unpack("i", fcntl.ioctl(source, termios.FIONREAD, bytes(4)))[0]
 
 
-def fills_up(source):
-    """Waits until a pipe takes no more: most of its room is taken, and no byte comes for a second. The rest of the room
-    may lie behind the ends of single writes."""
+def fills_up(source, least=None):
+    """Waits until a pipe takes no more: at least so many bytes wait in it, or else more than half of its room is taken,
+    and no byte comes for a second. The rest of the room may lie behind the ends of single writes."""
     seen = [0.0, 0]
+    least = least or fcntl.fcntl(source, fcntl.F_GETPIPE_SZ) // 2 + 1
 
     def is_full():
         waiting = unread_bytes(source)
         if waiting != seen[1]:
             seen[:] = [time.monotonic(), waiting]
-        return waiting > fcntl.fcntl(source, fcntl.F_GETPIPE_SZ) // 2 and time.monotonic() - seen[0] > 1
+        return waiting >= least and time.monotonic() - seen[0] > 1
 
     return wait_until(is_full, PATIENCE)
 
@@ -177,7 +178,8 @@ def fault_of_a_stuck_reader(program, option):
     wait_for("b", port)
     stranger = Stranger(port)
     try:
-        filled = fills_up(node.process.stdout)
+        # Pieces of up to a page are written whole or not at all, so the first line alone may be in the pipe.
+        filled = fills_up(node.process.stdout, least=1)
     finally:
         stranger.end()
     if filled is None or not node.is_running():

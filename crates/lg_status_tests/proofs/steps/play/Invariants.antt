@@ -1,4 +1,4 @@
-use Rattle.lg_status_tests.proofs.showing.play.Given as goal
+use Rattle.lg_status_tests.proofs.steps.play.Given as goal
 
 abbrev pub ghosts-play_in-A-PairName : goal.ghosts-play_in-A-PairName
 ghosts-play_in-A-PairName g a = record { book = a.book.seen.book }
