@@ -266,7 +266,8 @@ fn is_too_many<S: Site>(desk: &Desk<S>, request: &Request<Bytes>) -> bool
 }
 
 impl<S: Site> Service for Desk<S> {
-    // Whether a long poll is one too many goes by the version that the desk has been told. In a server it is the site's.
+    // Whether a long poll is one too many goes by the version that the desk has been told. In a server it is that of
+    // the site.
     ghost answers = { λ old request response new.
         (new ≡ old) × RepliesAmong S.answers (λ _. old.version) S.waits old.hosts old.others old.site
         (request, response) };
