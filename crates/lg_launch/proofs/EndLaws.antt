@@ -1,5 +1,6 @@
 -- What is written and told at the end of a node, by the steps to it.
-use Rattle.std.proofs.Common.{◌≡◌, ℕ, Bool, true, false, List, Option, Result, Ok, Err, MatchResult, OnErr, is_some, refl, ap, sym, ◌∙◌, subst}
+use Rattle.std.proofs.Common.{◌≡◌, ℕ, Bool, true, false, List, Option, Result, Ok, Err, MatchResult, OnErr, refl, ap, sym, ◌∙◌, subst}
+use Rattle.lg_key.specs.declared.key.Keys.{Keys}
 use Rattle.lg_config.specs.declared.node.NodeConfig.{NodeConfig}
 use Rattle.lg_text.specs.Meaning.Reporting.{Reported, Reports}
 use Rattle.lg_text.specs.declared.fault.RunFault.{RunFault}
@@ -8,7 +9,7 @@ use Rattle.lg_node.specs.declared.node.NodeFault.{NodeFault}
 use Rattle.lg_node.specs.Meaning.Nodes.{IsEarly}
 use Rattle.lg_node.proofs.FollowingLaws.{unfollowed}
 use Rattle.lg_launch.specs.Meaning.Reporting.{ReportsBoth}
-use Rattle.lg_launch.specs.Meaning.Running.{table_at_end, table_wished, HasRun, Writes, WritesEnd}
+use Rattle.lg_launch.specs.Meaning.Running.{node_settings, table_at_end, table_wished, HasRun, Writes, WritesEnd}
 
 -- a writer that was left alone until the table
 pub end-written : {W : Type 0} (contents : W → Option (List ℕ)) (follow : Bool) (before between after : W) (ran : Result NodeEnd NodeFault) (written : Result (Unit {0}) RunFault)
@@ -29,17 +30,17 @@ both-as reported reports first first' second second' both same same' =
     }
 
 -- a node that didn't follow ran, whatever bytes a writer had taken
-unfollowed-as : (n : NodeConfig) (until : ℕ) (held holds held' holds' : Option (List ℕ)) (e : NodeEnd) → HasRun n until false held holds e → HasRun n until false held' holds' e
-unfollowed-as n until held holds held' holds' e ran = (ran.0, ran.1, ran.2, ran.3, unfollowed _ _ _ _ _ _ _ _ _ _ _ held holds held' holds' (is_some n.status) e ran.4)
+unfollowed-as : (n : NodeConfig) (keys : Option Keys) (until : ℕ) (held holds held' holds' : Option (List ℕ)) (e : NodeEnd) → HasRun n keys until false held holds e → HasRun n keys until false held' holds' e
+unfollowed-as n keys until held holds held' holds' e ran = unfollowed n.config (node_settings n keys false) until held holds held' holds' e refl ran
 
 -- the run of a node, by the bytes that the writer had taken in the end: after it followed nothing more is written
-pub run-written : {W : Type 0} (contents : W → Option (List ℕ)) (n : NodeConfig) (until : ℕ) (follow : Bool) (held : Option (List ℕ)) (between after : W) (ran : Result NodeEnd NodeFault) (written : Result (Unit {0}) RunFault)
-    → MatchResult ran (HasRun n until follow held (contents between)) (IsEarly n.config) → Writes between after (contents between) (contents after) (table_wished follow ran) written
-    → MatchResult ran (HasRun n until follow held (contents after)) (IsEarly n.config)
-run-written contents n until follow held between after (Err fault) written ran wrote = ran
-run-written contents n until false held between after (Ok e) written ran wrote = unfollowed-as n until held (contents between) held (contents after) e ran
-run-written contents n until true held between after (Ok e) written ran wrote =
-    subst (λ bytes. HasRun n until true held bytes e) (ap contents (sym wrote.0)) ran
+pub run-written : {W : Type 0} (contents : W → Option (List ℕ)) (n : NodeConfig) (keys : Option Keys) (until : ℕ) (follow : Bool) (held : Option (List ℕ)) (between after : W) (ran : Result NodeEnd NodeFault) (written : Result (Unit {0}) RunFault)
+    → MatchResult ran (HasRun n keys until follow held (contents between)) (IsEarly n.config) → Writes between after (contents between) (contents after) (table_wished follow ran) written
+    → MatchResult ran (HasRun n keys until follow held (contents after)) (IsEarly n.config)
+run-written contents n keys until follow held between after (Err fault) written ran wrote = ran
+run-written contents n keys until false held between after (Ok e) written ran wrote = unfollowed-as n keys until held (contents between) held (contents after) e ran
+run-written contents n keys until true held between after (Ok e) written ran wrote =
+    subst (λ bytes. HasRun n keys until true held bytes e) (ap contents (sym wrote.0)) ran
 
 -- nothing is written at the end of a node that ended before its loops
 pub unwritten-early : {W : Type 0} (contents : W → Option (List ℕ)) (follow : Bool) (before between after : W) (ran : Result NodeEnd NodeFault) (written : Result (Unit {0}) RunFault)

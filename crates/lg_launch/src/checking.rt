@@ -8,7 +8,7 @@ ghost use Rattle.lg_check.specs.Meaning.Checks.{check_text};
 ghost use Rattle.lg_launch.specs.Meaning.Checking.{check_told, ChecksBytes, ChecksFile, ChecksNode, WritesText};
 
 use crate::file::{file_bytes, tell_no_bytes};
-use crate::reporting::{tell, tell_both, tell_fault};
+use crate::reporting::{tell, tell_fault};
 use crate::told::Told;
 use lg_check::check_text;
 use lg_config::{NodeConfig, ReadFault};
@@ -41,8 +41,7 @@ where
 ///
 /// Bytes that mean no configuration are told by [`Told::Config`], as [`NodeConfig::read`] answers, and a second line
 /// says in words what is wrong with them. Memory that is refused is told by [`Told::Memory`]. In both cases nothing is
-/// written. A text that isn't written whole is told by [`Told::Write`], with a second line; a beginning of it may have
-/// been.
+/// written. A text that isn't written whole is told by [`Told::Write`]; a beginning of it may have been.
 pub fn check_bytes<W, F>(alloc: Global, bytes: &[u8], writer: &mut W, faults: &mut F) -> u8
 where
     W: Write,
@@ -66,8 +65,7 @@ where
     ensures { ChecksNode writer.old writer.new (W.contents writer.old) (W.contents writer.new)
         (F.reported faults.old) (F.reported faults.new) node.now result }
 {
-    let told = told_of(write_check(alloc, node, writer));
-    tell_both(told, told.second(), faults)
+    tell(told_of(write_check(alloc, node, writer)), faults)
 }
 
 /// Writes what a configuration means. The whole text is made before its first byte is written.

@@ -7,6 +7,7 @@ ghost use Rattle.lg_key.specs.declared.fault.KeyFault.{KeyFault};
 ghost use Rattle.lg_key.specs.Meaning.Reading.{keys_of};
 ghost use Rattle.lg_launch.specs.Meaning.KeyTelling.{bad_line, is_owner, key_fault_line, no_keys_line};
 ghost use Rattle.lg_launch.specs.Meaning.KeyTelling.{refused_by, IsTextless, TellsNoKeys};
+ghost use Rattle.lg_launch.specs.Meaning.Running.{AreKeysAt};
 
 use crate::reporting::{tell, tell_both};
 use crate::told::Told;
@@ -171,10 +172,9 @@ pub fn keys_at<R: Files>(
     alloc: Global,
     path: &Option<FilePath>,
 ) -> Result<Option<Keys>, NoKeys>
-    ensures keys { IfOk result (λ o. IfSome o (λ keys. (text : List ℕ) × (keys_of text ≡ Ok keys))) }
+    ensures keys { IfOk result (AreKeysAt path.now) }
     ensures fault { IfErr result (λ none. (fault : KeyFault) → none ≡ NoKeys.Text fault
         → (text : List ℕ) × (keys_of text ≡ Err fault)) }
-    ensures keyed { IsSome path.now → IfOk result (λ o. IsSome o) }
     ensures plain { path.now ≡ None → result ≡ Ok None }
     ensures named { OnErr result (IsSome path.now) }
 {

@@ -6,7 +6,6 @@
 ghost use Rattle.std.specs.Prelude.{◌≡◌, ◌⊎◌, ℕ, List, [], Err, false, MatchResult, OnErr, OnOk, string_bytes};
 ghost use Rattle.std.specs.Option.{option_map};
 ghost use Rattle.lg_timing.specs.Meaning.Config.{IsChecked};
-ghost use Rattle.lg_launch.specs.declared.told.Told.{Told as OneTold};
 ghost use Rattle.lg_launch.specs.Meaning.Running.{table_wished, Announces, HasRun, IsSecond, RunsBytes};
 ghost use Rattle.lg_launch.specs.Meaning.Running.{RunsFile, RunsKeyed, RunsNode, RunsOrRefused, TellsMeanwhile, Writes};
 ghost use Rattle.lg_launch.specs.Meaning.Wishes.{end_wished};
@@ -136,7 +135,7 @@ where
 /// Otherwise, if both loops stopped or the node was ousted, the members are written as
 /// [`put_table`](lg_report::put_table) does, a line each. In all other cases nothing is written. A socket that can't be
 /// bound has a second line, which says to which address and why. So has a status server, and one that ended before the
-/// node, and so have members that couldn't be written. A line that `faults` doesn't take is dropped. The configuration
+/// node. A line that `faults` doesn't take is dropped. The configuration
 /// has to be checked. Apart from what the node allocates, memory is allocated only for these texts.
 ///
 /// What is said of bytes holds for writers that tell their bytes, as those over memory do.
@@ -156,7 +155,7 @@ where
     F: FaultStream + Send,
     requires { IsChecked node.now.config }
     ensures { RunsOrRefused writer.old writer.new (W.contents writer.old) (W.contents writer.new)
-        (F.reported faults.old) (F.reported faults.new) wishes.now.file.now node.now wishes.now.until
+        (F.reported faults.old) (F.reported faults.new) wishes.now.file.now node.now keys wishes.now.until
         wishes.now.follow result }
 {
     match announce(alloc, wishes, node, faults) {
@@ -200,7 +199,7 @@ where
     F: FaultStream + Send,
     requires { IsChecked node.now.config }
     ensures { RunsNode writer.old writer.new (W.contents writer.old) (W.contents writer.new)
-        (F.reported faults.old) (F.reported faults.new) node.now wishes.now.until wishes.now.follow result }
+        (F.reported faults.old) (F.reported faults.new) node.now keys wishes.now.until wishes.now.follow result }
 {
     let ran = run(rt, alloc, node, keys, wishes, stop, writer, faults);
     let written = write_table(alloc, &ran, wishes.follow, writer);
@@ -224,7 +223,7 @@ where
     W: Write + Send,
     F: FaultStream + Send,
     requires { IsChecked node.now.config }
-    ensures ran { MatchResult result (HasRun node.now (end_wished wishes.now.until) wishes.now.follow
+    ensures ran { MatchResult result (HasRun node.now keys (end_wished wishes.now.until) wishes.now.follow
         (W.contents writer.old) (W.contents writer.new)) (IsEarly node.now.config) }
     ensures alone { wishes.now.follow ≡ false → writer.new ≡ writer.old }
     ensures unwritten { OnErr result (writer.new ≡ writer.old) }
@@ -264,7 +263,7 @@ fn bind_line(alloc: Global, addr: Addr, kind: ErrorKind) -> String
 
 /// The second line of a node that couldn't be bound. It is empty if there is none, or if memory for it was refused.
 fn fault_line(alloc: Global, node: &NodeConfig, fault: &NodeFault) -> String
-    ensures { (told : OneTold) → IsSecond node.now (Err fault.now) told (string_bytes result) }
+    ensures { IsSecond node.now (Err fault.now) (string_bytes result) }
 {
     match (fault, node.status) {
         (NodeFault::Socket(kind), _) => bind_line(alloc, node.config.addr, *kind),
@@ -281,12 +280,12 @@ fn tell_run<F: FaultStream>(
     told: Told,
     faults: &mut F,
 ) -> u8
-    ensures lines { (second : List ℕ) × IsSecond node.now ran.now told second
+    ensures lines { (second : List ℕ) × IsSecond node.now ran.now second
         × ReportsBoth (F.reported faults.old) (F.reported faults.new) (line_of told) second }
     ensures status { result ≡ status_told told }
 {
     match ran {
-        Ok(_) => tell_both(told, told.second(), faults),
+        Ok(_) => tell_both(told, "", faults),
         Err(fault) => {
             let line = fault_line(alloc, node, fault);
             tell_both(told, line.as_str(), faults)

@@ -3,7 +3,7 @@
 //! Defined in: `specs/Meaning/Telling.antt`, `lg_config/specs/Meaning/Faults.antt`.
 //! Tested in: `lg_command_tests/src/launch/told.rt`.
 ghost use Rattle.std.specs.Prelude.{◌≡◌, ◌≤◌, length};
-ghost use Rattle.lg_launch.specs.Meaning.Telling.{status_told, line_of, second_of, config_line, refusal_told};
+ghost use Rattle.lg_launch.specs.Meaning.Telling.{status_told, line_of, config_line, refusal_told};
 ghost use Rattle.lg_launch.specs.Meaning.Telling.{fault_told};
 
 use arrayvec::ArrayString;
@@ -89,17 +89,6 @@ impl Told {
             Told::Link => line_with("lg: link\n"),
             Told::Status => line_with("lg: status\n"),
             Told::Key => line_with("lg: key\n"),
-        }
-    }
-
-    /// The second line that this has by itself, with its newline: what couldn't be written, for [`Told::Write`]. It is
-    /// empty for the others; some have a second line by what went wrong. Allocates no memory.
-    pub(crate) fn second(self) -> &'static str
-        ensures { result.now ≡ second_of self }
-    {
-        match self {
-            Told::Write => "standard output can't be written\n",
-            _ => "",
         }
     }
 }

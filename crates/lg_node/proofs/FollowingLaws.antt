@@ -1,29 +1,35 @@
 -- A node that wasn't followed.
-use Rattle.std.proofs.Common.{ℕ, Bool, false, List, Option, Some, None}
+use Rattle.std.proofs.Common.{◌≡◌, ℕ, Bool, true, false, List, Option, Some, None}
 use Rattle.lg_timing.specs.declared.config.Config.{Config}
 use Rattle.lg_agent.specs.Meaning.Values.{PassValue}
 use Rattle.lg_watch.specs.declared.watched.Watched.{Watched}
 use Rattle.lg_node.specs.declared.node.NodeEnd.{NodeEnd}
+use Rattle.lg_node.specs.declared.node.Settings.{Settings}
 use Rattle.lg_node.specs.Meaning.Nodes.{IsRun, WatchesIf}
-use Rattle.lg_node.specs.Meaning.Turns.{LinkValue}
 
-unwatched : (before after : PassValue) (held holds held' holds' : Option (List ℕ)) (end : Option Watched) → WatchesIf false before after held holds end → WatchesIf false before after held' holds' end
-unwatched before after held holds held' holds' (Some end) watched = watched
-unwatched before after held holds held' holds' None watched = watched
+unwatched : (followed : Bool) (before after : PassValue) (held holds held' holds' : Option (List ℕ)) (end : Option Watched) → followed ≡ false → WatchesIf followed before after held holds end → WatchesIf followed before after held' holds' end
+unwatched true before after held holds held' holds' end is watched = cc
+unwatched false before after held holds held' holds' (Some end) is watched = watched
+unwatched false before after held holds held' holds' None is watched = watched
 
 -- nothing is said of the bytes of a writer
-pub unfollowed : {D : Type 0} (throws : D → List ℕ → D → Type 0) (dice : D) (tells : Bool) (bound : ℕ) (config : Config) (pull_ms until : ℕ) (hears hears' sends sends' : LinkValue) (held holds held' holds' : Option (List ℕ)) (serving : Bool) (e : NodeEnd)
-    → IsRun throws dice tells bound config pull_ms until hears hears' sends sends' false held holds serving e → IsRun throws dice tells bound config pull_ms until hears hears' sends sends' false held' holds' serving e
-unfollowed throws dice tells bound config pull_ms until hears hears' sends sends' held holds held' holds' serving e run = record {
+pub unfollowed : (config : Config) (settings : Settings) (until : ℕ) (held holds held' holds' : Option (List ℕ)) (e : NodeEnd) → settings.follow ≡ false
+    → IsRun config settings until held holds e → IsRun config settings until held' holds' e
+unfollowed config settings until held holds held' holds' e is run = record {
   start = run.start;
+  hears = run.hears;
+  hears' = run.hears';
+  sends = run.sends;
+  sends' = run.sends';
   receiver = run.receiver;
   ticker = run.ticker;
   asker = run.asker;
   watcher = run.watcher;
   reader = run.reader;
   status = run.status;
+  links = run.links;
   served = run.served;
-  watched = unwatched run.asker run.watcher held holds held' holds' e.watched run.watched;
+  watched = unwatched settings.follow run.asker run.watcher held holds held' holds' e.watched is run.watched;
   shown = run.shown;
   members = run.members;
   closed = run.closed;

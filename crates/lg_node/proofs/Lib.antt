@@ -6,6 +6,7 @@ pub mod LastingLaws
 pub mod PassesLaws
 pub mod PullingLaws
 pub mod SendingLaws
+pub mod ServingLaws
 pub mod StretchLaws
 pub mod TurnLaws
 pub mod WordLaws

@@ -53,7 +53,7 @@ ousted_of_turn true = refl
 ousted_of_turn false = refl
 
 stops_of_turn : (t : Turn) → are_of_turn (stops t) ≡ true
-stops_of_turn Quiet = refl
+stops_of_turn (Quiet limit) = refl
 stops_of_turn Broken = refl
 stops_of_turn (Dropped source bytes) = refl
 stops_of_turn (Heard now source bytes k r sent) = ousted_of_turn r.reply.ousted

@@ -1,4 +1,3 @@
 -- What only carries the proofs.
 pub mod Took
 pub mod Acted
-pub mod Failing

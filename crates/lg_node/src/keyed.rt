@@ -101,8 +101,8 @@ impl<L: Link> KeyedLink<L> {
 }
 
 /// The clauses of `send` and `receive` say what becomes of each datagram, if the inner link tells what it does. A
-/// contract that knows no more of a keyed link than that it is a [`Link`] sees its failures alone: a link that tells has
-/// to hand over all bytes, and a keyed one hands over those of a packet at most.
+/// contract that knows no more of a keyed link than that it is a [`Link`] sees its failures alone: a link that tells
+/// has to hand over all bytes, and a keyed one hands over those of a packet at most.
 impl<L: Link> Link for KeyedLink<L> {
     ghost use Rattle.std.specs.Prelude.{false, []};
 
@@ -141,7 +141,7 @@ impl<L: Link> Link for KeyedLink<L> {
         ensures fits { IfOk result (λ o. IfSome o (λ came. came.1 ≤ MAX_DATAGRAM)) }
         ensures opened { L.tells ≡ true → (inside : LinkEvent)
             × (L.log self.new.inner ≡ L.log self.old.inner ++ inside ∷ [])
-            × Opens self.old.keys inside (reception result buffer.new) self.old.counted self.new.counted }
+            × Opens self.old.keys inside (reception limit_ms result buffer.new) self.old.counted self.new.counted }
         ensures received { OnOk result (L.failed self.new.inner ≡ L.failed self.old.inner) }
         ensures failed { OnErr result (L.failed self.new.inner ≡ L.failed self.old.inner + 1) }
         ensures keys { self.new.keys ≡ self.old.keys }

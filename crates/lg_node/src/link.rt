@@ -44,7 +44,7 @@ pub trait Link {
         limit_ms: u64,
     ) -> Result<Option<(Addr, usize)>, LinkFault>
         ensures fits { IfOk result (λ o. IfSome o (λ came. came.1 ≤ MAX_DATAGRAM)) }
-        ensures told { tells ≡ true → log self.new ≡ log self.old ++ reception result buffer.new ∷ [] }
+        ensures told { tells ≡ true → log self.new ≡ log self.old ++ reception limit_ms result buffer.new ∷ [] }
         ensures received { OnOk result (failed self.new ≡ failed self.old) }
         ensures failed { OnErr result (failed self.new ≡ failed self.old + 1) };
 

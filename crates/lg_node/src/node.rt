@@ -2,11 +2,9 @@
 //!
 //! Defined in: `specs/Meaning/Nodes.antt`, `specs/Meaning/Turns.antt`, `specs/Meaning/Words.antt`.
 //! Tested in: `lg_node_tests/src/node/asking.rt`, `cases/nodes`.
-ghost use Rattle.std.specs.Prelude.{◌≡◌, false, is_some, IfOk, IfErr, OnErr};
+ghost use Rattle.std.specs.Prelude.{◌≡◌, false, IfOk, IfErr, OnErr};
 ghost use Rattle.lg_timing.specs.Meaning.Config.{IsChecked};
 ghost use Rattle.lg_node.specs.Meaning.Nodes.{IsRun, IsEarly, TellsServed};
-ghost use Rattle.lg_node.specs.Meaning.Turns.{LinkValue};
-ghost use Rattle.lg_node.specs.Meaning.Words.{seeded, DrawsEight};
 
 use crate::ending::End;
 use crate::serving::status_server;
@@ -136,12 +134,8 @@ where
     W: Write + Send,
     F: FaultStream + Send,
     requires { IsChecked config.now }
-    // Of a link over UDP contracts see only the failures.
-    ensures ran { IfOk result (λ e. (hears : LinkValue) × (hears' : LinkValue) × (sends : LinkValue)
-        × (sends' : LinkValue)
-        × IsRun DrawsEight (seeded settings.now.dice) false MAX_TURNS config.now settings.now.pull_ms until
-        hears hears' sends sends'
-        settings.now.follow (W.contents writer.old) (W.contents writer.new) (is_some settings.now.status) e) }
+    ensures ran { IfOk result
+        (IsRun config.now settings.now until (W.contents writer.old) (W.contents writer.new)) }
     ensures refused { IfErr result (IsEarly config.now) }
     ensures alone { settings.now.follow ≡ false → writer.new ≡ writer.old }
     ensures unwritten { OnErr result (writer.new ≡ writer.old) }
@@ -165,7 +159,7 @@ where
         socket: &socket,
         signal: signal.as_ref(),
     };
-    let status = match status_server(rt, &setup, server) {
+    let status = match status_server(rt, setup.signal, server) {
         Ok(status) => status,
         Err(fault) => return Err(fault),
     };

@@ -79,7 +79,7 @@ impl<'s, 'c> NodeLink<'s, 'c> {
 
 impl<'s, 'c> Link for NodeLink<'s, 'c> {
     ghost use Rattle.std.specs.Prelude.{false, []};
-    ghost use Rattle.lg_node.specs.Support.Failing.{failures_of};
+    ghost use Rattle.lg_node.specs.Meaning.Starts.{failures_of};
 
     ghost tells = { false };
 

@@ -46,7 +46,7 @@ fn hear<A: AgentName, R: Wait, L: Link, C>(
     // The link's log ends with this datagram.
     ensures { (log : List LinkEvent)
         → (L.tells ≡ true → L.log side.old.link ≡ log ++ Received source bytes.now ∷ [])
-        → Took receives L.tells (line log (L.failed side.old.link))
+        → Took (receives shared.now.wait_ms) L.tells (line log (L.failed side.old.link))
         (line (L.log side.new.link) (L.failed side.new.link)) side.old.pass side.new.pass result }
 {
     match calling::datagram(shared, &mut side.pass, now, source, bytes, reply) {
@@ -71,7 +71,7 @@ fn receive_turn<A: AgentName, R: Wait, L: Link, C: Clock>(
     buffer: &mut [u8; MAX_DATAGRAM],
     reply: &mut Reply,
 ) -> Turned
-    ensures { Took receives L.tells (line (L.log side.old.link) (L.failed side.old.link))
+    ensures { Took (receives shared.now.wait_ms) L.tells (line (L.log side.old.link) (L.failed side.old.link))
         (line (L.log side.new.link) (L.failed side.new.link)) side.old.pass side.new.pass result }
 {
     match side.link.receive(buffer, shared.wait_ms) {
@@ -91,7 +91,8 @@ fn receive_turns<A: AgentName, R: Wait, L: Link, C: Clock>(
     side: &mut Side<'_, L, A>,
 ) -> End
     requires { shared.now.bound ≤ MAX_TURNS }
-    ensures { Ran receives L.tells shared.now.bound (line (L.log side.old.link) (L.failed side.old.link))
+    ensures { Ran (receives shared.now.wait_ms) L.tells shared.now.bound
+        (line (L.log side.old.link) (L.failed side.old.link))
         (line (L.log side.new.link) (L.failed side.new.link)) side.old.pass side.new.pass result }
 {
     let mut buffer = [0; MAX_DATAGRAM];
@@ -118,7 +119,7 @@ fn receive_on<A: AgentName, R: Wait, L: Link, C: Clock>(
     side: &mut Side<'_, L, A>,
 ) -> End
     requires { shared.now.bound ≤ MAX_TURNS }
-    ensures { Lasted receives L.tells shared.now.bound shared.now.endless
+    ensures { Lasted (receives shared.now.wait_ms) L.tells shared.now.bound shared.now.endless
         (line (L.log side.old.link) (L.failed side.old.link))
         (line (L.log side.new.link) (L.failed side.new.link)) side.old.pass side.new.pass result }
 {
@@ -149,7 +150,7 @@ pub fn receive_loop<A: AgentName, R: Wait, L: Link, C: Clock>(
     side: Side<'_, L, A>,
 ) -> Ended<L, A>
     requires { shared.now.bound ≤ MAX_TURNS }
-    ensures { Lasted receives L.tells shared.now.bound shared.now.endless
+    ensures { Lasted (receives shared.now.wait_ms) L.tells shared.now.bound shared.now.endless
         (line (L.log side.entry.link) (L.failed side.entry.link))
         (line (L.log result.link) (L.failed result.link)) side.entry.pass result.spent result.end }
 {

@@ -2,10 +2,9 @@
 //!
 //! Defined in: `specs/Meaning/Turns.antt`.
 //! Tested in: `lg_node_tests/src/node/both.rt`.
-ghost use Rattle.std.specs.Prelude.{◌≡◌, ◌≤◌, ◌⊎◌};
-ghost use Rattle.lg_node.specs.declared.ending.Why.TheVariants.{Stopped};
+ghost use Rattle.std.specs.Prelude.{◌≡◌, ◌≤◌};
 ghost use Rattle.lg_node.specs.Meaning.Pulling.{Ticking};
-ghost use Rattle.lg_node.specs.Meaning.Turns.{line, receives, Lasted, HadNoThread};
+ghost use Rattle.lg_node.specs.Meaning.Turns.{line, receives, unstarted, Lasted, Receiving};
 
 use crate::dice::Dice;
 use crate::ending::{End, Ended, Why};
@@ -22,7 +21,7 @@ use std::sync::atomic::Ordering::SeqCst;
 use std::thread;
 use std::thread::{Promise, Threads};
 
-/// Names the state in which a loop starts, how many turns it may make, and whether it is endless.
+/// Names the state in which a loop starts, how many turns it may make, whether it is endless, and how long each waits.
 trait Start {
     ghost use Rattle.std.specs.Prelude.{ℕ, Bool};
     ghost use Rattle.lg_agent.specs.Meaning.Values.{PassValue};
@@ -35,6 +34,8 @@ trait Start {
     ghost bound: { ℕ };
 
     ghost endless: { Bool };
+
+    ghost wait: { ℕ };
 }
 
 impl Start for Brand {
@@ -47,6 +48,8 @@ impl Start for Brand {
     ghost bound = { 0 };
 
     ghost endless = { false };
+
+    ghost wait = { 0 };
 }
 
 /// What the receiving loop promises of its end, if it starts in that state.
@@ -56,15 +59,15 @@ struct Receives<S: Start> {
 }
 
 impl<S: Start, L: Link, A: AgentName> Promise<Ended<L, A>> for Receives<S> {
-    ghost kept_by = { λ p r. Lasted receives L.tells S.bound S.endless S.line (line (L.log r.link) (L.failed r.link))
-        S.own r.spent r.end };
+    ghost kept_by = { λ p r. Lasted (receives S.wait) L.tells S.bound S.endless S.line
+        (line (L.log r.link) (L.failed r.link)) S.own r.spent r.end };
 }
 
 /// The end of a ticking loop that makes no turn.
 fn unstarted<L: Link, A: AgentName>(side: Side<'_, L, A>) -> Ended<L, A>
     ensures link { result.link ≡ side.entry.link }
     ensures spent { result.spent ≡ side.entry.pass }
-    ensures end { result.end ≡ record { why = Stopped; dropped = 0; unsent = 0; turns = 0 } }
+    ensures end { result.end ≡ unstarted }
 {
     let Side { pass, link } = side;
     Ended {
@@ -89,13 +92,10 @@ where
     C: Clock + Sync,
     D: Dice + Drop,
     requires bound { (shared.now.bound ≤ MAX_TURNS) × (shared.now.bound ≡ S.bound)
-        × (shared.now.endless ≡ S.endless) }
+        × (shared.now.endless ≡ S.endless) × (shared.now.wait_ms ≡ S.wait) }
     requires start { (receiver.pass ≡ S.own) × (line (L.log receiver.link) (L.failed receiver.link) ≡ S.line) }
-    ensures received { Lasted receives L.tells S.bound S.endless S.line
-        (line (L.log result.0.link) (L.failed result.0.link)) S.own result.0.spent result.0.end
-        ⊎ (HadNoThread receives L.tells S.bound S.endless S.line
-        (line (L.log result.0.link) (L.failed result.0.link)) S.own result.0.spent result.0.end
-        × (result.1.end ≡ record { why = Stopped; dropped = 0; unsent = 0; turns = 0 })) }
+    ensures received { Receiving S.wait L.tells S.bound S.endless S.line
+        (line (L.log result.0.link) (L.failed result.0.link)) S.own result.0.spent result.0.end result.1.end }
     ensures ticked { Ticking D.throws dice plan.now L.tells shared.now.bound shared.now.endless
         (line (L.log ticker.entry.link) (L.failed ticker.entry.link))
         (line (L.log result.1.link) (L.failed result.1.link)) ticker.entry.pass result.1.spent result.1.end }
@@ -106,13 +106,10 @@ where
         shared.rt,
         move |scope| -> (Ended<L, A>, Ended<L, A>)
             requires bound { (shared.now.bound ≤ MAX_TURNS) × (shared.now.bound ≡ S.bound)
-                × (shared.now.endless ≡ S.endless) }
+                × (shared.now.endless ≡ S.endless) × (shared.now.wait_ms ≡ S.wait) }
             requires start { (receiver.pass ≡ S.own) × (line (L.log receiver.link) (L.failed receiver.link) ≡ S.line) }
-            ensures received { Lasted receives L.tells S.bound S.endless S.line
-                (line (L.log result.0.link) (L.failed result.0.link)) S.own result.0.spent result.0.end
-                ⊎ (HadNoThread receives L.tells S.bound S.endless S.line
-                (line (L.log result.0.link) (L.failed result.0.link)) S.own result.0.spent result.0.end
-                × (result.1.end ≡ record { why = Stopped; dropped = 0; unsent = 0; turns = 0 })) }
+            ensures received { Receiving S.wait L.tells S.bound S.endless S.line
+                (line (L.log result.0.link) (L.failed result.0.link)) S.own result.0.spent result.0.end result.1.end }
             ensures ticked { Ticking D.throws dice plan.entry.now L.tells shared.entry.now.bound
                 shared.entry.now.endless (line (L.log ticker.entry.link) (L.failed ticker.entry.link))
                 (line (L.log result.1.link) (L.failed result.1.link)) ticker.entry.pass result.1.spent result.1.end }
@@ -121,7 +118,8 @@ where
                 promise,
                 move || -> Ended<L, A>
                     requires { shared.now.bound ≤ MAX_TURNS }
-                    ensures { Lasted receives L.tells shared.entry.now.bound shared.entry.now.endless
+                    ensures { Lasted (receives shared.entry.now.wait_ms) L.tells shared.entry.now.bound
+                        shared.entry.now.endless
                         (line (L.log receiver.entry.link) (L.failed receiver.entry.link))
                         (line (L.log result.link) (L.failed result.link)) receiver.entry.pass result.spent result.end }
                 { receive_loop(shared, receiver) },
@@ -161,13 +159,10 @@ where
     C: Clock + Sync,
     D: Dice + Drop,
     requires { shared.now.bound ≤ MAX_TURNS }
-    ensures received { Lasted receives L.tells shared.now.bound shared.now.endless
+    ensures received { Receiving shared.now.wait_ms L.tells shared.now.bound shared.now.endless
         (line (L.log receiver.entry.link) (L.failed receiver.entry.link))
         (line (L.log result.0.link) (L.failed result.0.link)) receiver.entry.pass result.0.spent result.0.end
-        ⊎ (HadNoThread receives L.tells shared.now.bound shared.now.endless
-        (line (L.log receiver.entry.link) (L.failed receiver.entry.link))
-        (line (L.log result.0.link) (L.failed result.0.link)) receiver.entry.pass result.0.spent result.0.end
-        × (result.1.end ≡ record { why = Stopped; dropped = 0; unsent = 0; turns = 0 })) }
+        result.1.end }
     ensures ticked { Ticking D.throws dice plan.now L.tells shared.now.bound shared.now.endless
         (line (L.log ticker.entry.link) (L.failed ticker.entry.link))
         (line (L.log result.1.link) (L.failed result.1.link)) ticker.entry.pass result.1.spent result.1.end }

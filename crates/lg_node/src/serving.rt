@@ -1,13 +1,12 @@
 //! The status server of a node, in a thread beside the loops.
 //!
 //! Defined in: `specs/Meaning/Nodes.antt`, `specs/Meaning/Starts.antt`,
-//! `lg_serve/specs/Meaning/Shown.antt`.
+//! `lg_serve/specs/Meaning/Served.antt`.
 //! Tested in: `cases/status`.
 ghost use Rattle.std.specs.Prelude.{◌≡◌, is_some, IfErr, IfOk, IfSome, Some};
 ghost use Rattle.lg_timing.specs.declared.config.Config.{Config as Opened};
-ghost use Rattle.lg_watch.specs.Meaning.Sights.{OnlyLooked};
 ghost use Rattle.lg_http.specs.Meaning.Slots.{AreFree, slots_of};
-ghost use Rattle.lg_node.specs.Meaning.Nodes.{IsEarly, ServesIf, TellsServed};
+ghost use Rattle.lg_node.specs.Meaning.Nodes.{IsEarly, ServesIf, ServesNode, TellsServed};
 ghost use Rattle.lg_node.specs.Meaning.Starts.{Shows, hosts_of};
 
 use crate::following::take_back;
@@ -29,15 +28,12 @@ use std::thread::{Threads, join};
 
 /// A status server that is bound and doesn't serve yet.
 #[derive(Drop)]
-pub(crate) struct StatusServer<'n, 's, 'r, R> {
+pub(crate) struct StatusServer<'s, 'r, R> {
     pub(crate) server: Server,
     /// It is told to stop by this, as soon as the loops have ended.
     pub(crate) signal: &'s Signal,
     /// For the deadlines of its connections.
     pub(crate) machine: MachineClock<'r, R>,
-    /// The configuration that it shows, with the settings.
-    pub(crate) config: &'n Config,
-    pub(crate) settings: &'n Settings,
 }
 
 /// One of the numbers of the node's own.
@@ -77,18 +73,18 @@ fn hosts_of(addr: Option<Addr>) -> Hosts
 }
 
 /// A status server that is ready to serve, if one is bound. The error is the machine's clock, if it can't be read.
-pub(crate) fn status_server<'n, 's, 'r, R: rt::Clock>(
+pub(crate) fn status_server<'s, 'r, R: rt::Clock>(
     rt: &'r R,
-    setup: &Setup<'n, 's>,
+    signal: Option<&'s Signal>,
     server: Option<Server>,
-) -> Result<Option<StatusServer<'n, 's, 'r, R>>, NodeFault>
-    requires bound { is_some setup.now.signal ≡ is_some server }
+) -> Result<Option<StatusServer<'s, 'r, R>>, NodeFault>
+    requires bound { is_some signal ≡ is_some server }
     requires free { IfSome server (λ server. AreFree (slots_of server)) }
     ensures ready { IfOk result (λ status. is_some status ≡ is_some server) }
     ensures free { IfOk result (λ status. IfSome status (λ status. AreFree (slots_of status.server))) }
     ensures early { (config : Opened) → IfErr result (IsEarly config) }
 {
-    let (Some(server), Some(signal)) = (server, setup.signal) else {
+    let (Some(server), Some(signal)) = (server, signal) else {
         return Ok(None);
     };
     match MachineClock::new(rt) {
@@ -96,8 +92,6 @@ pub(crate) fn status_server<'n, 's, 'r, R: rt::Clock>(
             server,
             signal,
             machine,
-            config: setup.config,
-            settings: setup.settings,
         })),
         Err(_) => Err(NodeFault::Clock),
     }
@@ -106,20 +100,20 @@ pub(crate) fn status_server<'n, 's, 'r, R: rt::Clock>(
 /// Serves with a pass until the loops have ended, and gives it back.
 fn serve_with<'p, A: AgentName, R: rt::Clock, C: Clock>(
     shared: &Shared<'_, R, C>,
-    status: StatusServer<'_, '_, '_, R>,
+    setup: &Setup<'_, '_>,
+    status: StatusServer<'_, '_, R>,
     pass: Pass<'p, A>,
 ) -> (Pass<'p, A>, Served)
-    requires { AreFree (slots_of status.server) }
-    ensures { OnlyLooked pass.entry result.0 }
+    requires free { AreFree (slots_of status.server) }
+    requires name { shared.now.counters.now.name ≡ setup.now.config.now.name }
+    ensures { ServesNode setup.now.config.now setup.now.settings.now pass.entry result.0 result.1 }
 {
     let StatusServer {
         mut server,
         signal,
         machine,
-        config,
-        settings,
     } = status;
-    let Ok(config) = shown_of(shared.alloc, config, settings) else {
+    let Ok(config) = shown_of(shared.alloc, setup.config, setup.settings) else {
         return (pass, Served::Refused(Refusal::NoMemory));
     };
     let basis = SiteBasis {
@@ -128,7 +122,7 @@ fn serve_with<'p, A: AgentName, R: rt::Clock, C: Clock>(
         counters: shared.counters,
         config,
     };
-    let hosts = hosts_of(settings.status);
+    let hosts = hosts_of(setup.settings.status);
     serve(&mut server, signal, &machine, pass, basis, hosts)
 }
 
@@ -147,16 +141,18 @@ fn report_end<F: FaultStream>(served: Served, faults: &mut F)
 /// pass and the stream back, with how the server ended.
 fn serve_by<'p, 'f, A: AgentName, R: rt::Clock, C: Clock, F: FaultStream>(
     shared: &Shared<'_, R, C>,
-    status: StatusServer<'_, '_, '_, R>,
+    setup: &Setup<'_, '_>,
+    status: StatusServer<'_, '_, R>,
     pass: Pass<'p, A>,
     faults: &'f mut F,
 ) -> (Pass<'p, A>, (&'f mut F, Served))
-    requires { AreFree (slots_of status.server) }
+    requires free { AreFree (slots_of status.server) }
+    requires name { shared.now.counters.now.name ≡ setup.now.config.now.name }
     ensures same { result.1.0.ghost_name ≡ faults.entry.ghost_name }
-    ensures looked { OnlyLooked pass.entry result.0 }
+    ensures served { ServesNode setup.now.config.now setup.now.settings.now pass.entry result.0 result.1.1 }
     ensures told { TellsServed (Some result.1.1) (F.reported faults.entry.now) (F.reported result.1.0.now) }
 {
-    let (pass, served) = serve_with(shared, status, pass);
+    let (pass, served) = serve_with(shared, setup, status, pass);
     report_end(served, faults);
     (pass, (faults, served))
 }
@@ -165,7 +161,8 @@ fn serve_by<'p, 'f, A: AgentName, R: rt::Clock, C: Clock, F: FaultStream>(
 /// that, nobody is served.
 fn serve_beside<'p, A, R, C, F, G, B>(
     shared: &Shared<'_, R, C>,
-    status: StatusServer<'_, '_, '_, R>,
+    setup: &Setup<'_, '_>,
+    status: StatusServer<'_, '_, R>,
     pass: Pass<'p, A>,
     faults: &mut F,
     work: G,
@@ -178,7 +175,8 @@ where
     G: FnOnce() -> B,
     requires work { G.pre work }
     requires free { AreFree (slots_of status.server) }
-    ensures looked { OnlyLooked pass.entry result.0.0 }
+    requires name { shared.now.counters.now.name ≡ setup.now.config.now.name }
+    ensures served { ServesNode setup.now.config.now setup.now.settings.now pass.entry result.0.0 result.0.1 }
     ensures told { TellsServed (Some result.0.1) (F.reported faults.old) (F.reported faults.new) }
     ensures gave { G.post work result.1 }
 {
@@ -186,11 +184,13 @@ where
     let (given, gave) = join(
         shared.rt,
         move || -> (Pass<'_, A>, (&mut F, Served))
-            requires { AreFree (slots_of status.server) }
+            requires free { AreFree (slots_of status.server) }
+            requires name { shared.now.counters.now.name ≡ setup.now.config.now.name }
             ensures same { result.1.0.ghost_name ≡ faults.entry.ghost_name }
-            ensures looked { OnlyLooked pass.entry result.0 }
+            ensures served { ServesNode setup.entry.now.config.now setup.entry.now.settings.now pass.entry result.0
+                result.1.1 }
             ensures told { TellsServed (Some result.1.1) (F.reported faults.entry.now) (F.reported result.1.0.now) }
-        { serve_by(shared, status, pass, faults) },
+        { serve_by(shared, setup, status, pass, faults) },
         move || -> B
             requires { G.pre work }
             ensures { G.post work result }
@@ -209,7 +209,8 @@ where
 /// beside what the work gave.
 pub(crate) fn serve_if<'p, 'f, A, R, C, F, G, B>(
     shared: &Shared<'_, R, C>,
-    status: Option<StatusServer<'_, '_, '_, R>>,
+    setup: &Setup<'_, '_>,
+    status: Option<StatusServer<'_, '_, R>>,
     pass: Pass<'p, A>,
     faults: &'f mut F,
     work: G,
@@ -222,14 +223,16 @@ where
     G: FnOnce() -> B,
     requires work { G.pre work }
     requires free { IfSome status (λ status. AreFree (slots_of status.server)) }
+    requires name { shared.now.counters.now.name ≡ setup.now.config.now.name }
     ensures same { result.1.0.ghost_name ≡ faults.entry.ghost_name }
-    ensures looked { ServesIf (is_some status.entry) pass.entry result.0.0 result.0.1 }
+    ensures served { ServesIf (is_some status.entry) setup.now.config.now setup.now.settings.now pass.entry
+        result.0.0 result.0.1 }
     ensures told { TellsServed result.0.1 (F.reported faults.entry.now) (F.reported result.1.0.now) }
     ensures gave { G.post work result.1.1 }
 {
     let Some(status) = status else {
         return ((pass, None), (faults, work()));
     };
-    let ((pass, served), gave) = serve_beside(shared, status, pass, faults, work);
+    let ((pass, served), gave) = serve_beside(shared, setup, status, pass, faults, work);
     ((pass, Some(served)), (faults, gave))
 }

@@ -18,12 +18,12 @@ ghost use Rattle.lg_agent.specs.Meaning.Values.{PassValue};
 ghost use Rattle.lg_agent.specs.Meaning.Calls.{IsLook};
 ghost use Rattle.lg_agent.specs.Meaning.Closing.{IsClosed, IsRefusedClosing};
 ghost use Rattle.lg_http.specs.Meaning.Slots.{AreFree, slots_of};
-ghost use Rattle.lg_node.specs.Meaning.Nodes.{HasServed, ServesIf, WatchesIf, IsRun, IsRefusedEarly, IsEarly};
+ghost use Rattle.lg_node.specs.Meaning.Nodes.{AreLinks, HasServed, ServesIf, WatchesIf, IsRun};
+ghost use Rattle.lg_node.specs.Meaning.Nodes.{IsRefusedEarly, IsEarly};
 ghost use Rattle.lg_node.specs.Meaning.Nodes.{fresh_own, TellsServed};
-ghost use Rattle.lg_node.specs.Meaning.Starts.{link_keys, stall_of, turn_wait};
+ghost use Rattle.lg_node.specs.Meaning.Starts.{failures_of, link_keys, stall_of, turn_wait};
 ghost use Rattle.lg_node.specs.Meaning.Turns.{LinkValue};
 ghost use Rattle.lg_node.specs.Meaning.Words.{seeded, DrawsEight};
-ghost use Rattle.lg_node.specs.Support.Failing.{failures_of};
 
 use crate::asking::ask_each;
 use crate::ending::End;
@@ -76,7 +76,7 @@ pub(crate) fn open_and_serve<A, R, W, F>(
     alloc: Global,
     book: UnnamedBook,
     setup: &Setup<'_, '_>,
-    status: Option<StatusServer<'_, '_, '_, R>>,
+    status: Option<StatusServer<'_, '_, R>>,
     writer: &mut W,
     faults: &mut F,
 ) -> Result<NodeEnd, NodeFault>
@@ -89,11 +89,9 @@ where
     requires places { A.places ≡ PLACES }
     requires config { IsChecked setup.now.config.now }
     requires free { IfSome status (λ status. AreFree (slots_of status.server)) }
-    ensures ran { IfOk result (λ e. (hears : LinkValue) × (hears' : LinkValue) × (sends : LinkValue)
-        × (sends' : LinkValue)
-        × IsRun DrawsEight (seeded setup.now.settings.now.dice) false MAX_TURNS setup.now.config.now
-        setup.now.settings.now.pull_ms setup.now.until hears hears' sends sends'
-        setup.now.settings.now.follow (W.contents writer.old) (W.contents writer.new) (is_some status.entry) e) }
+    requires serving { is_some status ≡ is_some setup.now.settings.now.status }
+    ensures ran { IfOk result (IsRun setup.now.config.now setup.now.settings.now setup.now.until
+        (W.contents writer.old) (W.contents writer.new)) }
     ensures refused { IfErr result (IsEarly setup.now.config.now) }
     ensures alone { setup.now.settings.now.follow ≡ false → writer.new ≡ writer.old }
     ensures unwritten { OnErr result (writer.new ≡ writer.old) }
@@ -191,7 +189,7 @@ fn serve<A, R, C, W, F>(
     shared: &Shared<'_, R, C>,
     agent: &mut Agent<A>,
     setup: &Setup<'_, '_>,
-    status: Option<StatusServer<'_, '_, '_, R>>,
+    status: Option<StatusServer<'_, '_, R>>,
     writer: &mut W,
     faults: &mut F,
 ) -> Result<Left<A>, Refusal>
@@ -204,18 +202,21 @@ where
     requires places { length agent.old.told ≡ PLACES }
     requires bound { (shared.now.bound ≤ MAX_TURNS) × (shared.now.endless ≡ true) }
     requires free { IfSome status (λ status. AreFree (slots_of status.server)) }
+    requires name { shared.now.counters.now.name ≡ setup.now.config.now.name }
     requires wait { shared.now.wait_ms
         ≡ turn_wait setup.now.config.now.timeout_ms (stall_of setup.now.settings.now.stall_ms) }
     ensures left { (start : ℕ) → agent.old.name ≡ setup.now.config.now.name
         → All (λ seen. seen ≡ Open start setup.now.config.now ∷ []) agent.old.told
         → IfOk result (λ l. (hears : LinkValue) × (hears' : LinkValue) × (sends : LinkValue) × (sends' : LinkValue)
-        × (asker : PassValue) × (watcher : PassValue)
-        × HasServed DrawsEight (seeded setup.now.settings.now.dice) false shared.now.bound setup.now.config.now
+        × (asker : PassValue) × (watcher : PassValue) × AreLinks setup.now.settings.now hears sends
+        × HasServed DrawsEight (seeded setup.now.settings.now.dice) false shared.now.bound
+        (turn_wait setup.now.config.now.timeout_ms (stall_of setup.now.settings.now.stall_ms)) setup.now.config.now
         setup.now.settings.now.pull_ms setup.now.until start hears hears' sends sends'
         l.received l.ticked l.receiver l.ticker asker
         × WatchesIf setup.now.settings.now.follow asker watcher (W.contents writer.old) (W.contents writer.new)
         l.watched
-        × ServesIf (is_some status.entry) (fresh_own setup.now.config.now start 4) l.status l.served
+        × ServesIf (is_some status.entry) setup.now.config.now setup.now.settings.now
+        (fresh_own setup.now.config.now start 4) l.status l.served
         × MatchResult l.members (λ records. (records.items ≡ view_after l.reader.seen) × IsLook watcher l.reader)
         (λ r. ((r ≡ NoView) ⊎ (r ≡ NoMemory)) × (l.reader ≡ watcher))) }
     ensures refused { (start : ℕ) → agent.old.name ≡ setup.now.config.now.name
@@ -255,14 +256,7 @@ where
     };
     let plan = Plan::new(setup.config, setup.settings.pull_ms, setup.until);
     let ((watcher, watched), ((looker, served), (received, ticked))) = run_threads(
-        shared,
-        sides,
-        setup.settings,
-        &plan,
-        lookers,
-        status,
-        writer,
-        faults,
+        shared, sides, setup, &plan, lookers, status, writer, faults,
     );
     let (mut ticked, mut watcher) = (ticked, watcher);
     ticked.end.unsent = ticked.end.unsent.saturating_add(unsent);

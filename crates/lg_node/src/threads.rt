@@ -2,23 +2,22 @@
 //!
 //! Defined in: `specs/Meaning/Nodes.antt`, `specs/Meaning/Turns.antt`, `specs/Meaning/Pulling.antt`.
 //! Tested in: `cases/nodes`, `cases/status`.
-ghost use Rattle.std.specs.Prelude.{◌≡◌, ◌≤◌, ◌⊎◌, false, is_some, IfSome};
+ghost use Rattle.std.specs.Prelude.{◌≡◌, ◌≤◌, false, is_some, IfSome};
 ghost use Rattle.lg_http.specs.Meaning.Slots.{AreFree, slots_of};
-ghost use Rattle.lg_node.specs.declared.ending.Why.TheVariants.{Stopped};
 ghost use Rattle.lg_node.specs.Meaning.Nodes.{ServesIf, TellsServed, WatchesIf};
 ghost use Rattle.lg_node.specs.Meaning.Pulling.{Ticking};
-ghost use Rattle.lg_node.specs.Meaning.Turns.{line, receives, Lasted, HadNoThread};
+ghost use Rattle.lg_node.specs.Meaning.Turns.{line, Receiving};
 ghost use Rattle.lg_node.specs.Meaning.Words.{seeded, DrawsEight};
 
 use crate::dice::PcgDice;
 use crate::ending::Ended;
 use crate::following::{take_back, watch_if};
 use crate::link::Link;
-use crate::node::Settings;
 use crate::plan::Plan;
 use crate::running::run_loops;
 use crate::serving::{StatusServer, serve_if};
 use crate::shared::{MAX_TURNS, Shared, Side};
+use crate::start::Setup;
 use left_right::Absorb;
 use lg_agent::{AgentName, Pass};
 use lg_clock::Clock;
@@ -59,9 +58,9 @@ where
 /// server. Returns for each of the two its pass and how it ended, if there was one, and what the work gave.
 fn work_beside<'p, A, R, C, W, F, G, B>(
     shared: &Shared<'_, R, C>,
-    follow: bool,
+    setup: &Setup<'_, '_>,
     lookers: Lookers<'p, A>,
-    status: Option<StatusServer<'_, '_, '_, R>>,
+    status: Option<StatusServer<'_, '_, R>>,
     writer: &mut W,
     faults: &mut F,
     work: G,
@@ -78,10 +77,12 @@ where
     G: FnOnce() -> B,
     requires work { G.pre work }
     requires free { IfSome status (λ status. AreFree (slots_of status.server)) }
-    ensures watched { WatchesIf follow lookers.entry.watcher result.0.0 (W.contents writer.old)
+    requires name { shared.now.counters.now.name ≡ setup.now.config.now.name }
+    ensures watched { WatchesIf setup.now.settings.now.follow lookers.entry.watcher result.0.0 (W.contents writer.old)
         (W.contents writer.new) result.0.1 }
-    ensures alone { follow ≡ false → writer.new ≡ writer.old }
-    ensures served { ServesIf (is_some status.entry) lookers.entry.status result.1.0.0 result.1.0.1 }
+    ensures alone { setup.now.settings.now.follow ≡ false → writer.new ≡ writer.old }
+    ensures served { ServesIf (is_some status.entry) setup.now.config.now setup.now.settings.now
+        lookers.entry.status result.1.0.0 result.1.0.1 }
     ensures told { TellsServed result.1.0.1 (F.reported faults.old) (F.reported faults.new) }
     ensures gave { G.post work result.1.1 }
 {
@@ -91,17 +92,19 @@ where
     } = lookers;
     let (watched, (served, (faults, gave))) = watch_if(
         shared,
-        follow,
+        setup.settings.follow,
         watcher,
         writer,
         move || -> ((Pass<'_, A>, Option<Served>), (&mut F, B))
             requires work { G.pre work }
             requires free { IfSome status (λ status. AreFree (slots_of status.server)) }
+            requires name { shared.now.counters.now.name ≡ setup.now.config.now.name }
             ensures same { result.1.0.ghost_name ≡ faults.entry.ghost_name }
-            ensures served { ServesIf (is_some status.entry) pass.entry result.0.0 result.0.1 }
+            ensures served { ServesIf (is_some status.entry) setup.entry.now.config.now
+                setup.entry.now.settings.now pass.entry result.0.0 result.0.1 }
             ensures told { TellsServed result.0.1 (F.reported faults.entry.now) (F.reported result.1.0.now) }
             ensures gave { G.post work result.1.1 }
-        { serve_if(shared, status, pass, faults, work) },
+        { serve_if(shared, setup, status, pass, faults, work) },
     );
     take_back(faults);
     (watched, (served, gave))
@@ -117,10 +120,10 @@ where
 pub(crate) fn run_threads<'p, A, R, L, C, W, F>(
     shared: &Shared<'_, R, C>,
     sides: Sides<'_, L, A>,
-    settings: &Settings,
+    setup: &Setup<'_, '_>,
     plan: &Plan,
     lookers: Lookers<'p, A>,
-    status: Option<StatusServer<'_, '_, '_, R>>,
+    status: Option<StatusServer<'_, '_, R>>,
     writer: &mut W,
     faults: &mut F,
 ) -> (
@@ -136,45 +139,37 @@ where
     F: FaultStream + Send,
     requires bound { shared.now.bound ≤ MAX_TURNS }
     requires free { IfSome status (λ status. AreFree (slots_of status.server)) }
-    ensures watched { WatchesIf settings.now.follow lookers.entry.watcher result.0.0 (W.contents writer.old)
+    requires name { shared.now.counters.now.name ≡ setup.now.config.now.name }
+    ensures watched { WatchesIf setup.now.settings.now.follow lookers.entry.watcher result.0.0 (W.contents writer.old)
         (W.contents writer.new) result.0.1 }
-    ensures alone { settings.now.follow ≡ false → writer.new ≡ writer.old }
-    ensures served { ServesIf (is_some status.entry) lookers.entry.status result.1.0.0 result.1.0.1 }
+    ensures alone { setup.now.settings.now.follow ≡ false → writer.new ≡ writer.old }
+    ensures served { ServesIf (is_some status.entry) setup.now.config.now setup.now.settings.now
+        lookers.entry.status result.1.0.0 result.1.0.1 }
     ensures told { TellsServed result.1.0.1 (F.reported faults.old) (F.reported faults.new) }
-    ensures received { Lasted receives L.tells shared.now.bound shared.now.endless
+    ensures received { Receiving shared.now.wait_ms L.tells shared.now.bound shared.now.endless
         (line (L.log sides.entry.receiver.link) (L.failed sides.entry.receiver.link))
         (line (L.log result.1.1.0.link) (L.failed result.1.1.0.link)) sides.entry.receiver.pass result.1.1.0.spent
-        result.1.1.0.end
-        ⊎ (HadNoThread receives L.tells shared.now.bound shared.now.endless
-        (line (L.log sides.entry.receiver.link) (L.failed sides.entry.receiver.link))
-        (line (L.log result.1.1.0.link) (L.failed result.1.1.0.link)) sides.entry.receiver.pass result.1.1.0.spent
-        result.1.1.0.end
-        × (result.1.1.1.end ≡ record { why = Stopped; dropped = 0; unsent = 0; turns = 0 })) }
-    ensures ticked { Ticking DrawsEight (seeded settings.now.dice) plan.now L.tells shared.now.bound shared.now.endless
-        (line (L.log sides.entry.ticker.link) (L.failed sides.entry.ticker.link))
+        result.1.1.0.end result.1.1.1.end }
+    ensures ticked { Ticking DrawsEight (seeded setup.now.settings.now.dice) plan.now L.tells shared.now.bound
+        shared.now.endless (line (L.log sides.entry.ticker.link) (L.failed sides.entry.ticker.link))
         (line (L.log result.1.1.1.link) (L.failed result.1.1.1.link)) sides.entry.ticker.pass result.1.1.1.spent
         result.1.1.1.end }
 {
-    let dice = PcgDice::new(settings.dice);
+    let dice = PcgDice::new(setup.settings.dice);
     let Sides { receiver, ticker } = sides;
     work_beside(
         shared,
-        settings.follow,
+        setup,
         lookers,
         status,
         writer,
         faults,
         move || -> Both<L, A>
             requires { shared.now.bound ≤ MAX_TURNS }
-            ensures received { Lasted receives L.tells shared.entry.now.bound shared.entry.now.endless
-                (line (L.log receiver.entry.link) (L.failed receiver.entry.link))
+            ensures received { Receiving shared.entry.now.wait_ms L.tells shared.entry.now.bound
+                shared.entry.now.endless (line (L.log receiver.entry.link) (L.failed receiver.entry.link))
                 (line (L.log result.0.link) (L.failed result.0.link)) receiver.entry.pass result.0.spent
-                result.0.end
-                ⊎ (HadNoThread receives L.tells shared.entry.now.bound shared.entry.now.endless
-                (line (L.log receiver.entry.link) (L.failed receiver.entry.link))
-                (line (L.log result.0.link) (L.failed result.0.link)) receiver.entry.pass result.0.spent
-                result.0.end
-                × (result.1.end ≡ record { why = Stopped; dropped = 0; unsent = 0; turns = 0 })) }
+                result.0.end result.1.end }
             ensures ticked { Ticking DrawsEight dice plan.entry.now L.tells shared.entry.now.bound
                 shared.entry.now.endless (line (L.log ticker.entry.link) (L.failed ticker.entry.link))
                 (line (L.log result.1.link) (L.failed result.1.link)) ticker.entry.pass result.1.spent

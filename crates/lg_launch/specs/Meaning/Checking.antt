@@ -13,8 +13,8 @@ use Rattle.lg_check.specs.Meaning.Checks.{check_text}
 use Rattle.lg_launch.specs.declared.told.Told.{Told}
 use Rattle.lg_launch.specs.declared.file.NoBytes.{NoBytes}
 use Rattle.lg_launch.specs.declared.told.Told.TheVariants.{Done, Memory}
-use Rattle.lg_launch.specs.Meaning.Reporting.{ReportsBoth, TellsAlone, TellsFault, TellsNoBytes}
-use Rattle.lg_launch.specs.Meaning.Telling.{fault_told, line_of, second_of, status_told}
+use Rattle.lg_launch.specs.Meaning.Reporting.{TellsAlone, TellsFault, TellsLine, TellsNoBytes}
+use Rattle.lg_launch.specs.Meaning.Telling.{fault_told}
 
 -- A text is written whole. If the writing failed, a beginning of it may have been written. If memory for it was
 -- refused, nothing was.
@@ -31,16 +31,14 @@ abbrev pub check_told : Result (Unit {0}) RunFault → Told
 check_told (Ok done) = Done
 check_told (Err fault) = fault_told fault
 
--- What a configuration means is written, and how that went is told. If it failed, a second line says what couldn't be
--- written.
+-- What a configuration means is written, and how that went is told.
 pub record ChecksNode
     {W : Type 0} (before after : W) (held holds : Option (List ℕ)) (reported reports : Reported) (n : NodeConfig)
     (status : ℕ)
     : Type 0 where
   pub written : Result (Unit {0}) RunFault
   pub text : WritesText before after held holds (check_text n) written
-  pub lines : ReportsBoth reported reports (line_of (check_told written)) (second_of (check_told written))
-  pub is : status ≡ status_told (check_told written)
+  pub told : TellsLine reported reports (check_told written) status
 
 -- A configuration that was read is checked. If none was read, the reason is told, and nothing is written.
 abbrev pub ChecksConfig :

@@ -7,6 +7,8 @@ use Rattle.lg_rules.specs.declared.addr.Addr.{Addr}
 use Rattle.lg_rules.specs.declared.claim.Claim.{Claim}
 use Rattle.lg_text.specs.Meaning.Reporting.{Reported, Reports}
 use Rattle.lg_text.specs.declared.fault.RunFault.{RunFault}
+use Rattle.lg_key.specs.declared.key.Keys.{Keys}
+use Rattle.lg_key.specs.Meaning.Reading.{keys_of}
 use Rattle.lg_report.specs.Meaning.Records.{table_text}
 use Rattle.lg_config.specs.declared.fault.ReadFault.{ReadFault}
 use Rattle.lg_config.specs.declared.fault.ReadFault.TheVariants.{NoMemory, File}
@@ -15,9 +17,8 @@ use Rattle.lg_config.specs.Meaning.Answer.{IsAnswer}
 use Rattle.lg_node.specs.declared.node.NodeEnd.{NodeEnd}
 use Rattle.lg_node.specs.declared.node.NodeFault.{NodeFault}
 use Rattle.lg_node.specs.declared.node.NodeFault.TheVariants as node
+use Rattle.lg_node.specs.declared.node.Settings.{Settings}
 use Rattle.lg_node.specs.Meaning.Nodes.{IsRun, IsEarly, TellsServed}
-use Rattle.lg_node.specs.Meaning.Turns.{LinkValue}
-use Rattle.lg_node.specs.Meaning.Words.{seeded, DrawsEight}
 use Rattle.lg_launch.specs.declared.file.NoBytes.{NoBytes}
 use Rattle.lg_launch.specs.declared.told.Told.{Told}
 use Rattle.lg_launch.specs.declared.told.Told.TheVariants.{Memory}
@@ -25,7 +26,7 @@ use Rattle.lg_launch.specs.Meaning.Checking.{WritesText}
 use Rattle.lg_launch.specs.declared.key_file.NoKeys.{NoKeys}
 use Rattle.lg_launch.specs.Meaning.KeyTelling.{TellsNoKeys}
 use Rattle.lg_launch.specs.Meaning.Reporting.{ReportsBoth, TellsAlone, TellsFault, TellsNoBytes}
-use Rattle.lg_launch.specs.Meaning.Telling.{ending, line_of, run_told, second_of, status_told}
+use Rattle.lg_launch.specs.Meaning.Telling.{ending, line_of, run_told, status_told}
 use Rattle.lg_launch.specs.Meaning.Wishes.{end_wished, is_announced}
 use Rattle.lg_launch.specs.Meaning.Words.{link_reason, start_line}
 
@@ -64,23 +65,39 @@ AnnouncesIf false reported reports line = reports ≡ reported
 abbrev pub Announces : Option ℕ → Bool → (reported reports : Reported) (line : List ℕ) → Type 0
 Announces until follow reported reports line = AnnouncesIf (is_announced until follow) reported reports line
 
--- The second line of what is told of a node that was run: why its socket or that of its status server can't be bound,
--- or what couldn't be written of a node whose loops had begun. If memory for it is refused, there is none.
-abbrev pub IsSecond : NodeConfig → Result NodeEnd NodeFault → Told → List ℕ → Type 0
-IsSecond n (Err (node.Socket kind)) told second = (second ≡ []) ⊎ (second ≡ link_reason n.config.addr kind)
-IsSecond n (Err (node.Status kind)) told second =
+-- The second line of what is told of a node that was run: why its socket or that of its status server can't be bound.
+-- If memory for it is refused, there is none.
+abbrev pub IsSecond : NodeConfig → Result NodeEnd NodeFault → List ℕ → Type 0
+IsSecond n (Err (node.Socket kind)) second = (second ≡ []) ⊎ (second ≡ link_reason n.config.addr kind)
+IsSecond n (Err (node.Status kind)) second =
     (second ≡ []) ⊎ ((addr : Addr) × (n.status ≡ Some addr) × (second ≡ link_reason addr kind))
-IsSecond n (Err node.Clock) told second = second ≡ []
-IsSecond n (Err (node.Refused refusal)) told second = second ≡ []
-IsSecond n (Ok e) told second = second ≡ second_of told
+IsSecond n (Err node.Clock) second = second ≡ []
+IsSecond n (Err (node.Refused refusal)) second = second ≡ []
+IsSecond n (Ok e) second = second ≡ []
 
--- The node of a configuration ran until a moment. If it followed, its watcher wrote all that the writer gained. Its
--- links tell nothing but their failures. Each loop counts its turns anew after 1,000,000,000.
-abbrev pub HasRun : NodeConfig → ℕ → Bool → (held holds : Option (List ℕ)) → NodeEnd → Type 0
-HasRun n until follow held holds e =
-    (hears : LinkValue) × (hears' : LinkValue) × (sends : LinkValue) × (sends' : LinkValue)
-    × IsRun DrawsEight (seeded n.dice) false 1000000000 n.config n.pull_ms until hears hears' sends sends' follow held
-    holds (is_some n.status) e
+-- the settings of a node: what its configuration says, with these keys, and whether it follows
+abbrev pub node_settings : NodeConfig → Option Keys → Bool → Settings
+node_settings n keys follow = record {
+  dice = n.dice;
+  pull_ms = n.pull_ms;
+  stall_ms = n.stall_ms;
+  follow = follow;
+  status = n.status;
+  status_open = n.status_open;
+  keys = keys;
+}
+
+-- The node of a configuration ran with these keys until a moment. If it followed, its watcher wrote all that the writer
+-- gained.
+abbrev pub HasRun : NodeConfig → Option Keys → ℕ → Bool → (held holds : Option (List ℕ)) → NodeEnd → Type 0
+HasRun n keys until follow held holds e = IsRun n.config (node_settings n keys follow) until held holds e
+
+-- The keys are those of a key file, if the configuration names one: those that some text spells. What a file holds no
+-- contract can say. Without a key file there are none.
+abbrev pub AreKeysAt : {P : Type 0} → Option P → Option Keys → Type 0
+AreKeysAt None keys = keys ≡ None
+AreKeysAt (Some path) None = ⊥
+AreKeysAt (Some path) (Some keys) = (text : List ℕ) × (keys_of text ≡ Ok keys)
 
 -- What a node reports while it runs: why its status server ended before it, if it did. One that ended before its loops
 -- reports nothing.
@@ -93,44 +110,45 @@ TellsMeanwhile (Err fault) reported reports = reports ≡ reported
 -- what it had reported itself, and a second line if there is one.
 pub record RunsNode
     {W : Type 0} (before after : W) (held holds : Option (List ℕ)) (reported reports : Reported) (n : NodeConfig)
-    (until : Option ℕ) (follow : Bool) (status : ℕ)
+    (keys : Option Keys) (until : Option ℕ) (follow : Bool) (status : ℕ)
     : Type 0 where
   pub ran : Result NodeEnd NodeFault
   pub written : Result (Unit {0}) RunFault
   pub second : List ℕ
-  pub run : MatchResult ran (HasRun n (end_wished until) follow held holds) (IsEarly n.config)
+  pub run : MatchResult ran (HasRun n keys (end_wished until) follow held holds) (IsEarly n.config)
   pub unwritten : OnErr ran (after ≡ before)
   pub table : WritesEnd follow before after held holds (table_at_end ran) written
   pub meanwhile : Reported
   pub told : TellsMeanwhile ran reported meanwhile
-  pub reason : IsSecond n ran (run_told ran written) second
+  pub reason : IsSecond n ran second
   pub lines : ReportsBoth meanwhile reports (line_of (run_told ran written)) second
   pub is : status ≡ status_told (run_told ran written)
 
 -- The node of a configuration is announced, if it is to be, and run.
 pub record RunsAnnounced
     {W : Type 0} (before after : W) (held holds : Option (List ℕ)) (reported reports : Reported) (file : List ℕ)
-    (n : NodeConfig) (until : Option ℕ) (follow : Bool) (status : ℕ)
+    (n : NodeConfig) (keys : Option Keys) (until : Option ℕ) (follow : Bool) (status : ℕ)
     : Type 0 where
   pub announced : Reported
   pub start : Announces until follow reported announced (start_line file n)
-  pub runs : RunsNode before after held holds announced reports n until follow status
+  pub runs : RunsNode before after held holds announced reports n keys until follow status
 
 -- That is done, or memory for the announcement is refused, and that is told.
 abbrev pub RunsOrRefused :
     {W : Type 0} → (before after : W) (held holds : Option (List ℕ)) (reported reports : Reported) (file : List ℕ)
-    (n : NodeConfig) (until : Option ℕ) (follow : Bool) (status : ℕ) → Type 0
-RunsOrRefused before after held holds reported reports file n until follow status =
-    RunsAnnounced before after held holds reported reports file n until follow status
+    (n : NodeConfig) (keys : Option Keys) (until : Option ℕ) (follow : Bool) (status : ℕ) → Type 0
+RunsOrRefused before after held holds reported reports file n keys until follow status =
+    RunsAnnounced before after held holds reported reports file n keys until follow status
     ⊎ TellsAlone before after reported reports Memory status
 
--- That is done. Or the key file that the configuration names gives no keys, and it is told why. What a file holds no
--- contract can say, nor that the node's link seals with its keys.
+-- That is done with the keys of its key file, with which both its links seal and open. Or the key file gives none, and
+-- it is told why.
 abbrev pub RunsKeyed :
     {W : Type 0} → (before after : W) (held holds : Option (List ℕ)) (reported reports : Reported) (file : List ℕ)
     (n : NodeConfig) (until : Option ℕ) (follow : Bool) (status : ℕ) → Type 0
 RunsKeyed before after held holds reported reports file n until follow status =
-    RunsOrRefused before after held holds reported reports file n until follow status
+    ((keys : Option Keys) × AreKeysAt n.key_file keys
+    × RunsOrRefused before after held holds reported reports file n keys until follow status)
     ⊎ ((fault : NoKeys) × IsSome n.key_file × (after ≡ before) × TellsNoKeys reported reports fault status)
 
 -- A configuration that was read is run. If none was read, the reason is told.

@@ -56,11 +56,6 @@ line_of Link = said_line (codes "link")
 line_of Status = said_line (codes "status")
 line_of Key = said_line (codes "key")
 
--- the second line that what is told has by itself: of a text that couldn't be written, what that is
-abbrev pub second_of : Told → List ℕ
-second_of Write = codes "standard output can't be written\n"
-second_of _ = []
-
 -- what is told of a refusal, and of a fault of memory, reading or writing
 abbrev pub refusal_told : Refusal → Told
 refusal_told refusal.NoMemory = Memory

@@ -78,7 +78,7 @@ it_is_called = record {
 -- No datagram comes, then one that is cut short, and then the Ping.
 abbrev heard : Bool → List Turn
 heard was_sent =
-    Quiet ∷ Dropped (at 1) (0x53 ∷ []) ∷ Heard 20 (at 1) ping_bytes ping answer (was_sent ∷ []) ∷ []
+    Quiet 20 ∷ Dropped (at 1) (0x53 ∷ []) ∷ Heard 20 (at 1) ping_bytes ping answer (was_sent ∷ []) ∷ []
 
 they_follow : (was_sent : Bool) → Follows before (heard was_sent) after
 unfolding packet_of packet_at head_at name_at body_at claims_at
@@ -86,7 +86,7 @@ they_follow was_sent =
     (before, refl, (before, (refl, (Short, refl)), (after, (it_is_read, it_is_called, refl), refl)))
 
 the_link_did : flat_map deeds (heard true)
-    ≡ Silent ∷ Received (at 1) (0x53 ∷ []) ∷ Received (at 1) ping_bytes ∷ Handed (at 1) ack_bytes true ∷ []
+    ≡ Silent 20 ∷ Received (at 1) (0x53 ∷ []) ∷ Received (at 1) ping_bytes ∷ Handed (at 1) ack_bytes true ∷ []
 unfolding spelling
 the_link_did = refl
 

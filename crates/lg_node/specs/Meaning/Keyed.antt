@@ -23,8 +23,8 @@ counted_with Forged counted = record counted { forged = one_more counted.forged 
 abbrev pub Opens : Keys → (inside came : LinkEvent) → (before after : Counted) → Type 0
 Opens keys (Received source datagram) (Received from packet) before after =
     (from ≡ source) × IsSealed keys datagram packet × (after ≡ before)
-Opens keys (Received source datagram) Silent before after =
+Opens keys (Received source datagram) (Silent limit) before after =
     (fault : SealFault) × IsRefused keys datagram fault × (after ≡ counted_with fault before)
-Opens keys Silent Silent before after = after ≡ before
+Opens keys (Silent waited) (Silent limit) before after = (limit ≡ waited) × (after ≡ before)
 Opens keys Failed Failed before after = after ≡ before
 Opens keys _ _ before after = ⊥

@@ -7,19 +7,19 @@ use Rattle.lg_packet.specs.Meaning.Spelling.{spelling}
 use Rattle.lg_detector.specs.declared.reply.Outgoing.{Outgoing}
 use Rattle.lg_node.specs.declared.link.LinkFault.{LinkFault}
 
--- One call of a link: a datagram with these bytes came from an address; none came; receiving failed; or these bytes
--- were handed over for an address, and were sent or not.
+-- One call of a link: a datagram with these bytes came from an address; none came, of a call that waits for one at most
+-- so many milliseconds; receiving failed; or these bytes were handed over for an address, and were sent or not.
 pub data LinkEvent : Type 0 where
   Received : Addr → List ℕ → LinkEvent
-  Silent : LinkEvent
+  Silent : ℕ → LinkEvent
   Failed : LinkEvent
   Handed : Addr → List ℕ → Bool → LinkEvent
 
--- what a call of `receive` was, by what it returns and leaves in the buffer
-abbrev pub reception : Result (Option (Addr × ℕ)) LinkFault → List ℕ → LinkEvent
-reception (Ok (Some came)) buffer = Received came.0 (take came.1 buffer)
-reception (Ok None) buffer = Silent
-reception (Err fault) buffer = Failed
+-- what a call of `receive` was, by how long it waits at most, what it returns and what it leaves in the buffer
+abbrev pub reception : ℕ → Result (Option (Addr × ℕ)) LinkFault → List ℕ → LinkEvent
+reception limit (Ok (Some came)) buffer = Received came.0 (take came.1 buffer)
+reception limit (Ok None) buffer = Silent limit
+reception limit (Err fault) buffer = Failed
 
 -- The packets of a reply, handed over once each and in order, by their spellings; and which of them were sent.
 abbrev pub handed : List Outgoing → List Bool → List LinkEvent

@@ -1,6 +1,6 @@
 -- What a node does from its opening to its end.
 use Rattle.std.specs.Prelude.{◌≡◌, ◌<◌, ◌⊎◌, ℕ, ◌+◌, ◌^◌, Bool, true, false, List, [], ◌∷◌}
-use Rattle.std.specs.Prelude.{Option, Some, None, MatchResult}
+use Rattle.std.specs.Prelude.{Option, Some, None, is_some, MatchResult}
 use Rattle.std.specs.List.{flat_map, sum_by}
 use Rattle.lg_timing.specs.declared.config.Config.{Config}
 use Rattle.lg_timing.specs.declared.config.Seed.{Seed}
@@ -16,17 +16,24 @@ use Rattle.lg_agent.specs.Meaning.Closing.{IsClosed, IsRefusedClosing}
 use Rattle.lg_watch.specs.declared.watched.Watched.{Watched}
 use Rattle.lg_watch.specs.Meaning.Sights.{HasWatched, OnlyLooked}
 use Rattle.lg_http.specs.declared.server.End.TheVariants as server
+use Rattle.lg_http.specs.declared.server.Server.{Server}
+use Rattle.lg_http.specs.Meaning.Slots.{AreFree, slots_of}
+use Rattle.lg_status.specs.declared.snapshot.ShownConfig.{ShownConfig}
 use Rattle.lg_serve.specs.declared.serving.Served.{Served}
-use Rattle.lg_serve.specs.declared.serving.Served.TheVariants.{Ended}
-use Rattle.lg_serve.specs.Meaning.Served.{served_line}
+use Rattle.lg_serve.specs.declared.serving.Served.TheVariants as served
+use Rattle.lg_serve.specs.Meaning.Served.{served_line, ServedAs}
 use Rattle.lg_node.specs.declared.ending.End.{End}
-use Rattle.lg_node.specs.declared.ending.Why.TheVariants.{Stopped}
 use Rattle.lg_node.specs.declared.node.NodeEnd.{NodeEnd}
 use Rattle.lg_node.specs.declared.node.NodeFault.{NodeFault}
 use Rattle.lg_node.specs.declared.node.NodeFault.TheVariants.{Socket, Status, Clock, Refused}
-use Rattle.lg_node.specs.Meaning.Turns.{Turn, LinkValue, Made, Lasted, HadNoThread}
-use Rattle.lg_node.specs.Meaning.Turns.{is_pull, receives, losses, peers_in}
+use Rattle.lg_node.specs.declared.node.Settings.{Settings}
+use Rattle.lg_node.specs.declared.node_link.NodeLink.{NodeLink}
+use Rattle.lg_node.specs.declared.shared.TheConstants.{MAX_TURNS}
+use Rattle.lg_node.specs.Meaning.Turns.{Turn, LinkValue, Made, Receiving}
+use Rattle.lg_node.specs.Meaning.Turns.{is_pull, line, losses, peers_in}
 use Rattle.lg_node.specs.Meaning.Pulling.{addrs, plan_of, Ticking}
+use Rattle.lg_node.specs.Meaning.Starts.{failures_of, hosts_of, link_keys, stall_of, turn_wait, Shows}
+use Rattle.lg_node.specs.Meaning.Words.{seeded, DrawsEight}
 
 -- Seeds were asked for their tables, each once and in order. `unsent` of the packets weren't sent.
 pub record Asked (tells : Bool) (seeds : List Seed) (k k' : LinkValue) (p q : PassValue) (unsent : ℕ) : Type 0 where
@@ -40,14 +47,23 @@ abbrev pub fresh_own : Config → ℕ → ℕ → PassValue
 fresh_own config start place =
     record { name = config.name; seat = place; seen = Open start config ∷ []; gone = 0; mine = [] }
 
--- the end of a loop that makes no turn
-abbrev pub unstarted : End
-unstarted = record { why = Stopped; dropped = 0; unsent = 0; turns = 0 }
+-- Both links of a node, before their first call: each seals and opens with the keys of its settings, if these have any,
+-- and hasn't failed. Contracts see nothing else of a link over UDP.
+pub record AreLinks (settings : Settings) (hears sends : LinkValue) : Type 0 where
+  pub receiving : NodeLink
+  pub receiving_keys : link_keys receiving ≡ settings.keys
+  pub receiving_is : hears ≡ line [] (failures_of receiving)
+  pub receiving_unfailed : failures_of receiving ≡ 0
+  pub ticking : NodeLink
+  pub ticking_keys : link_keys ticking ≡ settings.keys
+  pub ticking_is : sends ≡ line [] (failures_of ticking)
+  pub ticking_unfailed : failures_of ticking ≡ 0
 
 -- One pass asked the seeds, and then both loops ran, each with a pass of its own. The ticking loop ran over the link
--- by which the seeds were asked. If no thread could be started, the ticking loop made no turn.
+-- by which the seeds were asked. Each turn of receiving waited at most so many milliseconds. If no thread could be
+-- started, the ticking loop made no turn.
 pub record HasServed
-    {D : Type 0} (throws : D → List ℕ → D → Type 0) (dice : D) (tells : Bool) (bound : ℕ) (config : Config)
+    {D : Type 0} (throws : D → List ℕ → D → Type 0) (dice : D) (tells : Bool) (bound wait : ℕ) (config : Config)
     (pull_ms until start : ℕ) (hears hears' sends sends' : LinkValue) (received ticked : End)
     (receiver ticker asker : PassValue)
     : Type 0 where
@@ -56,9 +72,8 @@ pub record HasServed
   pub unsent : ℕ
   pub later : ℕ
   pub asked : Asked tells config.seeds.items sends between (fresh_own config start 3) asker unsent
-  pub received_so : Lasted receives tells bound true hears hears' (fresh_own config start 1) receiver received
-      ⊎ (HadNoThread receives tells bound true hears hears' (fresh_own config start 1) receiver received
-      × (record ticked { unsent = later } ≡ unstarted))
+  pub received_so : Receiving wait tells bound true hears hears' (fresh_own config start 1) receiver received
+      (record ticked { unsent = later })
   pub ticked_so : Ticking throws dice (plan_of config pull_ms until) tells bound true between sends'
       (fresh_own config start 2) ticker (record ticked { unsent = later })
   pub counted : later + unsent < 2 ^ 64 → ticked.unsent ≡ later + unsent
@@ -72,39 +87,68 @@ WatchesIf true before after held holds None = ⊥
 WatchesIf false before after held holds (Some end) = ⊥
 WatchesIf false before after held holds None = after ≡ before
 
--- What the status server's pass did beside the loops: it only looked. If there was no server, it did nothing.
-abbrev pub ServesIf : Bool → (before after : PassValue) → Option Served → Type 0
-ServesIf true before after (Some end) = OnlyLooked before after
-ServesIf true before after None = ⊥
-ServesIf false before after (Some end) = ⊥
-ServesIf false before after None = after ≡ before
+-- A status server served: it began with free slots, and did what a status server does that shows this configuration and
+-- these settings, under the name of the node's member, to the hosts of its address.
+pub record HasServedNode (config : Config) (settings : Settings) (before after : PassValue) (end : Served)
+    : Type 0 where
+  pub shown : ShownConfig
+  pub shows : Shows config settings shown
+  pub server : Server
+  pub server' : Server
+  pub free : AreFree (slots_of server)
+  pub did : ServedAs end config.name shown (hosts_of settings.status) before after server server'
+
+-- What a status server did, by how it ended. If its first look was refused, or memory for what it shows, it served
+-- nobody.
+abbrev pub DidServe : Config → Settings → (before after : PassValue) → Served → Type 0
+DidServe config settings before after (served.Refused refusal) = (refusal ≡ NoMemory) ⊎ (refusal ≡ NoView)
+DidServe config settings before after (served.Ended end counts) =
+    HasServedNode config settings before after (served.Ended end counts)
+
+-- Its pass only looked, however it ended.
+pub record ServesNode (config : Config) (settings : Settings) (before after : PassValue) (end : Served) : Type 0 where
+  pub looked : OnlyLooked before after
+  pub did : DidServe config settings before after end
+
+-- What the status server did beside the loops, if there was one. If there was none, its pass did nothing.
+abbrev pub ServesIf : Bool → Config → Settings → (before after : PassValue) → Option Served → Type 0
+ServesIf true config settings before after (Some end) = ServesNode config settings before after end
+ServesIf true config settings before after None = ⊥
+ServesIf false config settings before after (Some end) = ⊥
+ServesIf false config settings before after None = after ≡ before
 
 -- What the stream of faults gained by a status server that ended so, if there was one. If it ended by itself, its line
 -- was reported. If it was told to stop, nothing was.
 abbrev pub TellsServed : Option Served → (before after : Reported) → Type 0
 TellsServed None before after = after ≡ before
-TellsServed (Some (Ended server.Stopped counts)) before after = after ≡ before
+TellsServed (Some (served.Ended server.Stopped counts)) before after = after ≡ before
 TellsServed (Some end) before after = Reports before after (served_line end)
 
--- A node ran. It opened an agent with four places, asked its seeds and ran its loops. The pass that had asked the
--- seeds watched beside the loops, if the node was followed, and a fourth pass looked for the status server, if there
--- was one. Then the members were read, and the agent was closed with what the four passes left. Reading or closing may
--- have been refused.
+-- A node ran with a configuration and settings until a moment, or until something ended it before. It opened an agent
+-- with four places, made its links, asked its seeds and ran its loops with the random words that `dice` seeds. A turn
+-- of receiving waited as the timeout and the stall say. The pass that had asked the seeds watched beside the loops, if
+-- the node was followed, and a fourth pass looked for the status server, if there was one. Then the members were read,
+-- and the agent was closed with what the four passes left. Reading or closing may have been refused. `held` and `holds`
+-- are the bytes that the writer had taken before and after.
 pub record IsRun
-    {D : Type 0} (throws : D → List ℕ → D → Type 0) (dice : D) (tells : Bool) (bound : ℕ) (config : Config)
-    (pull_ms until : ℕ) (hears hears' sends sends' : LinkValue) (followed : Bool) (held holds : Option (List ℕ))
-    (serving : Bool) (e : NodeEnd) : Type 0 where
+    (config : Config) (settings : Settings) (until : ℕ) (held holds : Option (List ℕ)) (e : NodeEnd) : Type 0 where
   pub start : ℕ
+  pub hears : LinkValue
+  pub hears' : LinkValue
+  pub sends : LinkValue
+  pub sends' : LinkValue
   pub receiver : PassValue
   pub ticker : PassValue
   pub asker : PassValue
   pub watcher : PassValue
   pub reader : PassValue
   pub status : PassValue
-  pub served : HasServed throws dice tells bound config pull_ms until start hears hears' sends sends' e.received
-      e.ticked receiver ticker asker
-  pub watched : WatchesIf followed asker watcher held holds e.watched
-  pub shown : ServesIf serving (fresh_own config start 4) status e.served
+  pub links : AreLinks settings hears sends
+  pub served : HasServed DrawsEight (seeded settings.dice) false MAX_TURNS
+      (turn_wait config.timeout_ms (stall_of settings.stall_ms)) config settings.pull_ms until start
+      hears hears' sends sends' e.received e.ticked receiver ticker asker
+  pub watched : WatchesIf settings.follow asker watcher held holds e.watched
+  pub shown : ServesIf (is_some settings.status) config settings (fresh_own config start 4) status e.served
   pub members : MatchResult e.members (λ records. (records.items ≡ view_after reader.seen) × IsLook watcher reader)
       (λ r. ((r ≡ NoView) ⊎ (r ≡ NoMemory)) × (reader ≡ watcher))
   pub closed : MatchResult e.closed (λ c. IsClosed 4 c (receiver ∷ ticker ∷ reader ∷ status ∷ []))

@@ -52,6 +52,11 @@ abbrev pub udp_of : NodeLink → UdpLink
 udp_of (Plain udp) = udp
 udp_of (Keyed noted) = noted.link.inner
 
+-- how often it failed
+abbrev pub failures_of : NodeLink → ℕ
+failures_of (Plain udp) = udp.failures
+failures_of (Keyed noted) = noted.link.inner.failures
+
 -- the numbers of the node's own that it shows, in order, each behind its key
 abbrev pub own_numbers : Settings → List (List ℕ × ℕ)
 own_numbers s = (codes "dice", s.dice) ∷ (codes "pull_ms", s.pull_ms) ∷ (codes "stall_ms", s.stall_ms) ∷ []

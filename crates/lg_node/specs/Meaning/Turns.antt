@@ -1,5 +1,5 @@
 -- What a loop does, turn by turn, and how it ends.
-use Rattle.std.specs.Prelude.{◌≡◌, ◌⊎◌, ℕ, ◌+◌, ◌*◌, ◌<◌, ◌≤◌}
+use Rattle.std.specs.Prelude.{◌≡◌, ◌==◌, ◌⊎◌, ℕ, ◌+◌, ◌*◌, ◌<◌, ◌≤◌}
 use Rattle.std.specs.Prelude.{Bool, true, false, nat_lt, if◌then◌else◌}
 use Rattle.std.specs.Prelude.{List, [], ◌∷◌, ◌++◌, length, All, Option, Some, None, Ok, Err}
 use Rattle.std.specs.List.{flat_map, sum_by}
@@ -22,7 +22,7 @@ use Rattle.lg_node.specs.Meaning.Links.{LinkEvent, handed, lost}
 use Rattle.lg_node.specs.Meaning.Links.LinkEvent.{Received, Silent, Failed}
 
 -- One turn of a loop. A turn of receiving:
--- - no datagram came, or receiving failed;
+-- - no datagram came in a call that waits for one at most so many milliseconds, or receiving failed;
 -- - a datagram with these bytes came from an address, and was dropped, since the bytes are no packet;
 -- - it was heard at a moment as a packet, with this receipt, and these of the reply's packets were sent;
 -- - the call for it was refused.
@@ -43,7 +43,7 @@ use Rattle.lg_node.specs.Meaning.Links.LinkEvent.{Received, Silent, Failed}
 -- - a member at an address was asked at a moment for its table, with this receipt, and these of the reply's packets
 --   were sent.
 pub data Turn : Type 0 where
-  Quiet : Turn
+  Quiet : ℕ → Turn
   Broken : Turn
   Dropped : Addr → List ℕ → Turn
   Heard : ℕ → Addr → List ℕ → Packet → Receipt → List Bool → Turn
@@ -62,14 +62,14 @@ pub data Turn : Type 0 where
   Unfound : ℕ → Turn
   Pulled : ℕ → Addr → Receipt → List Bool → Turn
 
--- a turn of receiving
-abbrev pub receives : Turn → Bool
-receives Quiet = true
-receives Broken = true
-receives (Dropped source bytes) = true
-receives (Heard now source bytes p r sent) = true
-receives (Unheard now source bytes e) = true
-receives _ = false
+-- a turn of receiving, which waits for a datagram at most so many milliseconds
+unfoldable pub receives : ℕ → Turn → Bool
+receives wait (Quiet limit) = limit == wait
+receives wait Broken = true
+receives wait (Dropped source bytes) = true
+receives wait (Heard now source bytes p r sent) = true
+receives wait (Unheard now source bytes e) = true
+receives wait _ = false
 
 -- a turn of ticking, at a moment before this one
 abbrev pub ticks_before : ℕ → Turn → Bool
@@ -95,7 +95,7 @@ is_pull _ = false
 -- What the link did in a turn. First the datagram is received. Then the packets of the reply are handed over, once
 -- each and in order, to the addresses that the reply gives them.
 abbrev pub deeds : Turn → List LinkEvent
-deeds Quiet = Silent ∷ []
+deeds (Quiet limit) = Silent limit ∷ []
 deeds Broken = Failed ∷ []
 deeds (Dropped source bytes) = Received source bytes ∷ []
 deeds (Heard now source bytes p r sent) = Received source bytes ∷ handed r.reply.sends.items sent
@@ -174,7 +174,7 @@ MadeNoCall p q = (q ≡ p) ⊎ IsRotatedPass p q
 -- tick, and only otherwise the loop looks at the members or asks one of them. Each packet of the reply was sent or not.
 -- A call counts once, even if it was refused because the history was full and was made again after a rotation.
 abbrev pub IsTurn : PassValue → Turn → PassValue → Type 0
-IsTurn p Quiet q = q ≡ p
+IsTurn p (Quiet limit) q = q ≡ p
 IsTurn p Broken q = q ≡ p
 IsTurn p (Dropped source bytes) q = (q ≡ p) × ((fault : Fault) × (packet_of bytes ≡ Err fault))
 IsTurn p (Heard now source bytes k r sent) q =
@@ -293,6 +293,10 @@ pub record Lasted
   pub turns : List Turn
   pub turns_are : turns ≡ earlier ++ last.turns
 
+-- the end of a loop that makes no turn
+abbrev pub unstarted : End
+unstarted = record { why = Stopped; dropped = 0; unsent = 0; turns = 0 }
+
 -- A loop that no thread could be started for: it ran as a loop does, but its end says that memory was refused.
 pub record HadNoThread
     (kind : Turn → Bool) (tells : Bool) (bound : ℕ) (endless : Bool) (k k' : LinkValue) (p q : PassValue) (end : End)
@@ -300,3 +304,12 @@ pub record HadNoThread
   pub was : Why
   pub ran : Lasted kind tells bound endless k k' p q (record end { why = was })
   pub why : end.why ≡ Refused NoMemory
+
+-- How a receiving loop ran in a thread of its own, each of whose turns waits at most so many milliseconds, beside a
+-- ticking loop that ended so. If no thread could be started for it, the ticking loop made no turn.
+abbrev pub Receiving :
+    (wait : ℕ) (tells : Bool) (bound : ℕ) (endless : Bool) (k k' : LinkValue) (p q : PassValue) (end ticked : End)
+    → Type 0
+Receiving wait tells bound endless k k' p q end ticked =
+    Lasted (receives wait) tells bound endless k k' p q end
+    ⊎ (HadNoThread (receives wait) tells bound endless k k' p q end × (ticked ≡ unstarted))

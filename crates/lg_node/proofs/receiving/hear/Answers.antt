@@ -4,10 +4,12 @@ use Rattle.lg_detector.specs.declared.reply.Reply.{Reply}
 use Rattle.lg_agent.specs.Meaning.Calls.{receipt_of}
 use Rattle.lg_node.specs.Meaning.Links.{LinkEvent, handed}
 use Rattle.lg_node.specs.Meaning.Links.LinkEvent.{Received}
+use Rattle.lg_node.specs.Meaning.Turns.{receives}
 use Rattle.lg_node.specs.Meaning.Turns.Turn.{Heard, Dropped, Unheard}
 use Rattle.lg_node.proofs.receiving.hear.Goals as goal
 
 pub returns-in-Ok : goal.returns-in-Ok
+unfolding receives
 returns-in-Ok g c = λ log came.
     let a = c.in-Ok.ensures.answered in
     let h = c.of.ensures.handed in
@@ -27,6 +29,7 @@ returns-in-Ok g c = λ log came.
     }
 
 pub returns-in-BadPacket : goal.returns-in-BadPacket
+unfolding receives
 returns-in-BadPacket g c = λ log came. let e = c.in-Err in let b = c.in-BadPacket in let end = c.dropped.ensures in let bad = e.ensures.only b.fault (ap Err b.is) in record {
   turn = Dropped c.args.source c.args.bytes.now;
   kind_is = refl;
@@ -41,6 +44,7 @@ returns-in-BadPacket g c = λ log came. let e = c.in-Err in let b = c.in-BadPack
 }
 
 pub returns-in_default : goal.returns-in_default
+unfolding receives
 returns-in_default g c = λ log came. let e = c.in-Err in let end = c.refused.ensures in record {
   turn = Unheard c.args.now c.args.source c.args.bytes.now e.refusal;
   kind_is = refl;

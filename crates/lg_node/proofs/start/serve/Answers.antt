@@ -1,6 +1,6 @@
-use Rattle.std.proofs.Common.{◌≡◌, [], arith}
+use Rattle.std.proofs.Common.{◌≡◌, [], refl, arith}
 use Rattle.lg_node.specs.Meaning.Turns.{line}
-use Rattle.lg_node.specs.Support.Failing.{failures_of}
+use Rattle.lg_node.specs.Meaning.Starts.{failures_of}
 use Rattle.lg_node.proofs.EarlyLaws.{passed_early}
 use Rattle.lg_node.proofs.start.serve.Goals as goal
 
@@ -24,11 +24,21 @@ returns-clause-left g c = λ start name told.
       c.ask_each.new.pass,
       c.run_threads-watcher.result.0.0,
       record {
+        receiving = c.link_of-hears.result;
+        receiving_keys = c.link_of-hears.ensures.keys;
+        receiving_is = refl;
+        receiving_unfailed = c.link_of-hears.ensures.unfailed;
+        ticking = c.link_of-sends.result;
+        ticking_keys = c.link_of-sends.ensures.keys;
+        ticking_is = refl;
+        ticking_unfailed = c.link_of-sends.ensures.unfailed;
+      },
+      record {
         between = line [] (failures_of c.ask_each.new.link);
         unsent = c.in_ok-unsent.unsent;
         later = c.run_threads-watcher.result.1.1.1.end.unsent;
         asked = rw (ready.2, seeds) at c.in_ok-unsent.ensures.asked;
-        received_so = rw (ready.0, c.requires.bound.1) at c.run_threads-watcher.ensures.received;
+        received_so = rw (ready.0, c.requires.bound.1, c.requires.wait) at c.run_threads-watcher.ensures.received;
         ticked_so = rw (ready.1, c.new-plan.ensures, c.requires.bound.1) at c.run_threads-watcher.ensures.ticked;
         counted = λ low. omega (arith, low);
       },

@@ -8,7 +8,7 @@ returns-in-Err g c = record {
   received = inr (
     record {
       was = c.spawn_with-received.result.end.why;
-      ran = rw (← c.requires.bound.1, ← c.requires.bound.2, ← c.requires.start.1, ← c.requires.start.0) (rw c.in-Err.ensures.err at c.spawn_with-received.ensures);
+      ran = rw (← c.requires.bound.1, ← c.requires.bound.2, ← c.requires.bound.3, ← c.requires.start.1, ← c.requires.start.0) (rw c.in-Err.ensures.err at c.spawn_with-received.ensures);
       why = refl;
     },
     c.unstarted.ensures.end,

@@ -1,0 +1,31 @@
+-- What a status server did beside the loops of a node.
+use Rattle.std.proofs.Common.{◌≡◌, List, ℕ, subst, sym}
+use Rattle.lg_timing.specs.declared.config.Config.{Config}
+use Rattle.lg_agent.specs.Meaning.Values.{PassValue}
+use Rattle.lg_watch.specs.Meaning.Sights.{OnlyLooked}
+use Rattle.lg_http.specs.declared.hosts.Hosts.{Hosts}
+use Rattle.lg_http.specs.declared.server.Server.{Server}
+use Rattle.lg_http.specs.Meaning.Slots.{AreFree, slots_of}
+use Rattle.lg_status.specs.declared.snapshot.ShownConfig.{ShownConfig}
+use Rattle.lg_serve.specs.declared.serving.Served.{Served}
+use Rattle.lg_serve.specs.declared.serving.Served.TheVariants as served
+use Rattle.lg_serve.specs.Meaning.Served.{ServedAs}
+use Rattle.lg_node.specs.declared.node.Settings.{Settings}
+use Rattle.lg_node.specs.Meaning.Starts.{hosts_of, Shows}
+use Rattle.lg_node.specs.Meaning.Nodes.{DidServe}
+
+-- a server that shows the configuration and the settings of a node serves the node
+pub did_serve : (config : Config) (settings : Settings) (before after : PassValue) (end : Served) (name : List ℕ) (shown : ShownConfig) (hosts : Hosts) (server server' : Server)
+    → name ≡ config.name → hosts ≡ hosts_of settings.status → Shows config settings shown → AreFree (slots_of server) → ServedAs end name shown hosts before after server server'
+    → DidServe config settings before after end
+did_serve config settings before after (served.Refused refusal) name shown hosts server server' named are shows free did = did.2
+did_serve config settings before after (served.Ended end counts) name shown hosts server server' named are shows free did = record {
+  shown = shown;
+  shows = shows;
+  server = server;
+  server' = server';
+  free = free;
+  did =
+      subst (λ (h : Hosts). ServedAs (served.Ended end counts) config.name shown h before after server server') are
+      (subst (λ (n : List ℕ). ServedAs (served.Ended end counts) n shown hosts before after server server') named did);
+}
