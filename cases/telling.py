@@ -17,6 +17,9 @@ NAMES = ["a", "b", "c"]
 # A suspicion of three members lasts three seconds, so that a suspect can be told.
 KEYS = "interval_ms = 200\ntimeout_ms = 100\nalpha = 15\npull_ms = 1000\n"
 UPTIME = "uptime_ms"
+# What a command tells whose output fails.
+NOBODY_READS = "lg: write\nstandard output can't be written: nobody reads it\n"
+NO_SPACE = "lg: write\nstandard output can't be written: no space is left\n"
 
 
 # ---- The commands
@@ -231,7 +234,7 @@ def watch_ends_with_its_reader(program):
             watcher.kill()
             return "it didn't end"
         got = watcher.returncode, told
-    return None if got == (1, b"lg: write\n") else f"got {got}"
+    return None if got == (1, NOBODY_READS.encode()) else f"got {got}"
 
 
 # ---- No answer, and bad ones
@@ -331,6 +334,6 @@ def full_outputs_are_told(program):
         for command in ("members", "status", "watch"):
             with open("/dev/full", "w", encoding="utf-8") as output:
                 got = told_by(words_of(program, command, node.status), stdout=output)
-            if got != (1, None, "lg: write\n"):
+            if got != (1, None, NO_SPACE):
                 return f"{command}: got {got}"
     return None

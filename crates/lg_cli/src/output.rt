@@ -2,9 +2,10 @@
 //!
 //! Defined in: this file.
 //! Tested in: `cases/node_command.case`, `cases/nodes`.
+use crate::ending::OutputFault;
 use lg_pump::{Pump, PumpWriter};
 use std::alloc::{AllocError, Global};
-use std::io::Write;
+use std::io::{ErrorKind, Write};
 use std::rt::Clock;
 use std::sync::atomic::AtomicBool;
 use std::sync::{Arc, OnceLock, Wait};
@@ -18,12 +19,14 @@ pub trait Pumped {
     fn pump_by(&self, pump: Arc<Pump, Global>, stop: Arc<AtomicBool, Global>);
 }
 
-/// An output, which is written at once until it is pumped.
+/// An output, which is written at once until it is pumped. It notes why a write failed.
 #[derive(Drop)]
 pub struct Output<M, O> {
     rt: M,
     out: O,
     pumped: OnceLock<PumpWriter<M>>,
+    /// Why the last write or flush that failed did.
+    failed: Option<ErrorKind>,
 }
 
 impl<M, O> Output<M, O> {
@@ -33,31 +36,51 @@ impl<M, O> Output<M, O> {
             rt,
             out,
             pumped: OnceLock::new(),
+            failed: None,
         }
     }
 
-    /// Whether something wasn't written, since the output took nothing for too long after the program was to end.
-    pub fn is_cut(&self) -> bool {
-        match self.pumped.get() {
-            Some(pumped) => pumped.is_cut(),
-            None => false,
+    /// Why it couldn't be written, if that is so: it took nothing for too long after the program was to end, or a call
+    /// failed. An interrupted one counts for nothing.
+    pub fn fault(&self) -> Option<OutputFault> {
+        if let Some(pumped) = self.pumped.get()
+            && pumped.is_cut()
+        {
+            return Some(OutputFault::Cut);
+        }
+        self.failed.map(OutputFault::Failed)
+    }
+
+    /// Notes why a call failed, if it did.
+    fn note<T>(&mut self, called: &io::Result<T>) {
+        if let Err(error) = called
+            && error.kind() != ErrorKind::Interrupted
+        {
+            self.failed = Some(error.kind());
         }
     }
 }
 
 impl<M: Wait + Clock, O: Write> Write for Output<M, O> {
     fn write(&mut self, buf: &[u8]) -> io::Result<usize> {
-        match self.pumped.get_mut() {
+        let written = match self.pumped.get_mut() {
             Some(pumped) => pumped.write(buf),
             None => self.out.write(buf),
+        };
+        match written {
+            Ok(0) if !buf.is_empty() => self.failed = Some(ErrorKind::WriteZero),
+            _ => self.note(&written),
         }
+        written
     }
 
     fn flush(&mut self) -> io::Result<()> {
-        match self.pumped.get_mut() {
+        let flushed = match self.pumped.get_mut() {
             Some(pumped) => pumped.flush(),
             None => self.out.flush(),
-        }
+        };
+        self.note(&flushed);
+        flushed
     }
 }
 

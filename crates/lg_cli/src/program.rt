@@ -3,14 +3,14 @@
 //! Defined in: `specs/Meaning/Running.antt`, `specs/Meaning/Faults.antt`,
 //! `lg_command_line/specs/Meaning/Commands.antt`, `Leaving.antt`.
 //! Tested in: `cases/command_line.case`, `cases/node.case`, `cases/node_command.case`, `cases/ask.case`.
-ghost use Rattle.std.specs.Prelude.{◌==◌, ◌≡◌, ◌≢◌, ◌≤◌, IfSome, false, if◌then◌else◌, map, true};
+ghost use Rattle.std.specs.Prelude.{◌≡◌, ◌≢◌, ◌≤◌, IfSome, map, true};
 ghost use Rattle.std.specs.IoError.{error_kind};
 ghost use Rattle.lg_text.specs.Meaning.Faults.{run_fault_text};
 ghost use Rattle.lg_text.specs.Meaning.Reporting.{Reports};
 ghost use Rattle.lg_commands.specs.Meaning.Timeouts.{are_good};
 ghost use Rattle.lg_command_line.specs.Meaning.Commands.{IfNode, IfTimeouts};
 ghost use Rattle.lg_command_line.specs.Support.Requests.{request_of};
-ghost use Rattle.lg_cli.specs.Meaning.Faults.{cut_text, foreign_text};
+ghost use Rattle.lg_cli.specs.Meaning.Faults.{foreign_text};
 ghost use Rattle.lg_cli.specs.Meaning.Running.{streams, RunsLine, RunsRequest};
 
 use crate::ask::ask_node;
@@ -44,6 +44,7 @@ use std::{io, rt};
 ///
 /// - 0 if all was done. This includes help and the version, if they were asked for and written.
 /// - 1 if memory, a read or a write failed. That is reported as `lg: memory`, `lg: read` or `lg: write`.
+///   [`end_program`](crate::ending::end_program) tells the reason of the last two.
 /// - 2 if the command line is refused, which is reported by a text of the parser. Nothing is read or written then.
 /// - 3 for bad input. If the text of `--name` is no name, `lg: bad names` is reported and nothing is read. If the
 ///   text of `--names` is no list of 1 to 255 different names, `lg: bad names` is reported. If the text of `--words`
@@ -165,19 +166,4 @@ pub fn refuse_words<F: FaultStream>(error: &io::Error, faults: &mut F) -> u8
         report(faults, "error: the command line isn't UTF-8\n");
         USAGE
     }
-}
-
-/// The status of the program, given that of its command. If its output is cut off, since it took nothing for 2 s after
-/// the node was to end, that is reported, and a status of 0 becomes [`FAILED`]. A line that `faults` doesn't take is
-/// dropped.
-pub fn end_program<F: FaultStream>(status: u8, is_cut: bool, faults: &mut F) -> u8
-    ensures whole { is_cut ≡ false → (result ≡ status) × (faults.new ≡ faults.old) }
-    ensures cut { is_cut ≡ true → result ≡ (if status == 0 then FAILED else status) }
-    ensures told { is_cut ≡ true → Reports (F.reported faults.old) (F.reported faults.new) cut_text }
-{
-    if !is_cut {
-        return status;
-    }
-    report(faults, "lg: write\nstandard output took nothing for 2 s\n");
-    if status == 0 { FAILED } else { status }
 }

@@ -9,7 +9,7 @@ use std::rt::Files;
 type Row = (&'static str, usize, u8, &'static str, &'static str);
 
 /// What is told if the text can't be written.
-const UNWRITTEN: &str = "lg: write\nstandard output can't be written\n";
+const UNWRITTEN: &str = "lg: write\n";
 
 /// The texts of files. A good file whose output fails at its first byte, at a later one, and after 21 bytes. Files with
 /// faults, each told by its number and in words.

@@ -104,7 +104,7 @@ where
 }
 
 /// What is told if the members can't be written.
-const UNWRITTEN: &str = "lg: write\nstandard output can't be written\n";
+const UNWRITTEN: &str = "lg: write\n";
 
 /// A node alone and a seeded one. An output that fails at its first byte, at a later one, and at the flush after the
 /// 33 bytes of the table. Files that can't be read or mean no configuration: no such file, a path that is none, an
