@@ -1,8 +1,7 @@
 -- What a status server did beside the loops of a node.
-use Rattle.std.proofs.Common.{◌≡◌, List, ℕ, subst, sym}
+use Rattle.std.proofs.Common.{◌≡◌, List, ℕ, subst}
 use Rattle.lg_timing.specs.declared.config.Config.{Config}
 use Rattle.lg_agent.specs.Meaning.Values.{PassValue}
-use Rattle.lg_watch.specs.Meaning.Sights.{OnlyLooked}
 use Rattle.lg_http.specs.declared.hosts.Hosts.{Hosts}
 use Rattle.lg_http.specs.declared.server.Server.{Server}
 use Rattle.lg_http.specs.Meaning.Slots.{AreFree, slots_of}

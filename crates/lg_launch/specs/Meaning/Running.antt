@@ -1,6 +1,6 @@
 -- How the node of a configuration is run: what is announced, what is written, and what is told of its end.
 use Rattle.std.specs.Prelude.{◌≡◌, ◌⊎◌, ℕ, Bool, true, false, List, [], if◌then◌else◌}
-use Rattle.std.specs.Prelude.{Option, Some, None, IsSome, is_some, Result, Ok, Err, MatchResult, OnErr}
+use Rattle.std.specs.Prelude.{Option, Some, None, IsSome, Result, Ok, Err, MatchResult, OnErr}
 use Rattle.std.specs.Option.{option_map}
 use Rattle.std.specs.Result.{result_ok}
 use Rattle.lg_rules.specs.declared.addr.Addr.{Addr}
@@ -20,7 +20,6 @@ use Rattle.lg_node.specs.declared.node.NodeFault.TheVariants as node
 use Rattle.lg_node.specs.declared.node.Settings.{Settings}
 use Rattle.lg_node.specs.Meaning.Nodes.{IsRun, IsEarly, TellsServed}
 use Rattle.lg_launch.specs.declared.file.NoBytes.{NoBytes}
-use Rattle.lg_launch.specs.declared.told.Told.{Told}
 use Rattle.lg_launch.specs.declared.told.Told.TheVariants.{Memory}
 use Rattle.lg_launch.specs.Meaning.Checking.{WritesText}
 use Rattle.lg_launch.specs.declared.key_file.NoKeys.{NoKeys}

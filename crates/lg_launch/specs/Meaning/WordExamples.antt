@@ -1,5 +1,5 @@
 -- Worked lines in words.
-use Rattle.std.specs.Prelude.{⊤, ◌≡◌, ℕ, true, false, List, [], ◌∷◌, Some, None, codes, refl}
+use Rattle.std.specs.Prelude.{◌≡◌, ℕ, true, false, List, [], ◌∷◌, Some, None, codes, refl}
 use Rattle.std.specs.Fmt.{digits}
 use Rattle.std.specs.declared.io.ErrorKind.TheVariants as error
 use Rattle.lg_rules.specs.declared.addr.Addr.{Addr}
@@ -8,10 +8,6 @@ use Rattle.lg_timing.specs.Meaning.Config.{defaults}
 use Rattle.lg_config.specs.declared.node.NodeConfig.{NodeConfig}
 use Rattle.lg_config.specs.Meaning.Settings.{with_seeds}
 use Rattle.lg_launch.specs.Meaning.Wishes.{end_wished, is_announced}
-use Rattle.lg_http.specs.declared.server.Counts.{Counts}
-use Rattle.lg_http.specs.declared.server.End.TheVariants.{Stopped, WaitFailed}
-use Rattle.lg_agent.specs.declared.refusal.Refusal.TheVariants.{NoMemory}
-use Rattle.lg_serve.specs.declared.serving.Served.TheVariants.{Refused, Ended}
 use Rattle.lg_launch.specs.Meaning.Words.{link_reason, start_line}
 
 -- 127.0.0.1 with a port

@@ -1,6 +1,6 @@
 -- The lines in words: who starts, why a socket can't be bound, why a file can't be read, and why a status server ended
 -- early (this project's choice).
-use Rattle.std.specs.Prelude.{ℕ, ◌==◌, List, [], ◌++◌, codes, decimal, length, Option, Some, None, if◌then◌else◌}
+use Rattle.std.specs.Prelude.{ℕ, ◌==◌, List, ◌++◌, codes, decimal, length, if◌then◌else◌}
 use Rattle.std.specs.declared.io.ErrorKind.{ErrorKind}
 use Rattle.std.specs.declared.io.ErrorKind.TheVariants as error
 use Rattle.lg_rules.specs.declared.addr.Addr.{Addr}
