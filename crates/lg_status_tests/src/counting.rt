@@ -7,14 +7,14 @@ use lg_status::Counts;
 use lg_testing::at;
 use std::thread::join;
 
-/// They count as received, and each by its fault.
+/// They count as received, and each by its fault. The opening is the first event, and they are none.
 #[test]
 fn counts_unsealed_datagrams(rt: HostRuntime) {
-    let counters = Counters::new(Name::default(), at(0));
+    let counters = Counters::new(Name::default(), at(7));
     counters.note_unsigned();
     counters.note_forged();
     counters.note_forged();
-    assert_eq!(rt; counters.counts().received, 3);
+    assert_eq!(rt; (counters.counts().received, counters.last_event()), (3, 7));
     let drops = counters.drops();
     for (fault, want) in [("Trailing", 0), ("Unsigned", 1), ("Forged", 2)] {
         let met = drops
