@@ -4,19 +4,11 @@ use mathlib.Core.List.{IsPrefix}
 use Rattle.lg_timing.specs.declared.config.Config.{Config}
 use Rattle.lg_detector.specs.declared.event.Event.{Event}
 use Rattle.lg_detector.specs.declared.event.Event.TheVariants.{Open}
-use Rattle.lg_agent.specs.declared.receipt.Receipt.{Receipt}
 use Rattle.lg_agent.specs.declared.refusal.Refusal.{Refusal}
 use Rattle.lg_agent.specs.declared.refusal.Refusal.TheVariants.{BadPacket, NoMemory, HistoryFull, Behind, NoPlace, NoView}
-use Rattle.lg_agent.specs.Meaning.Values.{PassValue}
-use Rattle.lg_agent.specs.Meaning.Calls.{IsCall, IsRefusal}
+use Rattle.lg_agent.specs.Meaning.Calls.{IsRefusal}
 use Rattle.lg_agent.proofs.LedgerLaws.{limit-front}
-use Rattle.lg_watch.proofs.SightLaws.{prefix_through}
 use Rattle.lg_node.specs.Meaning.Nodes.{IsRefusedEarly}
-
--- what a pass sees after a call begins with what it had seen before
-pub call_begins : (from : List Event) (p q : PassValue) (e : Event) (r : Receipt) → IsPrefix from p.seen → IsCall p e r q → IsPrefix from q.seen
-call_begins from p q e r begins call =
-    let a = call.answered in prefix_through from p.seen q.seen begins (prefix_through p.seen a.before q.seen a.begins (e ∷ [], sym a.ends))
 
 -- a call of a pass that has seen the opening is refused by the limit of its configuration
 pub refused_early : (config : Config) (start : ℕ) (seen : List Event) (e : Refusal) → IsPrefix (Open start config ∷ []) seen → IsRefusal seen e → IsRefusedEarly config e

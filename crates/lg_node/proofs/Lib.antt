@@ -1,12 +1,4 @@
-pub mod AskingLaws
 pub mod EarlyLaws
 pub mod FollowingLaws
-pub mod KeyedLaws
-pub mod LastingLaws
 pub mod PassesLaws
-pub mod PullingLaws
-pub mod SendingLaws
 pub mod ServingLaws
-pub mod StretchLaws
-pub mod TurnLaws
-pub mod WordLaws

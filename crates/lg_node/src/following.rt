@@ -6,9 +6,9 @@ ghost use Rattle.std.specs.Prelude.{◌≡◌, false};
 ghost use Rattle.lg_watch.specs.Meaning.Sights.{HasWatched};
 ghost use Rattle.lg_node.specs.Meaning.Nodes.{WatchesIf};
 
-use crate::shared::Shared;
 use lg_agent::{AgentName, Pass};
 use lg_clock::Clock;
+use lg_loops::Shared;
 use lg_watch::{Watched, watch};
 use std::io::Write;
 use std::sync::Wait;

@@ -6,13 +6,12 @@ ghost use Rattle.std.specs.Prelude.{◌≡◌, false, IfOk, IfErr, OnErr};
 ghost use Rattle.lg_timing.specs.Meaning.Config.{IsChecked};
 ghost use Rattle.lg_node.specs.Meaning.Nodes.{IsRun, IsEarly, TellsServed};
 
-use crate::ending::End;
 use crate::serving::status_server;
-use crate::shared::MAX_TURNS;
 use crate::sockets::Sockets;
 use crate::start::{Setup, open_and_serve};
 use lg_agent::{CloseFault, Closed, Refusal};
 use lg_key::Keys;
+use lg_loops::End;
 use lg_rules::{Addr, Record};
 use lg_serve::Served;
 use lg_text::FaultStream;

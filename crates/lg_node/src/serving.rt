@@ -11,11 +11,11 @@ ghost use Rattle.lg_node.specs.Meaning.Starts.{Shows, hosts_of};
 
 use crate::following::take_back;
 use crate::node::{NodeFault, Settings};
-use crate::shared::Shared;
 use crate::start::Setup;
 use lg_agent::{AgentName, Pass, Refusal};
 use lg_clock::{Clock, MachineClock};
 use lg_http::{End, Hosts, Server, Signal};
+use lg_loops::Shared;
 use lg_rules::Addr;
 use lg_serve::{Served, SiteBasis, serve};
 use lg_status::{NodeNumber, ShownConfig};

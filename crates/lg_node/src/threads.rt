@@ -5,23 +5,18 @@
 ghost use Rattle.std.specs.Prelude.{◌≡◌, ◌≤◌, false, is_some, IfSome};
 ghost use Rattle.lg_http.specs.Meaning.Slots.{AreFree, slots_of};
 ghost use Rattle.lg_node.specs.Meaning.Nodes.{ServesIf, TellsServed, WatchesIf};
-ghost use Rattle.lg_node.specs.Meaning.Pulling.{Ticking};
-ghost use Rattle.lg_node.specs.Meaning.Turns.{line, Receiving};
-ghost use Rattle.lg_node.specs.Meaning.Words.{seeded, DrawsEight};
+ghost use Rattle.lg_loops.specs.Meaning.Pulling.{Ticking};
+ghost use Rattle.lg_loops.specs.Meaning.Turns.{line, Receiving};
+ghost use Rattle.lg_loops.specs.Meaning.Words.{seeded, DrawsEight};
 
-use crate::dice::PcgDice;
-use crate::ending::Ended;
 use crate::following::{take_back, watch_if};
-use crate::link::Link;
-use crate::plan::Plan;
-use crate::running::run_loops;
 use crate::serving::{StatusServer, serve_if};
-use crate::shared::{MAX_TURNS, Shared, Side};
 use crate::start::Setup;
 use left_right::Absorb;
 use lg_agent::{AgentName, Pass};
 use lg_clock::Clock;
 use lg_detector::Event;
+use lg_loops::{Ended, Link, MAX_TURNS, PcgDice, Plan, Shared, Side, run_loops};
 use lg_serve::Served;
 use lg_text::FaultStream;
 use lg_view::{Published, Update};

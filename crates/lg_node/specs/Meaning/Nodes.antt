@@ -1,9 +1,7 @@
 -- What a node does from its opening to its end.
 use Rattle.std.specs.Prelude.{◌≡◌, ◌<◌, ◌⊎◌, ℕ, ◌+◌, ◌^◌, Bool, true, false, List, [], ◌∷◌}
 use Rattle.std.specs.Prelude.{Option, Some, None, is_some, MatchResult}
-use Rattle.std.specs.List.{flat_map, sum_by}
 use Rattle.lg_timing.specs.declared.config.Config.{Config}
-use Rattle.lg_timing.specs.declared.config.Seed.{Seed}
 use Rattle.lg_text.specs.Meaning.Reporting.{Reported, Reports}
 use Rattle.lg_detector.specs.declared.event.Event.TheVariants.{Open}
 use Rattle.lg_detector.specs.Meaning.Step.{view_after, most_events}
@@ -22,25 +20,19 @@ use Rattle.lg_status.specs.declared.snapshot.ShownConfig.{ShownConfig}
 use Rattle.lg_serve.specs.declared.serving.Served.{Served}
 use Rattle.lg_serve.specs.declared.serving.Served.TheVariants as served
 use Rattle.lg_serve.specs.Meaning.Served.{served_line, ServedAs}
-use Rattle.lg_node.specs.declared.ending.End.{End}
+use Rattle.lg_loops.specs.declared.ending.End.{End}
 use Rattle.lg_node.specs.declared.node.NodeEnd.{NodeEnd}
 use Rattle.lg_node.specs.declared.node.NodeFault.{NodeFault}
 use Rattle.lg_node.specs.declared.node.NodeFault.TheVariants.{Socket, Status, Clock, Refused}
 use Rattle.lg_node.specs.declared.node.Settings.{Settings}
-use Rattle.lg_node.specs.declared.node_link.NodeLink.{NodeLink}
-use Rattle.lg_node.specs.declared.shared.TheConstants.{MAX_TURNS}
-use Rattle.lg_node.specs.Meaning.Turns.{Turn, LinkValue, Made, Receiving}
-use Rattle.lg_node.specs.Meaning.Turns.{is_pull, line, losses, peers_in}
-use Rattle.lg_node.specs.Meaning.Pulling.{addrs, plan_of, Ticking}
-use Rattle.lg_node.specs.Meaning.Starts.{failures_of, hosts_of, link_keys, stall_of, turn_wait, Shows}
-use Rattle.lg_node.specs.Meaning.Words.{seeded, DrawsEight}
-
--- Seeds were asked for their tables, each once and in order. `unsent` of the packets weren't sent.
-pub record Asked (tells : Bool) (seeds : List Seed) (k k' : LinkValue) (p q : PassValue) (unsent : ℕ) : Type 0 where
-  pub turns : List Turn
-  pub made : Made is_pull tells turns k k' p q
-  pub each : flat_map peers_in turns ≡ addrs seeds
-  pub unsent_is : unsent ≡ sum_by losses turns
+use Rattle.lg_loops.specs.declared.node_link.NodeLink.{NodeLink}
+use Rattle.lg_loops.specs.declared.shared.TheConstants.{MAX_TURNS}
+use Rattle.lg_loops.specs.Meaning.Turns.{line, LinkValue, Receiving}
+use Rattle.lg_loops.specs.Meaning.Asking.{Asked}
+use Rattle.lg_loops.specs.Meaning.NodeLinks.{failures_of, link_keys}
+use Rattle.lg_loops.specs.Meaning.Pulling.{plan_of, Ticking}
+use Rattle.lg_node.specs.Meaning.Starts.{hosts_of, stall_of, turn_wait, Shows}
+use Rattle.lg_loops.specs.Meaning.Words.{seeded, DrawsEight}
 
 -- the pass with this seat of an agent that was opened at a moment: it has seen the opening, and made no call
 abbrev pub fresh_own : Config → ℕ → ℕ → PassValue

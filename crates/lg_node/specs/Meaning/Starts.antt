@@ -1,18 +1,14 @@
--- With what a node starts: the stall of its clock, the wait of its turns, the keys of its links, and the configuration
--- that its status server shows.
+-- With what a node starts: the stall of its clock, the wait of its turns, and the configuration that its status server
+-- shows.
 use Rattle.std.specs.Prelude.{◌≡◌, ℕ, ◌/◌, ◌==◌, min, max, if◌then◌else◌, codes}
 use Rattle.std.specs.Prelude.{List, [], ◌∷◌, map, Option, Some, None, Bool, false}
 use Rattle.lg_rules.specs.declared.addr.Addr.{Addr}
 use Rattle.lg_timing.specs.declared.config.Config.{Config}
-use Rattle.lg_key.specs.declared.key.Keys.{Keys}
 use Rattle.lg_http.specs.declared.hosts.Hosts.{Hosts}
 use Rattle.lg_http.specs.declared.hosts.Hosts.TheVariants.{Any, Local}
 use Rattle.lg_status.specs.declared.snapshot.NodeNumber.{NodeNumber}
 use Rattle.lg_status.specs.declared.snapshot.ShownConfig.{ShownConfig}
 use Rattle.lg_node.specs.declared.node.Settings.{Settings}
-use Rattle.lg_node.specs.declared.node_link.NodeLink.{NodeLink}
-use Rattle.lg_node.specs.declared.node_link.NodeLink.TheVariants.{Plain, Keyed}
-use Rattle.lg_node.specs.declared.udp.UdpLink.{UdpLink}
 
 -- The stall of a node's clock by its `stall_ms`: one below 25 is taken as 25. With 0 the clock is the machine's, and
 -- has no stall.
@@ -41,21 +37,6 @@ hosts_at addr = if begins_with addr.octets 127 then Local else Any
 abbrev pub hosts_of : Option Addr → Hosts
 hosts_of None = Any
 hosts_of (Some addr) = hosts_at addr
-
--- the keys with which a link seals and opens, if it has any
-abbrev pub link_keys : NodeLink → Option Keys
-link_keys (Plain udp) = None
-link_keys (Keyed noted) = Some noted.link.keys
-
--- the link over UDP that it uses
-abbrev pub udp_of : NodeLink → UdpLink
-udp_of (Plain udp) = udp
-udp_of (Keyed noted) = noted.link.inner
-
--- how often it failed
-abbrev pub failures_of : NodeLink → ℕ
-failures_of (Plain udp) = udp.failures
-failures_of (Keyed noted) = noted.link.inner.failures
 
 -- the numbers of the node's own that it shows, in order, each behind its key
 abbrev pub own_numbers : Settings → List (List ℕ × ℕ)

@@ -1,6 +1,6 @@
 use Rattle.std.proofs.Common.{◌≡◌, [], refl, arith}
-use Rattle.lg_node.specs.Meaning.Turns.{line}
-use Rattle.lg_node.specs.Meaning.Starts.{failures_of}
+use Rattle.lg_loops.specs.Meaning.Turns.{line}
+use Rattle.lg_loops.specs.Meaning.NodeLinks.{failures_of}
 use Rattle.lg_node.proofs.EarlyLaws.{passed_early}
 use Rattle.lg_node.proofs.start.serve.Goals as goal
 

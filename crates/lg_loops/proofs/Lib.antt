@@ -1,0 +1,9 @@
+pub mod AskingLaws
+pub mod KeyedLaws
+pub mod LastingLaws
+pub mod PullingLaws
+pub mod SeenLaws
+pub mod SendingLaws
+pub mod StretchLaws
+pub mod TurnLaws
+pub mod WordLaws

@@ -1,0 +1,54 @@
+use Rattle.std.proofs.Common.{sym, refl, arith, append-nil}
+use Rattle.lg_agent.specs.Meaning.Calls.{receipt_of}
+use Rattle.lg_loops.specs.Meaning.Turns.{Turn}
+use Rattle.lg_loops.specs.Meaning.Turns.Turn.{AskedSeed, UnaskedSeed}
+use Rattle.lg_loops.proofs.TurnLaws.{before_until}
+use Rattle.lg_loops.proofs.PullingLaws.{agenda_more, seed_first, seed_gone}
+use Rattle.lg_loops.proofs.finding.ask_seed.Goals as goal
+
+pub returns-in-Ok : goal.returns-in-Ok
+returns-in-Ok g c = λ plan p look low duty.
+    let h = c.of.ensures.handed in
+    let t : Turn = AskedSeed c.args.now c.args.peer (receipt_of c.in-Ok.field-0 c.pull.new.reply) h.sent in (
+      record {
+        took = record {
+          turn = t;
+          kind_is = before_until c.args.now plan.until low;
+          is = (c.args.side.now.pass, look, c.in-Ok.ensures.answered, h.each);
+          told = h.told;
+          failed = omega (arith, h.failed_is, h.unsent_is);
+          why = sym c.of.ensures.why;
+          dropped = c.of.ensures.dropped;
+          unsent = h.unsent_is;
+          few_dropped = omega (arith, c.of.ensures.dropped);
+          few_unsent = c.of.ensures.few;
+        };
+        timely = λ since before was. seed_first plan since before c.args.agenda.now c.args.peer was duty.1;
+        noted = λ since before was. agenda_more plan since before t c.args.agenda.now c.note_seed.new.self was (rw c.note_seed.ensures refl) (rw c.note_seed.ensures refl) (rw c.note_seed.ensures (seed_gone plan c.args.agenda.now c.args.peer duty.1));
+      },
+      refl,
+    )
+
+pub returns-in-Err : goal.returns-in-Err
+returns-in-Err g c = λ plan p look low duty.
+    let e = c.in-Err.ensures in
+    let end = c.refused.ensures in
+    let t : Turn = UnaskedSeed c.args.now c.args.peer c.in-Err.refusal in (
+      record {
+        took = record {
+          turn = t;
+          kind_is = before_until c.args.now plan.until low;
+          is = (c.args.side.now.pass, look, e.answered, e.refusal);
+          told = λ yes. sym (append-nil (g.L.Link.log c.args.side.now.link));
+          failed = omega arith;
+          why = sym end.why;
+          dropped = end.dropped;
+          unsent = end.unsent;
+          few_dropped = omega (arith, end.dropped);
+          few_unsent = omega (arith, end.unsent);
+        };
+        timely = λ since before was. seed_first plan since before c.args.agenda.now c.args.peer was duty.1;
+        noted = λ since before was. agenda_more plan since before t c.args.agenda.now c.note_seed.new.self was (rw c.note_seed.ensures refl) (rw c.note_seed.ensures refl) (rw c.note_seed.ensures (seed_gone plan c.args.agenda.now c.args.peer duty.1));
+      },
+      refl,
+    )

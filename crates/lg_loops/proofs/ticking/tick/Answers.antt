@@ -1,0 +1,54 @@
+use Rattle.std.proofs.Common.{sym, refl, arith, append-nil}
+use Rattle.lg_agent.specs.Meaning.Calls.{receipt_of}
+use Rattle.lg_loops.specs.Meaning.Turns.{Turn}
+use Rattle.lg_loops.specs.Meaning.Turns.Turn.{Ticked, Unticked}
+use Rattle.lg_loops.proofs.TurnLaws.{before_until}
+use Rattle.lg_loops.proofs.PullingLaws.{agenda_more}
+use Rattle.lg_loops.proofs.ticking.tick.Goals as goal
+
+pub returns-in-Ok : goal.returns-in-Ok
+returns-in-Ok g c = λ plan agenda p due low.
+    let h = c.of.ensures.handed in
+    let t : Turn = Ticked c.args.now c.words.result (receipt_of c.in-Ok.field-0 c.tick.new.reply) h.sent in (
+      record {
+        took = record {
+          turn = t;
+          kind_is = before_until c.args.now plan.until low;
+          is = (c.args.side.now.pass, due, c.in-Ok.ensures.answered, h.each);
+          told = h.told;
+          failed = omega (arith, h.failed_is, h.unsent_is);
+          why = sym c.of.ensures.why;
+          dropped = c.of.ensures.dropped;
+          unsent = h.unsent_is;
+          few_dropped = omega (arith, c.of.ensures.dropped);
+          few_unsent = c.of.ensures.few;
+        };
+        timely = λ since before was. tt;
+        noted = λ since before was. agenda_more plan since before t agenda agenda was refl refl refl;
+      },
+      (c.words.new.self, c.words.ensures, refl),
+    )
+
+pub returns-in-Err : goal.returns-in-Err
+returns-in-Err g c = λ plan agenda p due low.
+    let e = c.in-Err.ensures in
+    let end = c.refused.ensures in
+    let t : Turn = Unticked c.args.now c.words.result c.in-Err.refusal in (
+      record {
+        took = record {
+          turn = t;
+          kind_is = before_until c.args.now plan.until low;
+          is = (c.args.side.now.pass, due, e.answered, e.refusal);
+          told = λ yes. sym (append-nil (g.L.Link.log c.args.side.now.link));
+          failed = omega arith;
+          why = sym end.why;
+          dropped = end.dropped;
+          unsent = end.unsent;
+          few_dropped = omega (arith, end.dropped);
+          few_unsent = omega (arith, end.unsent);
+        };
+        timely = λ since before was. tt;
+        noted = λ since before was. agenda_more plan since before t agenda agenda was refl refl refl;
+      },
+      (c.words.new.self, c.words.ensures, refl),
+    )

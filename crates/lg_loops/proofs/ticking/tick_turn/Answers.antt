@@ -1,0 +1,84 @@
+use Rattle.std.proofs.Common.{sym, refl, arith, append-nil}
+use Rattle.lg_loops.specs.Meaning.Turns.{Turn, SeesNoneDue}
+use Rattle.lg_loops.specs.Meaning.Turns.Turn.{Paused, Unseen}
+use Rattle.lg_loops.proofs.TurnLaws.{before_until}
+use Rattle.lg_loops.proofs.PullingLaws.{agenda_more, idle_time}
+use Rattle.lg_loops.proofs.ticking.tick_turn.Goals as goal
+
+pub returns-in-Err : goal.returns-in-Err
+returns-in-Err g c = λ low.
+    let e = c.in-Err.ensures in
+    let end = c.end.ensures in
+    let t : Turn = Unseen c.in-Err.refusal in (
+      record {
+        took = record {
+          turn = t;
+          kind_is = refl;
+          is = (e.1, e.0);
+          told = λ yes. sym (append-nil (g.L.Link.log c.args.side.now.link));
+          failed = omega arith;
+          why = sym end.why;
+          dropped = end.dropped;
+          unsent = end.unsent;
+          few_dropped = omega (arith, end.dropped);
+          few_unsent = omega (arith, end.unsent);
+        };
+        timely = λ since before was. tt;
+        noted = λ since before was. agenda_more c.args.plan.now since before t c.args.agenda.now c.args.agenda.now was refl refl refl;
+      },
+      refl,
+    )
+
+pub returns-then-deadline-moment : goal.returns-then-deadline-moment
+returns-then-deadline-moment g c = λ low.
+    let e = c.in-Ok.ensures in
+    c.tick.ensures c.args.plan.now c.args.agenda.now c.args.side.now.pass
+    (record { look = e.1; due = c.in-Ok.deadline; deadline = e.0; come = omega (arith, c.if-deadline-moment.true, c.milliseconds-moment.ensures.milliseconds) }) low
+
+pub ask_seed-requires : goal.ask_seed-requires
+ask_seed-requires g c = c.in-Seed.ensures.0
+
+pub returns-in-Seed : goal.returns-in-Seed
+returns-in-Seed g c = λ low.
+    let e = c.in-Ok.ensures in
+    let sees : SeesNoneDue c.args.side.now.pass c.args.now c.next_deadline.new.self = record { look = e.1; due = c.in-Ok.deadline; deadline = e.0; later = omega (arith, c.if-deadline-moment.false, c.milliseconds-moment.ensures.milliseconds) } in
+    let acted = c.ask_seed.ensures c.args.plan.now c.args.side.now.pass sees low c.in-Seed.ensures in
+    (acted.0, rw acted.1 refl)
+
+pub returns-in-Look : goal.returns-in-Look
+returns-in-Look g c = λ low.
+    let e = c.in-Ok.ensures in
+    let sees : SeesNoneDue c.args.side.now.pass c.args.now c.next_deadline.new.self = record { look = e.1; due = c.in-Ok.deadline; deadline = e.0; later = omega (arith, c.if-deadline-moment.false, c.milliseconds-moment.ensures.milliseconds) } in
+    let acted = c.look.ensures c.args.side.now.pass sees low c.in-Look.ensures in
+    (acted.0, rw acted.1 refl)
+
+pub returns-in-Member : goal.returns-in-Member
+returns-in-Member g c = λ low.
+    let e = c.in-Ok.ensures in
+    let sees : SeesNoneDue c.args.side.now.pass c.args.now c.next_deadline.new.self = record { look = e.1; due = c.in-Ok.deadline; deadline = e.0; later = omega (arith, c.if-deadline-moment.false, c.milliseconds-moment.ensures.milliseconds) } in
+    c.ask_member.ensures c.args.side.now.pass sees low c.in-Member.ensures
+
+pub returns-in-Rest : goal.returns-in-Rest
+returns-in-Rest g c = λ low.
+    let e = c.in-Ok.ensures in
+    let sees : SeesNoneDue c.args.side.now.pass c.args.now c.next_deadline.new.self = record { look = e.1; due = c.in-Ok.deadline; deadline = e.0; later = omega (arith, c.if-deadline-moment.false, c.milliseconds-moment.ensures.milliseconds) } in
+    let on = c.on.ensures in
+    let t : Turn = Paused c.args.now in (
+      record {
+        took = record {
+          turn = t;
+          kind_is = before_until c.args.now c.args.plan.now.until low;
+          is = sees;
+          told = λ yes. sym (append-nil (g.L.Link.log c.args.side.now.link));
+          failed = omega arith;
+          why = sym on.why;
+          dropped = on.dropped;
+          unsent = on.unsent;
+          few_dropped = omega (arith, on.dropped);
+          few_unsent = omega (arith, on.unsent);
+        };
+        timely = λ since before was. idle_time c.args.plan.now since before c.args.agenda.now c.args.now was c.in-Rest.ensures;
+        noted = λ since before was. agenda_more c.args.plan.now since before t c.args.agenda.now c.args.agenda.now was refl refl refl;
+      },
+      refl,
+    )

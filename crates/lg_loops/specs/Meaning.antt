@@ -1,0 +1,10 @@
+-- What is right: whoever wants to believe the contracts reads these.
+pub mod Links
+pub mod Keyed
+pub mod NodeLinks
+pub mod Words
+pub mod Turns
+pub mod Pulling
+pub mod Asking
+pub mod Examples
+pub mod PullingExamples

@@ -1,0 +1,138 @@
+//! The ticking loop finds its group: it asks seeds and members for their tables.
+//!
+//! Defined in: `specs/Meaning/Pulling.antt`, `specs/Meaning/Turns.antt`, `specs/Support/Acted.antt`.
+//! Tested in: `lg_node_tests/src/node/finding.rt`, `cases/groups`.
+ghost use Rattle.std.specs.Prelude.{◌≡◌, ◌<◌, [], true, length, MatchOption};
+ghost use Rattle.std.specs.List.{list_all};
+ghost use Rattle.lg_detector.specs.Meaning.Step.{view_after};
+ghost use Rattle.lg_agent.specs.Meaning.Values.{PassValue};
+ghost use Rattle.lg_agent.specs.Meaning.Calls.{IsLook};
+ghost use Rattle.lg_loops.specs.declared.plan.Plan.{Plan as Planned};
+ghost use Rattle.lg_loops.specs.declared.agenda.Duty.TheVariants as duty;
+ghost use Rattle.lg_loops.specs.Meaning.Pulling.{others_of, has_failed, IsChosen};
+ghost use Rattle.lg_loops.specs.Meaning.Turns.{line, words_in, SeesNoneDue, Threw};
+ghost use Rattle.lg_loops.specs.Support.Acted.{Acted, IsDuty};
+
+use crate::agenda::Agenda;
+use crate::calling;
+use crate::dice::Dice;
+use crate::link::Link;
+use crate::plan::Plan;
+use crate::shared::{Shared, Side};
+use crate::turned::Turned;
+use lg_agent::{AgentName, Pass};
+use lg_detector::Reply;
+use lg_rules::{Addr, Name, Record, Status};
+use lg_timing::{MAX_SEEDS, Moment};
+use std::alloc::Global;
+use std::sync::Wait;
+use std::sync::atomic::Ordering::SeqCst;
+
+/// The records of the other members, failed ones too, or none if the look was refused.
+fn others<A: AgentName>(pass: &mut Pass<'_, A>, alloc: Global, own: &Name) -> Option<Vec<Record>>
+    ensures { MatchOption result (pass.new ≡ pass.old)
+        (λ records. (records.items ≡ others_of own.now (view_after pass.new.seen)) × IsLook pass.old pass.new) }
+{
+    let Ok(records) = pass.members(alloc) else {
+        return None;
+    };
+    let mut records = records;
+    records.retain(|record| record.name != *own);
+    Some(records)
+}
+
+/// Whether the seeds are to be asked: if no Page was heard, or if each of the other members has failed.
+fn wants_seeds(others: &[Record], page_heard: bool) -> bool
+    ensures { list_all has_failed others.now ≡ true → result ≡ true }
+{
+    !page_heard
+        || others
+            .iter()
+            .all(|record| matches!(record.status, Status::Failed))
+}
+
+/// The address of the member that random words choose.
+fn chosen(records: &[Record], words: &[u32; 8]) -> Addr
+    requires { 0 < length records.now }
+    ensures { IsChosen words.now records.now result }
+{
+    records[words[0] as usize % records.len()].addr
+}
+
+/// Asks a seed that waits.
+pub(crate) fn ask_seed<A: AgentName, R: Wait, L: Link, C>(
+    shared: &Shared<'_, R, C>,
+    side: &mut Side<'_, L, A>,
+    agenda: &mut Agenda,
+    now: Moment,
+    peer: Addr,
+    reply: &mut Reply,
+) -> Turned
+    requires { agenda.old.asked < MAX_SEEDS }
+    ensures { (plan : Planned) → (p : PassValue) → SeesNoneDue p now side.old.pass → now < plan.until
+        → IsDuty plan agenda.old now (duty.Seed peer)
+        → (acted : Acted plan L.tells (line (L.log side.old.link) (L.failed side.old.link))
+        (line (L.log side.new.link) (L.failed side.new.link)) p side.new.pass agenda.old agenda.new result)
+        × (words_in acted.took.turn ≡ []) }
+{
+    agenda.note_seed();
+    match calling::pull(shared, &mut side.pass, now, peer, reply) {
+        Ok(_) => Turned::of(shared, &mut side.link, now, reply),
+        Err(refusal) => Turned::refused(shared, refusal),
+    }
+}
+
+/// Looks whether the seeds are to be asked: they are if no Page was heard so far, or if no other member is known that
+/// hasn't failed. A look that is refused is put off to the next time.
+pub(crate) fn look<A: AgentName, R, L: Link, C>(
+    shared: &Shared<'_, R, C>,
+    side: &mut Side<'_, L, A>,
+    plan: &Plan,
+    agenda: &mut Agenda,
+    now: Moment,
+) -> Turned
+    ensures { (p : PassValue) → SeesNoneDue p now side.old.pass → now < plan.now.until
+        → IsDuty plan.now agenda.old now duty.Look
+        → (acted : Acted plan.now L.tells (line (L.log side.old.link) (L.failed side.old.link))
+        (line (L.log side.new.link) (L.failed side.new.link)) p side.new.pass agenda.old agenda.new result)
+        × (words_in acted.took.turn ≡ []) }
+{
+    let Some(records) = others(&mut side.pass, shared.alloc, &plan.name) else {
+        agenda.note_no_look(now);
+        return Turned::on();
+    };
+    let asks = wants_seeds(records.as_slice(), shared.page_heard.load(SeqCst));
+    agenda.note_look(plan, now, asks);
+    Turned::on()
+}
+
+/// Chooses a member by random words, and asks it. A choice for which the look is refused is put off to the next time.
+pub(crate) fn ask_member<A: AgentName, R: Wait, L: Link, C, D: Dice>(
+    shared: &Shared<'_, R, C>,
+    side: &mut Side<'_, L, A>,
+    dice: &mut D,
+    plan: &Plan,
+    agenda: &mut Agenda,
+    now: Moment,
+    reply: &mut Reply,
+) -> Turned
+    ensures { (p : PassValue) → SeesNoneDue p now side.old.pass → now < plan.now.until
+        → IsDuty plan.now agenda.old now duty.Member
+        → (acted : Acted plan.now L.tells (line (L.log side.old.link) (L.failed side.old.link))
+        (line (L.log side.new.link) (L.failed side.new.link)) p side.new.pass agenda.old agenda.new result)
+        × Threw D.throws dice.old (words_in acted.took.turn) dice.new }
+{
+    agenda.note_choice(now);
+    let Some(records) = others(&mut side.pass, shared.alloc, &plan.name) else {
+        return Turned::on();
+    };
+    if records.len() == 0 {
+        return Turned::on();
+    }
+    let words = dice.words();
+    let peer = chosen(records.as_slice(), &words);
+    match calling::pull(shared, &mut side.pass, now, peer, reply) {
+        Ok(_) => Turned::of(shared, &mut side.link, now, reply),
+        Err(refusal) => Turned::refused(shared, refusal),
+    }
+}

@@ -1,0 +1,35 @@
+//! The two loops of a node over an agent: one hears datagrams, and one ticks and finds its group. With them come their
+//! links, their dice, and what they share.
+#![tactic(auto)]
+
+mod agenda;
+mod asking;
+mod calling;
+mod dice;
+mod ending;
+mod finding;
+mod keyed;
+mod link;
+mod node_link;
+mod plan;
+mod receiving;
+mod running;
+mod sending;
+mod shared;
+mod ticking;
+mod turned;
+mod udp;
+
+pub use agenda::LOOK_MS;
+pub use asking::ask_each;
+pub use dice::{Dice, PcgDice};
+pub use ending::{End, Ended, Why};
+pub use keyed::{Counted, KeyedLink};
+pub use link::{Link, LinkFault, MAX_DATAGRAM};
+pub use node_link::{NodeLink, NotedLink};
+pub use plan::Plan;
+pub use receiving::receive_loop;
+pub use running::run_loops;
+pub use shared::{MAX_TURNS, Shared, Side};
+pub use ticking::tick_loop;
+pub use udp::UdpLink;

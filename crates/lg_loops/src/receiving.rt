@@ -1,0 +1,166 @@
+//! The receiving loop.
+//!
+//! Defined in: `specs/Meaning/Turns.antt`, `specs/Support/Took.antt`.
+//! Tested in: `lg_node_tests/src/node/receiving.rt`.
+ghost use Rattle.std.specs.Prelude.{◌≡◌, ◌≤◌, ◌+◌, ◌∷◌, ◌++◌, [], List, length, true};
+ghost use Rattle.lg_loops.specs.Meaning.Links.{LinkEvent};
+ghost use Rattle.lg_loops.specs.Meaning.Links.LinkEvent.{Received};
+ghost use Rattle.lg_loops.specs.Meaning.Turns.{line, receives, Ran, Lasted};
+ghost use Rattle.lg_loops.specs.Support.Took.{Took};
+
+use crate::calling;
+use crate::ending::{End, Ended, Why};
+use crate::link::{Link, MAX_DATAGRAM};
+use crate::shared::{MAX_TURNS, Shared, Side};
+use crate::turned::Turned;
+use lg_agent::{AgentName, Refusal};
+use lg_clock::{Clock, Loop};
+use lg_detector::Reply;
+use lg_packet::{Body, decode};
+use lg_rules::Addr;
+use lg_timing::Moment;
+use std::sync::Wait;
+use std::sync::atomic::Ordering::SeqCst;
+
+/// Notes that a Page was heard, if these bytes spell one.
+fn note_page<R, C>(shared: &Shared<'_, R, C>, bytes: &[u8]) {
+    if shared.page_heard.load(SeqCst) {
+        return;
+    }
+    if let Ok(packet) = decode(bytes)
+        && matches!(packet.body, Body::Page)
+    {
+        shared.page_heard.store(true, SeqCst);
+    }
+}
+
+/// Hears a datagram that came, or drops it if its bytes are no packet. The reply is written over `reply`.
+fn hear<A: AgentName, R: Wait, L: Link, C>(
+    shared: &Shared<'_, R, C>,
+    side: &mut Side<'_, L, A>,
+    now: Moment,
+    source: Addr,
+    bytes: &[u8],
+    reply: &mut Reply,
+) -> Turned
+    // The link's log ends with this datagram.
+    ensures { (log : List LinkEvent)
+        → (L.tells ≡ true → L.log side.old.link ≡ log ++ Received source bytes.now ∷ [])
+        → Took (receives shared.now.wait_ms) L.tells (line log (L.failed side.old.link))
+        (line (L.log side.new.link) (L.failed side.new.link)) side.old.pass side.new.pass result }
+{
+    match calling::datagram(shared, &mut side.pass, now, source, bytes, reply) {
+        Ok(_) => {
+            note_page(shared, bytes);
+            Turned::of(shared, &mut side.link, now, reply)
+        }
+        Err(refusal) => match refusal {
+            Refusal::BadPacket(fault) => {
+                shared.counters.note_dropped(fault);
+                Turned::dropped()
+            }
+            _ => Turned::refused(shared, refusal),
+        },
+    }
+}
+
+/// One turn: waits for a datagram, and hears it.
+fn receive_turn<A: AgentName, R: Wait, L: Link, C: Clock>(
+    shared: &Shared<'_, R, C>,
+    side: &mut Side<'_, L, A>,
+    buffer: &mut [u8; MAX_DATAGRAM],
+    reply: &mut Reply,
+) -> Turned
+    ensures { Took (receives shared.now.wait_ms) L.tells (line (L.log side.old.link) (L.failed side.old.link))
+        (line (L.log side.new.link) (L.failed side.new.link)) side.old.pass side.new.pass result }
+{
+    match side.link.receive(buffer, shared.wait_ms) {
+        Ok(None) => Turned::on(),
+        Ok(Some((source, length))) => {
+            shared.counters.note_received();
+            let now = shared.clock.now();
+            hear(shared, side, now, source, &buffer[..length], reply)
+        }
+        Err(_) => Turned::end(Why::LinkFailed),
+    }
+}
+
+/// The turns of the loop, until one ends it.
+fn receive_turns<A: AgentName, R: Wait, L: Link, C: Clock>(
+    shared: &Shared<'_, R, C>,
+    side: &mut Side<'_, L, A>,
+) -> End
+    requires { shared.now.bound ≤ MAX_TURNS }
+    ensures { Ran (receives shared.now.wait_ms) L.tells shared.now.bound
+        (line (L.log side.old.link) (L.failed side.old.link))
+        (line (L.log side.new.link) (L.failed side.new.link)) side.old.pass side.new.pass result }
+{
+    let mut buffer = [0; MAX_DATAGRAM];
+    let mut reply = Reply::default();
+    let (mut dropped, mut unsent) = (0, 0);
+    for turns in 0..shared.bound {
+        shared.clock.begin_turn(Loop::Receiving);
+        if shared.stop.load(SeqCst) {
+            return End::of(Why::Stopped, dropped, unsent, turns);
+        }
+        let turned = receive_turn(shared, side, &mut buffer, &mut reply);
+        dropped += turned.dropped;
+        unsent += turned.unsent;
+        if let Some(why) = turned.why {
+            return End::of(why, dropped, unsent, turns + 1);
+        }
+    }
+    End::of(Why::ReadBound, dropped, unsent, shared.bound)
+}
+
+/// The turns of the loop, counted anew if it is endless, until one ends it.
+fn receive_on<A: AgentName, R: Wait, L: Link, C: Clock>(
+    shared: &Shared<'_, R, C>,
+    side: &mut Side<'_, L, A>,
+) -> End
+    requires { shared.now.bound ≤ MAX_TURNS }
+    ensures { Lasted (receives shared.now.wait_ms) L.tells shared.now.bound shared.now.endless
+        (line (L.log side.old.link) (L.failed side.old.link))
+        (line (L.log side.new.link) (L.failed side.new.link)) side.old.pass side.new.pass result }
+{
+    for _ in shared.rt.forever() {
+        let end = receive_turns(shared, side);
+        if end.is_last(shared.endless) {
+            return end;
+        }
+    }
+    unreachable!()
+}
+
+/// Hears the datagrams that come over a link, and hands the packets of the replies to it, until the stop flag is set.
+///
+/// It makes at most `shared.bound` turns, each of which waits for a datagram, `shared.wait_ms` milliseconds at most.
+/// If it is endless it then goes on, and counts them anew. A datagram whose bytes are no packet is dropped, and a
+/// packet that isn't sent is lost. Both are counted. A full history ends nothing: it is rotated, as
+/// [`Pass::rotate`](lg_agent::Pass::rotate) says, and the datagram is heard then. When a Page was heard, the loop sets
+/// `shared.page_heard`.
+///
+/// It ends with [`Why::LinkFailed`] if receiving failed, with [`Why::Refused`] if a datagram whose bytes are a packet
+/// couldn't be heard, and with [`Why::Ousted`] after a reply that says so. A datagram can't be heard if memory was
+/// refused, for the call or for the rotation. Nor can it be heard if the history is still full after a rotation:
+/// another pass has filled it meanwhile, or there were as many events as a detector accepts. It ends with
+/// [`Why::ReadBound`] only if it isn't endless. However the loop ends, it sets the stop flag for the others.
+pub fn receive_loop<A: AgentName, R: Wait, L: Link, C: Clock>(
+    shared: &Shared<'_, R, C>,
+    side: Side<'_, L, A>,
+) -> Ended<L, A>
+    requires { shared.now.bound ≤ MAX_TURNS }
+    ensures { Lasted (receives shared.now.wait_ms) L.tells shared.now.bound shared.now.endless
+        (line (L.log side.entry.link) (L.failed side.entry.link))
+        (line (L.log result.link) (L.failed result.link)) side.entry.pass result.spent result.end }
+{
+    let mut side = side;
+    let end = receive_on(shared, &mut side);
+    shared.stop.store(true, SeqCst);
+    let Side { pass, link } = side;
+    Ended {
+        link,
+        spent: pass.finish(),
+        end,
+    }
+}
