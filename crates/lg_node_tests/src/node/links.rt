@@ -31,6 +31,8 @@ const PING_OF_C: &[u8; 13] = b"SL\x01\x01\x01b\x00\x00\x00\x01\x01c\x00";
 pub enum Coming {
     /// No datagram comes in time.
     Nothing,
+    /// A datagram of no bytes, which is no packet.
+    Empty,
     /// A datagram of one byte, which is no packet.
     OneByte,
     /// A Ping numbered 7.
@@ -45,7 +47,7 @@ impl Coming {
     /// The bytes of the datagram. If none comes, there are no bytes.
     fn bytes(self) -> &'static [u8] {
         match self {
-            Coming::Nothing => b"",
+            Coming::Nothing | Coming::Empty => b"",
             Coming::OneByte => b"S",
             Coming::Ping7 => PING_7,
             Coming::Ping8 => PING_8,

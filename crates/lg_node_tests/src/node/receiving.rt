@@ -75,6 +75,10 @@ fn receiving_loops(rt: HostRuntime) {
     let answers = [RECEIVE, RECEIVE, RECEIVE, yes_7];
     let mut answered = ended(stopped, 3, &answers, 2);
     answered.dropped = 1;
+    // Two datagrams that are no packets, the first of which is empty.
+    let after_two = comes(Coming::Empty, Coming::OneByte, Coming::Ping7, 3);
+    let mut dropped_two = ended(stopped, 3, &answers, 2);
+    dropped_two.dropped = 2;
     // Each call of the link fails in turn: two receivings, and the Ack after each. The Ack after one that wasn't sent
     // is handed over.
     let first = [RECEIVE];
@@ -89,6 +93,7 @@ fn receiving_loops(rt: HostRuntime) {
     let quiet = [RECEIVE; 16];
     let rows = [
         ("answers", 20_000, third_ping, answered),
+        ("empty", 20_000, after_two, dropped_two),
         ("1st", 20_000, two_pings(1), failed(lost, 1, 0, &first, 1)),
         (
             "2nd",
