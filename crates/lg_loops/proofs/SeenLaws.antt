@@ -1,5 +1,5 @@
 -- What a pass has seen goes on from what it had seen.
-use Rattle.std.proofs.Common.{◌≡◌, List, [], ◌∷◌, ◌++◌, ap, sym, ◌∙◌, append_assoc, append-nil}
+use Rattle.std.proofs.Common.{List, [], ◌∷◌, ◌++◌, ap, sym, ◌∙◌, append_assoc, append-nil}
 use mathlib.Core.List.{IsPrefix}
 use Rattle.lg_detector.specs.declared.event.Event.{Event}
 use Rattle.lg_agent.specs.declared.receipt.Receipt.{Receipt}
