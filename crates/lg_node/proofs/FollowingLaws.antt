@@ -17,20 +17,23 @@ pub unfollowed : (config : Config) (settings : Settings) (until : ℕ) (held hol
     → IsRun config settings until held holds e → IsRun config settings until held' holds' e
 unfollowed config settings until held holds held' holds' e is run = record {
   start = run.start;
-  hears = run.hears;
-  hears' = run.hears';
-  sends = run.sends;
-  sends' = run.sends';
   receiver = run.receiver;
   ticker = run.ticker;
-  asker = run.asker;
-  watcher = run.watcher;
   reader = run.reader;
   status = run.status;
-  links = run.links;
-  served = run.served;
-  watched = unwatched settings.follow run.asker run.watcher held holds held' holds' e.watched is run.watched;
-  shown = run.shown;
-  members = run.members;
+  worked =
+      record {
+        hears = run.worked.hears;
+        hears' = run.worked.hears';
+        sends = run.worked.sends;
+        sends' = run.worked.sends';
+        asker = run.worked.asker;
+        watcher = run.worked.watcher;
+        links = run.worked.links;
+        looped = run.worked.looped;
+        told = unwatched settings.follow run.worked.asker run.worked.watcher held holds held' holds' e.watched is run.worked.told;
+        shown = run.worked.shown;
+        read = run.worked.read;
+      };
   closed = run.closed;
 }

@@ -3,8 +3,8 @@
 //! [`open_and_serve`] reads the clock, opens the agent and closes it. Between these [`serve`] hands out the passes,
 //! asks the seeds, runs both loops and what is beside them, and reads the members.
 //!
-//! Defined in: `specs/Meaning/Starts.antt`, `specs/Meaning/Nodes.antt`, `specs/Meaning/Turns.antt`,
-//! `specs/Meaning/Words.antt`.
+//! Defined in: `specs/Meaning/Starts.antt`, `specs/Meaning/Nodes.antt`, `lg_loops/specs/Meaning/Turns.antt`,
+//! `lg_loops/specs/Meaning/Words.antt`.
 //! Tested in: `lg_node_tests/src/node/asking.rt`, `cases/nodes`.
 ghost use Rattle.std.specs.Prelude.{◌≡◌, ◌≤◌, ◌⊎◌, ◌∷◌, [], ℕ, false, true};
 ghost use Rattle.std.specs.Prelude.{All, IfOk, IfErr, IfSome, MatchResult, OnErr, is_some, length};
@@ -12,23 +12,15 @@ ghost use Rattle.std.specs.Vec.{vec_capacity};
 ghost use Rattle.lg_timing.specs.Meaning.Config.{IsChecked};
 ghost use Rattle.lg_timing.specs.declared.config.Config.{Config as Opened};
 ghost use Rattle.lg_detector.specs.declared.event.Event.TheVariants.{Open};
-ghost use Rattle.lg_detector.specs.Meaning.Step.{view_after};
-ghost use Rattle.lg_agent.specs.declared.refusal.Refusal.TheVariants.{NoMemory, NoView};
-ghost use Rattle.lg_agent.specs.Meaning.Values.{PassValue};
-ghost use Rattle.lg_agent.specs.Meaning.Calls.{IsLook};
 ghost use Rattle.lg_agent.specs.Meaning.Closing.{IsClosed, IsRefusedClosing};
 ghost use Rattle.lg_http.specs.Meaning.Slots.{AreFree, slots_of};
-ghost use Rattle.lg_node.specs.Meaning.Nodes.{AreLinks, HasServed, ServesIf, WatchesIf, IsRun};
-ghost use Rattle.lg_node.specs.Meaning.Nodes.{IsRefusedEarly, IsEarly};
-ghost use Rattle.lg_node.specs.Meaning.Nodes.{fresh_own, TellsServed};
+ghost use Rattle.lg_node.specs.Meaning.Nodes.{fresh_own, HasWorked, IsEarly, IsRefusedEarly, IsRun, TellsServed};
 ghost use Rattle.lg_loops.specs.Meaning.NodeLinks.{failures_of, link_keys};
 ghost use Rattle.lg_node.specs.Meaning.Starts.{stall_of, turn_wait};
-ghost use Rattle.lg_loops.specs.Meaning.Turns.{LinkValue};
-ghost use Rattle.lg_loops.specs.Meaning.Words.{seeded, DrawsEight};
 
 use crate::node::{NodeEnd, NodeFault, Settings};
 use crate::serving::StatusServer;
-use crate::threads::{Lookers, Sides, run_threads};
+use crate::threads::{Looked, Lookers, Sides, run_threads};
 use lg_agent::{Agent, AgentName, Pass, Refusal, Spent, Unclosed};
 use lg_clock::{Clock, SteadyClock};
 use lg_http::Signal;
@@ -196,25 +188,17 @@ where
     W: Write + Send,
     F: FaultStream + Send,
     requires places { length agent.old.told ≡ PLACES }
-    requires bound { (shared.now.bound ≤ MAX_TURNS) × (shared.now.endless ≡ true) }
+    requires bound { (shared.now.bound ≡ MAX_TURNS) × (shared.now.endless ≡ true) }
     requires free { IfSome status (λ status. AreFree (slots_of status.server)) }
+    requires serving { is_some status ≡ is_some setup.now.settings.now.status }
     requires name { shared.now.counters.now.name ≡ setup.now.config.now.name }
     requires wait { shared.now.wait_ms
         ≡ turn_wait setup.now.config.now.timeout_ms (stall_of setup.now.settings.now.stall_ms) }
     ensures left { (start : ℕ) → agent.old.name ≡ setup.now.config.now.name
         → All (λ seen. seen ≡ Open start setup.now.config.now ∷ []) agent.old.told
-        → IfOk result (λ l. (hears : LinkValue) × (hears' : LinkValue) × (sends : LinkValue) × (sends' : LinkValue)
-        × (asker : PassValue) × (watcher : PassValue) × AreLinks setup.now.settings.now hears sends
-        × HasServed DrawsEight (seeded setup.now.settings.now.dice) false shared.now.bound
-        (turn_wait setup.now.config.now.timeout_ms (stall_of setup.now.settings.now.stall_ms)) setup.now.config.now
-        setup.now.settings.now.pull_ms setup.now.until start hears hears' sends sends'
-        l.received l.ticked l.receiver l.ticker asker
-        × WatchesIf setup.now.settings.now.follow asker watcher (W.contents writer.old) (W.contents writer.new)
-        l.watched
-        × ServesIf (is_some status.entry) setup.now.config.now setup.now.settings.now
-        (fresh_own setup.now.config.now start 4) l.status l.served
-        × MatchResult l.members (λ records. (records.items ≡ view_after l.reader.seen) × IsLook watcher l.reader)
-        (λ r. ((r ≡ NoView) ⊎ (r ≡ NoMemory)) × (l.reader ≡ watcher))) }
+        → IfOk result (λ l. HasWorked setup.now.config.now setup.now.settings.now setup.now.until start
+        (W.contents writer.old) (W.contents writer.new) l.received l.ticked l.watched l.served l.members
+        l.receiver l.ticker l.reader l.status) }
     ensures refused { (start : ℕ) → agent.old.name ≡ setup.now.config.now.name
         → All (λ seen. seen ≡ Open start setup.now.config.now ∷ []) agent.old.told
         → IfErr result (IsRefusedEarly setup.now.config.now) }
@@ -251,9 +235,15 @@ where
         status: looker,
     };
     let plan = Plan::new(setup.config, setup.settings.pull_ms, setup.until);
-    let ((watcher, watched), ((looker, served), (received, ticked))) = run_threads(
+    let (looked, (received, ticked)) = run_threads(
         shared, sides, setup, &plan, lookers, status, writer, faults,
     );
+    let Looked {
+        watcher,
+        watched,
+        status,
+        served,
+    } = looked;
     let (mut ticked, mut watcher) = (ticked, watcher);
     ticked.end.unsent = ticked.end.unsent.saturating_add(unsent);
     let members = watcher.members(shared.alloc);
@@ -266,7 +256,7 @@ where
         receiver: received.spent,
         ticker: ticked.spent,
         reader: watcher.finish(),
-        status: looker.finish(),
+        status: status.finish(),
     })
 }
 

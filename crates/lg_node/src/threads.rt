@@ -1,6 +1,18 @@
 //! All threads of a node: both loops, and beside them a watcher and a status server if they are wanted.
 //!
-//! Defined in: `specs/Meaning/Nodes.antt`, `specs/Meaning/Turns.antt`, `specs/Meaning/Pulling.antt`.
+//! ```text
+//! thread           begins                    ends                                   joined by
+//! ticking loop     it is the caller's own    at its time, the stop flag or a fault
+//! watcher          first, if it follows      at the stop flag or its writer's fault  ticking loop
+//! status server    then, if it has one       when the loops have ended               ticking loop
+//! receiving loop   behind these              at the stop flag or a fault             ticking loop
+//! ```
+//!
+//! The fifth thread writes what a followed node tells. It is the program's (`lg_cli/src/output.rt`), and nobody joins
+//! it. A loop that ends sets the stop flag, at which the other loop and the watcher end. The server is told by its
+//! signal.
+//!
+//! Defined in: `specs/Meaning/Nodes.antt`, `lg_loops/specs/Meaning/Turns.antt`, `lg_loops/specs/Meaning/Pulling.antt`.
 //! Tested in: `cases/nodes`, `cases/status`.
 ghost use Rattle.std.specs.Prelude.{◌≡◌, ◌≤◌, false, is_some, IfSome};
 ghost use Rattle.lg_http.specs.Meaning.Slots.{AreFree, slots_of};
@@ -49,8 +61,20 @@ where
     pub(crate) status: Pass<'p, A>,
 }
 
+/// What those leave who only look: each pass, and how each ended, if there was one.
+#[derive(Drop)]
+pub(crate) struct Looked<'p, A: AgentName>
+where
+    Published<A>: Absorb<Update<A>, State = [Event; 0]>,
+{
+    pub(crate) watcher: Pass<'p, A>,
+    pub(crate) watched: Option<Watched>,
+    pub(crate) status: Pass<'p, A>,
+    pub(crate) served: Option<Served>,
+}
+
 /// Does some work. Beside it, it watches if the settings say that the node is followed, and serves if there is a status
-/// server. Returns for each of the two its pass and how it ended, if there was one, and what the work gave.
+/// server. Returns what these two left, and what the work gave.
 fn work_beside<'p, A, R, C, W, F, G, B>(
     shared: &Shared<'_, R, C>,
     setup: &Setup<'_, '_>,
@@ -59,10 +83,7 @@ fn work_beside<'p, A, R, C, W, F, G, B>(
     writer: &mut W,
     faults: &mut F,
     work: G,
-) -> (
-    (Pass<'p, A>, Option<Watched>),
-    ((Pass<'p, A>, Option<Served>), B),
-)
+) -> (Looked<'p, A>, B)
 where
     A: AgentName + Send + Sync,
     R: Wait + Threads + rt::Clock + Sync,
@@ -73,13 +94,13 @@ where
     requires work { G.pre work }
     requires free { IfSome status (λ status. AreFree (slots_of status.server)) }
     requires name { shared.now.counters.now.name ≡ setup.now.config.now.name }
-    ensures watched { WatchesIf setup.now.settings.now.follow lookers.entry.watcher result.0.0 (W.contents writer.old)
-        (W.contents writer.new) result.0.1 }
+    ensures watched { WatchesIf setup.now.settings.now.follow lookers.entry.watcher result.0.watcher
+        (W.contents writer.old) (W.contents writer.new) result.0.watched }
     ensures alone { setup.now.settings.now.follow ≡ false → writer.new ≡ writer.old }
     ensures served { ServesIf (is_some status.entry) setup.now.config.now setup.now.settings.now
-        lookers.entry.status result.1.0.0 result.1.0.1 }
-    ensures told { TellsServed result.1.0.1 (F.reported faults.old) (F.reported faults.new) }
-    ensures gave { G.post work result.1.1 }
+        lookers.entry.status result.0.status result.0.served }
+    ensures told { TellsServed result.0.served (F.reported faults.old) (F.reported faults.new) }
+    ensures gave { G.post work result.1 }
 {
     let Lookers {
         watcher,
@@ -102,7 +123,14 @@ where
         { serve_if(shared, setup, status, pass, faults, work) },
     );
     take_back(faults);
-    (watched, (served, gave))
+    let ((watcher, watched), (status, served)) = (watched, served);
+    let looked = Looked {
+        watcher,
+        watched,
+        status,
+        served,
+    };
+    (looked, gave)
 }
 
 /// Runs both loops, as [`run_loops`] does, with the dice that the settings seed. If the settings say that the node is
@@ -110,8 +138,8 @@ where
 /// is a status server, it serves in a thread of its own, until the loops have ended. One that ends by itself is
 /// reported on `faults` when it ends.
 ///
-/// Returns the watcher's pass and the server's, which did nothing but look, how each ended if there was one, and both
-/// ends of the loops, the receiving one's first.
+/// Returns what those two left, whose passes did nothing but look, and both ends of the loops, the receiving one's
+/// first.
 pub(crate) fn run_threads<'p, A, R, L, C, W, F>(
     shared: &Shared<'_, R, C>,
     sides: Sides<'_, L, A>,
@@ -121,10 +149,7 @@ pub(crate) fn run_threads<'p, A, R, L, C, W, F>(
     status: Option<StatusServer<'_, '_, R>>,
     writer: &mut W,
     faults: &mut F,
-) -> (
-    (Pass<'p, A>, Option<Watched>),
-    ((Pass<'p, A>, Option<Served>), Both<L, A>),
-)
+) -> (Looked<'p, A>, Both<L, A>)
 where
     A: AgentName + Send + Sync,
     R: Wait + Threads + rt::Clock + Sync,
@@ -135,20 +160,20 @@ where
     requires bound { shared.now.bound ≤ MAX_TURNS }
     requires free { IfSome status (λ status. AreFree (slots_of status.server)) }
     requires name { shared.now.counters.now.name ≡ setup.now.config.now.name }
-    ensures watched { WatchesIf setup.now.settings.now.follow lookers.entry.watcher result.0.0 (W.contents writer.old)
-        (W.contents writer.new) result.0.1 }
+    ensures watched { WatchesIf setup.now.settings.now.follow lookers.entry.watcher result.0.watcher
+        (W.contents writer.old) (W.contents writer.new) result.0.watched }
     ensures alone { setup.now.settings.now.follow ≡ false → writer.new ≡ writer.old }
     ensures served { ServesIf (is_some status.entry) setup.now.config.now setup.now.settings.now
-        lookers.entry.status result.1.0.0 result.1.0.1 }
-    ensures told { TellsServed result.1.0.1 (F.reported faults.old) (F.reported faults.new) }
+        lookers.entry.status result.0.status result.0.served }
+    ensures told { TellsServed result.0.served (F.reported faults.old) (F.reported faults.new) }
     ensures received { Receiving shared.now.wait_ms L.tells shared.now.bound shared.now.endless
         (line (L.log sides.entry.receiver.link) (L.failed sides.entry.receiver.link))
-        (line (L.log result.1.1.0.link) (L.failed result.1.1.0.link)) sides.entry.receiver.pass result.1.1.0.spent
-        result.1.1.0.end result.1.1.1.end }
+        (line (L.log result.1.0.link) (L.failed result.1.0.link)) sides.entry.receiver.pass result.1.0.spent
+        result.1.0.end result.1.1.end }
     ensures ticked { Ticking DrawsEight (seeded setup.now.settings.now.dice) plan.now L.tells shared.now.bound
         shared.now.endless (line (L.log sides.entry.ticker.link) (L.failed sides.entry.ticker.link))
-        (line (L.log result.1.1.1.link) (L.failed result.1.1.1.link)) sides.entry.ticker.pass result.1.1.1.spent
-        result.1.1.1.end }
+        (line (L.log result.1.1.link) (L.failed result.1.1.link)) sides.entry.ticker.pass result.1.1.spent
+        result.1.1.end }
 {
     let dice = PcgDice::new(setup.settings.dice);
     let Sides { receiver, ticker } = sides;

@@ -1,6 +1,8 @@
 -- What a node does from its opening to its end.
 use Rattle.std.specs.Prelude.{◌≡◌, ◌<◌, ◌⊎◌, ℕ, ◌+◌, ◌^◌, Bool, true, false, List, [], ◌∷◌}
-use Rattle.std.specs.Prelude.{Option, Some, None, is_some, MatchResult}
+use Rattle.std.specs.Prelude.{Option, Some, None, is_some, Result, MatchResult, Vec}
+use Rattle.std.specs.declared.alloc.Global.{Global}
+use Rattle.lg_rules.specs.declared.claim.Claim.{Claim}
 use Rattle.lg_timing.specs.declared.config.Config.{Config}
 use Rattle.lg_text.specs.Meaning.Reporting.{Reported, Reports}
 use Rattle.lg_detector.specs.declared.event.Event.TheVariants.{Open}
@@ -116,33 +118,42 @@ TellsServed None before after = after ≡ before
 TellsServed (Some (served.Ended server.Stopped counts)) before after = after ≡ before
 TellsServed (Some end) before after = Reports before after (served_line end)
 
--- A node ran with a configuration and settings until a moment, or until something ended it before. It opened an agent
--- with four places, made its links, asked its seeds and ran its loops with the random words that `dice` seeds. A turn
--- of receiving waited as the timeout and the stall say. The pass that had asked the seeds watched beside the loops, if
--- the node was followed, and a fourth pass looked for the status server, if there was one. Then the members were read,
--- and the agent was closed with what the four passes left. Reading or closing may have been refused. `held` and `holds`
--- are the bytes that the writer had taken before and after.
-pub record IsRun
-    (config : Config) (settings : Settings) (until : ℕ) (held holds : Option (List ℕ)) (e : NodeEnd) : Type 0 where
-  pub start : ℕ
+-- What a node did from its opening, at the moment `start`, until its loops had ended, and what they left. It made its
+-- links, asked its seeds and ran its loops with the random words that `dice` seeds. A turn of receiving waited as the
+-- timeout and the stall say. The pass that had asked the seeds watched beside the loops, if the node was followed. A
+-- fourth pass looked for the status server, if there was one. Then the members were read, which may have been refused.
+-- `held` and `holds` are the bytes that the writer had taken before and after.
+pub record HasWorked
+    (config : Config) (settings : Settings) (until start : ℕ) (held holds : Option (List ℕ)) (received ticked : End)
+    (watched : Option Watched) (served : Option Served) (members : Result (Vec Claim Global) Refusal)
+    (receiver ticker reader status : PassValue)
+    : Type 0 where
   pub hears : LinkValue
   pub hears' : LinkValue
   pub sends : LinkValue
   pub sends' : LinkValue
-  pub receiver : PassValue
-  pub ticker : PassValue
   pub asker : PassValue
   pub watcher : PassValue
+  pub links : AreLinks settings hears sends
+  pub looped : HasServed DrawsEight (seeded settings.dice) false MAX_TURNS
+      (turn_wait config.timeout_ms (stall_of settings.stall_ms)) config settings.pull_ms until start
+      hears hears' sends sends' received ticked receiver ticker asker
+  pub told : WatchesIf settings.follow asker watcher held holds watched
+  pub shown : ServesIf (is_some settings.status) config settings (fresh_own config start 4) status served
+  pub read : MatchResult members (λ records. (records.items ≡ view_after reader.seen) × IsLook watcher reader)
+      (λ r. ((r ≡ NoView) ⊎ (r ≡ NoMemory)) × (reader ≡ watcher))
+
+-- A node ran with a configuration and settings until a moment, or until something ended it before. It opened an agent
+-- with four places, did its work, and closed the agent with what the four passes left. Closing may have been refused.
+pub record IsRun
+    (config : Config) (settings : Settings) (until : ℕ) (held holds : Option (List ℕ)) (e : NodeEnd) : Type 0 where
+  pub start : ℕ
+  pub receiver : PassValue
+  pub ticker : PassValue
   pub reader : PassValue
   pub status : PassValue
-  pub links : AreLinks settings hears sends
-  pub served : HasServed DrawsEight (seeded settings.dice) false MAX_TURNS
-      (turn_wait config.timeout_ms (stall_of settings.stall_ms)) config settings.pull_ms until start
-      hears hears' sends sends' e.received e.ticked receiver ticker asker
-  pub watched : WatchesIf settings.follow asker watcher held holds e.watched
-  pub shown : ServesIf (is_some settings.status) config settings (fresh_own config start 4) status e.served
-  pub members : MatchResult e.members (λ records. (records.items ≡ view_after reader.seen) × IsLook watcher reader)
-      (λ r. ((r ≡ NoView) ⊎ (r ≡ NoMemory)) × (reader ≡ watcher))
+  pub worked : HasWorked config settings until start held holds e.received e.ticked e.watched e.served e.members
+      receiver ticker reader status
   pub closed : MatchResult e.closed (λ c. IsClosed 4 c (receiver ∷ ticker ∷ reader ∷ status ∷ []))
       (λ f. IsRefusedClosing 4 (receiver ∷ ticker ∷ reader ∷ status ∷ []) f)
 

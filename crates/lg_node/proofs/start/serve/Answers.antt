@@ -16,33 +16,36 @@ returns-in_err-unsent-clause-refused g c = λ start name told.
 pub returns-clause-left : goal.returns-clause-left
 returns-clause-left g c = λ start name told.
     let ready = c.in-Some.ensures _ start name told in
-    let seeds : c.deref.result.now ≡ c.args.setup.now.config.now.seeds.items = cc in (
-      line [] (failures_of c.link_of-hears.result),
-      line [] (failures_of c.run_threads-watcher.result.1.1.0.link),
-      line [] (failures_of c.link_of-sends.result),
-      line [] (failures_of c.run_threads-watcher.result.1.1.1.link),
-      c.ask_each.new.pass,
-      c.run_threads-watcher.result.0.0,
-      record {
-        receiving = c.link_of-hears.result;
-        receiving_keys = c.link_of-hears.ensures.keys;
-        receiving_is = refl;
-        receiving_unfailed = c.link_of-hears.ensures.unfailed;
-        ticking = c.link_of-sends.result;
-        ticking_keys = c.link_of-sends.ensures.keys;
-        ticking_is = refl;
-        ticking_unfailed = c.link_of-sends.ensures.unfailed;
-      },
-      record {
-        between = line [] (failures_of c.ask_each.new.link);
-        unsent = c.in_ok-unsent.unsent;
-        later = c.run_threads-watcher.result.1.1.1.end.unsent;
-        asked = rw (ready.2, seeds) at c.in_ok-unsent.ensures.asked;
-        received_so = rw (ready.0, c.requires.bound.1, c.requires.wait) at c.run_threads-watcher.ensures.received;
-        ticked_so = rw (ready.1, c.new-plan.ensures, c.requires.bound.1) at c.run_threads-watcher.ensures.ticked;
-        counted = λ low. omega (arith, low);
-      },
-      c.run_threads-watcher.ensures.watched,
-      rw c.finish-2.ensures (rw ready.3 at c.run_threads-watcher.ensures.served),
-      rw c.finish.ensures c.members-members.ensures,
-    )
+    let seeds : c.deref.result.now ≡ c.args.setup.now.config.now.seeds.items = cc in
+    let threads = c.run_threads-looked in record {
+      hears = line [] (failures_of c.link_of-hears.result);
+      hears' = line [] (failures_of threads.result.1.0.link);
+      sends = line [] (failures_of c.link_of-sends.result);
+      sends' = line [] (failures_of threads.result.1.1.link);
+      asker = c.ask_each.new.pass;
+      watcher = threads.result.0.watcher;
+      links =
+          record {
+            receiving = c.link_of-hears.result;
+            receiving_keys = c.link_of-hears.ensures.keys;
+            receiving_is = refl;
+            receiving_unfailed = c.link_of-hears.ensures.unfailed;
+            ticking = c.link_of-sends.result;
+            ticking_keys = c.link_of-sends.ensures.keys;
+            ticking_is = refl;
+            ticking_unfailed = c.link_of-sends.ensures.unfailed;
+          };
+      looped =
+          record {
+            between = line [] (failures_of c.ask_each.new.link);
+            unsent = c.in_ok-unsent.unsent;
+            later = threads.result.1.1.end.unsent;
+            asked = rw (ready.2, seeds) at c.in_ok-unsent.ensures.asked;
+            received_so = rw (ready.0, c.requires.bound.0, c.requires.bound.1, c.requires.wait) at threads.ensures.received;
+            ticked_so = rw (ready.1, c.new-plan.ensures, c.requires.bound.0, c.requires.bound.1) at threads.ensures.ticked;
+            counted = λ low. omega (arith, low);
+          };
+      told = threads.ensures.watched;
+      shown = rw c.finish-2.ensures (rw (ready.3, c.requires.serving) at threads.ensures.served);
+      read = rw c.finish.ensures c.members-members.ensures;
+    }
