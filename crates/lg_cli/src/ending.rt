@@ -71,8 +71,9 @@ fn end_line(status: u8, input: Option<InputFault>, output: Option<OutputFault>) 
 /// Ends the program, given the status of its command and how the streams failed.
 ///
 /// If the output is cut off, that is reported, and a status of 0 becomes [`FAILED`]. If the command has failed, the
-/// reason of an output that couldn't be written is reported, or else that of an input that couldn't be read: it is the
-/// second line of `lg: write` or `lg: read`. A line that `faults` doesn't take is dropped.
+/// reason of an output that couldn't be written is reported, or else that of an input that couldn't be read. A command
+/// whose output or input fails so ends with `lg: write` or `lg: read`, of which this is the second line. A line that
+/// `faults` doesn't take is dropped.
 pub fn end_program<F: FaultStream>(
     status: u8,
     input: Option<InputFault>,

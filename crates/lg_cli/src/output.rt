@@ -40,23 +40,12 @@ impl<M, O> Output<M, O> {
         }
     }
 
-    /// Why it couldn't be written, if that is so: it took nothing for too long after the program was to end, or a call
-    /// failed. An interrupted one counts for nothing.
+    /// Why it couldn't be written, if that is so: a call failed, or one that is pumped took nothing for too long after
+    /// the program was to end. That the reader of a pumped one went away is no fault.
     pub fn fault(&self) -> Option<OutputFault> {
-        if let Some(pumped) = self.pumped.get()
-            && pumped.is_cut()
-        {
-            return Some(OutputFault::Cut);
-        }
-        self.failed.map(OutputFault::Failed)
-    }
-
-    /// Notes why a call failed, if it did.
-    fn note<T>(&mut self, called: &io::Result<T>) {
-        if let Err(error) = called
-            && error.kind() != ErrorKind::Interrupted
-        {
-            self.failed = Some(error.kind());
+        match self.pumped.get() {
+            Some(pumped) => pumped.is_cut().then_some(OutputFault::Cut),
+            None => self.failed.map(OutputFault::Failed),
         }
     }
 }
@@ -67,9 +56,12 @@ impl<M: Wait + Clock, O: Write> Write for Output<M, O> {
             Some(pumped) => pumped.write(buf),
             None => self.out.write(buf),
         };
-        match written {
+        match &written {
             Ok(0) if !buf.is_empty() => self.failed = Some(ErrorKind::WriteZero),
-            _ => self.note(&written),
+            // It is made again.
+            Err(error) if error.kind() == ErrorKind::Interrupted => {}
+            Err(error) => self.failed = Some(error.kind()),
+            Ok(_) => {}
         }
         written
     }
@@ -79,7 +71,9 @@ impl<M: Wait + Clock, O: Write> Write for Output<M, O> {
             Some(pumped) => pumped.flush(),
             None => self.out.flush(),
         };
-        self.note(&flushed);
+        if let Err(error) = &flushed {
+            self.failed = Some(error.kind());
+        }
         flushed
     }
 }

@@ -1,15 +1,15 @@
 -- What is written and told at the end of a node, by the steps to it.
-use Rattle.std.proofs.Common.{◌≡◌, ℕ, Bool, true, false, List, Option, Result, Ok, Err, MatchResult, OnErr, refl, ap, sym, ◌∙◌, subst}
+use Rattle.std.proofs.Common.{◌≡◌, ℕ, Bool, true, false, List, Option, Result, Ok, Err, IfOk, IfErr, MatchResult, OnErr, refl, ap, sym, ◌∙◌, subst}
 use Rattle.lg_key.specs.declared.key.Keys.{Keys}
 use Rattle.lg_config.specs.declared.node.NodeConfig.{NodeConfig}
 use Rattle.lg_text.specs.Meaning.Reporting.{Reported, Reports}
 use Rattle.lg_text.specs.declared.fault.RunFault.{RunFault}
 use Rattle.lg_node.specs.declared.node.NodeEnd.{NodeEnd}
 use Rattle.lg_node.specs.declared.node.NodeFault.{NodeFault}
-use Rattle.lg_node.specs.Meaning.Nodes.{IsEarly}
+use Rattle.lg_node.specs.Meaning.Nodes.{IsEarly, TellsServed}
 use Rattle.lg_node.proofs.FollowingLaws.{unfollowed}
 use Rattle.lg_launch.specs.Meaning.Reporting.{ReportsBoth}
-use Rattle.lg_launch.specs.Meaning.Running.{node_settings, table_at_end, table_wished, HasRun, Writes, WritesEnd}
+use Rattle.lg_launch.specs.Meaning.Running.{node_settings, table_at_end, table_wished, HasRun, TellsMeanwhile, Writes, WritesEnd}
 
 -- a writer that was left alone until the table
 pub end-written : {W : Type 0} (contents : W → Option (List ℕ)) (follow : Bool) (before between after : W) (ran : Result NodeEnd NodeFault) (written : Result (Unit {0}) RunFault)
@@ -48,3 +48,14 @@ pub unwritten-early : {W : Type 0} (contents : W → Option (List ℕ)) (follow 
 unwritten-early contents follow before between after (Ok e) written same wrote = tt
 unwritten-early contents true before between after (Err fault) written same wrote = wrote.0 ∙ same
 unwritten-early contents false before between after (Err fault) written same wrote = wrote.0 ∙ same
+
+-- what a run says of both its outcomes
+pub either-outcome : {T E : Type 0} (P : T → Type 0) (Q : E → Type 0) (ran : Result T E) → IfOk ran P → IfErr ran Q → MatchResult ran P Q
+either-outcome P Q (Ok e) ok err = ok
+either-outcome P Q (Err fault) ok err = err
+
+-- what a node reported while it ran
+pub told-meanwhile : {F : Type 0} (reported : F → Reported) (before after : F) (ran : Result NodeEnd NodeFault) → IfOk ran (λ e. TellsServed e.served (reported before) (reported after)) → OnErr ran (after ≡ before)
+    → TellsMeanwhile ran (reported before) (reported after)
+told-meanwhile reported before after (Ok e) told untold = told
+told-meanwhile reported before after (Err fault) told untold = ap reported untold

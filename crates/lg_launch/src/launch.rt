@@ -6,8 +6,8 @@
 ghost use Rattle.std.specs.Prelude.{◌≡◌, ◌⊎◌, ℕ, List, [], Err, false, MatchResult, OnErr, OnOk, string_bytes};
 ghost use Rattle.std.specs.Option.{option_map};
 ghost use Rattle.lg_timing.specs.Meaning.Config.{IsChecked};
-ghost use Rattle.lg_launch.specs.Meaning.Running.{table_wished, Announces, HasRun, IsSecond, RunsBytes};
-ghost use Rattle.lg_launch.specs.Meaning.Running.{RunsFile, RunsKeyed, RunsNode, RunsOrRefused, TellsMeanwhile, Writes};
+ghost use Rattle.lg_launch.specs.Meaning.Running.{node_settings, table_wished, Announces, IsSecond, RunsBytes};
+ghost use Rattle.lg_launch.specs.Meaning.Running.{RunsFile, RunsOrRefused, Writes};
 ghost use Rattle.lg_launch.specs.Meaning.Wishes.{end_wished};
 ghost use Rattle.lg_node.specs.Meaning.Nodes.{IsEarly};
 ghost use Rattle.lg_launch.specs.Meaning.Reporting.{ReportsBoth};
@@ -91,34 +91,13 @@ where
         (F.reported faults.old) (F.reported faults.new) bytes.now wishes.now.file.now wishes.now.until
         wishes.now.follow result }
 {
-    match NodeConfig::read(alloc, bytes) {
-        Ok(node) => run_keyed(rt, alloc, &node, wishes, stop, writer, faults),
-        Err(ReadFault::NoMemory) => tell(Told::Memory, faults),
-        Err(ReadFault::File(fault)) => tell_fault(alloc, bytes, fault, faults),
-    }
-}
-
-/// Runs the node of a configuration with the keys of the file that it names, if it names one.
-fn run_keyed<R, W, F>(
-    rt: &R,
-    alloc: Global,
-    node: &NodeConfig,
-    wishes: &Wishes<'_>,
-    stop: &AtomicBool,
-    writer: &mut W,
-    faults: &mut F,
-) -> u8
-where
-    R: Wait + Threads + Net + rt::Clock + Files + RandomSource + Sync,
-    W: Write + Send,
-    F: FaultStream + Send,
-    requires { IsChecked node.now.config }
-    ensures { RunsKeyed writer.old writer.new (W.contents writer.old) (W.contents writer.new)
-        (F.reported faults.old) (F.reported faults.new) wishes.now.file.now node.now wishes.now.until
-        wishes.now.follow result }
-{
+    let node = match NodeConfig::read(alloc, bytes) {
+        Ok(node) => node,
+        Err(ReadFault::NoMemory) => return tell(Told::Memory, faults),
+        Err(ReadFault::File(fault)) => return tell_fault(alloc, bytes, fault, faults),
+    };
     match keys_at(rt, alloc, &node.key_file) {
-        Ok(keys) => run_config(rt, alloc, node, keys, wishes, stop, writer, faults),
+        Ok(keys) => run_config(rt, alloc, &node, keys, wishes, stop, writer, faults),
         Err(fault) => tell_no_keys(fault, faults),
     }
 }
@@ -158,9 +137,37 @@ where
         (F.reported faults.old) (F.reported faults.new) wishes.now.file.now node.now keys wishes.now.until
         wishes.now.follow result }
 {
-    match announce(alloc, wishes, node, faults) {
-        Ok(()) => run_announced(rt, alloc, node, keys, wishes, stop, writer, faults),
-        Err(AllocError) => tell(Told::Memory, faults),
+    let Ok(()) = announce(alloc, wishes, node, faults) else {
+        return tell(Told::Memory, faults);
+    };
+    let settings = settings_of(node, keys, wishes.follow);
+    let until = end_wished(wishes.until);
+    let ran = run_node(
+        rt,
+        alloc,
+        &node.config,
+        &settings,
+        until,
+        stop,
+        writer,
+        faults,
+    );
+    let written = write_table(alloc, &ran, wishes.follow, writer);
+    tell_run(alloc, node, &ran, Told::of(&ran, written), faults)
+}
+
+/// The settings of a node: what its configuration says, with these keys, and whether it follows.
+fn settings_of(node: &NodeConfig, keys: Option<Keys>, follow: bool) -> Settings
+    ensures { result ≡ node_settings node.now keys follow }
+{
+    Settings {
+        dice: node.dice,
+        pull_ms: node.pull_ms,
+        stall_ms: node.stall_ms,
+        follow,
+        status: node.status,
+        status_open: node.status_open,
+        keys,
     }
 }
 
@@ -180,75 +187,6 @@ fn announce<F: FaultStream>(
         report(faults, line.as_str());
     }
     Ok(())
-}
-
-/// Runs a node that was announced, if it was to be, as [`run_config`] does.
-fn run_announced<R, W, F>(
-    rt: &R,
-    alloc: Global,
-    node: &NodeConfig,
-    keys: Option<Keys>,
-    wishes: &Wishes<'_>,
-    stop: &AtomicBool,
-    writer: &mut W,
-    faults: &mut F,
-) -> u8
-where
-    R: Wait + Threads + Net + rt::Clock + RandomSource + Sync,
-    W: Write + Send,
-    F: FaultStream + Send,
-    requires { IsChecked node.now.config }
-    ensures { RunsNode writer.old writer.new (W.contents writer.old) (W.contents writer.new)
-        (F.reported faults.old) (F.reported faults.new) node.now keys wishes.now.until wishes.now.follow result }
-{
-    let ran = run(rt, alloc, node, keys, wishes, stop, writer, faults);
-    let written = write_table(alloc, &ran, wishes.follow, writer);
-    tell_run(alloc, node, &ran, Told::of(&ran, written), faults)
-}
-
-/// Runs the node of a configuration. The writer is written to only if it follows, and else stays as it is. A status
-/// server that ends before the node is reported when it does.
-fn run<R, W, F>(
-    rt: &R,
-    alloc: Global,
-    node: &NodeConfig,
-    keys: Option<Keys>,
-    wishes: &Wishes<'_>,
-    stop: &AtomicBool,
-    writer: &mut W,
-    faults: &mut F,
-) -> Result<NodeEnd, NodeFault>
-where
-    R: Wait + Threads + Net + rt::Clock + RandomSource + Sync,
-    W: Write + Send,
-    F: FaultStream + Send,
-    requires { IsChecked node.now.config }
-    ensures ran { MatchResult result (HasRun node.now keys (end_wished wishes.now.until) wishes.now.follow
-        (W.contents writer.old) (W.contents writer.new)) (IsEarly node.now.config) }
-    ensures alone { wishes.now.follow ≡ false → writer.new ≡ writer.old }
-    ensures unwritten { OnErr result (writer.new ≡ writer.old) }
-    ensures told { TellsMeanwhile result (F.reported faults.old) (F.reported faults.new) }
-{
-    let settings = Settings {
-        dice: node.dice,
-        pull_ms: node.pull_ms,
-        stall_ms: node.stall_ms,
-        follow: wishes.follow,
-        status: node.status,
-        status_open: node.status_open,
-        keys,
-    };
-    let until = end_wished(wishes.until);
-    run_node(
-        rt,
-        alloc,
-        &node.config,
-        &settings,
-        until,
-        stop,
-        writer,
-        faults,
-    )
 }
 
 /// Why an address can't be bound. It is empty if memory for it was refused.

@@ -34,44 +34,13 @@ pub(crate) fn take_back<T>(returned: &mut T)
     ensures { returned.new ≡ returned.old }
 {}
 
-/// Does some work, and beside it watches in a thread of its own, until the stop flag is set. If no thread can be
-/// started for that, it watches when the work is done. A writer that fails ends the watcher alone.
+/// Does some work. If the node is followed, it watches beside that in a thread of its own, until the stop flag is set.
+/// If no thread can be started for that, it watches when the work is done. A writer that fails ends the watcher alone.
 ///
-/// Returns the pass, how the watcher ended, and what the work gave.
-fn watch_beside<'p, A, R, C, W, G, B>(
+/// Returns the pass, how the watcher ended if there was one, and what the work gave.
+pub(crate) fn watch_beside<'p, A, R, C, W, G, B>(
     shared: &Shared<'_, R, C>,
-    pass: Pass<'p, A>,
-    writer: &mut W,
-    work: G,
-) -> ((Pass<'p, A>, Watched), B)
-where
-    A: AgentName + Send + Sync,
-    R: Wait + Threads + Sync,
-    C: Clock + Sync,
-    W: Write + Send,
-    G: FnOnce() -> B,
-    requires { G.pre work }
-    ensures watched { HasWatched pass.entry result.0.0 (W.contents writer.old) (W.contents writer.new) result.0.1 }
-    ensures gave { G.post work result.1 }
-{
-    let (given, gave) = join(
-        shared.rt,
-        move || -> (Pass<'_, A>, (&mut W, Watched))
-            ensures same { result.1.0.ghost_name ≡ writer.entry.ghost_name }
-            ensures watched { HasWatched pass.entry result.0 (W.contents writer.entry.now)
-                (W.contents result.1.0.now) result.1.1 }
-        { watch_by(shared, pass, writer) },
-        work,
-    );
-    let (pass, (writer, watched)) = given;
-    take_back(writer);
-    ((pass, watched), gave)
-}
-
-/// Does some work. If `follow` is set, it watches beside that, as [`watch_beside`] does.
-pub(crate) fn watch_if<'p, A, R, C, W, G, B>(
-    shared: &Shared<'_, R, C>,
-    follow: bool,
+    followed: bool,
     pass: Pass<'p, A>,
     writer: &mut W,
     work: G,
@@ -83,14 +52,24 @@ where
     W: Write + Send,
     G: FnOnce() -> B,
     requires { G.pre work }
-    ensures watched { WatchesIf follow pass.entry result.0.0 (W.contents writer.old) (W.contents writer.new)
+    ensures watched { WatchesIf followed pass.entry result.0.0 (W.contents writer.old) (W.contents writer.new)
         result.0.1 }
-    ensures alone { follow ≡ false → writer.new ≡ writer.old }
+    ensures alone { followed ≡ false → writer.new ≡ writer.old }
     ensures gave { G.post work result.1 }
 {
-    if !follow {
+    if !followed {
         return ((pass, None), work());
     }
-    let ((pass, watched), gave) = watch_beside(shared, pass, writer, work);
+    let (given, gave) = join(
+        shared.rt,
+        move || -> (Pass<'_, A>, (&mut W, Watched))
+            ensures same { result.1.0.ghost_name ≡ writer.entry.ghost_name }
+            ensures watched { HasWatched pass.entry result.0 (W.contents writer.entry.now)
+                (W.contents result.1.0.now) result.1.1 }
+        { watch_by(shared, pass, writer) },
+        work,
+    );
+    let (pass, (writer, watched)) = given;
+    take_back(writer);
     ((pass, Some(watched)), gave)
 }

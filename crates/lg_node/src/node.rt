@@ -1,6 +1,6 @@
 //! A node: an agent whose two loops run over UDP. `start.rt` has what it does, in order.
 //!
-//! Defined in: `specs/Meaning/Nodes.antt`, `lg_loops/specs/Meaning/Turns.antt`, `lg_loops/specs/Meaning/Words.antt`.
+//! Defined in: `specs/Meaning/Nodes.antt`.
 //! Tested in: `lg_node_tests/src/node/asking.rt`, `cases/nodes`.
 ghost use Rattle.std.specs.Prelude.{◌≡◌, false, IfOk, IfErr, OnErr};
 ghost use Rattle.lg_timing.specs.Meaning.Config.{IsChecked};

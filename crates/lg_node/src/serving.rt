@@ -5,11 +5,11 @@
 //! Tested in: `cases/status`.
 ghost use Rattle.std.specs.Prelude.{◌≡◌, is_some, IfErr, IfOk, IfSome, Some};
 ghost use Rattle.lg_timing.specs.declared.config.Config.{Config as Opened};
+ghost use Rattle.lg_watch.specs.Meaning.Sights.{OnlyLooked};
 ghost use Rattle.lg_http.specs.Meaning.Slots.{AreFree, slots_of};
-ghost use Rattle.lg_node.specs.Meaning.Nodes.{IsEarly, ServesIf, ServesNode, TellsServed};
+ghost use Rattle.lg_node.specs.Meaning.Nodes.{DidServe, IsEarly, ServesIf, ServesNode, TellsServed};
 ghost use Rattle.lg_node.specs.Meaning.Starts.{Shows, hosts_of};
 
-use crate::following::take_back;
 use crate::node::{NodeFault, Settings};
 use crate::start::Setup;
 use lg_agent::{AgentName, Pass, Refusal};
@@ -101,18 +101,16 @@ pub(crate) fn status_server<'s, 'r, R: rt::Clock>(
 fn serve_with<'p, A: AgentName, R: rt::Clock, C: Clock>(
     shared: &Shared<'_, R, C>,
     setup: &Setup<'_, '_>,
-    status: StatusServer<'_, '_, R>,
+    server: &mut Server,
+    signal: &Signal,
+    machine: &MachineClock<'_, R>,
     pass: Pass<'p, A>,
 ) -> (Pass<'p, A>, Served)
-    requires free { AreFree (slots_of status.server) }
-    requires name { shared.now.counters.now.name ≡ setup.now.config.now.name }
-    ensures { ServesNode setup.now.config.now setup.now.settings.now pass.entry result.0 result.1 }
+    requires { shared.now.counters.now.name ≡ setup.now.config.now.name }
+    ensures looked { OnlyLooked pass.entry result.0 }
+    ensures did { DidServe setup.now.config.now setup.now.settings.now pass.entry result.0 server.old server.new
+        result.1 }
 {
-    let StatusServer {
-        mut server,
-        signal,
-        machine,
-    } = status;
     let Ok(config) = shown_of(shared.alloc, setup.config, setup.settings) else {
         return (pass, Served::Refused(Refusal::NoMemory));
     };
@@ -123,7 +121,7 @@ fn serve_with<'p, A: AgentName, R: rt::Clock, C: Clock>(
         config,
     };
     let hosts = hosts_of(setup.settings.status);
-    serve(&mut server, signal, &machine, pass, basis, hosts)
+    serve(server, signal, machine, pass, basis, hosts)
 }
 
 /// Reports how a status server ended, unless it was told to stop.
@@ -152,62 +150,19 @@ fn serve_by<'p, 'f, A: AgentName, R: rt::Clock, C: Clock, F: FaultStream>(
     ensures served { ServesNode setup.now.config.now setup.now.settings.now pass.entry result.0 result.1.1 }
     ensures told { TellsServed (Some result.1.1) (F.reported faults.entry.now) (F.reported result.1.0.now) }
 {
-    let (pass, served) = serve_with(shared, setup, status, pass);
+    let StatusServer {
+        mut server,
+        signal,
+        machine,
+    } = status;
+    let (pass, served) = serve_with(shared, setup, &mut server, signal, &machine, pass);
     report_end(served, faults);
     (pass, (faults, served))
 }
 
-/// Does some work, and beside it serves in a thread of its own, until the work is done. If no thread can be started for
-/// that, nobody is served.
-fn serve_beside<'p, A, R, C, F, G, B>(
-    shared: &Shared<'_, R, C>,
-    setup: &Setup<'_, '_>,
-    status: StatusServer<'_, '_, R>,
-    pass: Pass<'p, A>,
-    faults: &mut F,
-    work: G,
-) -> ((Pass<'p, A>, Served), B)
-where
-    A: AgentName + Send + Sync,
-    R: Wait + Threads + rt::Clock + Sync,
-    C: Clock + Sync,
-    F: FaultStream + Send,
-    G: FnOnce() -> B,
-    requires work { G.pre work }
-    requires free { AreFree (slots_of status.server) }
-    requires name { shared.now.counters.now.name ≡ setup.now.config.now.name }
-    ensures served { ServesNode setup.now.config.now setup.now.settings.now pass.entry result.0.0 result.0.1 }
-    ensures told { TellsServed (Some result.0.1) (F.reported faults.old) (F.reported faults.new) }
-    ensures gave { G.post work result.1 }
-{
-    let signal = status.signal;
-    let (given, gave) = join(
-        shared.rt,
-        move || -> (Pass<'_, A>, (&mut F, Served))
-            requires free { AreFree (slots_of status.server) }
-            requires name { shared.now.counters.now.name ≡ setup.now.config.now.name }
-            ensures same { result.1.0.ghost_name ≡ faults.entry.ghost_name }
-            ensures served { ServesNode setup.entry.now.config.now setup.entry.now.settings.now pass.entry result.0
-                result.1.1 }
-            ensures told { TellsServed (Some result.1.1) (F.reported faults.entry.now) (F.reported result.1.0.now) }
-        { serve_by(shared, setup, status, pass, faults) },
-        move || -> B
-            requires { G.pre work }
-            ensures { G.post work result }
-        {
-            let gave = work();
-            signal.stop();
-            gave
-        },
-    );
-    let (pass, (faults, served)) = given;
-    take_back(faults);
-    ((pass, served), gave)
-}
-
-/// Does some work. If there is a status server, it serves beside that, as [`serve_beside`] does. Gives the stream back
-/// beside what the work gave.
-pub(crate) fn serve_if<'p, 'f, A, R, C, F, G, B>(
+/// Does some work. If there is a status server, it serves beside that in a thread of its own, until the work is done.
+/// If no thread can be started for that, nobody is served. Gives the stream back beside what the work gave.
+pub(crate) fn serve_beside<'p, 'f, A, R, C, F, G, B>(
     shared: &Shared<'_, R, C>,
     setup: &Setup<'_, '_>,
     status: Option<StatusServer<'_, '_, R>>,
@@ -233,6 +188,26 @@ where
     let Some(status) = status else {
         return ((pass, None), (faults, work()));
     };
-    let ((pass, served), gave) = serve_beside(shared, setup, status, pass, faults, work);
+    let signal = status.signal;
+    let (given, gave) = join(
+        shared.rt,
+        move || -> (Pass<'_, A>, (&mut F, Served))
+            requires free { AreFree (slots_of status.server) }
+            requires name { shared.now.counters.now.name ≡ setup.now.config.now.name }
+            ensures same { result.1.0.ghost_name ≡ faults.entry.ghost_name }
+            ensures served { ServesNode setup.entry.now.config.now setup.entry.now.settings.now pass.entry result.0
+                result.1.1 }
+            ensures told { TellsServed (Some result.1.1) (F.reported faults.entry.now) (F.reported result.1.0.now) }
+        { serve_by(shared, setup, status, pass, faults) },
+        move || -> B
+            requires { G.pre work }
+            ensures { G.post work result }
+        {
+            let gave = work();
+            signal.stop();
+            gave
+        },
+    );
+    let (pass, (faults, served)) = given;
     ((pass, Some(served)), (faults, gave))
 }

@@ -3,8 +3,7 @@
 //! [`open_and_serve`] reads the clock, opens the agent and closes it. Between these [`serve`] hands out the passes,
 //! asks the seeds, runs both loops and what is beside them, and reads the members.
 //!
-//! Defined in: `specs/Meaning/Starts.antt`, `specs/Meaning/Nodes.antt`, `lg_loops/specs/Meaning/Turns.antt`,
-//! `lg_loops/specs/Meaning/Words.antt`.
+//! Defined in: `specs/Meaning/Starts.antt`, `specs/Meaning/Nodes.antt`, `lg_loops/specs/Meaning/NodeLinks.antt`.
 //! Tested in: `lg_node_tests/src/node/asking.rt`, `cases/nodes`.
 ghost use Rattle.std.specs.Prelude.{◌≡◌, ◌≤◌, ◌⊎◌, ◌∷◌, [], ℕ, false, true};
 ghost use Rattle.std.specs.Prelude.{All, IfOk, IfErr, IfSome, MatchResult, OnErr, is_some, length};

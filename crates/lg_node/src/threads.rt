@@ -1,18 +1,19 @@
 //! All threads of a node: both loops, and beside them a watcher and a status server if they are wanted.
 //!
 //! ```text
-//! thread           begins                    ends                                   joined by
-//! ticking loop     it is the caller's own    at its time, the stop flag or a fault
-//! watcher          first, if it follows      at the stop flag or its writer's fault  ticking loop
-//! status server    then, if it has one       when the loops have ended               ticking loop
-//! receiving loop   behind these              at the stop flag or a fault             ticking loop
+//! thread           begins                     ends                                     joined by
+//! ticking loop     it is the caller's own     at its time, the stop flag or a fault
+//! watcher          first, if it follows       at the stop flag or its writer's fault   ticking loop
+//! status server    then, if there is one      when the loops have ended, or it failed  ticking loop
+//! receiving loop   behind these               at the stop flag or a fault              ticking loop
 //! ```
 //!
-//! The fifth thread writes what a followed node tells. It is the program's (`lg_cli/src/output.rt`), and nobody joins
-//! it. A loop that ends sets the stop flag, at which the other loop and the watcher end. The server is told by its
-//! signal.
+//! The program has two more, which nobody joins. One writes what a followed node tells (`lg_cli/src/output.rt`), and
+//! one reads the input whose end is to end the node (`lg_cli/src/node.rt`). A loop that ends sets the stop flag, at
+//! which the other loop and the watcher end. The server is told by its signal.
 //!
-//! Defined in: `specs/Meaning/Nodes.antt`, `lg_loops/specs/Meaning/Turns.antt`, `lg_loops/specs/Meaning/Pulling.antt`.
+//! Defined in: `specs/Meaning/Nodes.antt`, `lg_loops/specs/Meaning/Turns.antt`, `lg_loops/specs/Meaning/Pulling.antt`,
+//! `lg_loops/specs/Meaning/Words.antt`.
 //! Tested in: `cases/nodes`, `cases/status`.
 ghost use Rattle.std.specs.Prelude.{◌≡◌, ◌≤◌, false, is_some, IfSome};
 ghost use Rattle.lg_http.specs.Meaning.Slots.{AreFree, slots_of};
@@ -21,8 +22,8 @@ ghost use Rattle.lg_loops.specs.Meaning.Pulling.{Ticking};
 ghost use Rattle.lg_loops.specs.Meaning.Turns.{line, Receiving};
 ghost use Rattle.lg_loops.specs.Meaning.Words.{seeded, DrawsEight};
 
-use crate::following::{take_back, watch_if};
-use crate::serving::{StatusServer, serve_if};
+use crate::following::{take_back, watch_beside};
+use crate::serving::{StatusServer, serve_beside};
 use crate::start::Setup;
 use left_right::Absorb;
 use lg_agent::{AgentName, Pass};
@@ -106,7 +107,7 @@ where
         watcher,
         status: pass,
     } = lookers;
-    let (watched, (served, (faults, gave))) = watch_if(
+    let (watched, (served, (faults, gave))) = watch_beside(
         shared,
         setup.settings.follow,
         watcher,
@@ -120,7 +121,7 @@ where
                 setup.entry.now.settings.now pass.entry result.0.0 result.0.1 }
             ensures told { TellsServed result.0.1 (F.reported faults.entry.now) (F.reported result.1.0.now) }
             ensures gave { G.post work result.1.1 }
-        { serve_if(shared, setup, status, pass, faults, work) },
+        { serve_beside(shared, setup, status, pass, faults, work) },
     );
     take_back(faults);
     let ((watcher, watched), (status, served)) = (watched, served);

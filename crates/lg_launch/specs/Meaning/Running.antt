@@ -140,8 +140,7 @@ RunsOrRefused before after held holds reported reports file n keys until follow 
     RunsAnnounced before after held holds reported reports file n keys until follow status
     ⊎ TellsAlone before after reported reports Memory status
 
--- That is done with the keys of its key file, with which both its links seal and open. Or the key file gives none, and
--- it is told why.
+-- That is done with the keys of its key file, if it names one. Or the key file gives none, and it is told why.
 abbrev pub RunsKeyed :
     {W : Type 0} → (before after : W) (held holds : Option (List ℕ)) (reported reports : Reported) (file : List ℕ)
     (n : NodeConfig) (until : Option ℕ) (follow : Bool) (status : ℕ) → Type 0

@@ -81,28 +81,24 @@ WatchesIf true before after held holds None = ⊥
 WatchesIf false before after held holds (Some end) = ⊥
 WatchesIf false before after held holds None = after ≡ before
 
--- A status server served: it began with free slots, and did what a status server does that shows this configuration and
--- these settings, under the name of the node's member, to the hosts of its address.
-pub record HasServedNode (config : Config) (settings : Settings) (before after : PassValue) (end : Served)
-    : Type 0 where
-  pub shown : ShownConfig
-  pub shows : Shows config settings shown
+-- What a status server did, from its state `server` to its state `server'`, by how it ended. If its first look was
+-- refused, or memory for what it shows, it served nobody. Otherwise it did what a status server does that shows this
+-- configuration and these settings, under the name of the node's member, to the hosts of its address.
+abbrev pub DidServe :
+    Config → Settings → (before after : PassValue) (server server' : Server) → Served → Type 0
+DidServe config settings before after server server' (served.Refused refusal) =
+    (server' ≡ server) × ((refusal ≡ NoMemory) ⊎ (refusal ≡ NoView))
+DidServe config settings before after server server' (served.Ended end counts) =
+    (shown : ShownConfig) × Shows config settings shown
+    × ServedAs (served.Ended end counts) config.name shown (hosts_of settings.status) before after server server'
+
+-- A status server that began with free slots did this. Its pass only looked, however it ended.
+pub record ServesNode (config : Config) (settings : Settings) (before after : PassValue) (end : Served) : Type 0 where
+  pub looked : OnlyLooked before after
   pub server : Server
   pub server' : Server
   pub free : AreFree (slots_of server)
-  pub did : ServedAs end config.name shown (hosts_of settings.status) before after server server'
-
--- What a status server did, by how it ended. If its first look was refused, or memory for what it shows, it served
--- nobody.
-abbrev pub DidServe : Config → Settings → (before after : PassValue) → Served → Type 0
-DidServe config settings before after (served.Refused refusal) = (refusal ≡ NoMemory) ⊎ (refusal ≡ NoView)
-DidServe config settings before after (served.Ended end counts) =
-    HasServedNode config settings before after (served.Ended end counts)
-
--- Its pass only looked, however it ended.
-pub record ServesNode (config : Config) (settings : Settings) (before after : PassValue) (end : Served) : Type 0 where
-  pub looked : OnlyLooked before after
-  pub did : DidServe config settings before after end
+  pub did : DidServe config settings before after server server' end
 
 -- What the status server did beside the loops, if there was one. If there was none, its pass did nothing.
 abbrev pub ServesIf : Bool → Config → Settings → (before after : PassValue) → Option Served → Type 0

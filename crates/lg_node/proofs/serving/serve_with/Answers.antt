@@ -1,11 +1,7 @@
 use Rattle.lg_node.proofs.ServingLaws.{did_serve}
 use Rattle.lg_node.proofs.serving.serve_with.Goals as goal
 
-pub returns : goal.returns
-returns g c =
-    record {
-      looked = c.serve.ensures.looked;
-      did =
-          did_serve c.args.setup.now.config.now c.args.setup.now.settings.now c.args.pass c.serve.result.0 c.serve.result.1
-          _ _ _ _ _ c.requires.name c.hosts_of-hosts.ensures c.in-Ok.ensures c.requires.free c.serve.ensures.served;
-    }
+pub returns-clause-did : goal.returns-clause-did
+returns-clause-did g c =
+    did_serve c.args.setup.now.config.now c.args.setup.now.settings.now c.args.pass c.serve.result.0 c.serve.result.1 _ _ _ _ _
+    c.requires c.hosts_of-hosts.ensures c.in-Ok.ensures c.serve.ensures.served
