@@ -8,7 +8,7 @@ import time
 
 from asking import Link, changes_after, on_connection, request
 from checks import NOTES
-from packets import HOST, IN_A_PACKET, claim, ping
+from packets import HOST, IN_A_PACKET, claim, name_bytes, ping
 from running import (
     LIFE_MS, PATIENCE, Node, asked, bound_socket, file_of, free_ports, free_status_ports, table_of, wait_for)
 from unread import Stranger
@@ -18,6 +18,8 @@ QUIET = "interval_ms = 60000\n"
 KEPT = 1024
 TOLD = 200
 PARKED = 192
+# How many changes come while nobody asks.
+UNASKED = 12
 
 
 class Lone:
@@ -42,6 +44,12 @@ class Lone:
         for start in range(0, count, IN_A_PACKET):
             if not asked(ping(5, "b", claims[start:start + IN_A_PACKET]), self.port):
                 raise RuntimeError(f"no Ack came for the claims about t{start:03} and those behind it: {incarnation}")
+
+    def accuse(self, incarnation):
+        """Tells it that t000 is suspected by x at an incarnation."""
+        place = self.silent.getsockname()[1]
+        if not asked(ping(5, "b", [claim(2, "t000", place, incarnation, name_bytes("x"))]), self.port):
+            raise RuntimeError(f"no Ack came for the suspicion of t000: {incarnation}")
 
     def __enter__(self):
         return self
@@ -103,6 +111,39 @@ def changes_come(program, *options):
 def changes_come_of_a_followed_node(program):
     """So they do from a node that is followed."""
     return changes_come(program, "--follow")
+
+
+def changes_come_that_nobody_waited_for(program):
+    """A stranger changes one record again and again, a tenth of a second apart, while nobody asks. Afterwards each of
+    these changes is told, in order."""
+    with Lone(program) as node:
+        version = changes_after(node.status, 0)["version"]
+        for incarnation in range(UNASKED):
+            node.tell(incarnation)
+            time.sleep(0.1)
+        changes = changes_after(node.status, version)
+        wanted = [("t000", incarnation) for incarnation in range(UNASKED)]
+        return None if incarnations(changes) == wanted and not changes["missed"] else f"got {changes}, wanted {wanted}"
+
+
+def short_suspicions_are_told(program):
+    """A node that is followed hears again and again that a member is suspected, and a few hundredths of a second later
+    that it is alive after all. Each of these changes is told, in a line of its own and in order."""
+    with Lone(program, "--follow") as node:
+        node.tell(0)
+        for incarnation in range(UNASKED):
+            time.sleep(0.03)
+            node.accuse(incarnation)
+            time.sleep(0.03)
+            node.tell(incarnation + 1)
+        time.sleep(0.5)
+        _, output, _ = node.node.kill()
+        records = [line.split() for line in output.splitlines()]
+        told = [(words[3], int(words[4])) for words in records if words[1:3] == ["record", "t000"]]
+        wanted = [("alive", 0)]
+        for incarnation in range(UNASKED):
+            wanted += [("suspect", incarnation), ("alive", incarnation + 1)]
+        return None if told == wanted else f"told {told}, wanted {wanted}"
 
 
 def fault_of_a_round(node, incarnation, version):

@@ -37,6 +37,6 @@ pub use lg_detector::{NoMemory, Standing};
 pub use lg_view::Overview;
 pub use name::AgentName;
 pub use pass::Pass;
-pub use receipt::Receipt;
+pub use receipt::{HeardPacket, Receipt};
 pub use refusal::{CloseFault, Refusal};
 pub use spent::Spent;

@@ -9,16 +9,16 @@ ghost use Rattle.lg_packet.specs.Meaning.Reading.{packet_of};
 ghost use Rattle.lg_detector.specs.declared.event.Event.TheVariants.{Tick, Heard, Ask, Health, Pull};
 ghost use Rattle.lg_detector.specs.Meaning.Step.{is_open_event};
 ghost use Rattle.lg_agent.specs.declared.refusal.Refusal.TheVariants.{BadPacket, NoMemory};
-ghost use Rattle.lg_agent.specs.Meaning.Calls.{receipt_of, IsCall, IsRefusal, IsBadPacket, IsRotatedPass};
+ghost use Rattle.lg_agent.specs.Meaning.Calls.{receipt_of, is_page, IsCall, IsRefusal, IsBadPacket, IsRotatedPass};
 
 use crate::kept::Kept;
 use crate::name::AgentName;
-use crate::receipt::Receipt;
+use crate::receipt::{HeardPacket, Receipt};
 use crate::refusal::Refusal;
 use crate::spent::Spent;
 use left_right::Absorb;
 use lg_detector::{Event, Reply};
-use lg_packet::decode;
+use lg_packet::{Body, decode};
 use lg_rules::{Addr, Name};
 use lg_timing::Moment;
 use lg_view::{Published, Update};
@@ -127,11 +127,15 @@ impl<'a, A: AgentName> Pass<'a, A> {
         ensures refusal { IfErr result (λ e. IsBadPacket e ⊎ IsRefusal self.old.seen e) }
     {
         let mut reply = Reply::default();
-        let place = self.datagram_into(rt, alloc, now, source, bytes, &mut reply)?;
-        Ok(Receipt { place, reply })
+        let heard = self.datagram_into(rt, alloc, now, source, bytes, &mut reply)?;
+        Ok(Receipt {
+            place: heard.place,
+            reply,
+        })
     }
 
-    /// As [`Pass::datagram`], with the reply written over `reply`. Returns the position of the call's entry.
+    /// As [`Pass::datagram`], with the reply written over `reply`. Returns the position of the call's entry, and whether
+    /// the packet is a Page.
     pub fn datagram_into<R: Wait>(
         &mut self,
         rt: &R,
@@ -140,27 +144,27 @@ impl<'a, A: AgentName> Pass<'a, A> {
         source: Addr,
         bytes: &[u8],
         reply: &mut Reply,
-    ) -> Result<u64, Refusal>
-        ensures answered { IfOk result (λ place. (p : Read) × (packet_of bytes.now ≡ Ok p)
-            × IsCall self.old (Heard now source p) (receipt_of place reply.new) self.new) }
+    ) -> Result<HeardPacket, Refusal>
+        ensures answered { IfOk result (λ heard. (p : Read) × (packet_of bytes.now ≡ Ok p)
+            × IsCall self.old (Heard now source p) (receipt_of heard.place reply.new) self.new
+            × (heard.is_page ≡ is_page p.body)) }
         ensures refused { OnErr result ((self.new ≡ self.old) × (reply.new ≡ reply.old)) }
         ensures bad { (f : Broken) → packet_of bytes.now ≡ Err f → result ≡ Err (BadPacket f) }
         ensures only { (f : Broken) → result ≡ Err (BadPacket f) → packet_of bytes.now ≡ Err f }
         ensures refusal { IfErr result (λ e. IsBadPacket e ⊎ IsRefusal self.old.seen e) }
     {
-        match decode(bytes) {
-            Ok(packet) => self.call_into(
-                rt,
-                alloc,
-                &Event::Heard {
-                    now,
-                    source,
-                    packet,
-                },
-                reply,
-            ),
-            Err(fault) => Err(Refusal::BadPacket(fault)),
-        }
+        let packet = match decode(bytes) {
+            Ok(packet) => packet,
+            Err(fault) => return Err(Refusal::BadPacket(fault)),
+        };
+        let is_page = matches!(packet.body, Body::Page);
+        let event = Event::Heard {
+            now,
+            source,
+            packet,
+        };
+        let place = self.call_into(rt, alloc, &event, reply)?;
+        Ok(HeardPacket { place, is_page })
     }
 
     /// Asks for the record of a name.

@@ -5,7 +5,7 @@ use crate::agent::forms::{After, Form, run_form};
 use crate::agent::many::{Tally, Task, work_all};
 use crate::agent::steps::{Played, Row, steps};
 use lg_agent::{Agent, AgentName, Refusal, Spent};
-use lg_playing::{Case, Left, Outcome, room};
+use lg_agent_testing::{Case, Left, Outcome, room};
 use lg_view::UnnamedBook;
 use std::alloc::Global;
 use std::marker::Brand;

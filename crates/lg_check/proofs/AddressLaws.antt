@@ -1,6 +1,6 @@
 -- The numbers of an address, with dots between them.
 use Rattle.std.proofs.Common.{◌≡◌, ℕ, List, [], ◌∷◌, ◌++◌, length, get_or, decimal, arith, append-nil, refl}
-use Rattle.lg_report.specs.Meaning.Records.{dotted}
+use Rattle.lg_lines.specs.Meaning.Records.{dotted}
 
 -- four numbers with dots between them
 abbrev pub four_dotted : ℕ → ℕ → ℕ → ℕ → List ℕ

@@ -1,10 +1,10 @@
 //! Spells names, addresses, seeds, paths and truth values.
 //!
-//! Defined in: `specs/Meaning/Spelling.antt`, `lg_report/specs/Meaning/Records.antt`.
+//! Defined in: `specs/Meaning/Spelling.antt`, `lg_lines/specs/Meaning/Records.antt`.
 //! Tested in: `cases/check.case`.
 ghost use Rattle.std.specs.Prelude.{◌≡◌, ◌++◌, IfOk, OnOk, string_bytes};
 ghost use Rattle.std.specs.List.{flat_map};
-ghost use Rattle.lg_report.specs.Meaning.Records.{addr_text, dotted};
+ghost use Rattle.lg_lines.specs.Meaning.Records.{addr_text, dotted};
 ghost use Rattle.lg_check.specs.Meaning.Spelling.{next_seed, seed_spelled, seeds_spelled, status_spelled};
 ghost use Rattle.lg_check.specs.Meaning.Spelling.{path_spelled, truth_spelled};
 

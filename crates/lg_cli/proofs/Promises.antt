@@ -4,8 +4,8 @@ use Rattle.std.specs.Result.{is_err}
 use Rattle.lg_rules.specs.Meaning.Name.{name_of_text}
 use Rattle.lg_text.specs.Meaning.Running.{ReadsWhole}
 use Rattle.lg_text.specs.declared.fault.RunFault.TheVariants.{Memory, Write}
-use Rattle.lg_launch.specs.Meaning.Checking.{ChecksFile}
-use Rattle.lg_launch.specs.Meaning.Running.{RunsFile}
+use Rattle.lg_run.specs.Meaning.Checking.{ChecksFile}
+use Rattle.lg_run.specs.Meaning.Running.{RunsFile}
 use Rattle.lg_commands.specs.Meaning.Choosing.{order_text}
 use Rattle.lg_commands.specs.Meaning.Running.{FailsBy, RunsAnswer, RunsOrder, RunsSim, RunsTimeouts}
 use Rattle.lg_commands.specs.declared.timeouts.Numbers.{Numbers}
@@ -136,7 +136,11 @@ module _ (R W : Type 0) (before after : Streams R W) (status : ℕ) where
 
   leaves_fails : (line : List (List ℕ)) → LeavesUnread before after line status → status ≡ 1
       → FailsBy before.reported after.reported before.writer after.writer
-  leaves_fails line leaves one = record { fault = Write; line = leaves.1.told one; unwritten = λ other. absurd (other refl) }
+  leaves_fails line leaves one = let told = leaves.1.told one in record {
+    fault = Write (record { kind = told.kind });
+    line = told.lines;
+    unwritten = λ other. absurd (cc other);
+  }
 
 all_answer : (P : List ℕ → Type 0) (r : Request) → ((text : List ℕ) → P text) → IfAnswer r P
 all_answer P (answer text) give = give text

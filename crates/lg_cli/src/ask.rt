@@ -1,10 +1,10 @@
 //! Asks a running node, as a command wishes.
 //!
-//! Defined in: `specs/Meaning/Running.antt`, `lg_ask/specs/Meaning/Telling.antt`, `Watching.antt`.
+//! Defined in: `specs/Meaning/Running.antt`, `lg_client/specs/Meaning/Telling.antt`, `Watching.antt`.
 //! Tested in: `cases/ask.case`, `cases/status`.
 ghost use Rattle.lg_cli.specs.Meaning.Running.{AsksNode};
 
-use lg_ask::{Question as Asking, tell_answer, watch_changes};
+use lg_client::{Resource, tell_answer, watch_changes};
 use lg_command_line::Question;
 use lg_text::FaultStream;
 use std::alloc::Global;
@@ -34,8 +34,8 @@ where
         (F.reported faults.old) (F.reported faults.new) result }
 {
     match question {
-        Question::Members => tell_answer(rt, alloc, at, Asking::Members, json, writer, faults),
-        Question::Status => tell_answer(rt, alloc, at, Asking::Health, json, writer, faults),
+        Question::Members => tell_answer(rt, alloc, at, Resource::Members, json, writer, faults),
+        Question::Status => tell_answer(rt, alloc, at, Resource::Health, json, writer, faults),
         Question::Watch => watch_changes(rt, alloc, at, json, writer, faults),
     }
 }

@@ -3,12 +3,10 @@
 
 mod ask;
 mod ending;
-mod input;
 mod node;
 mod output;
 mod program;
 
-use input::Input;
 use node::Owned;
 use output::Output;
 use std::env::Env;
@@ -16,7 +14,6 @@ use std::process::ExitCode;
 use std::{env, io};
 
 fn main(rt: HostRuntime) -> ExitCode {
-    let mut input = Input::new(rt.stdin());
     let mut output = Output::new(rt, rt.stdout());
     let status = match words_of(&rt) {
         Ok(words) => program::run_words(
@@ -27,13 +24,13 @@ fn main(rt: HostRuntime) -> ExitCode {
                 input: rt.stdin(),
                 output: rt.stdout(),
             },
-            &mut input,
+            &mut rt.stdin(),
             &mut output,
             &mut rt.stderr(),
         ),
         Err(error) => program::refuse_words(&error, &mut rt.stderr()),
     };
-    let told = ending::end_program(status, input.fault(), output.fault(), &mut rt.stderr());
+    let told = ending::end_program(status, output.is_cut(), &mut rt.stderr());
     ExitCode::from(told)
 }
 

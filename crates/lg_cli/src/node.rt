@@ -1,12 +1,13 @@
 //! Runs a node on the machine, until its time is over or its input has ended.
 //!
-//! Defined in: `specs/Meaning/Running.antt`, `lg_launch/specs/Meaning/Running.antt`.
+//! Defined in: `specs/Meaning/Running.antt`, `lg_run/specs/Meaning/Running.antt`.
 //! Tested in: `cases/node.case`, `cases/node_command.case`.
-ghost use Rattle.lg_launch.specs.Meaning.Running.{RunsFile};
+ghost use Rattle.lg_run.specs.Meaning.Running.{RunsFile};
 
 use crate::output::{Pumped, start_pump};
-use lg_launch::{Told, Wishes, run_file};
+use lg_run::{Told, Wishes, run_file};
 use lg_text::{FaultStream, report};
+use lg_timing::Moment;
 use std::alloc::{AllocError, Global};
 use std::io::{Read, Write};
 use std::net::Net;
@@ -26,6 +27,17 @@ pub struct Owned<I, O> {
     pub output: O,
 }
 
+/// What the words of the command `node` ask for.
+#[derive(Clone, Copy, Debug)]
+pub struct NodeWords<'a> {
+    /// The path of the configuration file.
+    pub file: &'a str,
+    /// The moment at which the node ends, in milliseconds from its start. If there is none, time doesn't end it.
+    pub until: Option<Moment>,
+    /// Whether it tells each change of a record as it happens.
+    pub follow: bool,
+}
+
 /// Runs a node from its configuration file, as [`run_file`] does. If an input is given, its end ends the node. A node
 /// that follows writes by a thread of its own, which owns the output that is given ([`start_pump`]).
 ///
@@ -36,7 +48,7 @@ pub struct Owned<I, O> {
 pub fn run_node<M, I, O, W, F>(
     rt: &M,
     alloc: Global,
-    wishes: &Wishes<'_>,
+    words: &NodeWords<'_>,
     owned: Owned<Option<I>, O>,
     writer: &mut W,
     faults: &mut F,
@@ -48,11 +60,19 @@ where
     W: Write + Pumped + Send,
     F: FaultStream + Send,
     ensures { RunsFile writer.old writer.new (W.contents writer.old) (W.contents writer.new)
-        (F.reported faults.old) (F.reported faults.new) wishes.now.file.now wishes.now.until wishes.now.follow
+        (F.reported faults.old) (F.reported faults.new) words.now.file.now words.now.until words.now.follow
         result }
 {
-    match stop_flag(rt, alloc, wishes.follow, owned, writer) {
-        Ok(stop) => run_file(rt, alloc, wishes, &stop, writer, faults),
+    match stop_flag(rt, alloc, words.follow, owned, writer) {
+        Ok(stop) => {
+            let wishes = Wishes {
+                file: words.file,
+                until: words.until,
+                follow: words.follow,
+                stop: &stop,
+            };
+            run_file(rt, alloc, &wishes, writer, faults)
+        }
         Err(_) => {
             report(faults, Told::Memory.line().as_str());
             Told::Memory.status()

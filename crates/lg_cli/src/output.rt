@@ -2,10 +2,9 @@
 //!
 //! Defined in: this file.
 //! Tested in: `cases/node_command.case`, `cases/nodes`.
-use crate::ending::OutputFault;
 use lg_pump::{Pump, PumpWriter};
 use std::alloc::{AllocError, Global};
-use std::io::{ErrorKind, Write};
+use std::io::Write;
 use std::rt::Clock;
 use std::sync::atomic::AtomicBool;
 use std::sync::{Arc, OnceLock, Wait};
@@ -19,14 +18,12 @@ pub trait Pumped {
     fn pump_by(&self, pump: Arc<Pump, Global>, stop: Arc<AtomicBool, Global>);
 }
 
-/// An output, which is written at once until it is pumped. It notes why a write failed.
+/// An output, which is written at once until it is pumped.
 #[derive(Drop)]
 pub struct Output<M, O> {
     rt: M,
     out: O,
     pumped: OnceLock<PumpWriter<M>>,
-    /// Why the last write or flush that failed did.
-    failed: Option<ErrorKind>,
 }
 
 impl<M, O> Output<M, O> {
@@ -36,45 +33,28 @@ impl<M, O> Output<M, O> {
             rt,
             out,
             pumped: OnceLock::new(),
-            failed: None,
         }
     }
 
-    /// Why it couldn't be written, if that is so: a call failed, or one that is pumped took nothing for too long after
-    /// the program was to end. That the reader of a pumped one went away is no fault.
-    pub fn fault(&self) -> Option<OutputFault> {
-        match self.pumped.get() {
-            Some(pumped) => pumped.is_cut().then_some(OutputFault::Cut),
-            None => self.failed.map(OutputFault::Failed),
-        }
+    /// Whether texts are cut off: it is pumped, and took nothing for too long after the program was to end.
+    pub fn is_cut(&self) -> bool {
+        self.pumped.get().is_some_and(PumpWriter::is_cut)
     }
 }
 
 impl<M: Wait + Clock, O: Write> Write for Output<M, O> {
     fn write(&mut self, buf: &[u8]) -> io::Result<usize> {
-        let written = match self.pumped.get_mut() {
+        match self.pumped.get_mut() {
             Some(pumped) => pumped.write(buf),
             None => self.out.write(buf),
-        };
-        match &written {
-            Ok(0) if !buf.is_empty() => self.failed = Some(ErrorKind::WriteZero),
-            // It is made again.
-            Err(error) if error.kind() == ErrorKind::Interrupted => {}
-            Err(error) => self.failed = Some(error.kind()),
-            Ok(_) => {}
         }
-        written
     }
 
     fn flush(&mut self) -> io::Result<()> {
-        let flushed = match self.pumped.get_mut() {
+        match self.pumped.get_mut() {
             Some(pumped) => pumped.flush(),
             None => self.out.flush(),
-        };
-        if let Err(error) = &flushed {
-            self.failed = Some(error.kind());
         }
-        flushed
     }
 }
 

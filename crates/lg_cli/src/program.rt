@@ -14,11 +14,11 @@ ghost use Rattle.lg_cli.specs.Meaning.Faults.{foreign_text};
 ghost use Rattle.lg_cli.specs.Meaning.Running.{streams, RunsLine, RunsRequest};
 
 use crate::ask::ask_node;
-use crate::node::{Owned, run_node};
+use crate::node::{NodeWords, Owned, run_node};
 use crate::output::Pumped;
 use lg_command_line::{Asked, MAX_RUN_MS, take_words};
 use lg_commands::{FAILED, USAGE, answer_named, order_lists, simulate, timeouts_of};
-use lg_launch::{Wishes, check_file};
+use lg_run::check_file;
 use lg_text::{FaultStream, RunFault, report};
 use lg_timing::Moment;
 use std::alloc::Global;
@@ -38,13 +38,13 @@ use std::{io, rt};
 /// `faults` doesn't take is dropped.
 /// `node`, `check`, `members`, `status` and `watch` alone use the machine `rt`. The first two read their file. `node`
 /// takes sockets, a clock and threads, writes its members, and tells its end, with the statuses of
-/// [`run_file`](lg_launch::run_file); `check` has those of [`check_file`]. The other three ask a running node, with the
-/// statuses of [`tell_answer`](lg_ask::tell_answer) and [`watch_changes`](lg_ask::watch_changes). The statuses of all
+/// [`run_file`](lg_run::run_file); `check` has those of [`check_file`]. The other three ask a running node, with the
+/// statuses of [`tell_answer`](lg_client::tell_answer) and [`watch_changes`](lg_client::watch_changes). The statuses of all
 /// other command lines are:
 ///
 /// - 0 if all was done. This includes help and the version, if they were asked for and written.
-/// - 1 if memory, a read or a write failed. That is reported as `lg: memory`, `lg: read` or `lg: write`.
-///   [`end_program`](crate::ending::end_program) tells the reason of the last two.
+/// - 1 if memory, a read or a write failed. That is reported as `lg: memory`, `lg: read` or `lg: write`. A second line
+///   says why standard input couldn't be read, or standard output written ([`RunFault::text`]).
 /// - 2 if the command line is refused, which is reported by a text of the parser. Nothing is read or written then.
 /// - 3 for bad input. If the text of `--name` is no name, `lg: bad names` is reported and nothing is read. If the
 ///   text of `--names` is no list of 1 to 255 different names, `lg: bad names` is reported. If the text of `--words`
@@ -122,7 +122,7 @@ where
             until_input_ends,
         } => {
             let until = end_after(for_ms);
-            let wishes = Wishes {
+            let words = NodeWords {
                 file,
                 until,
                 follow,
@@ -132,7 +132,7 @@ where
                 input: until_input_ends.then_some(input),
                 output,
             };
-            run_node(rt, alloc, &wishes, owned, writer, faults)
+            run_node(rt, alloc, &words, owned, writer, faults)
         }
     }
 }

@@ -5,11 +5,9 @@ use Rattle.clap.specs.Kinds.{IsAmong, Kinds}
 use Rattle.clap.specs.Walk.{Text}
 use Rattle.clap.specs.declared.error.kind.ErrorKind.{ErrorKind}
 use Rattle.clap.specs.declared.error.kind.ErrorKind.TheVariants.{OutOfMemory}
-use Rattle.lg_text.specs.Meaning.Faults.{run_fault_text}
-use Rattle.lg_text.specs.Meaning.Reporting.{Reported, Reports}
-use Rattle.lg_text.specs.declared.fault.RunFault.TheVariants.{Write}
+use Rattle.lg_text.specs.Meaning.Reporting.{Reported}
 use Rattle.lg_command_line.specs.Meaning.Commands.{line_faults, status_of_kind, RefusesLine}
-use Rattle.lg_command_line.specs.Meaning.Leaving.{IsLeft, LacksMemory, LeavesLine}
+use Rattle.lg_command_line.specs.Meaning.Leaving.{IsLeft, LacksMemory, LeavesLine, ReportsUnwritten}
 
 -- How an error of this kind is reported.
 pub record TellsError
@@ -18,7 +16,7 @@ pub record TellsError
   pub is : status ≢ 1 → status ≡ status_of_kind kind
   pub failed : status ≡ 1 → (kind ≡ OutOfMemory) ⊎ (status_of_kind kind ≡ 0)
   pub memory : kind ≡ OutOfMemory → LacksMemory before after reported reports status
-  pub write_told : status ≡ 1 → status_of_kind kind ≡ 0 → Reports reported reports (run_fault_text Write)
+  pub write_told : status ≡ 1 → status_of_kind kind ≡ 0 → ReportsUnwritten reported reports
   pub unreported : status ≡ 0 → reports ≡ reported
   pub unwritten : status ≡ 2 → after ≡ before
 

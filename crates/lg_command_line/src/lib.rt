@@ -3,7 +3,7 @@
 //! Where to read on:
 //! - which command a command line asks for, and why one is refused: `specs/Meaning/Commands.antt`;
 //! - what becomes of a command line that isn't run: `specs/Meaning/Leaving.antt`;
-//! - what the commands do: `lg_commands`, `lg_launch` and `lg_ask`, which `lg_cli` calls.
+//! - what the commands do: `lg_commands`, `lg_run` and `lg_client`, which `lg_cli` calls.
 #![tactic(auto)]
 
 mod asked;

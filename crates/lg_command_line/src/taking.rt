@@ -9,7 +9,7 @@ ghost use Rattle.lg_text.specs.Meaning.Reporting.{Reports};
 ghost use Rattle.lg_commands.specs.Meaning.Running.{FailsBy};
 ghost use Rattle.lg_commands.specs.Meaning.Timeouts.{are_good};
 ghost use Rattle.lg_command_line.specs.Meaning.Commands.{asked, line_faults, status_of_kind, IfNode, IfTimeouts};
-ghost use Rattle.lg_command_line.specs.Meaning.Leaving.{IsLeft};
+ghost use Rattle.lg_command_line.specs.Meaning.Leaving.{IsLeft, ReportsUnwritten};
 ghost use Rattle.lg_command_line.specs.Support.Requests.{request_of};
 
 use crate::asked::{Asked, MAX_RUN_MS};
@@ -17,12 +17,12 @@ use crate::words::read_words;
 use clap::Error;
 use clap::error::ErrorKind;
 use lg_commands::{FAILED, USAGE};
-use lg_text::{FaultStream, RunFault, report};
+use lg_text::{FaultStream, RunFault, WriteFault, report};
 use std::alloc::Global;
 use std::convert::AsStr;
-use std::fmt;
 use std::fmt::Write as _;
 use std::io::Write;
+use std::{fmt, io};
 
 /// What the words of a command line ask for. If nothing is to be run, that is told, and the `Err` is the exit status.
 /// The first word is the program's name.
@@ -73,7 +73,7 @@ fn report_refusal<W: Write, F: FaultStream>(error: &Error, writer: &mut W, fault
     ensures failed { result ≡ FAILED
         → (kind_of error.now ≡ ErrorKind.OutOfMemory) ⊎ (status_of_kind (kind_of error.now) ≡ 0) }
     ensures write_told { result ≡ FAILED → status_of_kind (kind_of error.now) ≡ 0
-        → Reports (F.reported faults.old) (F.reported faults.new) (run_fault_text RunFault.Write) }
+        → ReportsUnwritten (F.reported faults.old) (F.reported faults.new) }
     // What is written reports nothing, and a refusal writes nothing.
     ensures unreported { result ≡ 0 → faults.new ≡ faults.old }
     ensures unwritten { result ≡ USAGE → writer.new ≡ writer.old }
@@ -90,11 +90,22 @@ fn report_refusal<W: Write, F: FaultStream>(error: &Error, writer: &mut W, fault
         let _ = write!(Formatted(faults), "{error}");
         return USAGE;
     }
-    if write!(writer, "{error}").is_err() || writer.flush().is_err() {
-        report(faults, RunFault::Write.text());
-        return FAILED;
+    match write_formatted(writer, error) {
+        Ok(()) => 0,
+        Err(failed) => {
+            let unwritten = WriteFault {
+                kind: failed.kind(),
+            };
+            report(faults, unwritten.text());
+            FAILED
+        }
     }
-    0
+}
+
+/// Writes the help or the version, and flushes the writer.
+fn write_formatted<W: Write>(writer: &mut W, error: &Error) -> io::Result<()> {
+    write!(writer, "{error}")?;
+    writer.flush()
 }
 
 /// Takes what is formatted, and hands it to a stream for faults. It fails never: what the stream doesn't take is

@@ -7,8 +7,13 @@ use std::process::Abort;
 /// made.
 type Row = (Command, usize, Interrupts, usize);
 
-/// Each command gives up after few bytes and calls, and writes nothing.
-fn check(rt: &(impl Abort + AllocGlobal), rows: &[Row]) {
+/// What is told of an input that is too long, and of one that is interrupted again and again.
+const TOO_LONG: &[u8] = b"lg: read\nstandard input has more than 1048576 bytes\n";
+
+const INTERRUPTED: &[u8] = b"lg: read\nstandard input can't be read: the machine refuses it\n";
+
+/// Each command gives up after few bytes and calls, tells why, and writes nothing.
+fn check(rt: &(impl Abort + AllocGlobal), rows: &[Row], told: &[u8]) {
     for row in rows {
         let (command, piece, interrupts, least) = *row;
         let mut streams = Streams::over(b"");
@@ -22,7 +27,7 @@ fn check(rt: &(impl Abort + AllocGlobal), rows: &[Row]) {
             && calls <= 2_097_154
             && calls >= least
             && streams.writer.calls == 0
-            && streams.faults.has(b"lg: read\n");
+            && streams.faults.has(told);
         assert!(rt; met, "{row:?}: {status}, {calls} calls, {given} bytes");
     }
 }
@@ -38,11 +43,12 @@ fn gives_up_on_endless_readers(rt: HostRuntime) {
         (Command::Sim, 1000, Interrupts::Never, 0),
         (Command::Copying, 1000, Interrupts::Never, 0),
     ];
-    check(&rt, &rows);
+    check(&rt, &rows, TOO_LONG);
 }
 
 /// A reader that is always interrupted is given up.
 #[test]
 fn gives_up_on_endless_interruptions(rt: HostRuntime) {
-    check(&rt, &[(Command::Answer, 1, Interrupts::Always, 2_097_154)]);
+    let rows = [(Command::Answer, 1, Interrupts::Always, 2_097_154)];
+    check(&rt, &rows, INTERRUPTED);
 }

@@ -6,7 +6,7 @@ use lg_node::{NodeFault, Why};
 use lg_packet::Fault;
 use lg_rules::NameFault;
 use lg_script::ScriptFault;
-use lg_text::RunFault;
+use lg_text::{InputFault, RunFault, WriteFault};
 use lg_timing::ConfigFault;
 use lg_view::{MembersFault, NoView, PairFault};
 use std::alloc::Global;
@@ -80,13 +80,17 @@ const SCRIPTS: &[(ScriptFault, &str)] = &[
     (ScriptFault::Packet, "no packet of this number was sent"),
 ];
 
+const FULL_DISK: WriteFault = WriteFault {
+    kind: ErrorKind::StorageFull,
+};
+
 const RUNS: &[(RunFault, &str)] = &[
     (RunFault::Memory, "memory was refused"),
     (
-        RunFault::Read,
+        RunFault::Read(InputFault::TooLong),
         "the input can't be read, or has more than 1048576 bytes",
     ),
-    (RunFault::Write, "the output can't be written"),
+    (RunFault::Write(FULL_DISK), "the output can't be written"),
 ];
 
 const LINES: &[(LineFault, &str)] = &[
@@ -107,7 +111,7 @@ const ORDERS: &[(OrderFault, &str)] = &[
         "the words have to be numbers from 0 to 4294967295 between commas",
     ),
     (
-        OrderFault::Run(RunFault::Write),
+        OrderFault::Run(RunFault::Write(FULL_DISK)),
         "the output can't be written",
     ),
 ];

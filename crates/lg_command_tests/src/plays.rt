@@ -83,7 +83,8 @@ pub const OTHERS: [Play; 3] = [
 /// Reads an input whole and writes it.
 fn copy(alloc: Global, reader: &mut Pieces, writer: &mut Room) -> Result<(), RunFault> {
     let input = read_input(alloc, reader)?;
-    write_whole(writer, &input)
+    write_whole(writer, &input)?;
+    Ok(())
 }
 
 /// The status of copying an input. A fault is reported as the commands do it.

@@ -2,6 +2,9 @@
 use crate::plays::READING;
 use crate::streams::{Interrupts, Streams};
 
+/// What is told of a reader whose calls fail.
+const BROKEN: &[u8] = b"lg: read\nstandard input can't be read: the machine refuses it\n";
+
 /// What is read doesn't depend on the pieces that a reader gives, nor on interruptions.
 #[test]
 fn reads_piece_by_piece(rt: HostRuntime) {
@@ -40,7 +43,7 @@ fn fails_where_a_read_fails(rt: HostRuntime) {
             let met = status == 1
                 && streams.reader.calls == call + 1
                 && streams.writer.calls == 0
-                && streams.faults.has(b"lg: read\n");
+                && streams.faults.has(BROKEN);
             assert!(rt; met, "{play:?}, behind {call} reads: {status}");
         }
     }

@@ -1,7 +1,7 @@
 //! The lines of replies that no script gives: many packets, great numbers, and all parts at once.
 use arrayvec::ArrayVec;
 use lg_detector::{Answer, Event, MAX_SENDS, Outgoing, Reply, Timer, TimerId};
-use lg_report::put_reply;
+use lg_lines::put_reply;
 use lg_rules::{Addr, Claim, MAX_INCARNATION, Name, Status};
 use lg_testing::{ack, at, claim, incarnation, letter, local, name, packet};
 

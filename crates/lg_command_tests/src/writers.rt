@@ -2,8 +2,13 @@
 use crate::plays::{OTHERS, Play, READING};
 use crate::streams::Streams;
 use lg_commands::{answer_named, order_lists};
-use lg_testing::{ROOM, Row};
+use lg_testing::{FaultRow, ROOM};
 use std::process::Abort;
+
+/// What is told of a writer whose calls fail, and of one that takes no more.
+const BROKEN: &[u8] = b"lg: write\nstandard output can't be written: nobody reads it\n";
+
+const FULL: &[u8] = b"lg: write\nstandard output can't be written: it takes nothing\n";
 
 /// Runs a play in which each write call fails in turn, and the flush too.
 fn check_failing_writes(rt: &(impl Abort + AllocGlobal), play: &Play) {
@@ -15,7 +20,7 @@ fn check_failing_writes(rt: &(impl Abort + AllocGlobal), play: &Play) {
         let met = status == 1
             && streams.writer.calls == call + 1
             && streams.writer.has(&text[..call])
-            && streams.faults.has(b"lg: write\n");
+            && streams.faults.has(BROKEN);
         assert!(rt; met, "{play:?}, behind {call} writes: {status}");
     }
 }
@@ -35,7 +40,7 @@ fn fails_where_a_writer_is_full(rt: HostRuntime) {
         let mut streams = Streams::over(play.input.as_bytes());
         streams.writer.len = ROOM - 4;
         let status = play.command.run(rt.alloc(), &mut streams);
-        let met = status == 1 && streams.writer.len == ROOM && streams.faults.has(b"lg: write\n");
+        let met = status == 1 && streams.writer.len == ROOM && streams.faults.has(FULL);
         assert!(rt; met, "{play:?}: {status}");
     }
 }
@@ -55,7 +60,7 @@ fn drops_what_is_not_taken(rt: HostRuntime) {
     }
 }
 
-/// A line stands whole on a stream that has room for it, and not a byte of it on one that lacks a byte.
+/// What is told stands whole on a stream that has room for it, and not a byte of it on one that lacks a byte.
 #[test]
 fn tells_whole_lines(rt: HostRuntime) {
     for play in READING.iter().chain(OTHERS.iter()) {
@@ -63,12 +68,12 @@ fn tells_whole_lines(rt: HostRuntime) {
         streams.writer.fails_at = 1;
         let Streams { reader, writer, .. } = streams;
         let (mut reader, mut writer) = (reader, writer);
-        let mut faults: Row<10> = Row::empty();
+        let mut faults: FaultRow<60> = FaultRow::empty();
         let status = play
             .command
             .run_over(rt.alloc(), &mut reader, &mut writer, &mut faults);
         assert!(rt;
-            status == 1 && faults.text() == b"lg: write\n".as_slice(),
+            status == 1 && faults.text() == BROKEN,
             "{play:?}: {status}"
         );
     }
@@ -77,7 +82,7 @@ fn tells_whole_lines(rt: HostRuntime) {
         streams.reader.fails_at = 1;
         let Streams { reader, writer, .. } = streams;
         let (mut reader, mut writer) = (reader, writer);
-        let mut faults: Row<8> = Row::empty();
+        let mut faults: FaultRow<61> = FaultRow::empty();
         let status = play
             .command
             .run_over(rt.alloc(), &mut reader, &mut writer, &mut faults);
@@ -93,9 +98,9 @@ fn tells_whole_lines(rt: HostRuntime) {
 fn tells_whole_lines_of_bad_lists(rt: HostRuntime) {
     let Streams { reader, writer, .. } = Streams::over(b"");
     let (mut reader, mut writer) = (reader, writer);
-    let mut unnamed: Row<14> = Row::empty();
-    let mut unlisted: Row<14> = Row::empty();
-    let mut unspoken: Row<14> = Row::empty();
+    let mut unnamed: FaultRow<14> = FaultRow::empty();
+    let mut unlisted: FaultRow<14> = FaultRow::empty();
+    let mut unspoken: FaultRow<14> = FaultRow::empty();
     answer_named(rt.alloc(), "b 2", &mut reader, &mut writer, &mut unnamed);
     order_lists(rt.alloc(), "a,a", "0", &mut writer, &mut unlisted);
     order_lists(rt.alloc(), "a", "x", &mut writer, &mut unspoken);

@@ -19,8 +19,8 @@ use Rattle.lg_commands.specs.Meaning.Answering.{opening, heard_event, event_of, 
 use Rattle.lg_commands.specs.Meaning.Answering.{answers_from, answer_text, answer_end, is_faulty}
 use Rattle.lg_timing.specs.Meaning.Config.{defaults}
 use Rattle.lg_commands.specs.Support.Hearing.{with_heard, AcceptsHeard}
-use Rattle.lg_text.specs.declared.end.End.{End}
-use Rattle.lg_text.specs.declared.end.End.TheVariants.{Done, Faulty}
+use Rattle.lg_text.specs.declared.end.RunEnd.{RunEnd}
+use Rattle.lg_text.specs.declared.end.RunEnd.TheVariants.{Done, Faulty}
 use Rattle.lg_commands.specs.declared.line.LineFault.{LineFault}
 
 heard_in : List (List ℕ) → List Event
@@ -89,7 +89,7 @@ accepts_lines name lines s few is = record {
 -- ---- a run over the lines
 
 -- How far a run has come: the detector is after the events of the lines so far, and the text and the end are those of the lines so far.
-pub record HasAnswered (name input rest text : List ℕ) (s : State) (end : End) : Type 0 where
+pub record HasAnswered (name input rest text : List ℕ) (s : State) (end : RunEnd) : Type 0 where
   pub before : List (List ℕ)
   pub lines : before ++ lines_of rest ≡ lines_of input
   pub few : length before + length rest ≤ length input
@@ -115,16 +115,16 @@ faulty_more false true = refl
 faulty_more false false = refl
 
 -- the end so far, after a line that ended well, and after a faulty one
-pub ended_well : (b : Bool) (found end new : End) → found ≡ cond b Faulty Done → found ≡ Done → new ≡ end → new ≡ cond b Faulty end
+pub ended_well : (b : Bool) (found end new : RunEnd) → found ≡ cond b Faulty Done → found ≡ Done → new ≡ end → new ≡ cond b Faulty end
 ended_well true found end new is done same = let no : Faulty ≡ Done = sym is ∙ done in absurd cc
 ended_well false found end new is done same = same
 
-pub ended_faulty : (b : Bool) (found end new : End) → found ≡ cond b Faulty Done → found ≡ Faulty → new ≡ Faulty → new ≡ cond b Faulty end
+pub ended_faulty : (b : Bool) (found end new : RunEnd) → found ≡ cond b Faulty Done → found ≡ Faulty → new ≡ Faulty → new ≡ cond b Faulty end
 ended_faulty true found end new is faulty now = now
 ended_faulty false found end new is faulty now = let no : Done ≡ Faulty = sym is ∙ faulty in absurd cc
 
 -- a line more was answered
-pub answered_more : (name input rest text : List ℕ) (s : State) (end : End) (line after text' : List ℕ) (s' : State) (end' : End)
+pub answered_more : (name input rest text : List ℕ) (s : State) (end : RunEnd) (line after text' : List ℕ) (s' : State) (end' : RunEnd)
     → HasAnswered name input rest text s end → lines_of rest ≡ line ∷ lines_of after → length after < length rest
     → ((earlier : List Event) → s ≡ state_after earlier → s' ≡ state_after (with_heard earlier (packet_in line)))
     → ((earlier : List Event) → s ≡ state_after earlier → text' ≡ text ++ line_answer earlier line)
@@ -140,7 +140,7 @@ answered_more name input rest text s end line after text' s' end' has cut shorte
       writes = ap (λ (xs : List ℕ). xs ++ answers_from name (has.before ++ line ∷ []) (lines_of after)) (gives events has.after)
           ∙ append_assoc text (line_answer events line) _
           ∙ ap (λ (ls : List (List ℕ)). text ++ answers_from name has.before ls) (sym cut) ∙ has.writes;
-      ends = ends ∙ ap (λ (e : End). cond (is_faulty line) Faulty e) has.ends
+      ends = ends ∙ ap (λ (e : RunEnd). cond (is_faulty line) Faulty e) has.ends
           ∙ faulty_more (list_any is_faulty has.before) (is_faulty line) ∙ ap (λ (b : Bool). cond b Faulty Done) (sym (list_any-append is_faulty has.before (line ∷ [])));
     }
 
@@ -148,11 +148,11 @@ no_more : (rest : List ℕ) → length rest ≡ 0 → rest ≡ []
 no_more [] e = refl
 no_more (b ∷ bs) e = absurd (omega arith)
 
-pub answered_text : (name input rest text : List ℕ) (s : State) (end : End) → HasAnswered name input rest text s end → length rest ≡ 0 → text ≡ answer_text name input
+pub answered_text : (name input rest text : List ℕ) (s : State) (end : RunEnd) → HasAnswered name input rest text s end → length rest ≡ 0 → text ≡ answer_text name input
 answered_text name input rest text s end has none =
     sym (append-nil text) ∙ ap (λ (r : List ℕ). text ++ answers_from name has.before (lines_of r)) (sym (no_more rest none)) ∙ has.writes
 
-pub answered_end : (name input rest text : List ℕ) (s : State) (end : End) → HasAnswered name input rest text s end → length rest ≡ 0 → end ≡ answer_end input
+pub answered_end : (name input rest text : List ℕ) (s : State) (end : RunEnd) → HasAnswered name input rest text s end → length rest ≡ 0 → end ≡ answer_end input
 unfolding answer_end
 answered_end name input rest text s end has none =
     let all : has.before ≡ lines_of input = sym (append-nil has.before) ∙ ap (λ (r : List ℕ). has.before ++ lines_of r) (sym (no_more rest none)) ∙ has.lines in

@@ -12,7 +12,7 @@ use Rattle.lg_text.specs.Meaning.Lines.{newline}
 use Rattle.lg_commands.specs.Meaning.Answering.{heard_event, line_reply, line_answer, sent_line}
 use Rattle.lg_commands.specs.Meaning.Spelled.{fault_text, packet_in}
 use Rattle.lg_commands.specs.Support.Hearing.{line_end, with_heard}
-use Rattle.lg_text.specs.declared.end.End.TheVariants.{Done, Faulty}
+use Rattle.lg_text.specs.declared.end.RunEnd.TheVariants.{Done, Faulty}
 use Rattle.lg_commands.specs.declared.line.LineFault.{LineFault}
 
 -- ---- a faulty line

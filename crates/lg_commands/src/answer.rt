@@ -16,11 +16,11 @@ ghost use Rattle.lg_commands.specs.Support.Hearing.{line_end, with_heard, Accept
 use crate::line::LineFault;
 use arrayvec::ArrayVec;
 use lg_detector::{Detector, Event, NoMemory, Outgoing, Reply};
+use lg_lines::{PacketRow, put_hex};
 use lg_packet::Packet;
-use lg_report::{Row, put_hex};
 use lg_rules::Name;
 use lg_script::local;
-use lg_text::{End, MAX_INPUT, cut_line};
+use lg_text::{MAX_INPUT, RunEnd, cut_line};
 use lg_timing::{Config, Moment};
 use std::alloc::Global;
 
@@ -30,7 +30,7 @@ pub struct Answered {
     /// The text.
     pub text: Vec<u8>,
     /// How the run ends.
-    pub end: End,
+    pub end: RunEnd,
 }
 
 /// The event that opens a detector of this name with the default configuration, at moment 0 at 127.0.0.1:7000.
@@ -44,7 +44,7 @@ fn open_event(name: &Name) -> Event
 }
 
 /// Appends a packet to a text as a line of lower-case hex.
-fn put_packet(packet: &Packet, row: &mut Row, text: &mut Vec<u8>) -> Result<(), NoMemory>
+fn put_packet(packet: &Packet, row: &mut PacketRow, text: &mut Vec<u8>) -> Result<(), NoMemory>
     ensures { OnOk result (text.new.items ≡ text.old.items ++ sent_text packet.now) }
 {
     put_hex(packet, row, text)?;
@@ -53,7 +53,7 @@ fn put_packet(packet: &Packet, row: &mut Row, text: &mut Vec<u8>) -> Result<(), 
 }
 
 /// Appends packets to a text, a line each.
-fn put_sends(sends: &[Outgoing], row: &mut Row, text: &mut Vec<u8>) -> Result<(), NoMemory>
+fn put_sends(sends: &[Outgoing], row: &mut PacketRow, text: &mut Vec<u8>) -> Result<(), NoMemory>
     ensures { OnOk result (text.new.items ≡ text.old.items ++ flat_map sent_line sends.now) }
 {
     for outgoing in sends {
@@ -80,9 +80,9 @@ fn answer_line(
     bytes: &mut [u8],
     detector: &mut Detector,
     reply: &mut Reply,
-    row: &mut Row,
+    row: &mut PacketRow,
     text: &mut Vec<u8>,
-) -> Result<End, NoMemory>
+) -> Result<RunEnd, NoMemory>
     requires space { length line.now ≤ 2 * length bytes.old + 1 }
     requires accepts { AcceptsHeard detector.old }
     ensures text { OnOk result ((earlier : List Happened) → detector.old ≡ state_after earlier
@@ -94,7 +94,7 @@ fn answer_line(
     let bytes = &mut bytes[..line.len() / 2];
     if hex::decode_to_slice(line, bytes).is_err() {
         put_fault(LineFault::NotHex, text)?;
-        return Ok(End::Faulty);
+        return Ok(RunEnd::Faulty);
     }
     match lg_packet::decode(bytes) {
         Ok(packet) => {
@@ -106,11 +106,11 @@ fn answer_line(
             };
             detector.step(&event, reply);
             put_sends(reply.sends.as_slice(), row, text)?;
-            Ok(End::Done)
+            Ok(RunEnd::Done)
         }
         Err(fault) => {
             put_fault(LineFault::Refused(fault), text)?;
-            Ok(End::Faulty)
+            Ok(RunEnd::Faulty)
         }
     }
 }
@@ -139,13 +139,13 @@ pub fn answer(alloc: Global, name: &Name, input: &[u8]) -> Result<Answered, NoMe
     let bytes = memory.as_mut_slice();
     let mut row = ArrayVec::new();
     let mut text = Vec::new(alloc);
-    let mut end = End::Done;
+    let mut end = RunEnd::Done;
     let mut rest = input;
     'lines: while !rest.is_empty() {
         let (line, after) = cut_line(rest);
         match answer_line(line, bytes, &mut detector, &mut reply, &mut row, &mut text)? {
-            End::Done => {}
-            End::Faulty => end = End::Faulty,
+            RunEnd::Done => {}
+            RunEnd::Faulty => end = RunEnd::Faulty,
         }
         rest = after;
     }

@@ -2,13 +2,13 @@
 //!
 //! Defined in: `specs/Meaning/Choosing.antt`, `specs/Meaning/Running.antt`, `specs/Meaning/Faults.antt`.
 //! Tested in: `cases/order.case`.
-ghost use Rattle.std.specs.Prelude.{◌≡◌, ◌≢◌, Ok, Err, IfErr, IfOk};
+ghost use Rattle.std.specs.Prelude.{◌≡◌, false, Ok, Err, IfErr, IfOk};
 ghost use Rattle.std.specs.Option.{option_map};
 ghost use Rattle.lg_rules.specs.Meaning.Rows.{name_cmp, is_among};
 ghost use Rattle.lg_commands.specs.Meaning.Choosing.{are_different, name_lines, names_in};
 ghost use Rattle.lg_commands.specs.Meaning.Choosing.{order_text, words_of_text};
 ghost use Rattle.lg_commands.specs.Meaning.Faults.{bad_list_text};
-ghost use Rattle.lg_commands.specs.Meaning.Running.{IsFaultOf};
+ghost use Rattle.lg_commands.specs.Meaning.Running.{is_order_unwritten, IsFaultOf};
 
 use arrayvec::ArrayVec;
 use lg_probe::choose_all;
@@ -157,7 +157,7 @@ pub fn order(alloc: Global, names: &str, words: &str) -> Result<Vec<u8>, OrderFa
     // Bad names are told even if memory is refused.
     ensures names { order_text names.now words.now ≡ Err BadList.Names
         → result ≡ Err (OrderFault.Bad BadList.Names) }
-    ensures unwritten { IfErr result (λ fault. fault ≢ OrderFault.Run RunFault.Write) }
+    ensures unwritten { IfErr result (λ fault. is_order_unwritten fault ≡ false) }
 {
     let names = names_in(names).ok_or(BadList::Names)?;
     let words = words_in(alloc, words)?.ok_or(BadList::Words)?;

@@ -2,19 +2,20 @@
 //!
 //! Defined in: `lg_text/specs/Meaning/Running.antt`, `specs/Meaning/Answering.antt`, `specs/Meaning/Choosing.antt`.
 //! Tested in: `cases/limits.case`, `lg_command_tests/src/readers.rt`, `lg_command_tests/src/writers.rt`.
-ghost use Rattle.std.specs.Prelude.{◌≡◌, ◌≢◌, ◌⊎◌, true, Err, IfErr, IsOkAnd, OnOk};
+ghost use Rattle.std.specs.Prelude.{◌≡◌, true, false, Err, IfErr, IsOkAnd, OnOk};
 ghost use Rattle.std.specs.Io.KnownBytes.{Appends};
+ghost use Rattle.lg_text.specs.Meaning.Faults.{is_unread, is_unwritten};
 ghost use Rattle.lg_text.specs.Meaning.Running.{AppendsFront, RunsWhole};
 ghost use Rattle.lg_commands.specs.Meaning.Answering.{answer_end, answer_text};
 ghost use Rattle.lg_commands.specs.Meaning.Choosing.{order_text};
-ghost use Rattle.lg_commands.specs.Meaning.Running.{IsFaultOf};
+ghost use Rattle.lg_commands.specs.Meaning.Running.{is_order_unwritten, IsFaultOf};
 ghost use Rattle.lg_commands.specs.Meaning.Timeouts.{are_good, timeouts_text};
 
 use crate::answer::answer;
 use crate::order::{BadList, OrderFault, order};
 use crate::timeouts::{Numbers, timeouts};
 use lg_rules::Name;
-use lg_text::{End, MAX_INPUT, RunFault, read_input, write_whole};
+use lg_text::{MAX_INPUT, RunEnd, RunFault, read_input, write_whole};
 use std::alloc::Global;
 use std::io::{Read, Write};
 
@@ -24,7 +25,7 @@ use std::io::{Read, Write};
 /// The detector is opened with the default configuration, at moment 0 at 127.0.0.1:7000. Each line of the input is a
 /// packet in hex of either case, heard at moment 0 from 127.0.0.1:1. Each packet that is sent is written as a line of
 /// lower-case hex. A packet that is refused gives `fault NUMBER NAME`, and a line that isn't hex gives `bad hex`.
-/// After such a line the run goes on, and its end is then [`End::Faulty`]. An empty line is a packet of no bytes
+/// After such a line the run goes on, and its end is then [`RunEnd::Faulty`]. An empty line is a packet of no bytes
 /// (this project's choice).
 ///
 /// The input has at most 1,048,576 bytes. A longer or endless one is [`RunFault::Read`], and so is any error of the
@@ -39,15 +40,17 @@ pub fn answer_run<R: Read, W: Write>(
     reader: &mut R,
     writer: &mut W,
     name: &Name,
-) -> Result<End, RunFault>
+) -> Result<RunEnd, RunFault>
     // What is written is the answer to the input that was read, and the end is that of the input.
     ensures { RunsWhole (answer_text name.now) answer_end (R.remaining reader.old) (R.remaining reader.new)
         writer.old writer.new (W.contents writer.old) (W.contents writer.new) result }
 {
     let input = read_input(alloc, reader)?;
     let answered = answer(alloc, name, &input)?;
-    write_whole(writer, &answered.text)?;
-    Ok(answered.end)
+    match write_whole(writer, &answered.text) {
+        Ok(()) => Ok(answered.end),
+        Err(fault) => Err(RunFault::Write(fault)),
+    }
 }
 
 /// Runs the command `timeouts`: writes the timeouts of a suspicion for some numbers, and nothing else.
@@ -63,13 +66,16 @@ pub fn timeouts_run<W: Write>(
 ) -> Result<(), RunFault>
     requires { are_good numbers.now ≡ true }
     ensures text { OnOk result (Appends (W.contents writer.old) (W.contents writer.new) (timeouts_text numbers.now)) }
-    ensures refused { IfErr result (λ fault. (fault ≡ RunFault.Memory) ⊎ (fault ≡ RunFault.Write)) }
-    ensures unwritten { IfErr result (λ fault. fault ≢ RunFault.Write → writer.new ≡ writer.old) }
-    ensures partly { IfErr result (λ fault. fault ≡ RunFault.Write
+    ensures refused { IfErr result (λ fault. is_unread fault ≡ false) }
+    ensures unwritten { IfErr result (λ fault. is_unwritten fault ≡ false → writer.new ≡ writer.old) }
+    ensures partly { IfErr result (λ fault. is_unwritten fault ≡ true
         → AppendsFront (W.contents writer.old) (W.contents writer.new) (timeouts_text numbers.now)) }
 {
     let text = timeouts(alloc, numbers)?;
-    write_whole(writer, text.as_bytes())
+    match write_whole(writer, text.as_bytes()) {
+        Ok(()) => Ok(()),
+        Err(fault) => Err(RunFault::Write(fault)),
+    }
 }
 
 /// Runs the command `order`: writes whom words choose one after another from some names, a line each, and nothing
@@ -93,12 +99,14 @@ pub fn order_run<W: Write>(
     ensures refused { IfErr result (IsFaultOf (order_text names.now words.now)) }
     ensures names { order_text names.now words.now ≡ Err BadList.Names
         → result ≡ Err (OrderFault.Bad BadList.Names) }
-    ensures unwritten { IfErr result (λ fault. fault ≢ OrderFault.Run RunFault.Write → writer.new ≡ writer.old) }
-    ensures partly { IfErr result (λ fault. fault ≡ OrderFault.Run RunFault.Write
+    ensures unwritten { IfErr result (λ fault. is_order_unwritten fault ≡ false → writer.new ≡ writer.old) }
+    ensures partly { IfErr result (λ fault. is_order_unwritten fault ≡ true
         → IsOkAnd (order_text names.now words.now)
         (λ text. AppendsFront (W.contents writer.old) (W.contents writer.new) text)) }
 {
     let text = order(alloc, names, words)?;
-    write_whole(writer, &text)?;
-    Ok(())
+    match write_whole(writer, &text) {
+        Ok(()) => Ok(()),
+        Err(fault) => Err(OrderFault::Run(RunFault::Write(fault))),
+    }
 }

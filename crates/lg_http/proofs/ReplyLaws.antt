@@ -6,7 +6,7 @@ use Rattle.http_uri.specs.Uri.{uri_path, uri_query}
 use Rattle.http_server.specs.declared.response.Response.{Response}
 use Rattle.http_server.specs.Response.{fields_of}
 use Rattle.lg_http.specs.declared.hosts.Hosts.{Hosts}
-use Rattle.lg_http.specs.declared.site.Answer.{Answer}
+use Rattle.lg_http.specs.declared.site.HttpAnswer.{HttpAnswer}
 use Rattle.lg_http.specs.declared.site.Kind.TheVariants.{Json}
 use Rattle.lg_http.specs.Meaning.Answers.{SiteAnswers, IsServedMethod, IsTooMany, RepliesAmong, IsReply, closing, content_type, status_number, field_of, has_body}
 use Rattle.lg_http.specs.Meaning.Answers.{allowed, retry, method_body, crowded_body, misdirected_body}
@@ -75,7 +75,7 @@ crowded_reply answers hosts full site request begun filled (Err e) here is_serve
 
 -- what the site answers
 pub site_reply : {S A E : Type 0} (answers : SiteAnswers S) (hosts : Hosts) (full : Bool) (site : S) (request : Request (List ℕ))
-    (begun filled : Response) (r : Result A E) (a : Answer)
+    (begun filled : Response) (r : Result A E) (a : HttpAnswer)
     → AnswersTo hosts (field_of (codes "host") request) → IsServedMethod (head_of request).method → IsFalse full
     → answers site (uri_path (head_of request).uri) (uri_query (head_of request).uri) a
     → fields_of begun ≡ closing (full || has_body request) → filled.status ≡ status_number a.status

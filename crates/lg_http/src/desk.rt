@@ -16,7 +16,7 @@ ghost use Rattle.lg_http.specs.Meaning.Answers.{allowed, retry};
 ghost use Rattle.lg_http.specs.Meaning.Hosts.{AnswersTo};
 
 use crate::hosts::Hosts;
-use crate::site::{Answer, Kind, Site, Status, Wait};
+use crate::site::{HttpAnswer, HttpStatus, Kind, Site, Wait};
 use crate::slots::MAX_PARKED;
 use bytes::{BufMut, Bytes};
 use http::{HeaderName, HeaderValue, Request, StatusCode, Uri, header};
@@ -62,14 +62,14 @@ impl<S: Site> Desk<S> {
 }
 
 /// The code as `http` has it.
-fn status_code(status: Status) -> StatusCode
+fn status_code(status: HttpStatus) -> StatusCode
     ensures { result ≡ status_number status }
 {
     match status {
-        Status::Fine => StatusCode::OK,
-        Status::BadRequest => StatusCode::BAD_REQUEST,
-        Status::NotFound => StatusCode::NOT_FOUND,
-        Status::Unavailable => StatusCode::SERVICE_UNAVAILABLE,
+        HttpStatus::Fine => StatusCode::OK,
+        HttpStatus::BadRequest => StatusCode::BAD_REQUEST,
+        HttpStatus::NotFound => StatusCode::NOT_FOUND,
+        HttpStatus::Unavailable => StatusCode::SERVICE_UNAVAILABLE,
     }
 }
 
@@ -107,14 +107,14 @@ fn put_close(is_last: bool, response: &mut Response) -> Result<(), AllocError>
 }
 
 /// Fills in what the site answers.
-fn put_answer(answer: Answer, response: &mut Response) -> Result<(), AllocError>
+fn put_answer(answer: HttpAnswer, response: &mut Response) -> Result<(), AllocError>
     requires { response.old.body.items ≡ [] }
     ensures status { response.new.status ≡ status_number answer.status }
     ensures headers { OnOk result
         (fields_of response.new ≡ fields_of response.old ++ content_type answer.kind ∷ []) }
     ensures body { OnOk result (response.new.body.items ≡ answer.body.items) }
 {
-    let Answer { status, kind, body } = answer;
+    let HttpAnswer { status, kind, body } = answer;
     response.status = status_code(status);
     put_kind(kind, response)?;
     response.body.push(Bytes::from_vec(body)?)
@@ -200,7 +200,7 @@ fn is_served(method: &str) -> bool
 }
 
 /// What a site answers to a target.
-fn site_answer<S: Site>(site: &S, alloc: Global, uri: &Uri) -> Result<Answer, AllocError>
+fn site_answer<S: Site>(site: &S, alloc: Global, uri: &Uri) -> Result<HttpAnswer, AllocError>
     ensures { IfOk result (λ a. S.answers site.now (uri_path uri.now) (uri_query uri.now) a) }
 {
     let path = uri.path().as_bytes();

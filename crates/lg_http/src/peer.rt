@@ -132,6 +132,8 @@ pub(crate) struct Peer {
     /// What is sent in the place of the output of `http`.
     own: Option<OwnText>,
     phase: Phase,
+    /// How many bytes the request at the front has, if it is a long poll that waits.
+    front: usize,
     /// When the phase ends at the latest, in milliseconds.
     until: u64,
     can_read: bool,
@@ -169,6 +171,7 @@ impl Peer {
             held: BytesMut::new(alloc),
             own: None,
             phase: Phase::Reading,
+            front: 0,
             until: at.milliseconds().saturating_add(LIMIT_MS),
             can_read: true,
             can_write: true,

@@ -42,7 +42,7 @@ const PAUSE_MS: u64 = 100;
 
 /// Why a server has ended.
 #[derive(Clone, Copy, Debug, PartialEq, Eq)]
-pub enum End {
+pub enum ServerEnd {
     /// It was told to stop, or it has made 2^64 - 1 turns.
     Stopped,
     /// The system's wait failed.
@@ -51,7 +51,7 @@ pub enum End {
 
 /// What a server did.
 #[derive(Clone, Copy, Debug, Default, PartialEq, Eq)]
-pub struct Counts {
+pub struct ServerCounts {
     /// How often it went over its connections. No more than 2^64 - 1 are counted.
     pub turns: u64,
     /// Connections that got a slot.
@@ -76,7 +76,7 @@ pub struct Server {
     can_accept: bool,
     /// No connection is taken before this moment, in milliseconds.
     accept_from: u64,
-    counts: Counts,
+    counts: ServerCounts,
     /// That it was told to stop, if it was.
     told: Option<Told>,
 }
@@ -123,7 +123,7 @@ impl Server {
             slots: Slots::new(alloc)?,
             can_accept: true,
             accept_from: 0,
-            counts: Counts::default(),
+            counts: ServerCounts::default(),
             told: None,
         };
         Ok((server, signal))
@@ -135,7 +135,7 @@ impl Server {
         desk: &mut Desk<S>,
         clock: &C,
         signal: &Signal,
-    ) -> (End, Counts)
+    ) -> (ServerEnd, ServerCounts)
         ensures free { AreFree (slots_of self.old)
             → AreServed (Replies S.answers S.version S.waits desk.old.hosts) S.later desk.new.site
             self.old.slots self.new.slots }
@@ -146,7 +146,7 @@ impl Server {
         ensures goes_on { S.later desk.old.site desk.new.site }
         ensures hosts { desk.new.hosts ≡ desk.old.hosts }
         // It stops only if it was told to, or after so many turns.
-        ensures stopped { result.0 ≡ End.Stopped → IsTold self.new ⊎ (u64.MAX ≤ result.1.turns) }
+        ensures stopped { result.0 ≡ ServerEnd.Stopped → IsTold self.new ⊎ (u64.MAX ≤ result.1.turns) }
         ensures counts { result.1 ≡ self.new.counts }
     {
         for number in 0..u64::MAX {
@@ -154,13 +154,13 @@ impl Server {
             let _number = number;
             self.told = signal.told();
             if self.told.is_some() {
-                return (End::Stopped, self.counts);
+                return (ServerEnd::Stopped, self.counts);
             }
             if let Err(kind) = self.turn(desk, clock, signal) {
-                return (End::WaitFailed(kind), self.counts);
+                return (ServerEnd::WaitFailed(kind), self.counts);
             }
         }
-        (End::Stopped, self.counts)
+        (ServerEnd::Stopped, self.counts)
     }
 
     /// Lets each connection do what it can, waits for the sockets, and takes new connections. The error is that the
@@ -207,10 +207,8 @@ impl Server {
         let version = desk.site.refresh();
         let rest = self.slots.run(desk, at, version);
         let wait_ms = rest.wait_ms.min(self.accept_wait(at)).min(LONGEST_MS);
-        if rest.parked == 0 {
-            return wait_ms;
-        }
-        // A change that came before the signal was set isn't missed.
+        // A change wakes the server also while nobody asks, so that the site sees each soon after it was published. One
+        // that came before this isn't missed.
         signal.await_change();
         if desk.site.refresh() == version {
             wait_ms

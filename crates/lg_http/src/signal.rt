@@ -12,7 +12,7 @@ use std::sync::atomic::Ordering::SeqCst;
 #[derive(Drop)]
 pub struct Signal {
     waker: Waker,
-    /// A long poll waits for a change.
+    /// The server sleeps, and a change is to wake it.
     is_awaited: AtomicBool,
     is_stopped: AtomicBool,
 }
@@ -32,8 +32,8 @@ impl Signal {
         })
     }
 
-    /// Call this after each change was published, in the thread that published it. If no long poll waits, it costs one
-    /// load of a flag that hardly changes.
+    /// Call this after each change was published, in the thread that published it. It wakes the server if that sleeps, so
+    /// that its site looks at each change soon, whether anybody asks or not. Otherwise it costs one load of a flag.
     ///
     /// The change has to be published by an atomic that is `SeqCst`, which [`Site::refresh`](crate::Site::refresh)
     /// reads, or under a lock that `refresh` takes.

@@ -3,7 +3,7 @@
 //! Defined in: `specs/Meaning/Answers.antt`.
 //! Tested in: `lg_http_tests/src/serving.rt`.
 ghost use Rattle.std.specs.Prelude.{◌≡◌, ℕ, List, Option, IfOk, option_map};
-ghost use Rattle.lg_http.specs.declared.site.Answer.{Answer};
+ghost use Rattle.lg_http.specs.declared.site.HttpAnswer.{HttpAnswer};
 ghost use Rattle.lg_http.specs.declared.site.Wait.{Wait};
 ghost use Rattle.lg_http.specs.Meaning.Answers.{status_number, kind_words, would_wait, IsSiteOrder};
 
@@ -11,7 +11,7 @@ use std::alloc::{AllocError, Global};
 
 /// The status of an answer (RFC 9110, section 15).
 #[derive(Clone, Copy, Debug, PartialEq, Eq)]
-pub enum Status {
+pub enum HttpStatus {
     /// 200.
     Fine,
     /// 400: the path or the query isn't of the form that the resource takes.
@@ -22,16 +22,16 @@ pub enum Status {
     Unavailable,
 }
 
-impl Status {
+impl HttpStatus {
     /// The code, 200 to 503.
     pub fn number(self) -> u16
         ensures { result ≡ status_number self }
     {
         match self {
-            Status::Fine => 200,
-            Status::BadRequest => 400,
-            Status::NotFound => 404,
-            Status::Unavailable => 503,
+            HttpStatus::Fine => 200,
+            HttpStatus::BadRequest => 400,
+            HttpStatus::NotFound => 404,
+            HttpStatus::Unavailable => 503,
         }
     }
 }
@@ -62,8 +62,8 @@ impl Kind {
 
 /// What a client gets. To HEAD its body isn't sent.
 #[derive(Debug, Drop)]
-pub struct Answer {
-    pub status: Status,
+pub struct HttpAnswer {
+    pub status: HttpStatus,
     pub kind: Kind,
     pub body: Vec<u8>,
 }
@@ -88,7 +88,7 @@ impl Wait {
 /// What a server shows. One thread asks it, and no call may wait for anybody.
 pub trait Site {
     // What a state answers to a path and a query.
-    ghost answers: { Self → List ℕ → Option (List ℕ) → Answer → Type 0 };
+    ghost answers: { Self → List ℕ → Option (List ℕ) → HttpAnswer → Type 0 };
 
     // The version of what a state shows.
     ghost version: { Self → ℕ };
@@ -111,7 +111,12 @@ pub trait Site {
 
     /// The answer to a GET or HEAD of this path and query, from what was taken in last. The error is refused memory
     /// alone, and closes the client's connection. The bytes are as the client sent them.
-    fn answer(&self, alloc: Global, path: &[u8], query: Option<&[u8]>) -> Result<Answer, AllocError>
+    fn answer(
+        &self,
+        alloc: Global,
+        path: &[u8],
+        query: Option<&[u8]>,
+    ) -> Result<HttpAnswer, AllocError>
         ensures { IfOk result (λ a. answers self.now path.now (option_map (λ q. q.now) query.entry) a) };
 
     // A state counts as later than itself, and what is later than a later one is later.

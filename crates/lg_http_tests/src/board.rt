@@ -1,7 +1,7 @@
 //! What the server of the tests shows: a number.
 ghost use Rattle.std.specs.Prelude.{⊤};
 
-use lg_http::{Answer, Kind, Site, Status, Wait};
+use lg_http::{HttpAnswer, HttpStatus, Kind, Site, Wait};
 use std::alloc::{AllocError, Global};
 use std::sync::atomic::AtomicU64;
 use std::sync::atomic::Ordering::SeqCst;
@@ -23,8 +23,13 @@ pub(crate) struct Board<'a> {
 }
 
 /// An answer with this body.
-fn answer_of(alloc: Global, status: Status, kind: Kind, body: &[u8]) -> Result<Answer, AllocError> {
-    Ok(Answer {
+fn answer_of(
+    alloc: Global,
+    status: HttpStatus,
+    kind: Kind,
+    body: &[u8],
+) -> Result<HttpAnswer, AllocError> {
+    Ok(HttpAnswer {
         status,
         kind,
         body: Vec::from_slice(alloc, body)?,
@@ -32,11 +37,11 @@ fn answer_of(alloc: Global, status: Status, kind: Kind, body: &[u8]) -> Result<A
 }
 
 /// The largest answer.
-fn large(alloc: Global) -> Result<Answer, AllocError> {
+fn large(alloc: Global) -> Result<HttpAnswer, AllocError> {
     let mut body = Vec::new(alloc);
     body.resize(LARGE, b'a')?;
-    Ok(Answer {
-        status: Status::Fine,
+    Ok(HttpAnswer {
+        status: HttpStatus::Fine,
         kind: Kind::Html,
         body,
     })
@@ -77,28 +82,33 @@ impl<'a> Site for Board<'a> {
         alloc: Global,
         path: &[u8],
         _query: Option<&[u8]>,
-    ) -> Result<Answer, AllocError> {
+    ) -> Result<HttpAnswer, AllocError> {
         match path {
-            b"/" => answer_of(alloc, Status::Fine, Kind::Html, b"<p>page</p>"),
-            b"/metrics" => answer_of(alloc, Status::Fine, Kind::Metrics, b"number 0\n"),
+            b"/" => answer_of(alloc, HttpStatus::Fine, Kind::Html, b"<p>page</p>"),
+            b"/metrics" => answer_of(alloc, HttpStatus::Fine, Kind::Metrics, b"number 0\n"),
             b"/bad" => answer_of(
                 alloc,
-                Status::BadRequest,
+                HttpStatus::BadRequest,
                 Kind::Json,
                 b"{\"error\":\"bad\"}",
             ),
             b"/large" => large(alloc),
-            b"/ill" => answer_of(alloc, Status::Unavailable, Kind::Json, b"{\"ill\":true}"),
+            b"/ill" => answer_of(
+                alloc,
+                HttpStatus::Unavailable,
+                Kind::Json,
+                b"{\"ill\":true}",
+            ),
             b"/next" if self.seen == 0 => answer_of(
                 alloc,
-                Status::Fine,
+                HttpStatus::Fine,
                 Kind::Json,
                 b"{\"number\":0}",
             ),
-            b"/next" => answer_of(alloc, Status::Fine, Kind::Json, b"{\"number\":1}"),
+            b"/next" => answer_of(alloc, HttpStatus::Fine, Kind::Json, b"{\"number\":1}"),
             _ => answer_of(
                 alloc,
-                Status::NotFound,
+                HttpStatus::NotFound,
                 Kind::Json,
                 b"{\"error\":\"unknown\"}",
             ),

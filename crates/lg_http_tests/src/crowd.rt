@@ -2,7 +2,7 @@
 
 use super::client::{Text, all_sent, answer_to, is_made_of, passed_ms, sent, told};
 use super::playing::{Place, Play, Wrong, expect, played};
-use lg_http::{End, MAX_PARKED, MAX_PEERS};
+use lg_http::{MAX_PARKED, MAX_PEERS, ServerEnd};
 use std::io::{ErrorKind, Read};
 use std::net::{Net, TcpStream};
 use std::sync::atomic::Ordering::SeqCst;
@@ -171,7 +171,7 @@ pub(crate) fn ask<R: Net<Stream = TcpStream> + rt::Clock>(
 fn takes_so_many_clients(rt: HostRuntime) {
     let played = played(&rt, rt.alloc(), Play::Crowd);
     let met = played.as_ref().is_ok_and(|(end, counts, seen)| {
-        *end == End::Stopped && counts.turned_away > 0 && counts.failed == 0 && seen.is_ok()
+        *end == ServerEnd::Stopped && counts.turned_away > 0 && counts.failed == 0 && seen.is_ok()
     });
     assert!(rt; met, "{played:?}");
 }

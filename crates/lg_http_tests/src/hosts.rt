@@ -2,7 +2,7 @@
 
 use super::client::{Text, answer_to, is_made_of};
 use super::playing::{Place, Play, Wrong, expect, played};
-use lg_http::End;
+use lg_http::ServerEnd;
 use std::net::{Net, TcpStream};
 use std::rt;
 
@@ -135,7 +135,7 @@ pub(crate) fn ask<R: Net<Stream = TcpStream>>(rt: &R, place: &Place<'_>) -> Resu
 fn answers_to_addresses_and_localhost(rt: HostRuntime) {
     let played = played(&rt, rt.alloc(), Play::Hosts);
     let met = played.as_ref().is_ok_and(|(end, counts, seen)| {
-        *end == End::Stopped && counts.failed == 0 && seen.is_ok()
+        *end == ServerEnd::Stopped && counts.failed == 0 && seen.is_ok()
     });
     assert!(rt; met, "{played:?}");
 }

@@ -3,7 +3,7 @@
 use super::board::LARGE;
 use super::client::{Heard, Text, passed_ms, sent, told_some};
 use super::playing::{Place, Play, Wrong, expect, played};
-use lg_http::End;
+use lg_http::ServerEnd;
 use std::io::Write;
 use std::net::{Net, TcpStream};
 use std::time::{Duration, Instant};
@@ -192,7 +192,7 @@ pub(crate) fn ask<R: Net<Stream = TcpStream> + rt::Clock>(
 fn closes_those_that_are_late(rt: HostRuntime) {
     let played = played(&rt, rt.alloc(), Play::Late);
     let met = played.as_ref().is_ok_and(|(end, counts, seen)| {
-        *end == End::Stopped
+        *end == ServerEnd::Stopped
             && counts.accepted == ROWS.len() as u64
             && counts.turned_away == 0
             && counts.failed == 0

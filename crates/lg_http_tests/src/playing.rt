@@ -3,7 +3,7 @@
 use super::board::Board;
 use super::{crowd, hosts, late, refused_memory, serving};
 use lg_clock::MachineClock;
-use lg_http::{Counts, Desk, End, Hosts, Listener, Server, Signal};
+use lg_http::{Desk, Hosts, Listener, Server, ServerCounts, ServerEnd, Signal};
 use std::alloc::{AllocError, Global};
 use std::net::{Ipv4Addr, Net, SocketAddr, TcpListener, TcpStream};
 use std::random::RandomSource;
@@ -82,7 +82,7 @@ pub(crate) fn expect(is_so: bool, what: &'static str, number: u64) -> Result<(),
 }
 
 /// What a server did.
-type Served = io::Result<(End, Counts)>;
+type Served = io::Result<(ServerEnd, ServerCounts)>;
 
 /// Serves the number until the signal says to stop.
 fn serve<R: rt::Clock>(rt: &R, place: &Place<'_>, server: Server, hosts: Hosts) -> Served {
@@ -130,7 +130,7 @@ pub(crate) fn played<R>(
     rt: &R,
     alloc: Global,
     play: Play,
-) -> io::Result<(End, Counts, Result<(), Wrong>)>
+) -> io::Result<(ServerEnd, ServerCounts, Result<(), Wrong>)>
 where
     R: Net<Listener = TcpListener, Stream = TcpStream> + RandomSource + rt::Clock + Threads + Sync,
 {

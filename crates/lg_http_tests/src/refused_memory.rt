@@ -2,7 +2,7 @@
 
 use super::client::{Text, answer_to, is_made_of};
 use super::playing::{Place, Play, Wrong, expect, played};
-use lg_http::End;
+use lg_http::ServerEnd;
 use std::alloc::Global;
 use std::net::{Net, TcpListener, TcpStream};
 use std::random::RandomSource;
@@ -54,7 +54,7 @@ where
     if counts.turns == 0 {
         return None;
     }
-    Some(end == End::Stopped && seen.is_ok())
+    Some(end == ServerEnd::Stopped && seen.is_ok())
 }
 
 /// A server that didn't begin does so the next time. One that began answers all but the client that met the refusal.

@@ -3,7 +3,7 @@
 use super::board::WAIT_MS;
 use super::client::{Text, answer_to, is_made_of, passed_ms, sent, told};
 use super::playing::{Place, Play, Wrong, expect, played};
-use lg_http::End;
+use lg_http::ServerEnd;
 use std::net::{Net, TcpStream};
 use std::sync::atomic::Ordering::SeqCst;
 use std::time::{Duration, Instant};
@@ -332,7 +332,7 @@ fn answers_what_it_should(rt: HostRuntime) {
     let played = played(&rt, rt.alloc(), Play::Rows);
     let rows = ANSWERS.len() + PIPELINED.len() + DAMAGED.len() + REFUSED.len();
     let met = played.as_ref().is_ok_and(|(end, counts, seen)| {
-        *end == End::Stopped
+        *end == ServerEnd::Stopped
             && counts.accepted == rows as u64 + 2
             && counts.turned_away == 0
             && counts.failed == 0

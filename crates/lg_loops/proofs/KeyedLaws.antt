@@ -5,9 +5,9 @@ use Rattle.std.proofs.Math.Seq.{take-append_seam}
 use Rattle.std.proofs.lemmas.List.{take-append-drop}
 use Rattle.std.proofs.lemmas.List.Edits.{take-paste}
 use Rattle.std.specs.List.{copy_within}
-use Rattle.lg_key.specs.declared.key.Keys.{Keys}
-use Rattle.lg_key.specs.Meaning.Sealing.{IsSealed, signed_part}
-use Rattle.lg_key.proofs.SealedParts.{sealed_like}
+use Rattle.lg_seal.specs.declared.key.Keys.{Keys}
+use Rattle.lg_seal.specs.Meaning.Sealing.{IsSealed, signed_part}
+use Rattle.lg_seal.proofs.SealedParts.{sealed_like}
 
 -- behind the head come the packet, the tag, and what else is in the buffer
 behind_head : (buffer packet tag : List ℕ) (len : ℕ) → take len buffer ≡ signed_part packet ++ tag

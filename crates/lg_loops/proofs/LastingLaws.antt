@@ -6,7 +6,7 @@ use Rattle.std.proofs.lemmas.List.Sums.{sum_by-append}
 use Rattle.std.proofs.lemmas.List.Concat.{flat_map-append}
 use Rattle.lg_agent.specs.Meaning.Values.{PassValue}
 use Rattle.lg_loops.specs.Meaning.Links.{LinkEvent}
-use Rattle.lg_loops.specs.declared.ending.End.{End}
+use Rattle.lg_loops.specs.declared.ending.LoopEnd.{LoopEnd}
 use Rattle.lg_loops.specs.declared.ending.Why.{Why}
 use Rattle.lg_loops.specs.declared.ending.Why.TheVariants.{ReadBound}
 use Rattle.lg_loops.specs.Meaning.Turns.{Turn, deeds, breaks, goes_on, Follows, LinkValue, Made, Ends, Ran, Lasted}
@@ -50,7 +50,7 @@ all_made bound turns why is ends = subst (λ (w : Why). Ends bound turns w) is e
 pub true_not_false : (b : Bool) → b ≡ true → b ≡ false → ⊥
 true_not_false b h k = let e : true ≡ false = sym h ∙ k in absurd cc
 
-unfoldable pub stretch_more : (kind : Turn → Bool) (tells : Bool) (bound : ℕ) (endless : Bool) (a b c : LinkValue) (p m q : PassValue) (end : End)
+unfoldable pub stretch_more : (kind : Turn → Bool) (tells : Bool) (bound : ℕ) (endless : Bool) (a b c : LinkValue) (p m q : PassValue) (end : LoopEnd)
     → Lasting kind tells bound endless a b p m → Ran kind tells bound b c m q end → end.why ≡ ReadBound → endless ≡ true → Lasting kind tells bound endless a c p q
 stretch_more kind tells bound endless a b c p m q end was ran why always =
     let all = all_made bound ran.turns end.why why ran.why in
@@ -63,7 +63,7 @@ stretch_more kind tells bound endless a b c p m q end was ran why always =
       once = λ never. absurd (true_not_false endless always never);
     }
 
-unfoldable pub lasted : (kind : Turn → Bool) (tells : Bool) (bound : ℕ) (endless : Bool) (a b c : LinkValue) (p m q : PassValue) (end : End)
+unfoldable pub lasted : (kind : Turn → Bool) (tells : Bool) (bound : ℕ) (endless : Bool) (a b c : LinkValue) (p m q : PassValue) (end : LoopEnd)
     → Lasting kind tells bound endless a b p m → Ran kind tells bound b c m q end → (endless ≡ true → end.why ≡ ReadBound → ⊥) → Lasted kind tells bound endless a c p q end
 lasted kind tells bound endless a b c p m q end was ran not = record {
   stretches = was.stretches;

@@ -5,7 +5,7 @@ use Rattle.std.specs.List.{flat_map}
 use Rattle.std.proofs.lemmas.List.Concat.{flat_map-append}
 use Rattle.lg_agent.specs.Meaning.Values.{PassValue}
 use Rattle.lg_loops.specs.declared.agenda.Agenda.{Agenda}
-use Rattle.lg_loops.specs.declared.ending.End.{End}
+use Rattle.lg_loops.specs.declared.ending.LoopEnd.{LoopEnd}
 use Rattle.lg_loops.specs.declared.ending.Why.{Why}
 use Rattle.lg_loops.specs.declared.ending.Why.TheVariants.{Stopped, ReadBound}
 use Rattle.lg_loops.specs.declared.plan.Plan.{Plan}
@@ -115,7 +115,7 @@ threw_join : {D : Type 0} (throws : D → List ℕ → D → Type 0) (dice d e :
     → Threw throws dice (flat_map words_in (ts ++ us)) e
 threw_join throws dice d e ts us one two = rw (flat_map-append words_in ts us) (threw-append throws dice d e (flat_map words_in ts) (flat_map words_in us) one two)
 
-pub ticks_more : {D : Type 0} (throws : D → List ℕ → D → Type 0) (dice d e : D) (plan : Plan) (tells : Bool) (bound : ℕ) (endless : Bool) (k l m : LinkValue) (p o q : PassValue) (a b : Agenda) (end : End)
+pub ticks_more : {D : Type 0} (throws : D → List ℕ → D → Type 0) (dice d e : D) (plan : Plan) (tells : Bool) (bound : ℕ) (endless : Bool) (k l m : LinkValue) (p o q : PassValue) (a b : Agenda) (end : LoopEnd)
     → TicksOn throws dice d plan tells bound endless k l p o a → Stretched throws d e plan tells bound l m o q a b end → end.why ≡ ReadBound → endless ≡ true
     → TicksOn throws dice e plan tells bound endless k m p q b
 unfolding stretch_more
@@ -127,7 +127,7 @@ ticks_more throws dice d e plan tells bound endless k l m p o q a b end was one 
   threw = threw_join throws dice d e was.lasting.earlier one.ran.turns was.threw one.threw;
 }
 
-pub ticks_over : {D : Type 0} (throws : D → List ℕ → D → Type 0) (dice d e : D) (plan : Plan) (tells : Bool) (bound : ℕ) (endless : Bool) (k l m : LinkValue) (p o q : PassValue) (a b : Agenda) (end : End)
+pub ticks_over : {D : Type 0} (throws : D → List ℕ → D → Type 0) (dice d e : D) (plan : Plan) (tells : Bool) (bound : ℕ) (endless : Bool) (k l m : LinkValue) (p o q : PassValue) (a b : Agenda) (end : LoopEnd)
     → TicksOn throws dice d plan tells bound endless k l p o a → Stretched throws d e plan tells bound l m o q a b end → (endless ≡ true → end.why ≡ ReadBound → ⊥)
     → Ticking throws dice plan tells bound endless k m p q end
 unfolding lasted

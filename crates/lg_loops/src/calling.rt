@@ -1,5 +1,6 @@
 //! The calls of a loop. A call that is refused because the history is full is made again, once, after a rotation.
-//! An answered call writes its reply over the one that the loop keeps, and returns the position of its entry.
+//! An answered call writes its reply over the one that the loop keeps, and returns the position of its entry. That of a
+//! datagram says too whether its packet is a Page.
 //!
 //! Defined in: `lg_agent/specs/Meaning/Calls.antt`, `specs/Meaning/Turns.antt`.
 //! Tested in: `lg_node_tests/src/node/rotating.rt`, `lg_node_tests/src/node/receiving.rt`.
@@ -9,11 +10,11 @@ ghost use Rattle.lg_packet.specs.declared.packet.Packet.{Packet as Read};
 ghost use Rattle.lg_packet.specs.Meaning.Reading.{packet_of};
 ghost use Rattle.lg_detector.specs.declared.event.Event.TheVariants.{Tick, Heard, Pull};
 ghost use Rattle.lg_agent.specs.declared.refusal.Refusal.TheVariants.{BadPacket, NoMemory, HistoryFull};
-ghost use Rattle.lg_agent.specs.Meaning.Calls.{receipt_of, IsCall, IsRefusal, IsBadPacket, IsRotatedPass};
+ghost use Rattle.lg_agent.specs.Meaning.Calls.{receipt_of, is_page, IsCall, IsRefusal, IsBadPacket, IsRotatedPass};
 ghost use Rattle.lg_loops.specs.Meaning.Turns.{MadeNoCall};
 
 use crate::shared::Shared;
-use lg_agent::{AgentName, Pass, Refusal};
+use lg_agent::{AgentName, HeardPacket, Pass, Refusal};
 use lg_detector::Reply;
 use lg_rules::Addr;
 use lg_timing::Moment;
@@ -48,9 +49,10 @@ pub(crate) fn datagram<A: AgentName, R: Wait, C>(
     source: Addr,
     bytes: &[u8],
     reply: &mut Reply,
-) -> Result<u64, Refusal>
-    ensures answered { IfOk result (λ place. (p : Read) × (packet_of bytes.now ≡ Ok p)
-        × IsCall pass.old (Heard now source p) (receipt_of place reply.new) pass.new) }
+) -> Result<HeardPacket, Refusal>
+    ensures answered { IfOk result (λ heard. (p : Read) × (packet_of bytes.now ≡ Ok p)
+        × IsCall pass.old (Heard now source p) (receipt_of heard.place reply.new) pass.new
+        × (heard.is_page ≡ is_page p.body)) }
     ensures refused { OnErr result (MadeNoCall pass.old pass.new) }
     ensures kept { OnErr result (reply.new ≡ reply.old) }
     ensures bad { (f : Broken) → packet_of bytes.now ≡ Err f
@@ -59,7 +61,7 @@ pub(crate) fn datagram<A: AgentName, R: Wait, C>(
     ensures refusal { IfErr result (λ e. IsBadPacket e ⊎ IsRefusal pass.old.seen e) }
 {
     match pass.datagram_into(shared.rt, shared.alloc, now, source, bytes, reply) {
-        Ok(place) => Ok(place),
+        Ok(heard) => Ok(heard),
         Err(unheard) => {
             make_room(shared, pass, unheard)?;
             pass.datagram_into(shared.rt, shared.alloc, now, source, bytes, reply)

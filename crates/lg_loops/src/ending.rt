@@ -31,7 +31,7 @@ pub enum Why {
 
 /// How a loop ended.
 #[derive(Clone, Copy, Debug, PartialEq, Eq)]
-pub struct End {
+pub struct LoopEnd {
     /// Why.
     pub why: Why,
     /// How many datagrams were dropped, since their bytes are no packet.
@@ -42,12 +42,12 @@ pub struct End {
     pub turns: u64,
 }
 
-impl End {
+impl LoopEnd {
     /// An end of these parts.
-    pub(crate) fn of(why: Why, dropped: u64, unsent: u64, turns: u64) -> End
+    pub(crate) fn of(why: Why, dropped: u64, unsent: u64, turns: u64) -> LoopEnd
         ensures { result ≡ record { why = why; dropped = dropped; unsent = unsent; turns = turns } }
     {
-        End {
+        LoopEnd {
             why,
             dropped,
             unsent,
@@ -72,5 +72,5 @@ pub struct Ended<L, A: AgentName> {
     /// What its pass left.
     pub spent: Spent<A>,
     /// How it ended.
-    pub end: End,
+    pub end: LoopEnd,
 }

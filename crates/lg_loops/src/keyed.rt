@@ -3,16 +3,16 @@
 //! Defined in: `specs/Meaning/Keyed.antt`.
 //! Tested in: `lg_node_tests/src/node/keyed.rt`.
 ghost use Rattle.std.specs.Prelude.{◌≡◌, ◌+◌, ◌≤◌, ◌∷◌, ◌++◌, [], true, take, is_ok, IfErr, IfOk, IfSome, OnErr, OnOk};
-ghost use Rattle.lg_key.specs.Meaning.Sealing.{IsRefused, IsSealed, sealed};
+ghost use Rattle.lg_seal.specs.Meaning.Sealing.{IsRefused, IsSealed, sealed};
 ghost use Rattle.lg_loops.specs.Meaning.Keyed.{counted_with, Opens};
 ghost use Rattle.lg_loops.specs.Meaning.Links.{LinkEvent, reception};
 ghost use Rattle.lg_loops.specs.Meaning.Links.LinkEvent.{Handed};
 
 use crate::link::{Link, LinkFault, MAX_DATAGRAM};
 use arrayvec::ArrayVec;
-use lg_key::{Keys, SEAL_LEN, SealFault, Sealer, TAG_LEN};
 use lg_packet::MAX_PACKET;
 use lg_rules::Addr;
+use lg_seal::{Keys, SEAL_LEN, SealFault, Sealer, TAG_LEN};
 
 /// The most bytes of a sealed packet: 562.
 const MAX_SEALED: usize = MAX_PACKET + SEAL_LEN;

@@ -5,6 +5,7 @@
 mod agenda;
 mod asking;
 mod calling;
+mod changes;
 mod dice;
 mod ending;
 mod finding;
@@ -22,8 +23,9 @@ mod udp;
 
 pub use agenda::LOOK_MS;
 pub use asking::ask_each;
+pub use changes::ChangeSignal;
 pub use dice::{Dice, PcgDice};
-pub use ending::{End, Ended, Why};
+pub use ending::{Ended, LoopEnd, Why};
 pub use keyed::{Counted, KeyedLink};
 pub use link::{Link, LinkFault, MAX_DATAGRAM};
 pub use node_link::{NodeLink, NotedLink};

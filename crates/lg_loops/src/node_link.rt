@@ -7,9 +7,9 @@ ghost use Rattle.std.specs.Prelude.{◌≡◌, ◌+◌, ◌≤◌, IfOk, IfSome,
 use crate::keyed::{Counted, KeyedLink};
 use crate::link::{Link, LinkFault, MAX_DATAGRAM};
 use crate::udp::UdpLink;
-use lg_key::Keys;
+use lg_counters::Counters;
 use lg_rules::Addr;
-use lg_serve::Counters;
+use lg_seal::Keys;
 
 /// A keyed link over UDP. What it drops is counted for the status server.
 #[derive(Drop)]

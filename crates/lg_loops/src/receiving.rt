@@ -9,30 +9,17 @@ ghost use Rattle.lg_loops.specs.Meaning.Turns.{line, receives, Ran, Lasted};
 ghost use Rattle.lg_loops.specs.Support.Took.{Took};
 
 use crate::calling;
-use crate::ending::{End, Ended, Why};
+use crate::ending::{Ended, LoopEnd, Why};
 use crate::link::{Link, MAX_DATAGRAM};
 use crate::shared::{MAX_TURNS, Shared, Side};
 use crate::turned::Turned;
 use lg_agent::{AgentName, Refusal};
 use lg_clock::{Clock, Loop};
 use lg_detector::Reply;
-use lg_packet::{Body, decode};
 use lg_rules::Addr;
 use lg_timing::Moment;
 use std::sync::Wait;
 use std::sync::atomic::Ordering::SeqCst;
-
-/// Notes that a Page was heard, if these bytes spell one.
-fn note_page<R, C>(shared: &Shared<'_, R, C>, bytes: &[u8]) {
-    if shared.page_heard.load(SeqCst) {
-        return;
-    }
-    if let Ok(packet) = decode(bytes)
-        && matches!(packet.body, Body::Page)
-    {
-        shared.page_heard.store(true, SeqCst);
-    }
-}
 
 /// Hears a datagram that came, or drops it if its bytes are no packet. The reply is written over `reply`.
 fn hear<A: AgentName, R: Wait, L: Link, C>(
@@ -50,8 +37,10 @@ fn hear<A: AgentName, R: Wait, L: Link, C>(
         (line (L.log side.new.link) (L.failed side.new.link)) side.old.pass side.new.pass result }
 {
     match calling::datagram(shared, &mut side.pass, now, source, bytes, reply) {
-        Ok(_) => {
-            note_page(shared, bytes);
+        Ok(heard) => {
+            if heard.is_page {
+                shared.page_heard.store(true, SeqCst);
+            }
             Turned::of(shared, &mut side.link, now, reply)
         }
         Err(refusal) => match refusal {
@@ -89,7 +78,7 @@ fn receive_turn<A: AgentName, R: Wait, L: Link, C: Clock>(
 fn receive_turns<A: AgentName, R: Wait, L: Link, C: Clock>(
     shared: &Shared<'_, R, C>,
     side: &mut Side<'_, L, A>,
-) -> End
+) -> LoopEnd
     requires { shared.now.bound ≤ MAX_TURNS }
     ensures { Ran (receives shared.now.wait_ms) L.tells shared.now.bound
         (line (L.log side.old.link) (L.failed side.old.link))
@@ -101,35 +90,16 @@ fn receive_turns<A: AgentName, R: Wait, L: Link, C: Clock>(
     for turns in 0..shared.bound {
         shared.clock.begin_turn(Loop::Receiving);
         if shared.stop.load(SeqCst) {
-            return End::of(Why::Stopped, dropped, unsent, turns);
+            return LoopEnd::of(Why::Stopped, dropped, unsent, turns);
         }
         let turned = receive_turn(shared, side, &mut buffer, &mut reply);
         dropped += turned.dropped;
         unsent += turned.unsent;
         if let Some(why) = turned.why {
-            return End::of(why, dropped, unsent, turns + 1);
+            return LoopEnd::of(why, dropped, unsent, turns + 1);
         }
     }
-    End::of(Why::ReadBound, dropped, unsent, shared.bound)
-}
-
-/// The turns of the loop, counted anew if it is endless, until one ends it.
-fn receive_on<A: AgentName, R: Wait, L: Link, C: Clock>(
-    shared: &Shared<'_, R, C>,
-    side: &mut Side<'_, L, A>,
-) -> End
-    requires { shared.now.bound ≤ MAX_TURNS }
-    ensures { Lasted (receives shared.now.wait_ms) L.tells shared.now.bound shared.now.endless
-        (line (L.log side.old.link) (L.failed side.old.link))
-        (line (L.log side.new.link) (L.failed side.new.link)) side.old.pass side.new.pass result }
-{
-    for _ in shared.rt.forever() {
-        let end = receive_turns(shared, side);
-        if end.is_last(shared.endless) {
-            return end;
-        }
-    }
-    unreachable!()
+    LoopEnd::of(Why::ReadBound, dropped, unsent, shared.bound)
 }
 
 /// Hears the datagrams that come over a link, and hands the packets of the replies to it, until the stop flag is set.
@@ -155,12 +125,12 @@ pub fn receive_loop<A: AgentName, R: Wait, L: Link, C: Clock>(
         (line (L.log result.link) (L.failed result.link)) side.entry.pass result.spent result.end }
 {
     let mut side = side;
-    let end = receive_on(shared, &mut side);
-    shared.stop.store(true, SeqCst);
-    let Side { pass, link } = side;
-    Ended {
-        link,
-        spent: pass.finish(),
-        end,
+    for _ in shared.rt.forever() {
+        let end = receive_turns(shared, &mut side);
+        if end.is_last(shared.endless) {
+            shared.stop.store(true, SeqCst);
+            return side.ended(end);
+        }
     }
+    unreachable!()
 }

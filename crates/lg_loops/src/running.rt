@@ -7,7 +7,7 @@ ghost use Rattle.lg_loops.specs.Meaning.Pulling.{Ticking};
 ghost use Rattle.lg_loops.specs.Meaning.Turns.{line, receives, unstarted, Lasted, Receiving};
 
 use crate::dice::Dice;
-use crate::ending::{End, Ended, Why};
+use crate::ending::{Ended, LoopEnd, Why};
 use crate::link::Link;
 use crate::plan::Plan;
 use crate::receiving::receive_loop;
@@ -69,12 +69,7 @@ fn unstarted<L: Link, A: AgentName>(side: Side<'_, L, A>) -> Ended<L, A>
     ensures spent { result.spent ≡ side.entry.pass }
     ensures end { result.end ≡ unstarted }
 {
-    let Side { pass, link } = side;
-    Ended {
-        link,
-        spent: pass.finish(),
-        end: End::of(Why::Stopped, 0, 0, 0),
-    }
+    side.ended(LoopEnd::of(Why::Stopped, 0, 0, 0))
 }
 
 fn spawn_and_tick<S, A, R, L, C, D>(

@@ -2,15 +2,19 @@
 //!
 //! Defined in: this file.
 //! Tested in: `lg_node_tests/src/node/both.rt`.
+ghost use Rattle.std.specs.Prelude.{◌≡◌};
 
+use crate::changes::ChangeSignal;
+use crate::ending::{Ended, LoopEnd};
 use left_right::Absorb;
 use lg_agent::{AgentName, Pass};
+use lg_counters::{Counters, Noted};
 use lg_detector::{Event, Reply};
 use lg_http::Signal;
-use lg_serve::{Counters, Noted};
 use lg_timing::Moment;
 use lg_view::{Published, Update};
 use std::alloc::Global;
+use std::sync::Wait;
 use std::sync::atomic::AtomicBool;
 
 /// The most turns that a loop of a node makes before it counts them anew or ends: 1,000,000,000.
@@ -31,6 +35,8 @@ pub struct Shared<'a, R, C> {
     pub page_heard: &'a AtomicBool,
     /// What the loops count for the status server.
     pub counters: &'a Counters,
+    /// Set when a record has changed.
+    pub changes: &'a ChangeSignal,
     /// By which the status server is woken when a record has changed, if there is one.
     pub signal: Option<&'a Signal>,
     /// How many turns each loop may make, at most [`MAX_TURNS`]. With 0 a loop ends at once, unless it is endless.
@@ -41,14 +47,16 @@ pub struct Shared<'a, R, C> {
     pub wait_ms: u64,
 }
 
-impl<'a, R, C> Shared<'a, R, C> {
-    /// Adds what a call counts that was answered at a moment by this reply, and wakes the status server if a record
-    /// changed. Waits for nobody, and allocates nothing.
+impl<'a, R: Wait, C> Shared<'a, R, C> {
+    /// Adds what a call counts that was answered at a moment by this reply. If a record changed, it wakes those who look
+    /// at the agent for that: the status server, and the watcher of a node that is followed. Allocates nothing.
     pub(crate) fn note(&self, now: Moment, reply: &Reply, noted: &Noted) {
         self.counters.note(now, noted);
-        if let Some(signal) = self.signal
-            && reply.changed.len() > 0
-        {
+        if reply.changed.len() == 0 {
+            return;
+        }
+        self.changes.set(self.rt);
+        if let Some(signal) = self.signal {
             signal.published();
         }
     }
@@ -64,4 +72,28 @@ where
     pub pass: Pass<'a, A>,
     /// The link.
     pub link: L,
+}
+
+impl<'a, L, A: AgentName> Side<'a, L, A> {
+    /// A side with this pass and this link.
+    pub fn new(pass: Pass<'a, A>, link: L) -> Side<'a, L, A>
+        ensures pass { result.pass ≡ pass.entry }
+        ensures link { result.link ≡ link }
+    {
+        Side { pass, link }
+    }
+
+    /// What the loop of this side gives back, with this end.
+    pub(crate) fn ended(self, end: LoopEnd) -> Ended<L, A>
+        ensures link { result.link ≡ self.entry.link }
+        ensures spent { result.spent ≡ self.entry.pass }
+        ensures end { result.end ≡ end }
+    {
+        let Side { pass, link } = self;
+        Ended {
+            link,
+            spent: pass.finish(),
+            end,
+        }
+    }
 }

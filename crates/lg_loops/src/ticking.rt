@@ -12,7 +12,7 @@ ghost use Rattle.lg_loops.specs.Support.Acted.{Acted, Stretched, IsAgenda};
 use crate::agenda::{Agenda, Duty};
 use crate::calling;
 use crate::dice::Dice;
-use crate::ending::{End, Ended, Why};
+use crate::ending::{Ended, LoopEnd, Why};
 use crate::finding::{ask_member, ask_seed, look};
 use crate::link::Link;
 use crate::plan::Plan;
@@ -103,7 +103,7 @@ fn tick_turns<A: AgentName, R: Wait, L: Link, C: Clock, D: Dice>(
     dice: &mut D,
     plan: &Plan,
     agenda: &mut Agenda,
-) -> End
+) -> LoopEnd
     requires { shared.now.bound ≤ MAX_TURNS }
     ensures { Stretched D.throws dice.old dice.new plan.now L.tells shared.now.bound
         (line (L.log side.old.link) (L.failed side.old.link))
@@ -114,38 +114,16 @@ fn tick_turns<A: AgentName, R: Wait, L: Link, C: Clock, D: Dice>(
     let (mut dropped, mut unsent) = (0, 0);
     for turns in 0..shared.bound {
         let Some(now) = next_moment(shared, plan.until) else {
-            return End::of(Why::Stopped, dropped, unsent, turns);
+            return LoopEnd::of(Why::Stopped, dropped, unsent, turns);
         };
         let turned = tick_turn(shared, side, dice, plan, agenda, now, &mut reply);
         dropped += turned.dropped;
         unsent += turned.unsent;
         if let Some(why) = turned.why {
-            return End::of(why, dropped, unsent, turns + 1);
+            return LoopEnd::of(why, dropped, unsent, turns + 1);
         }
     }
-    End::of(Why::ReadBound, dropped, unsent, shared.bound)
-}
-
-/// The turns of the loop, counted anew if it is endless, until one ends it.
-fn tick_on<A: AgentName, R: Wait, L: Link, C: Clock, D: Dice>(
-    shared: &Shared<'_, R, C>,
-    side: &mut Side<'_, L, A>,
-    dice: &mut D,
-    plan: &Plan,
-) -> End
-    requires { shared.now.bound ≤ MAX_TURNS }
-    ensures { Ticking D.throws dice.old plan.now L.tells shared.now.bound shared.now.endless
-        (line (L.log side.old.link) (L.failed side.old.link))
-        (line (L.log side.new.link) (L.failed side.new.link)) side.old.pass side.new.pass result }
-{
-    let mut agenda = Agenda::begin(plan, shared.clock.now());
-    for _ in shared.rt.forever() {
-        let end = tick_turns(shared, side, dice, plan, &mut agenda);
-        if end.is_last(shared.endless) {
-            return end;
-        }
-    }
-    unreachable!()
+    LoopEnd::of(Why::ReadBound, dropped, unsent, shared.bound)
 }
 
 /// Ticks whenever the next deadline has come, and hands the packets of the replies to a link, until the stop flag is
@@ -182,12 +160,13 @@ pub fn tick_loop<A: AgentName, R: Wait, L: Link, C: Clock, D: Dice + Drop>(
         (line (L.log result.link) (L.failed result.link)) side.entry.pass result.spent result.end }
 {
     let (mut side, mut dice) = (side, dice);
-    let end = tick_on(shared, &mut side, &mut dice, plan);
-    shared.stop.store(true, SeqCst);
-    let Side { pass, link } = side;
-    Ended {
-        link,
-        spent: pass.finish(),
-        end,
+    let mut agenda = Agenda::begin(plan, shared.clock.now());
+    for _ in shared.rt.forever() {
+        let end = tick_turns(shared, &mut side, &mut dice, plan, &mut agenda);
+        if end.is_last(shared.endless) {
+            shared.stop.store(true, SeqCst);
+            return side.ended(end);
+        }
     }
+    unreachable!()
 }

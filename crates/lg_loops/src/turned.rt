@@ -13,6 +13,7 @@ use crate::shared::Shared;
 use lg_agent::Refusal;
 use lg_detector::Reply;
 use lg_timing::Moment;
+use std::sync::Wait;
 
 /// What one turn reports to its loop.
 #[derive(Drop)]
@@ -77,7 +78,7 @@ impl Turned {
 
     /// A call was answered at a moment by this reply: hands its packets to the link, and counts. The loop ends then if
     /// the member was ousted.
-    pub(crate) fn of<R, C, L: Link>(
+    pub(crate) fn of<R: Wait, C, L: Link>(
         shared: &Shared<'_, R, C>,
         link: &mut L,
         now: Moment,

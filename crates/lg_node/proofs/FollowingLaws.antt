@@ -2,7 +2,7 @@
 use Rattle.std.proofs.Common.{◌≡◌, ℕ, Bool, true, false, List, Option, Some, None}
 use Rattle.lg_timing.specs.declared.config.Config.{Config}
 use Rattle.lg_agent.specs.Meaning.Values.{PassValue}
-use Rattle.lg_watch.specs.declared.watched.Watched.{Watched}
+use Rattle.lg_follow.specs.declared.watched.Watched.{Watched}
 use Rattle.lg_node.specs.declared.node.NodeEnd.{NodeEnd}
 use Rattle.lg_node.specs.declared.node.Settings.{Settings}
 use Rattle.lg_node.specs.Meaning.Nodes.{IsRun, WatchesIf}

@@ -5,10 +5,10 @@ use Rattle.lg_agent.specs.Meaning.Values.{PassValue}
 use Rattle.lg_http.specs.declared.hosts.Hosts.{Hosts}
 use Rattle.lg_http.specs.declared.server.Server.{Server}
 use Rattle.lg_http.specs.Meaning.Slots.{AreFree, slots_of}
-use Rattle.lg_status.specs.declared.snapshot.ShownConfig.{ShownConfig}
-use Rattle.lg_serve.specs.declared.serving.Served.{Served}
-use Rattle.lg_serve.specs.declared.serving.Served.TheVariants as served
-use Rattle.lg_serve.specs.Meaning.Served.{ServedAs}
+use Rattle.lg_answers.specs.declared.snapshot.ShownConfig.{ShownConfig}
+use Rattle.lg_status_server.specs.declared.serving.Served.{Served}
+use Rattle.lg_status_server.specs.declared.serving.Served.TheVariants as served
+use Rattle.lg_status_server.specs.Meaning.Served.{ServedAs}
 use Rattle.lg_node.specs.declared.node.Settings.{Settings}
 use Rattle.lg_node.specs.Meaning.Starts.{hosts_of, Shows}
 use Rattle.lg_node.specs.Meaning.Nodes.{DidServe}

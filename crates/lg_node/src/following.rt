@@ -1,21 +1,39 @@
 //! A watcher that tells what a node learns, in a thread beside the loops.
 //!
-//! Defined in: `specs/Meaning/Nodes.antt`, `lg_watch/specs/Meaning/Sights.antt`.
+//! Defined in: `specs/Meaning/Nodes.antt`, `lg_follow/specs/Meaning/Sights.antt`.
 //! Tested in: `cases/nodes`, `cases/groups`.
 ghost use Rattle.std.specs.Prelude.{◌≡◌, false};
-ghost use Rattle.lg_watch.specs.Meaning.Sights.{HasWatched};
+ghost use Rattle.lg_follow.specs.Meaning.Sights.{HasWatched};
 ghost use Rattle.lg_node.specs.Meaning.Nodes.{WatchesIf};
 
 use lg_agent::{AgentName, Pass};
 use lg_clock::Clock;
-use lg_loops::Shared;
-use lg_watch::{Watched, watch};
+use lg_follow::{News, Watched, watch};
+use lg_loops::{ChangeSignal, Shared};
 use std::io::Write;
+use std::rt;
 use std::sync::Wait;
 use std::thread::{Threads, join};
 
+/// What a watcher beside the loops waits for. They set the signal when a record has changed, and once more when they have
+/// ended.
+#[derive(Drop)]
+struct LoopNews<'a, R> {
+    rt: &'a R,
+    changes: &'a ChangeSignal,
+}
+
+impl<R: Wait + rt::Clock> News for LoopNews<'_, R> {
+    fn wait(&self, most_ms: Option<u64>) {
+        match most_ms {
+            None => self.changes.wait(self.rt),
+            Some(ms) => self.changes.wait_at_most(self.rt, ms),
+        }
+    }
+}
+
 /// Watches with a pass until the stop flag is set, or the writer fails. Gives both back, with how the watcher ended.
-fn watch_by<'p, 'w, A: AgentName, R, C: Clock, W: Write>(
+fn watch_by<'p, 'w, A: AgentName, R: Wait + rt::Clock, C: Clock, W: Write>(
     shared: &Shared<'_, R, C>,
     pass: Pass<'p, A>,
     writer: &'w mut W,
@@ -25,7 +43,18 @@ fn watch_by<'p, 'w, A: AgentName, R, C: Clock, W: Write>(
         result.1.1 }
 {
     let mut pass = pass;
-    let watched = watch(shared.alloc, shared.clock, shared.stop, &mut pass, writer);
+    let news = LoopNews {
+        rt: shared.rt,
+        changes: shared.changes,
+    };
+    let watched = watch(
+        shared.alloc,
+        shared.clock,
+        &news,
+        shared.stop,
+        &mut pass,
+        writer,
+    );
     (pass, (writer, watched))
 }
 
@@ -47,7 +76,7 @@ pub(crate) fn watch_beside<'p, A, R, C, W, G, B>(
 ) -> ((Pass<'p, A>, Option<Watched>), B)
 where
     A: AgentName + Send + Sync,
-    R: Wait + Threads + Sync,
+    R: Wait + Threads + rt::Clock + Sync,
     C: Clock + Sync,
     W: Write + Send,
     G: FnOnce() -> B,
@@ -67,7 +96,14 @@ where
             ensures watched { HasWatched pass.entry result.0 (W.contents writer.entry.now)
                 (W.contents result.1.0.now) result.1.1 }
         { watch_by(shared, pass, writer) },
-        work,
+        move || -> B
+            requires { G.pre work }
+            ensures { G.post work result }
+        {
+            let gave = work();
+            shared.changes.set(shared.rt);
+            gave
+        },
     );
     let (pass, (writer, watched)) = given;
     take_back(writer);

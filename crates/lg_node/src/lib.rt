@@ -9,10 +9,11 @@ mod start;
 mod threads;
 
 pub use lg_clock::{Clock, Loop, MachineClock, SteadyClock};
+pub use lg_counters::Counters;
+pub use lg_follow::Watched;
 pub use lg_loops::{
-    Counted, Dice, End, Ended, KeyedLink, LOOK_MS, Link, LinkFault, MAX_DATAGRAM, MAX_TURNS,
-    PcgDice, Plan, Shared, Side, UdpLink, Why, receive_loop, run_loops, tick_loop,
+    ChangeSignal, Counted, Dice, Ended, KeyedLink, LOOK_MS, Link, LinkFault, LoopEnd, MAX_DATAGRAM,
+    MAX_TURNS, PcgDice, Plan, Shared, Side, UdpLink, Why, receive_loop, run_loops, tick_loop,
 };
-pub use lg_serve::{Counters, Served};
-pub use lg_watch::Watched;
-pub use node::{NodeEnd, NodeFault, Settings, run_node};
+pub use lg_status_server::Served;
+pub use node::{NodeEnd, NodeFault, NodeStart, Settings, run_node};

@@ -10,14 +10,14 @@ use crate::serving::status_server;
 use crate::sockets::Sockets;
 use crate::start::{Setup, open_and_serve};
 use lg_agent::{CloseFault, Closed, Refusal};
-use lg_key::Keys;
-use lg_loops::End;
+use lg_follow::Watched;
+use lg_loops::LoopEnd;
 use lg_rules::{Addr, Record};
-use lg_serve::Served;
+use lg_seal::Keys;
+use lg_status_server::Served;
 use lg_text::FaultStream;
 use lg_timing::{Config, Moment};
 use lg_view::UnnamedBook;
-use lg_watch::Watched;
 use std::alloc::Global;
 use std::io::{ErrorKind, Write};
 use std::marker::Brand;
@@ -51,13 +51,26 @@ pub struct Settings {
     pub keys: Option<Keys>,
 }
 
+/// What a node is started with.
+#[derive(Clone, Copy, Debug)]
+pub struct NodeStart<'n> {
+    /// Its configuration.
+    pub config: &'n Config,
+    /// What it is told besides.
+    pub settings: &'n Settings,
+    /// The moment at which its ticking loop ends, in milliseconds from its start.
+    pub until: Moment,
+    /// The flag that stops it earlier.
+    pub stop: &'n AtomicBool,
+}
+
 /// How a node ended whose loops had begun.
 #[derive(Drop)]
 pub struct NodeEnd {
     /// How the receiving loop ended.
-    pub received: End,
+    pub received: LoopEnd,
     /// How the ticking loop ended. The packets to the seeds that weren't sent count among its own.
-    pub ticked: End,
+    pub ticked: LoopEnd,
     /// The records of the members, this one's included, in the order of their names, as both loops left them. Refused
     /// as [`Pass::members`](lg_agent::Pass::members) is.
     pub members: Result<Vec<Record>, Refusal>,
@@ -97,14 +110,14 @@ pub enum NodeFault {
 /// the ticking loop asks the seeds until a Page is heard, and again while it is alone. It asks a member every
 /// `pull_ms`. At the end the members are read, and the agent is closed. A node that hears of no member goes on alone.
 ///
-/// If the node is followed, the pass that has asked the seeds watches beside the loops ([`lg_watch::watch`]), in a
+/// If the node is followed, the pass that has asked the seeds watches beside the loops ([`lg_follow::watch`]), in a
 /// thread of its own, and [`NodeEnd::watched`] says how that ended. A writer that fails ends the watcher alone. If the
 /// node isn't followed, or there are no loops, the writer stays as it is.
 ///
 /// If the settings have an address for a status server, it is bound before the agent is opened. It serves beside the
-/// loops ([`lg_serve::serve`]), in a thread of its own and with a pass of its own, until the loops have ended, and
+/// loops ([`lg_status_server::serve`]), in a thread of its own and with a pass of its own, until the loops have ended, and
 /// [`NodeEnd::served`] says how that ended. A server that fails ends nothing else. It is told on `faults` when it
-/// fails, before the node ends, by [`Served::line`](lg_serve::Served::line). Nothing else is written there.
+/// fails, before the node ends, by [`Served::line`](lg_status_server::Served::line). Nothing else is written there.
 ///
 /// A turn of a loop waits a tenth of the configuration's `timeout_ms` at most, but at least 5 and at most 50
 /// milliseconds, and at most half of the clock's stall.
@@ -118,13 +131,10 @@ pub enum NodeFault {
 /// [`NodeFault::Status`], [`NodeFault::Clock`], or [`NodeFault::Refused`] if memory was refused or there was no reader
 /// for a pass. If a seed's call was refused, it may also be [`Refusal::HistoryFull`] or [`Refusal::Behind`], but
 /// neither should ever happen.
-pub fn run_node<'n, R, W, F>(
+pub fn run_node<R, W, F>(
     rt: &R,
     alloc: Global,
-    config: &'n Config,
-    settings: &'n Settings,
-    until: Moment,
-    stop: &'n AtomicBool,
+    start: &NodeStart<'_>,
     writer: &mut W,
     faults: &mut F,
 ) -> Result<NodeEnd, NodeFault>
@@ -132,16 +142,16 @@ where
     R: Wait + Threads + Net + rt::Clock + RandomSource + Sync,
     W: Write + Send,
     F: FaultStream + Send,
-    requires { IsChecked config.now }
-    ensures ran { IfOk result
-        (IsRun config.now settings.now until (W.contents writer.old) (W.contents writer.new)) }
-    ensures refused { IfErr result (IsEarly config.now) }
-    ensures alone { settings.now.follow ≡ false → writer.new ≡ writer.old }
+    requires { IsChecked start.now.config.now }
+    ensures ran { IfOk result (IsRun start.now.config.now start.now.settings.now start.now.until
+        (W.contents writer.old) (W.contents writer.new)) }
+    ensures refused { IfErr result (IsEarly start.now.config.now) }
+    ensures alone { start.now.settings.now.follow ≡ false → writer.new ≡ writer.old }
     ensures unwritten { OnErr result (writer.new ≡ writer.old) }
     ensures told { IfOk result (λ e. TellsServed e.served (F.reported faults.old) (F.reported faults.new)) }
     ensures untold { OnErr result (faults.new ≡ faults.old) }
 {
-    let sockets = match Sockets::bind(rt, alloc, config, settings) {
+    let sockets = match Sockets::bind(rt, alloc, start.config, start.settings) {
         Ok(sockets) => sockets,
         Err(fault) => return Err(fault),
     };
@@ -151,10 +161,10 @@ where
         signal,
     } = sockets;
     let setup = Setup {
-        config,
-        settings,
-        until,
-        stop,
+        config: start.config,
+        settings: start.settings,
+        until: start.until,
+        stop: start.stop,
         socket: &socket,
         signal: signal.as_ref(),
     };

@@ -1,11 +1,11 @@
 //! The status server of a node, in a thread beside the loops.
 //!
 //! Defined in: `specs/Meaning/Nodes.antt`, `specs/Meaning/Starts.antt`,
-//! `lg_serve/specs/Meaning/Served.antt`.
+//! `lg_status_server/specs/Meaning/Served.antt`.
 //! Tested in: `cases/status`.
 ghost use Rattle.std.specs.Prelude.{◌≡◌, is_some, IfErr, IfOk, IfSome, Some};
 ghost use Rattle.lg_timing.specs.declared.config.Config.{Config as Opened};
-ghost use Rattle.lg_watch.specs.Meaning.Sights.{OnlyLooked};
+ghost use Rattle.lg_follow.specs.Meaning.Sights.{OnlyLooked};
 ghost use Rattle.lg_http.specs.Meaning.Slots.{AreFree, slots_of};
 ghost use Rattle.lg_node.specs.Meaning.Nodes.{DidServe, IsEarly, ServesIf, ServesNode, TellsServed};
 ghost use Rattle.lg_node.specs.Meaning.Starts.{Shows, hosts_of};
@@ -13,12 +13,12 @@ ghost use Rattle.lg_node.specs.Meaning.Starts.{Shows, hosts_of};
 use crate::node::{NodeFault, Settings};
 use crate::start::Setup;
 use lg_agent::{AgentName, Pass, Refusal};
+use lg_answers::{NodeNumber, ShownConfig};
 use lg_clock::{Clock, MachineClock};
-use lg_http::{End, Hosts, Server, Signal};
+use lg_http::{Hosts, Server, ServerEnd, Signal};
 use lg_loops::Shared;
 use lg_rules::Addr;
-use lg_serve::{Served, SiteBasis, serve};
-use lg_status::{NodeNumber, ShownConfig};
+use lg_status_server::{Served, SiteBasis, serve};
 use lg_text::{FaultStream, report};
 use lg_timing::Config;
 use std::alloc::{AllocError, Global};
@@ -129,8 +129,8 @@ fn report_end<F: FaultStream>(served: Served, faults: &mut F)
     ensures { TellsServed (Some served) (F.reported faults.old) (F.reported faults.new) }
 {
     match served {
-        Served::Ended(End::Stopped, _) => {}
-        Served::Ended(End::WaitFailed(_), _) => report(faults, served.line()),
+        Served::Ended(ServerEnd::Stopped, _) => {}
+        Served::Ended(ServerEnd::WaitFailed(_), _) => report(faults, served.line()),
         Served::Refused(_) => report(faults, served.line()),
     }
 }

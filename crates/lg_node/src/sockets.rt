@@ -10,7 +10,7 @@ ghost use Rattle.lg_node.specs.Meaning.Nodes.{IsEarly};
 use crate::node::{NodeFault, Settings};
 use lg_http::{Server, Signal};
 use lg_rules::Addr;
-use lg_serve::bind;
+use lg_status_server::bind;
 use lg_timing::Config;
 use std::alloc::Global;
 use std::net::{Ipv4Addr, Net, UdpSocket};

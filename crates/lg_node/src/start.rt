@@ -22,14 +22,15 @@ use crate::serving::StatusServer;
 use crate::threads::{Looked, Lookers, Sides, run_threads};
 use lg_agent::{Agent, AgentName, Pass, Refusal, Spent, Unclosed};
 use lg_clock::{Clock, SteadyClock};
+use lg_counters::Counters;
+use lg_follow::Watched;
 use lg_http::Signal;
-use lg_loops::{End, MAX_TURNS, NodeLink, Plan, Shared, Side, UdpLink, ask_each};
+use lg_loops::{ChangeSignal, LoopEnd, MAX_TURNS, NodeLink, Plan, Shared, Side, UdpLink, ask_each};
 use lg_rules::Record;
-use lg_serve::{Counters, Served};
+use lg_status_server::Served;
 use lg_text::FaultStream;
 use lg_timing::{Config, Moment};
 use lg_view::UnnamedBook;
-use lg_watch::Watched;
 use std::alloc::Global;
 use std::io::Write;
 use std::net::UdpSocket;
@@ -100,6 +101,7 @@ where
     };
     let page_heard = AtomicBool::new(false);
     let counters = Counters::new(config.name, start);
+    let changes = ChangeSignal::new();
     let shared = Shared {
         rt,
         alloc,
@@ -107,6 +109,7 @@ where
         stop: setup.stop,
         page_heard: &page_heard,
         counters: &counters,
+        changes: &changes,
         signal: setup.signal,
         bound: MAX_TURNS,
         endless: true,
@@ -147,8 +150,8 @@ fn wait_of(config: &Config, stall: u64) -> u64
 /// What the passes of a node leave, its ends, and the members.
 #[derive(Drop)]
 struct Left<A: AgentName> {
-    received: End,
-    ticked: End,
+    received: LoopEnd,
+    ticked: LoopEnd,
     members: Result<Vec<Record>, Refusal>,
     watched: Option<Watched>,
     served: Option<Served>,
@@ -220,23 +223,12 @@ where
     let unsent = ask_each(shared, &mut asker, &mut sends, &setup.config.seeds)?;
     let hears = link_of(shared.counters, setup);
     let sides = Sides {
-        receiver: Side {
-            pass: receiver,
-            link: hears,
-        },
-        ticker: Side {
-            pass: ticker,
-            link: sends,
-        },
+        receiver: Side::new(receiver, hears),
+        ticker: Side::new(ticker, sends),
+        plan: Plan::new(setup.config, setup.settings.pull_ms, setup.until),
     };
-    let lookers = Lookers {
-        watcher: asker,
-        status: looker,
-    };
-    let plan = Plan::new(setup.config, setup.settings.pull_ms, setup.until);
-    let (looked, (received, ticked)) = run_threads(
-        shared, sides, setup, &plan, lookers, status, writer, faults,
-    );
+    let lookers = Lookers::new(asker, looker, status);
+    let (looked, (received, ticked)) = run_threads(shared, sides, setup, lookers, writer, faults);
     let Looked {
         watcher,
         watched,

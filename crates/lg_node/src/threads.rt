@@ -29,11 +29,11 @@ use left_right::Absorb;
 use lg_agent::{AgentName, Pass};
 use lg_clock::Clock;
 use lg_detector::Event;
+use lg_follow::Watched;
 use lg_loops::{Ended, Link, MAX_TURNS, PcgDice, Plan, Shared, Side, run_loops};
-use lg_serve::Served;
+use lg_status_server::Served;
 use lg_text::FaultStream;
 use lg_view::{Published, Update};
-use lg_watch::Watched;
 use std::io::Write;
 use std::rt;
 use std::sync::Wait;
@@ -50,16 +50,37 @@ where
 {
     pub(crate) receiver: Side<'p, L, A>,
     pub(crate) ticker: Side<'p, L, A>,
+    pub(crate) plan: Plan,
 }
 
-/// The passes of those who only look, beside the loops.
+/// The passes of those who only look, beside the loops, and the status server, if there is one.
 #[derive(Drop)]
-pub(crate) struct Lookers<'p, A: AgentName>
+pub(crate) struct Lookers<'p, 's, 'r, A: AgentName, R>
 where
     Published<A>: Absorb<Update<A>, State = [Event; 0]>,
 {
     pub(crate) watcher: Pass<'p, A>,
     pub(crate) status: Pass<'p, A>,
+    pub(crate) server: Option<StatusServer<'s, 'r, R>>,
+}
+
+impl<'p, 's, 'r, A: AgentName, R> Lookers<'p, 's, 'r, A, R> {
+    /// These passes, and this server.
+    pub(crate) fn new(
+        watcher: Pass<'p, A>,
+        status: Pass<'p, A>,
+        server: Option<StatusServer<'s, 'r, R>>,
+    ) -> Lookers<'p, 's, 'r, A, R>
+        ensures watcher { result.watcher ≡ watcher.entry }
+        ensures status { result.status ≡ status.entry }
+        ensures server { result.server ≡ server.entry }
+    {
+        Lookers {
+            watcher,
+            status,
+            server,
+        }
+    }
 }
 
 /// What those leave who only look: each pass, and how each ended, if there was one.
@@ -79,8 +100,7 @@ where
 fn work_beside<'p, A, R, C, W, F, G, B>(
     shared: &Shared<'_, R, C>,
     setup: &Setup<'_, '_>,
-    lookers: Lookers<'p, A>,
-    status: Option<StatusServer<'_, '_, R>>,
+    lookers: Lookers<'p, '_, '_, A, R>,
     writer: &mut W,
     faults: &mut F,
     work: G,
@@ -93,12 +113,12 @@ where
     F: FaultStream + Send,
     G: FnOnce() -> B,
     requires work { G.pre work }
-    requires free { IfSome status (λ status. AreFree (slots_of status.server)) }
+    requires free { IfSome lookers.server (λ status. AreFree (slots_of status.server)) }
     requires name { shared.now.counters.now.name ≡ setup.now.config.now.name }
     ensures watched { WatchesIf setup.now.settings.now.follow lookers.entry.watcher result.0.watcher
         (W.contents writer.old) (W.contents writer.new) result.0.watched }
     ensures alone { setup.now.settings.now.follow ≡ false → writer.new ≡ writer.old }
-    ensures served { ServesIf (is_some status.entry) setup.now.config.now setup.now.settings.now
+    ensures served { ServesIf (is_some lookers.entry.server) setup.now.config.now setup.now.settings.now
         lookers.entry.status result.0.status result.0.served }
     ensures told { TellsServed result.0.served (F.reported faults.old) (F.reported faults.new) }
     ensures gave { G.post work result.1 }
@@ -106,6 +126,7 @@ where
     let Lookers {
         watcher,
         status: pass,
+        server: status,
     } = lookers;
     let (watched, (served, (faults, gave))) = watch_beside(
         shared,
@@ -145,9 +166,7 @@ pub(crate) fn run_threads<'p, A, R, L, C, W, F>(
     shared: &Shared<'_, R, C>,
     sides: Sides<'_, L, A>,
     setup: &Setup<'_, '_>,
-    plan: &Plan,
-    lookers: Lookers<'p, A>,
-    status: Option<StatusServer<'_, '_, R>>,
+    lookers: Lookers<'p, '_, '_, A, R>,
     writer: &mut W,
     faults: &mut F,
 ) -> (Looked<'p, A>, Both<L, A>)
@@ -159,30 +178,33 @@ where
     W: Write + Send,
     F: FaultStream + Send,
     requires bound { shared.now.bound ≤ MAX_TURNS }
-    requires free { IfSome status (λ status. AreFree (slots_of status.server)) }
+    requires free { IfSome lookers.server (λ status. AreFree (slots_of status.server)) }
     requires name { shared.now.counters.now.name ≡ setup.now.config.now.name }
     ensures watched { WatchesIf setup.now.settings.now.follow lookers.entry.watcher result.0.watcher
         (W.contents writer.old) (W.contents writer.new) result.0.watched }
     ensures alone { setup.now.settings.now.follow ≡ false → writer.new ≡ writer.old }
-    ensures served { ServesIf (is_some status.entry) setup.now.config.now setup.now.settings.now
+    ensures served { ServesIf (is_some lookers.entry.server) setup.now.config.now setup.now.settings.now
         lookers.entry.status result.0.status result.0.served }
     ensures told { TellsServed result.0.served (F.reported faults.old) (F.reported faults.new) }
     ensures received { Receiving shared.now.wait_ms L.tells shared.now.bound shared.now.endless
         (line (L.log sides.entry.receiver.link) (L.failed sides.entry.receiver.link))
         (line (L.log result.1.0.link) (L.failed result.1.0.link)) sides.entry.receiver.pass result.1.0.spent
         result.1.0.end result.1.1.end }
-    ensures ticked { Ticking DrawsEight (seeded setup.now.settings.now.dice) plan.now L.tells shared.now.bound
-        shared.now.endless (line (L.log sides.entry.ticker.link) (L.failed sides.entry.ticker.link))
+    ensures ticked { Ticking DrawsEight (seeded setup.now.settings.now.dice) sides.entry.plan L.tells
+        shared.now.bound shared.now.endless (line (L.log sides.entry.ticker.link) (L.failed sides.entry.ticker.link))
         (line (L.log result.1.1.link) (L.failed result.1.1.link)) sides.entry.ticker.pass result.1.1.spent
         result.1.1.end }
 {
     let dice = PcgDice::new(setup.settings.dice);
-    let Sides { receiver, ticker } = sides;
+    let Sides {
+        receiver,
+        ticker,
+        plan,
+    } = sides;
     work_beside(
         shared,
         setup,
         lookers,
-        status,
         writer,
         faults,
         move || -> Both<L, A>
@@ -191,10 +213,10 @@ where
                 shared.entry.now.endless (line (L.log receiver.entry.link) (L.failed receiver.entry.link))
                 (line (L.log result.0.link) (L.failed result.0.link)) receiver.entry.pass result.0.spent
                 result.0.end result.1.end }
-            ensures ticked { Ticking DrawsEight dice plan.entry.now L.tells shared.entry.now.bound
+            ensures ticked { Ticking DrawsEight dice plan L.tells shared.entry.now.bound
                 shared.entry.now.endless (line (L.log ticker.entry.link) (L.failed ticker.entry.link))
                 (line (L.log result.1.link) (L.failed result.1.link)) ticker.entry.pass result.1.spent
                 result.1.end }
-        { run_loops(shared, receiver, ticker, dice, plan) },
+        { run_loops(shared, receiver, ticker, dice, &plan) },
     )
 }

@@ -2,6 +2,7 @@
 mod alone;
 mod asking;
 mod both;
+mod changing;
 mod clocks;
 mod dice;
 mod finding;

@@ -7,12 +7,12 @@ use left_right::Absorb;
 use lg_agent::{Agent, AgentName, Pass};
 use lg_clock::Clock;
 use lg_detector::Event;
+use lg_follow::{News, RETRY_MS, Watched, watch};
 use lg_packet::encode;
 use lg_rules::Claim;
 use lg_testing::{Room, alive, at, failed, letter, local, packet, ping, suspect};
 use lg_timing::{Config, Moment};
 use lg_view::{Published, UnnamedBook, Update};
-use lg_watch::{WATCH_MS, Watched, watch};
 use std::alloc::Global;
 use std::marker::Brand;
 use std::process::Abort;
@@ -133,6 +133,13 @@ impl<'a, 'p, A: AgentName, R: Wait> Clock for PausingClock<'a, 'p, A, R> {
     }
 }
 
+/// Its news are its pauses: between two looks of a watcher pass 50 milliseconds.
+impl<'a, 'p, A: AgentName, R: Wait> News for PausingClock<'a, 'p, A, R> {
+    fn wait(&self, _most_ms: Option<u64>) {
+        self.pause(50);
+    }
+}
+
 /// What came of a watcher.
 #[derive(Drop)]
 struct Outcome {
@@ -162,7 +169,7 @@ fn watch_with<'p, A: AgentName, R: Wait>(
         now: AtomicU64::new(0),
     };
     let mut writer = Room::failing(fails_at);
-    let watched = watch(alloc, &clock, &stop, &mut watcher, &mut writer);
+    let watched = watch(alloc, &clock, &clock, &stop, &mut watcher, &mut writer);
     Some(Outcome { watched, writer })
 }
 
@@ -269,7 +276,7 @@ fn tells_each_change(rt: HostRuntime) {
                 && outcome.writer.has(row.text.as_bytes())
                 && outcome.writer.calls == row.text.len().saturating_add(row.texts)
         });
-        assert!(rt; met && WATCH_MS == 50, "{row:?}");
+        assert!(rt; met && RETRY_MS == 50, "{row:?}");
     }
 }
 

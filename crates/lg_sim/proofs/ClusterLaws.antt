@@ -50,7 +50,7 @@ use Rattle.lg_detector.specs.Meaning.Step.{is_open_event, opens_well, reply_afte
 use Rattle.lg_detector.specs.Support.Step.{accepts_of, accepts_at, state_after}
 use Rattle.lg_detector.specs.declared.event.Event.{Event}
 use Rattle.lg_detector.proofs.Accepting.{events-after}
-use Rattle.lg_report.specs.Meaning.Replies.{reply_text}
+use Rattle.lg_lines.specs.Meaning.Replies.{reply_text}
 use Rattle.lg_script.specs.declared.command.Command.{Command}
 use Rattle.lg_sim.specs.Meaning.Members.{
   Happening,

@@ -45,7 +45,7 @@ use Rattle.lg_detector.specs.Support.Step.{accepts_of, state_after}
 use Rattle.lg_detector.specs.Support.State.{State}
 use Rattle.lg_detector.specs.declared.event.Event.{Event}
 use Rattle.lg_detector.specs.declared.event.Event.TheVariants.{Open}
-use Rattle.lg_report.specs.Meaning.Replies.{reply_text}
+use Rattle.lg_lines.specs.Meaning.Replies.{reply_text}
 use Rattle.lg_script.specs.declared.fault.ScriptFault.{ScriptFault}
 use Rattle.lg_script.specs.declared.fault.ScriptFault.TheVariants as fault
 use Rattle.lg_sim.specs.Meaning.Members.{

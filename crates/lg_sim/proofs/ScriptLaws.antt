@@ -25,7 +25,7 @@ use Rattle.std.proofs.Common.{
   append-nil,
 }
 use Rattle.lg_text.specs.Meaning.Lines.{lines_of}
-use Rattle.lg_text.specs.declared.end.End.TheVariants.{Done, Faulty}
+use Rattle.lg_text.specs.declared.end.RunEnd.TheVariants.{Done, Faulty}
 use Rattle.lg_script.specs.Meaning.Lines.{command_of}
 use Rattle.lg_script.specs.declared.command.Command.{Command}
 use Rattle.lg_script.specs.declared.fault.ScriptFault.{ScriptFault}

@@ -7,7 +7,7 @@ ghost use Rattle.std.specs.Prelude.{◌++◌, [], List, IfErr, None, OnOk, Some,
 ghost use Rattle.std.specs.Prelude.{slice_get, vec_len};
 ghost use Rattle.std.specs.List.{position};
 ghost use Rattle.lg_detector.specs.Meaning.Step.{is_open_event, view_after};
-ghost use Rattle.lg_report.specs.Meaning.Records.{table_text};
+ghost use Rattle.lg_lines.specs.Meaning.Records.{table_text};
 ghost use Rattle.lg_sim.specs.Meaning.Members.{Happening, events_of, is_at, is_named, member_named};
 ghost use Rattle.lg_sim.specs.Meaning.Members.{packet_number, sent};
 ghost use Rattle.lg_sim.specs.Meaning.Outcome.{naming_fault, opening_fault, packet_fault};
@@ -22,7 +22,7 @@ ghost use Rattle.lg_sim.specs.declared.cluster.Stop.TheVariants.{NoMemory};
 use crate::host::{Host, Member, SentPacket, lead};
 use arrayvec::ArrayVec;
 use lg_detector::{Detector, Event, NoMemory, Reply};
-use lg_report::{Row, put_table};
+use lg_lines::{PacketRow, put_table};
 use lg_rules::{Addr, Name};
 use lg_script::{ScriptFault, local};
 use lg_timing::{Config, Key, MAX_SEEDS, Moment, Seed};
@@ -102,7 +102,7 @@ impl Cluster {
         at: usize,
         event: &Event,
         reply: &mut Reply,
-        row: &mut Row,
+        row: &mut PacketRow,
         text: &mut Vec<u8>,
     ) -> Result<(), NoMemory>
         requires place { at < vec_len self.old.hosts }
@@ -123,7 +123,7 @@ impl Cluster {
         name: &Name,
         event: &Event,
         reply: &mut Reply,
-        row: &mut Row,
+        row: &mut PacketRow,
         text: &mut Vec<u8>,
     ) -> Result<(), Stop>
         requires reached { IsClusterReached self.old }
@@ -180,7 +180,7 @@ impl Cluster {
         now: Moment,
         config: Config,
         reply: &mut Reply,
-        row: &mut Row,
+        row: &mut PacketRow,
         text: &mut Vec<u8>,
     ) -> Result<(), NoMemory>
         requires { IsChecked config }
@@ -212,7 +212,7 @@ impl Cluster {
         now: Moment,
         seeds: ArrayVec<Seed, MAX_SEEDS>,
         reply: &mut Reply,
-        row: &mut Row,
+        row: &mut PacketRow,
         text: &mut Vec<u8>,
     ) -> Result<(), Stop>
         ensures stops { (members : List OfMember) (past : List Happening)
@@ -258,7 +258,7 @@ impl Cluster {
         packet: u64,
         now: Moment,
         reply: &mut Reply,
-        row: &mut Row,
+        row: &mut PacketRow,
         text: &mut Vec<u8>,
     ) -> Result<(), Stop>
         requires reached { IsClusterReached self.old }

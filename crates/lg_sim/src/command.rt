@@ -9,7 +9,7 @@ ghost use Rattle.lg_sim.specs.Support.After.{IsClusterAfter, IsClusterReached, R
 
 use crate::cluster::{Cluster, Stop};
 use lg_detector::{Event, Reply};
-use lg_report::Row;
+use lg_lines::PacketRow;
 use lg_script::{Command, local};
 use std::alloc::Global;
 
@@ -22,7 +22,7 @@ pub fn run_command(
     command: Command,
     cluster: &mut Cluster,
     reply: &mut Reply,
-    row: &mut Row,
+    row: &mut PacketRow,
     text: &mut Vec<u8>,
 ) -> Result<(), Stop>
     requires { IsClusterReached cluster.old }

@@ -6,11 +6,11 @@ ghost use Rattle.std.specs.Prelude.{◌≡◌, ◌+◌, ◌∷◌, ◌++◌, [],
 ghost use Rattle.lg_detector.specs.Meaning.Step.{reply_after};
 ghost use Rattle.lg_detector.specs.Support.Step.{accepts_of, state_after};
 ghost use Rattle.lg_detector.specs.declared.event.Event.{Event as Happened};
-ghost use Rattle.lg_report.specs.Meaning.Replies.{reply_text};
+ghost use Rattle.lg_lines.specs.Meaning.Replies.{reply_text};
 ghost use Rattle.lg_sim.specs.Meaning.Members.{is_at, is_named, sent_from};
 
 use lg_detector::{Detector, Event, NoMemory, Outgoing, Reply};
-use lg_report::{Row, put_reply};
+use lg_lines::{PacketRow, put_reply};
 use lg_rules::{Addr, Name};
 
 /// A member of the cluster.
@@ -76,7 +76,7 @@ pub fn lead(
     event: &Event,
     sent: &mut Vec<SentPacket>,
     reply: &mut Reply,
-    row: &mut Row,
+    row: &mut PacketRow,
     text: &mut Vec<u8>,
 ) -> Result<(), NoMemory>
     requires { IsTrue (accepts_of host.old.detector event.now) }

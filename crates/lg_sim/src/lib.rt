@@ -3,7 +3,7 @@
 //! Where to read on:
 //! - what each command does, given nothing but the commands before it: `specs/Meaning/Past.antt` and `Outcome.antt`;
 //! - the text of a script: `specs/Meaning/Text.antt`;
-//! - the lines of a reply: `lg_report`; the commands that lines spell: `lg_script`.
+//! - the lines of a reply: `lg_lines`; the commands that lines spell: `lg_script`.
 #![tactic(auto)]
 
 mod cluster;
@@ -13,5 +13,5 @@ mod script;
 mod streams;
 
 pub use cluster::MAX_CLUSTER;
-pub use lg_text::{End, RunFault};
+pub use lg_text::{RunEnd, RunFault};
 pub use streams::run;

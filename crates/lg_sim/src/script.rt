@@ -12,9 +12,9 @@ use crate::command::run_command;
 use arrayvec::ArrayVec;
 use itoa::Buffer;
 use lg_detector::{NoMemory, Reply};
-use lg_report::Row;
+use lg_lines::PacketRow;
 use lg_script::{ScriptFault, command_in};
-use lg_text::{End, MAX_INPUT, cut_line};
+use lg_text::{MAX_INPUT, RunEnd, cut_line};
 use std::alloc::{AllocError, Global};
 
 /// What a script writes, and how its run ends.
@@ -23,7 +23,7 @@ pub struct Written {
     /// The text.
     pub text: Vec<u8>,
     /// How the run ends.
-    pub end: End,
+    pub end: RunEnd,
 }
 
 /// Appends the line of a fault to a text, with the number of the faulty line.
@@ -45,7 +45,7 @@ fn run_line(
     line: &[u8],
     cluster: &mut Cluster,
     reply: &mut Reply,
-    row: &mut Row,
+    row: &mut PacketRow,
     text: &mut Vec<u8>,
 ) -> Result<(), Stop>
     requires { IsClusterReached cluster.old }
@@ -85,13 +85,13 @@ pub fn run_script(alloc: Global, input: &[u8]) -> Result<Written, NoMemory>
             Err(Stop::NoMemory) => return Err(AllocError),
             Err(Stop::Faulty(fault)) => {
                 put_fault(number, fault, &mut text)?;
-                let end = End::Faulty;
+                let end = RunEnd::Faulty;
                 return Ok(Written { text, end });
             }
         }
         number += 1;
         rest = after;
     }
-    let end = End::Done;
+    let end = RunEnd::Done;
     Ok(Written { text, end })
 }

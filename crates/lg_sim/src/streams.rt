@@ -6,7 +6,7 @@ ghost use Rattle.lg_text.specs.Meaning.Running.{RunsWhole};
 ghost use Rattle.lg_sim.specs.Meaning.Text.{script_end, script_text};
 
 use crate::script::run_script;
-use lg_text::{End, MAX_INPUT, RunFault, read_input, write_whole};
+use lg_text::{MAX_INPUT, RunEnd, RunFault, read_input, write_whole};
 use std::alloc::Global;
 use std::io::{Read, Write};
 
@@ -18,12 +18,13 @@ use std::io::{Read, Write};
 /// command delivers it, which may be never, again, and in any order. If no member is at its destination, it gives the
 /// line `nobody`. A line that is empty or begins with `#` is passed over, but counted. The first faulty line gives
 /// `fault LINE KIND` as the last line of the text; lines count from 1, and `lg_script::ScriptFault` has the kinds.
-/// The end is then [`End::Faulty`] (all this project's choice).
+/// The end is then [`RunEnd::Faulty`] (all this project's choice).
 ///
 /// [`MAX_CLUSTER`]: crate::MAX_CLUSTER
 ///
 /// The input has at most 1,048,576 bytes. A longer or endless one is [`RunFault::Read`], found after at most
-/// 1,048,577 bytes and 2,097,154 read calls. Any error of the reader but an interruption is [`RunFault::Read`] too.
+/// 1,048,577 bytes and 2,097,154 read calls. Any error of the reader but an interruption is [`RunFault::Read`] too. Its
+/// [`InputFault`](lg_text::InputFault) says which of these it was.
 /// If memory is refused for what was read so far, [`RunFault::Memory`] comes first. The whole text is made before its
 /// first byte is written, so with [`RunFault::Read`] or [`RunFault::Memory`] nothing is written. [`RunFault::Write`]
 /// comes only once the whole input was read, and doesn't say how much was written. Time and memory are in proportion
@@ -34,13 +35,15 @@ pub fn run<R: Read, W: Write>(
     alloc: Global,
     reader: &mut R,
     writer: &mut W,
-) -> Result<End, RunFault>
+) -> Result<RunEnd, RunFault>
     // What is written is the text of the script that was read, and the end is that of the script.
     ensures { RunsWhole script_text script_end (R.remaining reader.old) (R.remaining reader.new)
         writer.old writer.new (W.contents writer.old) (W.contents writer.new) result }
 {
     let input = read_input(alloc, reader)?;
     let written = run_script(alloc, &input)?;
-    write_whole(writer, &written.text)?;
-    Ok(written.end)
+    match write_whole(writer, &written.text) {
+        Ok(()) => Ok(written.end),
+        Err(fault) => Err(RunFault::Write(fault)),
+    }
 }

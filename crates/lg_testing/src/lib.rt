@@ -13,4 +13,4 @@ pub use claims::{alive, at, claim, failed, incarnation, letter, local, name, num
 pub use packets::{ack, packet, ping, said};
 pub use replies::{is_same_packet, is_same_reply};
 pub use room::{ROOM, Room};
-pub use row::Row;
+pub use row::FaultRow;

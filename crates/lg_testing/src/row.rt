@@ -5,14 +5,14 @@ use lg_text::FaultStream;
 /// A stream for faults that holds `N` bytes, and tells how many it has room for yet. A line is taken whole if there is
 /// room for it, and else not at all. It allocates no memory.
 #[derive(Drop)]
-pub struct Row<const N: usize> {
+pub struct FaultRow<const N: usize> {
     text: ArrayVec<u8, N>,
 }
 
-impl<const N: usize> Row<N> {
+impl<const N: usize> FaultRow<N> {
     /// An empty stream.
     pub fn empty() -> Self {
-        Row {
+        FaultRow {
             text: ArrayVec::new(),
         }
     }
@@ -23,7 +23,7 @@ impl<const N: usize> Row<N> {
     }
 }
 
-impl<const N: usize> FaultStream for Row<N> {
+impl<const N: usize> FaultStream for FaultRow<N> {
     ghost use Rattle.std.specs.Prelude.{◌-◌, length, Some};
 
     ghost reported = { λ row. record { contents = Some row.text.items; room = Some (N - length row.text.items) } };

@@ -2,13 +2,14 @@
 //!
 //! Defined in: `specs/Meaning/Running.antt`.
 //! Tested in: `cases/limits.case`, `lg_command_tests/src/readers.rt`, `lg_command_tests/src/limits.rt`.
-ghost use Rattle.std.specs.Prelude.{◌≡◌, ◌+◌, ◌-◌, ◌≤◌, ◌<◌, ◌++◌};
+ghost use Rattle.std.specs.Prelude.{◌≡◌, ◌≢◌, ◌+◌, ◌-◌, ◌≤◌, ◌<◌, ◌++◌, false};
 ghost use Rattle.std.specs.Prelude.{◌⊎◌, IfErr, IfOk, OnOk, Ok, length, vec_len};
 ghost use Rattle.std.specs.Io.KnownBytes.{Consumes, IsAtEnd};
-ghost use Rattle.lg_text.specs.Meaning.Running.{TakesAtMost};
+ghost use Rattle.lg_text.specs.Meaning.Faults.{is_unwritten};
+ghost use Rattle.lg_text.specs.Meaning.Running.{TakesAtMost, TakesMore};
 ghost use Rattle.lg_text.specs.Support.Input.{Grows};
 
-use crate::fault::RunFault;
+use crate::fault::{InputFault, RunFault};
 use std::alloc::Global;
 use std::io::{ErrorKind, Read};
 
@@ -33,18 +34,20 @@ enum Progress {
 
 /// Reads all that a reader has left, at most [`MAX_INPUT`] bytes.
 ///
-/// A longer or endless input is [`RunFault::Read`]. It is found after at most `MAX_INPUT + 1` bytes and
+/// A longer or endless input is [`InputFault::TooLong`]. It is found after at most `MAX_INPUT + 1` bytes and
 /// `2 * (MAX_INPUT + 1)` read calls. An interrupted call is made again within these calls. Any other error of the
-/// reader is [`RunFault::Read`]. The memory that is allocated is in proportion to the bytes; if it is refused, the
-/// fault is [`RunFault::Memory`].
+/// reader is [`InputFault::Failed`] with its kind, and so is an interruption of the last of these calls. The memory that
+/// is allocated is in proportion to the bytes; if it is refused, the fault is [`RunFault::Memory`].
 pub fn read_input<R: Read>(alloc: Global, reader: &mut R) -> Result<Vec<u8>, RunFault>
     ensures all { IfOk result (λ input. Consumes (R.remaining reader.old) (R.remaining reader.new) input.items) }
     ensures end { OnOk result (IsAtEnd (R.remaining reader.new)) }
     ensures within { IfOk result (λ input. vec_len input ≤ MAX_INPUT) }
     ensures taken { TakesAtMost (MAX_INPUT + 1) (R.remaining reader.old) (R.remaining reader.new) }
-    ensures memory { IfErr result (λ fault. fault ≡ RunFault.Memory
+    ensures few { IfErr result (λ fault. fault ≢ RunFault.Read InputFault.TooLong
         → TakesAtMost MAX_INPUT (R.remaining reader.old) (R.remaining reader.new)) }
-    ensures refused { IfErr result (λ fault. (fault ≡ RunFault.Memory) ⊎ (fault ≡ RunFault.Read)) }
+    ensures many { IfErr result (λ fault. fault ≡ RunFault.Read InputFault.TooLong
+        → TakesMore MAX_INPUT (R.remaining reader.old) (R.remaining reader.new)) }
+    ensures refused { IfErr result (λ fault. is_unwritten fault ≡ false) }
 {
     let mut input = Vec::new(alloc);
     let mut chunk = [0; MAX_CHUNK];
@@ -54,7 +57,7 @@ pub fn read_input<R: Read>(alloc: Global, reader: &mut R) -> Result<Vec<u8>, Run
             Progress::More => {}
         }
     }
-    Err(RunFault::Read)
+    Err(RunFault::Read(InputFault::Failed(ErrorKind::Interrupted)))
 }
 
 /// Makes one read call, and appends its bytes to the input if the input isn't too long then.
@@ -69,10 +72,12 @@ fn read_more<R: Read>(
         (Grows (R.remaining reader.old) (R.remaining reader.new) input.old.items input.new.items) }
     ensures within { OnOk result (vec_len input.new ≤ MAX_INPUT) }
     ensures taken { TakesAtMost (MAX_INPUT + 1 - vec_len input.old) (R.remaining reader.old) (R.remaining reader.new) }
-    ensures memory { IfErr result (λ fault. fault ≡ RunFault.Memory
+    ensures few { IfErr result (λ fault. fault ≢ RunFault.Read InputFault.TooLong
         → TakesAtMost (MAX_INPUT - vec_len input.old) (R.remaining reader.old) (R.remaining reader.new)) }
+    ensures many { IfErr result (λ fault. fault ≡ RunFault.Read InputFault.TooLong
+        → TakesMore (MAX_INPUT - vec_len input.old) (R.remaining reader.old) (R.remaining reader.new)) }
     ensures end { result ≡ Ok Progress.End → IsAtEnd (R.remaining reader.new) }
-    ensures refused { IfErr result (λ fault. (fault ≡ RunFault.Memory) ⊎ (fault ≡ RunFault.Read)) }
+    ensures refused { IfErr result (λ fault. is_unwritten fault ≡ false) }
 {
     let most = chunk.len().min(MAX_INPUT + 1 - input.len());
     match reader.read(&mut chunk[..most]) {
@@ -85,7 +90,7 @@ fn read_more<R: Read>(
             if error.kind() == ErrorKind::Interrupted {
                 Ok(Progress::More)
             } else {
-                Err(RunFault::Read)
+                Err(RunFault::Read(InputFault::Failed(error.kind())))
             }
         }
     }
@@ -98,10 +103,10 @@ fn keep_read(read: &[u8], input: &mut Vec<u8>) -> Result<(), RunFault>
     ensures within { OnOk result (vec_len input.new ≤ MAX_INPUT) }
     ensures refused { IfErr result (λ fault.
         ((fault ≡ RunFault.Memory) × (vec_len input.old + length read.now ≤ MAX_INPUT))
-        ⊎ ((fault ≡ RunFault.Read) × (MAX_INPUT < vec_len input.old + length read.now))) }
+        ⊎ ((fault ≡ RunFault.Read InputFault.TooLong) × (MAX_INPUT < vec_len input.old + length read.now))) }
 {
     if read.len() > MAX_INPUT - input.len() {
-        return Err(RunFault::Read);
+        return Err(RunFault::Read(InputFault::TooLong));
     }
     input.extend_from_slice(read)?;
     Ok(())

@@ -14,8 +14,8 @@ mod output;
 mod reporting;
 
 pub use cutting::cut_at;
-pub use end::End;
-pub use fault::RunFault;
+pub use end::RunEnd;
+pub use fault::{InputFault, MAX_FAULT_TEXT, RunFault, WriteFault};
 pub use input::{MAX_INPUT, read_input};
 pub use lines::cut_line;
 pub use name::name_in;

@@ -2,35 +2,40 @@
 //!
 //! Defined in: `specs/Meaning/Running.antt`.
 //! Tested in: `lg_command_tests/src/writers.rt`.
-ghost use Rattle.std.specs.Prelude.{◌≡◌, IfErr, OnErr, OnOk};
+ghost use Rattle.std.specs.Prelude.{◌≡◌, OnErr, OnOk};
 ghost use Rattle.std.specs.Io.KnownBytes.{Appends};
 ghost use Rattle.lg_text.specs.Meaning.Running.{AppendsFront};
 
-use crate::fault::RunFault;
+use crate::fault::WriteFault;
 use std::io::{ErrorKind, Write};
+
+/// The fault of a write or a flush that failed by an error of this kind.
+fn unwritten(kind: ErrorKind) -> WriteFault
+    ensures { result.kind ≡ kind }
+{
+    WriteFault { kind }
+}
 
 /// Writes a text and flushes the writer.
 ///
-/// The only error is [`RunFault::Write`], which comes when a write or the flush fails. What the writer held then has
-/// grown by a beginning of the text: by none of it, a part or all. An interrupted write is made again. A write that
-/// takes none of the bytes handed to it is an error. No memory is allocated apart from what the writer allocates.
-pub fn write_whole<W: Write>(writer: &mut W, text: &[u8]) -> Result<(), RunFault>
+/// The error says of which kind that of the write or the flush was that failed. What the writer held then has grown by a
+/// beginning of the text: by none of it, a part or all. An interrupted write is made again. A write that takes none of
+/// the bytes handed to it is an error too. No memory is allocated apart from what the writer allocates.
+pub fn write_whole<W: Write>(writer: &mut W, text: &[u8]) -> Result<(), WriteFault>
     ensures written { OnOk result (Appends (W.contents writer.old) (W.contents writer.new) text.now) }
     ensures partly { OnErr result (AppendsFront (W.contents writer.old) (W.contents writer.new) text.now) }
-    ensures refused { IfErr result (λ fault. fault ≡ RunFault.Write) }
 {
     write_pieces(writer, text)?;
-    if writer.flush().is_err() {
-        return Err(RunFault::Write);
+    match writer.flush() {
+        Ok(()) => Ok(()),
+        Err(error) => Err(unwritten(error.kind())),
     }
-    Ok(())
 }
 
-/// Writes a text in as many calls as the writer needs, without a flush. The only error is [`RunFault::Write`].
-pub(crate) fn write_pieces<W: Write>(writer: &mut W, text: &[u8]) -> Result<(), RunFault>
+/// Writes a text in as many calls as the writer needs, without a flush.
+pub(crate) fn write_pieces<W: Write>(writer: &mut W, text: &[u8]) -> Result<(), WriteFault>
     ensures written { OnOk result (Appends (W.contents writer.old) (W.contents writer.new) text.now) }
     ensures partly { AppendsFront (W.contents writer.old) (W.contents writer.new) text.now }
-    ensures refused { IfErr result (λ fault. fault ≡ RunFault.Write) }
 {
     // `write_all` doesn't say how much it wrote if it fails, so the pieces are written here.
     let mut rest = text;
@@ -39,14 +44,14 @@ pub(crate) fn write_pieces<W: Write>(writer: &mut W, text: &[u8]) -> Result<(), 
             return Ok(());
         }
         match writer.write(rest) {
-            Ok(0) => return Err(RunFault::Write),
+            Ok(0) => return Err(unwritten(ErrorKind::WriteZero)),
             Ok(count) => rest = &rest[count..],
             Err(error) => {
                 if error.kind() != ErrorKind::Interrupted {
-                    return Err(RunFault::Write);
+                    return Err(unwritten(error.kind()));
                 }
             }
         }
     }
-    Err(RunFault::Write)
+    Err(unwritten(ErrorKind::Interrupted))
 }

@@ -9,7 +9,7 @@ ghost use Rattle.lg_timers.specs.Support.Heap.{fires_before, IsFirstBelow};
 ghost use Rattle.lg_timers.specs.Support.Heap.{IsHeap, IsHeapAbove, IsHeapBelow, IsHeapAround};
 ghost use Rattle.lg_timers.specs.Support.Slots.{timer_at, ArePlaced, AreTimerSlots, AreSettled};
 
-use crate::steps::Steps;
+use crate::comparing::Comparer;
 use crate::timer::Timer;
 use crate::timers::MAX_TIMERS;
 
@@ -88,18 +88,25 @@ impl Heap {
 
     /// Whether the timer at a place fires before the one at another.
     #[inline]
-    fn is_before(&self, timers: &[Timer], place: usize, other: usize, steps: &mut Steps) -> bool
+    fn is_before<C: Comparer>(
+        &self,
+        timers: &[Timer],
+        place: usize,
+        other: usize,
+        comparer: &mut C,
+    ) -> bool
         requires full { length timers.now ≡ MAX_TIMERS }
         requires placed { ArePlaced self.now.slots self.now.places }
         requires place { place < MAX_TIMERS }
         requires other { other < MAX_TIMERS }
-        requires room { steps.old + 1 < 2 ^ 64 }
+        requires room { C.count comparer.old + 1 < 2 ^ 64 }
         ensures before { let timer = timer_at timers.now self.now.slots in
             result ≡ fires_before (timer place) (timer other) }
-        ensures counted { steps.new ≡ steps.old + 1 }
+        ensures counted { C.count comparer.new ≡ C.count comparer.old + C.adds }
+        ensures once { C.adds ≤ 1 }
     {
         let timer = &timers[usize::from(self.slots[place])];
-        steps.before(timer, &timers[usize::from(self.slots[other])])
+        comparer.is_before(timer, &timers[usize::from(self.slots[other])])
     }
 
     /// Puts a slot at a place.
@@ -131,19 +138,19 @@ impl Heap {
 
     /// Moves the slot at a place up, until its timer doesn't fire before the one above it. Counts at most one
     /// comparison a level.
-    fn sift_up(&mut self, timers: &[Timer], mut place: usize, steps: &mut Steps)
+    fn sift_up<C: Comparer>(&mut self, timers: &[Timer], mut place: usize, comparer: &mut C)
         requires slots { AreTimerSlots timers.now self.old.slots self.old.places self.old.count }
         requires within { place < self.old.count }
         requires above { IsHeapAbove (timer_at timers.now self.old.slots) self.old.count place }
-        requires room { steps.old + LEVELS < 2 ^ 64 }
+        requires room { C.count comparer.old + LEVELS < 2 ^ 64 }
         ensures settled { AreSettled timers.now self.old.slots self.new.slots self.new.places self.old.count }
         ensures count { self.new.count ≡ self.old.count }
-        ensures rises { steps.old ≤ steps.new }
-        ensures counted { steps.new ≤ steps.old + LEVELS }
+        ensures rises { C.count comparer.old ≤ C.count comparer.new }
+        ensures counted { C.count comparer.new ≤ C.count comparer.old + LEVELS }
     {
         while place > 0 {
             let parent = (place - 1) / 2;
-            if !self.is_before(timers, place, parent, steps) {
+            if !self.is_before(timers, place, parent, comparer) {
                 return;
             }
             self.exchange(parent, place);
@@ -152,17 +159,17 @@ impl Heap {
     }
 
     /// Of the places right below a place, the one whose timer fires first.
-    fn first_below(&self, timers: &[Timer], place: usize, steps: &mut Steps) -> usize
+    fn first_below<C: Comparer>(&self, timers: &[Timer], place: usize, comparer: &mut C) -> usize
         requires slots { AreTimerSlots timers.now self.now.slots self.now.places self.now.count }
         requires within { 2 * place + 1 < self.now.count }
-        requires room { steps.old + 1 < 2 ^ 64 }
+        requires room { C.count comparer.old + 1 < 2 ^ 64 }
         ensures first { IsFirstBelow (timer_at timers.now self.now.slots) self.now.count place result }
-        ensures rises { steps.old ≤ steps.new }
-        ensures counted { steps.new ≤ steps.old + 1 }
+        ensures rises { C.count comparer.old ≤ C.count comparer.new }
+        ensures counted { C.count comparer.new ≤ C.count comparer.old + 1 }
     {
         let left = 2 * place + 1;
         let right = left + 1;
-        if right < self.count && self.is_before(timers, right, left, steps) {
+        if right < self.count && self.is_before(timers, right, left, comparer) {
             right
         } else {
             left
@@ -171,19 +178,19 @@ impl Heap {
 
     /// Moves the slot at a place down, until no timer below fires before its own. Counts at most two comparisons a
     /// level.
-    fn sift_down(&mut self, timers: &[Timer], mut place: usize, steps: &mut Steps)
+    fn sift_down<C: Comparer>(&mut self, timers: &[Timer], mut place: usize, comparer: &mut C)
         requires slots { AreTimerSlots timers.now self.old.slots self.old.places self.old.count }
         requires within { place < self.old.count }
         requires below { IsHeapBelow (timer_at timers.now self.old.slots) self.old.count place }
-        requires room { steps.old + 2 * LEVELS < 2 ^ 64 }
+        requires room { C.count comparer.old + 2 * LEVELS < 2 ^ 64 }
         ensures settled { AreSettled timers.now self.old.slots self.new.slots self.new.places self.old.count }
         ensures count { self.new.count ≡ self.old.count }
-        ensures rises { steps.old ≤ steps.new }
-        ensures counted { steps.new ≤ steps.old + 2 * LEVELS }
+        ensures rises { C.count comparer.old ≤ C.count comparer.new }
+        ensures counted { C.count comparer.new ≤ C.count comparer.old + 2 * LEVELS }
     {
         while 2 * place + 1 < self.count {
-            let child = self.first_below(timers, place, steps);
-            if !self.is_before(timers, child, place, steps) {
+            let child = self.first_below(timers, place, comparer);
+            if !self.is_before(timers, child, place, comparer) {
                 return;
             }
             self.exchange(place, child);
@@ -193,79 +200,79 @@ impl Heap {
 
     /// Moves the slot at a place up or down to where its timer belongs. Counts at most two comparisons a level, and one
     /// more.
-    fn settle(&mut self, timers: &[Timer], place: usize, steps: &mut Steps)
+    fn settle<C: Comparer>(&mut self, timers: &[Timer], place: usize, comparer: &mut C)
         requires slots { AreTimerSlots timers.now self.old.slots self.old.places self.old.count }
         requires within { place < self.old.count }
         requires around { IsHeapAround (timer_at timers.now self.old.slots) self.old.count place }
-        requires room { steps.old + 2 * LEVELS + 1 < 2 ^ 64 }
+        requires room { C.count comparer.old + 2 * LEVELS + 1 < 2 ^ 64 }
         ensures settled { AreSettled timers.now self.old.slots self.new.slots self.new.places self.old.count }
         ensures count { self.new.count ≡ self.old.count }
-        ensures rises { steps.old ≤ steps.new }
-        ensures counted { steps.new ≤ steps.old + 2 * LEVELS + 1 }
+        ensures rises { C.count comparer.old ≤ C.count comparer.new }
+        ensures counted { C.count comparer.new ≤ C.count comparer.old + 2 * LEVELS + 1 }
     {
-        if place > 0 && self.is_before(timers, place, (place - 1) / 2, steps) {
-            self.sift_up(timers, place, steps);
+        if place > 0 && self.is_before(timers, place, (place - 1) / 2, comparer) {
+            self.sift_up(timers, place, comparer);
         } else {
-            self.sift_down(timers, place, steps);
+            self.sift_down(timers, place, comparer);
         }
     }
 
     /// Takes the free slot into use, once its timer is there. Counts at most one comparison a level.
-    pub(crate) fn add(&mut self, timers: &[Timer], steps: &mut Steps)
+    pub(crate) fn add<C: Comparer>(&mut self, timers: &[Timer], comparer: &mut C)
         requires slots { AreTimerSlots timers.now self.old.slots self.old.places self.old.count }
         requires free { self.old.count < MAX_TIMERS }
         requires heap { IsHeap (timer_at timers.now self.old.slots) self.old.count }
-        requires room { steps.old + LEVELS < 2 ^ 64 }
+        requires room { C.count comparer.old + LEVELS < 2 ^ 64 }
         ensures settled { let count = self.old.count + 1 in
             AreSettled timers.now self.old.slots self.new.slots self.new.places count }
         ensures count { self.new.count ≡ self.old.count + 1 }
-        ensures rises { steps.old ≤ steps.new }
-        ensures counted { steps.new ≤ steps.old + LEVELS }
+        ensures rises { C.count comparer.old ≤ C.count comparer.new }
+        ensures counted { C.count comparer.new ≤ C.count comparer.old + LEVELS }
     {
         let place = self.count;
         self.count += 1;
-        self.sift_up(timers, place, steps);
+        self.sift_up(timers, place, comparer);
     }
 
     /// Takes a slot out of use. Counts at most two comparisons a level, and one more.
-    pub(crate) fn remove(&mut self, timers: &[Timer], slot: u16, steps: &mut Steps)
+    pub(crate) fn remove<C: Comparer>(&mut self, timers: &[Timer], slot: u16, comparer: &mut C)
         requires slots { AreTimerSlots timers.now self.old.slots self.old.places self.old.count }
         requires slot { slot < MAX_TIMERS }
         requires used { slice_index self.old.places slot < self.old.count }
         requires placed { slice_index self.old.slots (slice_index self.old.places slot) ≡ slot }
         requires heap { IsHeap (timer_at timers.now self.old.slots) self.old.count }
-        requires room { steps.old + 2 * LEVELS + 1 < 2 ^ 64 }
+        requires room { C.count comparer.old + 2 * LEVELS + 1 < 2 ^ 64 }
         ensures slots { AreTimerSlots timers.now self.new.slots self.new.places self.new.count }
         ensures moved { let used = take self.new.count self.new.slots in
             IsPermutation (take self.old.count self.old.slots) (slot ∷ used) }
         ensures heap { IsHeap (timer_at timers.now self.new.slots) self.new.count }
         ensures count { self.new.count + 1 ≡ self.old.count }
-        ensures rises { steps.old ≤ steps.new }
-        ensures counted { steps.new ≤ steps.old + 2 * LEVELS + 1 }
+        ensures rises { C.count comparer.old ≤ C.count comparer.new }
+        ensures counted { C.count comparer.new ≤ C.count comparer.old + 2 * LEVELS + 1 }
     {
         let place = usize::from(self.places[usize::from(slot)]);
         self.count -= 1;
         self.exchange(place, self.count);
         if place < self.count {
-            self.settle(timers, place, steps);
+            self.settle(timers, place, comparer);
         }
     }
 
     /// Moves a slot to where it belongs, once the deadline of its timer has changed. Counts at most two comparisons a
     /// level, and one more.
-    pub(crate) fn replace(&mut self, timers: &[Timer], slot: u16, steps: &mut Steps)
+    pub(crate) fn replace<C: Comparer>(&mut self, timers: &[Timer], slot: u16, comparer: &mut C)
         requires slots { AreTimerSlots timers.now self.old.slots self.old.places self.old.count }
         requires slot { slot < MAX_TIMERS }
         requires used { slice_index self.old.places slot < self.old.count }
         requires around { let place = slice_index self.old.places slot in
             IsHeapAround (timer_at timers.now self.old.slots) self.old.count place }
-        requires room { steps.old + 2 * LEVELS + 1 < 2 ^ 64 }
+        requires room { C.count comparer.old + 2 * LEVELS + 1 < 2 ^ 64 }
         ensures settled { AreSettled timers.now self.old.slots self.new.slots self.new.places self.old.count }
         ensures count { self.new.count ≡ self.old.count }
-        ensures rises { steps.old ≤ steps.new }
-        ensures counted { steps.new ≤ steps.old + 2 * LEVELS + 1 }
+        ensures rises { C.count comparer.old ≤ C.count comparer.new }
+        ensures counted { C.count comparer.new ≤ C.count comparer.old + 2 * LEVELS + 1 }
     {
         let place = usize::from(self.places[usize::from(slot)]);
-        self.settle(timers, place, steps);
+        self.settle(timers, place, comparer);
     }
 }

@@ -2,6 +2,7 @@
 #![tactic(auto)]
 
 mod by_id;
+mod comparing;
 mod heap;
 mod steps;
 mod timer;

@@ -8,6 +8,7 @@ ghost use Rattle.lg_timers.specs.Meaning.Timers.{least_of, due_of, timers_left};
 ghost use Rattle.lg_timers.specs.Support.InTurn.{IsTimerSet};
 
 use crate::by_id::index_of;
+use crate::comparing::{Comparer, Uncounted};
 use crate::heap::Heap;
 use crate::steps::{MAX_STEPS, Steps};
 use crate::timer::{Timer, TimerId};
@@ -90,7 +91,7 @@ impl Timers {
         requires apart { is_set timer.id self.old ≡ false }
         ensures { self.new ≡ with_timer timer self.old }
     {
-        self.set_counted(timer, &mut Steps::new());
+        self.set_with(timer, &mut Uncounted);
     }
 
     /// Adds a timer, as `set` does. Its comparisons raise the count by at most [`MAX_STEPS`], for which there has to
@@ -103,7 +104,19 @@ impl Timers {
         ensures rises { steps.old ≤ steps.new }
         ensures counted { steps.new ≤ steps.old + MAX_STEPS }
     {
-        self.reset_counted(timer, steps);
+        self.set_with(timer, steps);
+    }
+
+    /// Adds a timer, as `set` does. Counts at most [`MAX_STEPS`] comparisons, if its comparer counts.
+    fn set_with<C: Comparer>(&mut self, timer: Timer, comparer: &mut C)
+        requires room { length self.old < MAX_TIMERS }
+        requires apart { is_set timer.id self.old ≡ false }
+        requires few { C.count comparer.old + MAX_STEPS < 2 ^ 64 }
+        ensures set { self.new ≡ with_timer timer self.old }
+        ensures rises { C.count comparer.old ≤ C.count comparer.new }
+        ensures counted { C.count comparer.new ≤ C.count comparer.old + MAX_STEPS }
+    {
+        self.reset_with(timer, comparer);
     }
 
     /// Sets a timer: replaces the one with its id, or adds it. If none with its id is set, fewer than [`MAX_TIMERS`]
@@ -112,29 +125,28 @@ impl Timers {
         requires { is_set timer.id self.old ≡ false → length self.old < MAX_TIMERS }
         ensures { self.new ≡ with_timer timer (without_timer timer.id self.old) }
     {
-        self.reset_counted(timer, &mut Steps::new());
+        self.reset_with(timer, &mut Uncounted);
     }
 
-    /// Sets a timer, as `reset` does. Its comparisons raise the count by at most [`MAX_STEPS`], for which there has to
-    /// be room.
-    fn reset_counted(&mut self, timer: Timer, steps: &mut Steps)
+    /// Sets a timer, as `reset` does. Counts at most [`MAX_STEPS`] comparisons, if its comparer counts.
+    fn reset_with<C: Comparer>(&mut self, timer: Timer, comparer: &mut C)
         requires room { is_set timer.id self.old ≡ false → length self.old < MAX_TIMERS }
-        requires few { steps.old + MAX_STEPS < 2 ^ 64 }
+        requires few { C.count comparer.old + MAX_STEPS < 2 ^ 64 }
         ensures set { self.new ≡ with_timer timer (without_timer timer.id self.old) }
-        ensures rises { steps.old ≤ steps.new }
-        ensures counted { steps.new ≤ steps.old + MAX_STEPS }
+        ensures rises { C.count comparer.old ≤ C.count comparer.new }
+        ensures counted { C.count comparer.new ≤ C.count comparer.old + MAX_STEPS }
     {
         match index_of(&self.by_id, &self.timers, &timer.id) {
             Ok(at) => {
                 let slot = self.by_id[at];
                 self.timers[usize::from(slot)] = timer;
-                self.heap.replace(&self.timers, slot, steps);
+                self.heap.replace(&self.timers, slot, comparer);
             }
             Err(at) => {
                 let slot = self.heap.free_slot();
                 self.timers[usize::from(slot)] = timer;
                 self.by_id.insert(at, slot);
-                self.heap.add(&self.timers, steps);
+                self.heap.add(&self.timers, comparer);
             }
         }
     }
@@ -144,7 +156,7 @@ impl Timers {
         ensures was_set { result ≡ is_set id.now self.old }
         ensures others { self.new ≡ without_timer id.now self.old }
     {
-        self.cancel_counted(id, &mut Steps::new())
+        self.cancel_with(id, &mut Uncounted)
     }
 
     /// Cancels the timer with this id, as `cancel` does. Its comparisons raise the count by at most [`MAX_STEPS`],
@@ -156,10 +168,22 @@ impl Timers {
         ensures rises { steps.old ≤ steps.new }
         ensures counted { steps.new ≤ steps.old + MAX_STEPS }
     {
+        self.cancel_with(id, steps)
+    }
+
+    /// Cancels the timer with this id, as `cancel` does. Counts at most [`MAX_STEPS`] comparisons, if its comparer
+    /// counts.
+    fn cancel_with<C: Comparer>(&mut self, id: &TimerId, comparer: &mut C) -> bool
+        requires few { C.count comparer.old + MAX_STEPS < 2 ^ 64 }
+        ensures was_set { result ≡ is_set id.now self.old }
+        ensures others { self.new ≡ without_timer id.now self.old }
+        ensures rises { C.count comparer.old ≤ C.count comparer.new }
+        ensures counted { C.count comparer.new ≤ C.count comparer.old + MAX_STEPS }
+    {
         match index_of(&self.by_id, &self.timers, id) {
             Ok(at) => {
                 let slot = self.by_id.remove(at);
-                self.heap.remove(&self.timers, slot, steps);
+                self.heap.remove(&self.timers, slot, comparer);
                 true
             }
             Err(_) => false,
@@ -202,7 +226,7 @@ impl Timers {
         ensures due { result ≡ due_of now self.old }
         ensures left { self.new ≡ timers_left result self.old }
     {
-        self.take_due_counted(now, &mut Steps::new())
+        self.take_due_with(now, &mut Uncounted)
     }
 
     /// Takes out the first of the timers that are due, as `take_due` does. Its comparisons raise the count by at most
@@ -214,8 +238,20 @@ impl Timers {
         ensures rises { steps.old ≤ steps.new }
         ensures counted { steps.new ≤ steps.old + MAX_STEPS }
     {
+        self.take_due_with(now, steps)
+    }
+
+    /// Takes out the first of the timers that are due, as `take_due` does. Counts at most [`MAX_STEPS`] comparisons, if
+    /// its comparer counts.
+    fn take_due_with<C: Comparer>(&mut self, now: Moment, comparer: &mut C) -> Option<Timer>
+        requires few { C.count comparer.old + MAX_STEPS < 2 ^ 64 }
+        ensures due { result ≡ due_of now self.old }
+        ensures left { self.new ≡ timers_left result self.old }
+        ensures rises { C.count comparer.old ≤ C.count comparer.new }
+        ensures counted { C.count comparer.new ≤ C.count comparer.old + MAX_STEPS }
+    {
         let timer = self.due(now)?;
-        self.cancel_counted(&timer.id, steps);
+        self.cancel_with(&timer.id, comparer);
         Some(timer)
     }
 }

@@ -1,5 +1,5 @@
 -- What calls and looks do, and which calls are refused.
-use Rattle.std.specs.Prelude.{◌≡◌, ◌⊎◌, ℕ, ◌+◌, ◌<◌, true, ◌||◌, nat_lt, nat_le, ◌==◌, ◌≤◌, drop}
+use Rattle.std.specs.Prelude.{◌≡◌, ◌⊎◌, ℕ, ◌+◌, ◌<◌, Bool, true, false, ◌||◌, nat_lt, nat_le, ◌==◌, ◌≤◌, drop}
 use Rattle.std.specs.Prelude.{if◌then◌else◌}
 use Rattle.std.specs.Prelude.{List, [], ◌∷◌, ◌++◌, length, Option, Some, None, All}
 use mathlib.Core.List.{IsPrefix}
@@ -12,6 +12,8 @@ use Rattle.lg_history.specs.Meaning.History.{entry}
 use Rattle.lg_history.specs.Meaning.Rest.{made_by, of_seat}
 use Rattle.lg_view.specs.Meaning.Views.{begins_open}
 use Rattle.lg_packet.specs.declared.fault.Fault.{Fault}
+use Rattle.lg_packet.specs.declared.packet.Body.{Body}
+use Rattle.lg_packet.specs.declared.packet.Body.TheVariants.{Page}
 use Rattle.lg_agent.specs.declared.receipt.Receipt.{Receipt}
 use Rattle.lg_agent.specs.declared.refusal.Refusal.{Refusal}
 use Rattle.lg_agent.specs.declared.refusal.Refusal.TheVariants.{BadPacket, NoMemory, HistoryFull}
@@ -47,6 +49,11 @@ refusal_of l seat =
 -- the receipt of an answered call, by the position of its entry and the reply that was written for it
 abbrev pub receipt_of : ℕ → Reply → Receipt
 receipt_of place reply = record { place = place; reply = reply }
+
+-- whether what a packet asks for or answers is a Page
+abbrev pub is_page : Body → Bool
+is_page Page = true
+is_page body = false
 
 -- An answered call, by what its caller has seen before and after. There is an accepted list of events which begins
 -- with all that the caller had seen and ends with the call's event. The event has the receipt's position (`place`),

@@ -1,9 +1,9 @@
 //! Calls and looks of the passes of one agent, and what they give.
 use arrayvec::ArrayVec;
 use lg_agent::{AgentName, Pass, Receipt, Refusal};
+use lg_agent_testing::{ping_of, spelled};
 use lg_detector::{Answer, Reply, TimerId};
 use lg_packet::MAX_PACKET;
-use lg_playing::{ping_of, spelled};
 use lg_rules::Record;
 use lg_testing::{ack, at, letter, local};
 use std::alloc::Global;
@@ -195,7 +195,15 @@ pub fn make_call_into<A: AgentName, R: Wait>(
     match happens {
         Happens::Datagram(now, heard) => {
             let bytes = bytes_of(heard);
-            pass.datagram_into(rt, alloc, at(now), local(7001), bytes.as_slice(), kept)
+            let heard = pass.datagram_into(
+                rt,
+                alloc,
+                at(now),
+                local(7001),
+                bytes.as_slice(),
+                kept,
+            )?;
+            Ok(heard.place)
         }
         Happens::Tick(now, word) => pass.tick_into(rt, alloc, at(now), [word; 8], kept),
         Happens::Ask(now) => pass.ask_into(rt, alloc, at(now), &letter(b'c'), kept),

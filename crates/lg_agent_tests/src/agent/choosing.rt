@@ -6,7 +6,7 @@ ghost use Rattle.std.specs.Prelude.{◌≡◌};
 use super::calls::Happens::{self, Datagram, Tick};
 use super::calls::{Heard, make_call};
 use lg_agent::{Agent, AgentName, Closed, Pass, Refusal, Spent};
-use lg_playing::{abandon, close, config, last_pass, open};
+use lg_agent_testing::{abandon, close, config, last_pass, open};
 use lg_testing::letter;
 use lg_view::UnnamedBook;
 use std::alloc::Global;

@@ -2,7 +2,7 @@
 use super::rotating::FILLS_IT;
 use super::rows::{case, play_each_call, seen_in};
 use crate::playing::{Shown, told_at_last};
-use lg_playing::Outcome;
+use lg_agent_testing::Outcome;
 
 /// Whether each step gave what it should, no pass was given out later, and the agent was closed with this many
 /// entries, of which `base` were cut off.

@@ -5,7 +5,7 @@ use super::rows::{case, play};
 use super::steps::Row;
 use super::wanted::Want::{self, Healthy, Number, Refused};
 use lg_agent::{CloseFault, Refusal};
-use lg_playing::Ending;
+use lg_agent_testing::Ending;
 
 const FULL: Want = Refused(Refusal::HistoryFull(3));
 

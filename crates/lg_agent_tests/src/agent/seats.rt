@@ -2,8 +2,8 @@
 ghost use Rattle.std.specs.Prelude.{◌≡◌};
 
 use lg_agent::{AgentName, Kept, Refusal};
+use lg_agent_testing::config;
 use lg_detector::Event;
-use lg_playing::config;
 use lg_testing::at;
 use lg_view::UnnamedBook;
 use std::alloc::Global;

@@ -4,7 +4,7 @@ use super::leaving::{LeftBy, left_by};
 use super::wanted::Want;
 use crate::playing::Shown;
 use lg_agent::{AgentName, Pass, Refusal, Spent};
-use lg_playing::Left;
+use lg_agent_testing::Left;
 use std::alloc::Global;
 use std::sync::Wait;
 use std::thread::{Threads, join};

@@ -10,7 +10,7 @@ use Rattle.lg_timing.specs.declared.keys.Key.{Key}
 use Rattle.lg_timing.specs.Meaning.Keys.{key_name, keys, number_of_key, row_of}
 use Rattle.lg_timing.specs.Meaning.Timeouts.{range_of, suspicion_of}
 use Rattle.lg_text.specs.Meaning.Lines.{newline}
-use Rattle.lg_report.specs.Meaning.Records.{dotted}
+use Rattle.lg_lines.specs.Meaning.Records.{dotted}
 use Rattle.lg_config.specs.declared.node.NodeConfig.{NodeConfig}
 use Rattle.lg_config.specs.declared.node_keys.NodeKey.{NodeKey}
 use Rattle.lg_config.specs.Meaning.Bounds.{default_address, default_dice, default_port}

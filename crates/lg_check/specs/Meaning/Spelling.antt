@@ -3,7 +3,7 @@ use Rattle.std.specs.Prelude.{ℕ, Bool, true, false, List, [], ◌∷◌, ◌++
 use Rattle.std.specs.List.{flat_map}
 use Rattle.lg_rules.specs.declared.addr.Addr.{Addr}
 use Rattle.lg_timing.specs.declared.config.Seed.{Seed}
-use Rattle.lg_report.specs.Meaning.Records.{addr_text}
+use Rattle.lg_lines.specs.Meaning.Records.{addr_text}
 
 -- NAME@A.B.C.D:PORT
 abbrev pub seed_spelled : Seed → List ℕ

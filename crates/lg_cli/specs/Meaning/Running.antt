@@ -7,11 +7,11 @@ use Rattle.lg_text.specs.Meaning.Running.{ReadsWhole}
 use Rattle.lg_commands.specs.Meaning.Choosing.{order_text}
 use Rattle.lg_commands.specs.Meaning.Running.{FailsBy, RunsAnswer, RunsOrder, RunsSim, RunsTimeouts}
 use Rattle.lg_commands.specs.declared.timeouts.Numbers.{Numbers}
-use Rattle.lg_launch.specs.Meaning.Checking.{ChecksFile}
-use Rattle.lg_launch.specs.Meaning.Running.{RunsFile}
-use Rattle.lg_ask.specs.declared.question.Question.TheVariants.{Health, Members as KnownMembers}
-use Rattle.lg_ask.specs.Meaning.Telling.{TellsAnswer}
-use Rattle.lg_ask.specs.Meaning.Watching.{WatchesChanges}
+use Rattle.lg_run.specs.Meaning.Checking.{ChecksFile}
+use Rattle.lg_run.specs.Meaning.Running.{RunsFile}
+use Rattle.lg_client.specs.declared.resource.Resource.TheVariants.{Health, Members as KnownMembers}
+use Rattle.lg_client.specs.Meaning.Telling.{TellsAnswer}
+use Rattle.lg_client.specs.Meaning.Watching.{WatchesChanges}
 use Rattle.lg_command_line.specs.declared.asked.Question.{Question}
 use Rattle.lg_command_line.specs.declared.asked.Question.TheVariants.{Members, Status, Watch}
 use Rattle.lg_command_line.specs.Meaning.Commands.{Request, answer, ask, check, node, order, sim, timeouts}

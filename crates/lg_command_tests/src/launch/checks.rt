@@ -1,5 +1,5 @@
 //! Checks of files, over writers that fail and while memory is refused.
-use lg_launch::{check_bytes, check_file};
+use lg_run::{check_bytes, check_file};
 use lg_testing::Room;
 use std::alloc::Global;
 use std::rt::Files;
@@ -9,7 +9,7 @@ use std::rt::Files;
 type Row = (&'static str, usize, u8, &'static str, &'static str);
 
 /// What is told if the text can't be written.
-const UNWRITTEN: &str = "lg: write\n";
+const UNWRITTEN: &str = "lg: write\nstandard output can't be written: nobody reads it\n";
 
 /// The texts of files. A good file whose output fails at its first byte, at a later one, and after 21 bytes. Files with
 /// faults, each told by its number and in words.

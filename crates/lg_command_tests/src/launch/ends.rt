@@ -1,6 +1,6 @@
 //! Runs of nodes and of files, over writers that fail.
 use crate::ports::{free_port, with_port};
-use lg_launch::{Wishes, run_bytes, run_file};
+use lg_run::{Wishes, run_bytes, run_file};
 use lg_testing::{Room, at};
 use std::alloc::{AllocError, Global};
 use std::net::Net;
@@ -48,7 +48,7 @@ impl Outcome {
 }
 
 /// A run of a millisecond that tells its members at its end.
-fn wishes_of(source: Source) -> Wishes<'static> {
+fn wishes_of(source: Source, stop: &AtomicBool) -> Wishes<'_> {
     let file = match source {
         Bytes(_) => "b.toml",
         Path(path) => path,
@@ -57,6 +57,7 @@ fn wishes_of(source: Source) -> Wishes<'static> {
         file,
         until: Some(at(1)),
         follow: false,
+        stop,
     }
 }
 
@@ -72,14 +73,15 @@ where
     R: Wait + Threads + Net + rt::Clock + Files + RandomSource + Sync,
 {
     let (mut writer, mut faults) = (Room::failing(fails_at), Room::failing(0));
-    let (wishes, stop) = (wishes_of(source), AtomicBool::new(false));
+    let stop = AtomicBool::new(false);
+    let wishes = wishes_of(source, &stop);
     let (writer_of, faults_of) = (&mut writer, &mut faults);
     let status = match source {
         Bytes(text) => {
             let bytes = with_port(alloc, text, port)?;
-            run_bytes(rt, alloc, &bytes, &wishes, &stop, writer_of, faults_of)
+            run_bytes(rt, alloc, &bytes, &wishes, writer_of, faults_of)
         }
-        Path(_) => run_file(rt, alloc, &wishes, &stop, writer_of, faults_of),
+        Path(_) => run_file(rt, alloc, &wishes, writer_of, faults_of),
     };
     Ok(Outcome {
         status,
@@ -104,7 +106,7 @@ where
 }
 
 /// What is told if the members can't be written.
-const UNWRITTEN: &str = "lg: write\n";
+const UNWRITTEN: &str = "lg: write\nstandard output can't be written: nobody reads it\n";
 
 /// A node alone and a seeded one. An output that fails at its first byte, at a later one, and at the flush after the
 /// 33 bytes of the table. Files that can't be read or mean no configuration: no such file, a path that is none, an

@@ -1,7 +1,7 @@
 //! Key files at whose path another file is seen than the one that is opened, as if somebody swapped them meanwhile. The
 //! files are of Linux's /proc: only the user who runs the test may use `environ`, and all may read `stat`.
 use lg_config::{FilePath, NodeConfig};
-use lg_launch::{NoKeys, keys_at};
+use lg_run::{NoKeys, keys_at};
 use std::alloc::{Allocator, Global};
 use std::fs::{Metadata, OpenOptions};
 use std::io;

@@ -2,13 +2,14 @@
 ghost use Rattle.lg_timing.specs.Meaning.Config.{IsChecked};
 
 use lg_agent::{CloseFault, Refusal};
-use lg_launch::Told;
-use lg_node::{NodeEnd, NodeFault, Settings, Why, run_node};
+use lg_node::{NodeEnd, NodeFault, NodeStart, Settings, Why, run_node};
 use lg_rules::{Addr, Name};
+use lg_run::Told;
 use lg_testing::{Room, at};
-use lg_text::RunFault;
+use lg_text::{RunFault, WriteFault};
 use lg_timing::Config;
 use std::alloc::Global;
+use std::io::ErrorKind;
 use std::net::Net;
 use std::random::RandomSource;
 use std::rt;
@@ -24,7 +25,11 @@ const UNSEEN: Refusal = Refusal::NoView;
 
 const DONE: Result<(), RunFault> = Ok(());
 
-const UNWRITTEN: Result<(), RunFault> = Err(RunFault::Write);
+const CUT: WriteFault = WriteFault {
+    kind: ErrorKind::WriteZero,
+};
+
+const UNWRITTEN: Result<(), RunFault> = Err(RunFault::Write(CUT));
 
 /// How the receiving and the ticking loop ended, why the members were refused, how their table was written, and what
 /// is told.
@@ -93,9 +98,15 @@ const CLOSED: [Row; 34] = [
         Told::Refused,
     ),
     (Why::Ousted, FULL, Some(UNSEEN), UNWRITTEN, Told::Refused),
-    (Why::Stopped, Why::Stopped, None, UNWRITTEN, Told::Write),
-    (Why::Stopped, Why::Ousted, None, UNWRITTEN, Told::Write),
-    (Why::Ousted, FULL, None, UNWRITTEN, Told::Write),
+    (
+        Why::Stopped,
+        Why::Stopped,
+        None,
+        UNWRITTEN,
+        Told::Write(CUT),
+    ),
+    (Why::Stopped, Why::Ousted, None, UNWRITTEN, Told::Write(CUT)),
+    (Why::Ousted, FULL, None, UNWRITTEN, Told::Write(CUT)),
     (
         Why::Stopped,
         Why::Stopped,
@@ -126,7 +137,7 @@ const CLOSED: [Row; 34] = [
 const UNCLOSED: [Row; 6] = [
     (Why::Stopped, Why::Stopped, None, DONE, Told::Close),
     (Why::Ousted, Why::Stopped, None, DONE, Told::Close),
-    (Why::Ousted, Why::Stopped, None, UNWRITTEN, Told::Write),
+    (Why::Ousted, Why::Stopped, None, UNWRITTEN, Told::Write(CUT)),
     (
         Why::Stopped,
         Why::Stopped,
@@ -191,16 +202,13 @@ where
     let stop = AtomicBool::new(false);
     let mut unread = Room::failing(0);
     let mut untold = Room::failing(0);
-    run_node(
-        rt,
-        alloc,
-        &config(0),
-        &settings,
-        at(0),
-        &stop,
-        &mut unread,
-        &mut untold,
-    )
+    let start = NodeStart {
+        config: &config(0),
+        settings: &settings,
+        until: at(0),
+        stop: &stop,
+    };
+    run_node(rt, alloc, &start, &mut unread, &mut untold)
 }
 
 /// A node that ran. A run fails if memory is refused, and while another program has the port for a moment.

@@ -1,6 +1,6 @@
 //! What is announced of a node before it starts.
 use crate::ports::{free_port, with_port};
-use lg_launch::{Wishes, run_bytes};
+use lg_run::{Wishes, run_bytes};
 use lg_testing::{Room, at};
 use std::alloc::Global;
 use std::net::Net;
@@ -46,19 +46,19 @@ where
     let (line, until, follow, told) = row;
     let port = free_port(rt)?;
     let text = format!(in alloc; "name = \"b\"\nport = {port}\n{line}\n")?;
+    let stop = AtomicBool::new(until.is_none());
     let wishes = Wishes {
         file: "b.toml",
         until: until.map(at),
         follow,
+        stop: &stop,
     };
-    let stop = AtomicBool::new(until.is_none());
     let (mut writer, mut faults) = (Room::failing(0), Room::failing(0));
     let status = run_bytes(
         rt,
         alloc,
         text.as_bytes(),
         &wishes,
-        &stop,
         &mut writer,
         &mut faults,
     );

@@ -1,10 +1,10 @@
 //! The status and the line of everything that may be told.
 use lg_agent::Refusal;
 use lg_config::FileFault;
-use lg_launch::Told;
 use lg_node::NodeFault;
 use lg_packet::Fault;
-use lg_text::RunFault;
+use lg_run::Told;
+use lg_text::{InputFault, RunFault, WriteFault};
 use lg_timing::ConfigFault;
 use std::io::ErrorKind;
 
@@ -27,12 +27,19 @@ fn told_of(of: Of) -> Told {
     }
 }
 
+/// An output whose reader has gone, and what is told of it.
+const CLOSED: WriteFault = WriteFault {
+    kind: ErrorKind::BrokenPipe,
+};
+
+const UNREAD: &str = "lg: write\nstandard output can't be written: nobody reads it\n";
+
 /// Each with its status and its line. No two things that may be told have the same line.
 const ENDS: [(Of, u8, &str); 25] = [
     (Of::End(Told::Done), 0, ""),
     (Of::End(Told::Memory), 1, "lg: memory\n"),
     (Of::End(Told::Read), 1, "lg: read\n"),
-    (Of::End(Told::Write), 1, "lg: write\n"),
+    (Of::End(Told::Write(CLOSED)), 1, UNREAD),
     (Of::End(Told::History), 1, "lg: history\n"),
     (Of::End(Told::Turns), 1, "lg: turns\n"),
     (Of::End(Told::Refused), 1, "lg: refused\n"),
@@ -55,8 +62,12 @@ const ENDS: [(Of, u8, &str); 25] = [
     (Of::Refusal(Refusal::NoPlace), 1, "lg: refused\n"),
     (Of::Refusal(Refusal::NoView), 1, "lg: refused\n"),
     (Of::Run(RunFault::Memory), 1, "lg: memory\n"),
-    (Of::Run(RunFault::Read), 1, "lg: read\n"),
-    (Of::Run(RunFault::Write), 1, "lg: write\n"),
+    (
+        Of::Run(RunFault::Read(InputFault::TooLong)),
+        1,
+        "lg: read\n",
+    ),
+    (Of::Run(RunFault::Write(CLOSED)), 1, UNREAD),
     (
         Of::Node(NodeFault::Socket(ErrorKind::AddrInUse)),
         5,

@@ -13,8 +13,8 @@ use Rattle.lg_detector.specs.declared.reply.Outgoing.{Outgoing}
 use Rattle.lg_timing.specs.Meaning.Config.{defaults}
 use Rattle.lg_script.specs.Meaning.Values.{local}
 use Rattle.lg_text.specs.Meaning.Lines.{lines_of, newline}
-use Rattle.lg_text.specs.declared.end.End.{End}
-use Rattle.lg_text.specs.declared.end.End.TheVariants.{Done, Faulty}
+use Rattle.lg_text.specs.declared.end.RunEnd.{RunEnd}
+use Rattle.lg_text.specs.declared.end.RunEnd.TheVariants.{Done, Faulty}
 use Rattle.lg_commands.specs.Meaning.Spelled.{fault_text, packet_in}
 use Rattle.lg_commands.specs.declared.line.LineFault.{LineFault}
 
@@ -66,5 +66,5 @@ abbrev pub is_faulty : List ℕ → Bool
 is_faulty line = is_err (packet_in line)
 
 -- how the run ends: faulty exactly if some line is
-unfoldable pub answer_end : List ℕ → End
+unfoldable pub answer_end : List ℕ → RunEnd
 answer_end input = if list_any is_faulty (lines_of input) then Faulty else Done

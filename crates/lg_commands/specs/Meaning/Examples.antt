@@ -15,7 +15,7 @@ use Rattle.lg_packet.specs.Meaning.Spelling.{spelling}
 use Rattle.lg_timing.specs.Meaning.Tables.{log10_of, ratio_of}
 use Rattle.lg_timing.specs.Meaning.Timeouts.{range_of, timeout_of}
 use Rattle.lg_text.specs.Meaning.Lines.{lines_of, newline}
-use Rattle.lg_text.specs.declared.end.End.TheVariants.{Done}
+use Rattle.lg_text.specs.declared.end.RunEnd.TheVariants.{Done}
 use Rattle.lg_commands.specs.Meaning.Answering.{answer_end, answer_text, events_of_lines, heard_event, opening}
 use Rattle.lg_commands.specs.Meaning.Answering.{sent_text}
 use Rattle.lg_script.specs.Meaning.Values.{local}

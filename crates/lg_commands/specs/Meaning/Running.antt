@@ -1,11 +1,11 @@
 -- How the runs of the commands end.
-use Rattle.std.specs.Prelude.{◌≡◌, ◌≢◌, ⊤, true, ℕ, List, [], is_ok, Option, Result, Ok, Err}
+use Rattle.std.specs.Prelude.{◌≡◌, ⊤, Bool, true, false, ℕ, List, [], is_ok, Option, Result, Ok, Err}
 use Rattle.std.specs.Io.KnownBytes.{Appends}
-use Rattle.lg_text.specs.Meaning.Faults.{run_fault_text}
+use Rattle.lg_text.specs.Meaning.Faults.{is_unwritten, run_fault_text}
 use Rattle.lg_text.specs.Meaning.Reporting.{Reported, Reports}
 use Rattle.lg_text.specs.Meaning.Running.{RunsInput}
-use Rattle.lg_text.specs.declared.end.End.{End}
-use Rattle.lg_text.specs.declared.end.End.TheVariants.{Done, Faulty}
+use Rattle.lg_text.specs.declared.end.RunEnd.{RunEnd}
+use Rattle.lg_text.specs.declared.end.RunEnd.TheVariants.{Done, Faulty}
 use Rattle.lg_text.specs.declared.fault.RunFault.{RunFault}
 use Rattle.lg_text.specs.declared.fault.RunFault.TheVariants.{Memory, Read, Write}
 use Rattle.lg_sim.specs.Meaning.Text.{script_end, script_text}
@@ -22,9 +22,9 @@ use Rattle.lg_commands.specs.declared.timeouts.Numbers.{Numbers}
 pub record FailsBy {W : Type 0} (reported reports : Reported) (before after : W) : Type 0 where
   pub fault : RunFault
   pub line : Reports reported reports (run_fault_text fault)
-  pub unwritten : fault ≢ Write → after ≡ before
+  pub unwritten : is_unwritten fault ≡ false → after ≡ before
 
-abbrev pub status_of : End → ℕ
+abbrev pub status_of : RunEnd → ℕ
 status_of Done = 0
 status_of Faulty = 3
 
@@ -33,7 +33,7 @@ status_of Faulty = 3
 pub record RunsAnswer
     (left rest held holds : Option (List ℕ)) (reported reports : Reported) (name : List ℕ) (status : ℕ)
     : Type 0 where
-  pub end : End
+  pub end : RunEnd
   pub is : status ≡ status_of end
   pub silent : reports ≡ reported
   pub answers : RunsInput (answer_text name) answer_end left rest held holds end
@@ -42,7 +42,7 @@ pub record RunsAnswer
 -- its end, and nothing is reported.
 pub record RunsSim (left rest held holds : Option (List ℕ)) (reported reports : Reported) (status : ℕ)
     : Type 0 where
-  pub end : End
+  pub end : RunEnd
   pub is : status ≡ status_of end
   pub silent : reports ≡ reported
   pub runs : RunsInput script_text script_end left rest held holds end
@@ -79,5 +79,10 @@ RunsOrder held holds reported reports (Err list) status = TellsBadList held hold
 abbrev pub IsFaultOf : Result (List ℕ) BadList → OrderFault → Type 0
 IsFaultOf said (Bad list) = said ≡ Err list
 IsFaultOf said (Run Memory) = ⊤
-IsFaultOf said (Run Read) = ⊥
-IsFaultOf said (Run Write) = is_ok said ≡ true
+IsFaultOf said (Run (Read fault)) = ⊥
+IsFaultOf said (Run (Write fault)) = is_ok said ≡ true
+
+-- whether a fault of `order` is one of writing, whatever the reason
+abbrev pub is_order_unwritten : OrderFault → Bool
+is_order_unwritten (Bad list) = false
+is_order_unwritten (Run fault) = is_unwritten fault

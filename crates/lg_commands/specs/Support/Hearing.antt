@@ -5,8 +5,8 @@ use Rattle.lg_detector.specs.Support.Step.{accepts_of}
 use Rattle.lg_detector.specs.Support.State.{State}
 use Rattle.lg_detector.specs.declared.event.Event.{Event}
 use Rattle.lg_commands.specs.Meaning.Answering.{heard_event, is_faulty}
-use Rattle.lg_text.specs.declared.end.End.{End}
-use Rattle.lg_text.specs.declared.end.End.TheVariants.{Done, Faulty}
+use Rattle.lg_text.specs.declared.end.RunEnd.{RunEnd}
+use Rattle.lg_text.specs.declared.end.RunEnd.TheVariants.{Done, Faulty}
 use Rattle.lg_commands.specs.declared.line.LineFault.{LineFault}
 
 -- the earlier events, and the event of a line, if it spells a packet
@@ -19,5 +19,5 @@ pub record AcceptsHeard (s : State) : Type 0 where
   pub accepts : (packet : Packet) → IsTrue (accepts_of s (heard_event packet))
 
 -- how a run over one line ends
-abbrev pub line_end : List ℕ → End
+abbrev pub line_end : List ℕ → RunEnd
 line_end line = if is_faulty line then Faulty else Done

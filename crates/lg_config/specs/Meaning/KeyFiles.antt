@@ -1,5 +1,5 @@
 -- The file that has the keys of a node's group: its path (this project's choice). What the file says is defined in
--- `lg_key`.
+-- `lg_seal`.
 use Rattle.std.specs.Prelude.{ℕ, Bool, ◌&&◌, List, length, codes, Option, Some, None, ok_or, Result, Ok, Err}
 use Rattle.std.specs.Prelude.{if◌then◌else◌}
 use Rattle.std.specs.List.{list_all}

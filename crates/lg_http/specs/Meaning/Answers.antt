@@ -11,11 +11,11 @@ use Rattle.http_server.specs.Exchange.{Call}
 use Rattle.http_server.specs.Response.{IsResponse}
 use Rattle.http_uri.specs.Uri.{uri_path, uri_query}
 use Rattle.lg_http.specs.declared.hosts.Hosts.{Hosts}
-use Rattle.lg_http.specs.declared.site.Answer.{Answer}
+use Rattle.lg_http.specs.declared.site.HttpAnswer.{HttpAnswer}
 use Rattle.lg_http.specs.declared.site.Kind.{Kind}
 use Rattle.lg_http.specs.declared.site.Kind.TheVariants.{Json, Html, Metrics}
-use Rattle.lg_http.specs.declared.site.Status.{Status}
-use Rattle.lg_http.specs.declared.site.Status.TheVariants.{Fine, BadRequest, NotFound, Unavailable}
+use Rattle.lg_http.specs.declared.site.HttpStatus.{HttpStatus}
+use Rattle.lg_http.specs.declared.site.HttpStatus.TheVariants.{Fine, BadRequest, NotFound, Unavailable}
 use Rattle.lg_http.specs.declared.site.Wait.{Wait}
 use Rattle.lg_http.specs.declared.slots.TheConstants.{MAX_PARKED}
 use Rattle.lg_http.specs.Meaning.Fronts.{WaitRule}
@@ -23,7 +23,7 @@ use Rattle.lg_http.specs.Meaning.Hosts.{AnswersTo}
 use Rattle.lg_http.specs.Meaning.Parked.{Slot, parked_count}
 
 -- the code of a status
-abbrev pub status_number : Status → ℕ
+abbrev pub status_number : HttpStatus → ℕ
 status_number Fine = 200
 status_number BadRequest = 400
 status_number NotFound = 404
@@ -63,7 +63,7 @@ misdirected_body = codes "{\"error\":\"misdirected request\"}"
 
 -- what a site answers: its state, a path, a query and the answer
 abbrev pub SiteAnswers : Type 0 → Type 1
-SiteAnswers S = S → List ℕ → Option (List ℕ) → Answer → Type 0
+SiteAnswers S = S → List ℕ → Option (List ℕ) → HttpAnswer → Type 0
 
 -- the version of what a state of a site shows
 abbrev pub SiteVersion : Type 0 → Type 0
@@ -103,7 +103,7 @@ pub record IsTooMany (waits : WaitRule) (version others : ℕ) (request : Reques
 -- the response is the site's answer to the request
 abbrev pub IsOfSite : {S : Type 0} → SiteAnswers S → Bool → S → Request (List ℕ) → Response → Type 0
 IsOfSite answers last site request response =
-    (a : Answer) × answers site (uri_path (head_of request).uri) (uri_query (head_of request).uri) a
+    (a : HttpAnswer) × answers site (uri_path (head_of request).uri) (uri_query (head_of request).uri) a
     × IsResponse (status_number a.status) (closing last ++ content_type a.kind ∷ []) a.body.items response
 
 -- How a request is answered, if it is a long poll too many, and if not. The answer says that the connection is closed

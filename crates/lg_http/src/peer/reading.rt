@@ -74,10 +74,9 @@ impl Peer {
         ensures bounded { IsBounded self.old → IsBounded self.new }
     {
         if after < turn.version || turn.at.milliseconds() >= self.until {
-            return match look_at(&desk.site, self.held.as_slice()) {
-                Front::Request(len, _) => self.give(desk, turn, len),
-                Front::Partial | Front::Other => Step::Gone,
-            };
+            // What is held has only grown since the request was parked, so all of it is there.
+            let len = self.front.min(self.held.len());
+            return self.give(desk, turn, len);
         }
         if self.ended {
             return Step::Gone;
@@ -149,6 +148,7 @@ impl Peer {
         match wait {
             Some(wait) if wait.lasts_at(turn.version) && turn.others < MAX_PARKED => {
                 self.phase = Phase::Parked(wait.after);
+                self.front = front;
                 self.until = turn
                     .at
                     .milliseconds()

@@ -1,9 +1,9 @@
 -- What a keyed link does with what came over the link inside it.
 use Rattle.std.specs.Prelude.{◌≡◌, ℕ, ◌+◌, ◌-◌, ◌^◌, min}
-use Rattle.lg_key.specs.declared.fault.SealFault.{SealFault}
-use Rattle.lg_key.specs.declared.fault.SealFault.TheVariants.{Unsigned, Forged}
-use Rattle.lg_key.specs.declared.key.Keys.{Keys}
-use Rattle.lg_key.specs.Meaning.Sealing.{IsRefused, IsSealed}
+use Rattle.lg_seal.specs.declared.fault.SealFault.{SealFault}
+use Rattle.lg_seal.specs.declared.fault.SealFault.TheVariants.{Unsigned, Forged}
+use Rattle.lg_seal.specs.declared.key.Keys.{Keys}
+use Rattle.lg_seal.specs.Meaning.Sealing.{IsRefused, IsSealed}
 use Rattle.lg_loops.specs.declared.keyed.Counted.{Counted}
 use Rattle.lg_loops.specs.Meaning.Links.{LinkEvent}
 use Rattle.lg_loops.specs.Meaning.Links.LinkEvent.{Received, Silent, Failed}

@@ -1,6 +1,6 @@
 -- What contracts see of a node's link over UDP.
 use Rattle.std.specs.Prelude.{ℕ, Option, Some, None}
-use Rattle.lg_key.specs.declared.key.Keys.{Keys}
+use Rattle.lg_seal.specs.declared.key.Keys.{Keys}
 use Rattle.lg_loops.specs.declared.node_link.NodeLink.{NodeLink}
 use Rattle.lg_loops.specs.declared.node_link.NodeLink.TheVariants.{Plain, Keyed}
 use Rattle.lg_loops.specs.declared.udp.UdpLink.{UdpLink}

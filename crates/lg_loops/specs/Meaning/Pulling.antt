@@ -12,7 +12,7 @@ use Rattle.lg_timing.specs.declared.config.Config.{Config}
 use Rattle.lg_timing.specs.declared.config.Seed.{Seed}
 use Rattle.lg_detector.specs.Meaning.Step.{view_after}
 use Rattle.lg_agent.specs.Meaning.Values.{PassValue}
-use Rattle.lg_loops.specs.declared.ending.End.{End}
+use Rattle.lg_loops.specs.declared.ending.LoopEnd.{LoopEnd}
 use Rattle.lg_loops.specs.declared.plan.Plan.{Plan}
 use Rattle.lg_loops.specs.Meaning.Turns.{Turn, LinkValue, Lasted, Threw, ticks_before, words_in}
 use Rattle.lg_loops.specs.Meaning.Turns.Turn.{
@@ -163,7 +163,7 @@ AreTimely plan since before (t ∷ turns) =
 -- A run of a ticking loop that began at some moment. Its dice gave the words of its turns, and each turn was timely.
 pub record Ticking
     {D : Type 0} (throws : D → List ℕ → D → Type 0) (dice : D) (plan : Plan) (tells : Bool) (bound : ℕ)
-    (endless : Bool) (k k' : LinkValue) (p q : PassValue) (end : End)
+    (endless : Bool) (k k' : LinkValue) (p q : PassValue) (end : LoopEnd)
     : Type 0 where
   pub lasted : Lasted (ticks_before plan.until) tells bound endless k k' p q end
   pub since : ℕ

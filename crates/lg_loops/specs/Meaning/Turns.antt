@@ -15,7 +15,7 @@ use Rattle.lg_agent.specs.declared.refusal.Refusal.{Refusal}
 use Rattle.lg_agent.specs.declared.refusal.Refusal.TheVariants.{NoMemory, NoView}
 use Rattle.lg_agent.specs.Meaning.Values.{PassValue}
 use Rattle.lg_agent.specs.Meaning.Calls.{IsCall, IsLook, IsRefusal, IsRotatedPass}
-use Rattle.lg_loops.specs.declared.ending.End.{End}
+use Rattle.lg_loops.specs.declared.ending.LoopEnd.{LoopEnd}
 use Rattle.lg_loops.specs.declared.ending.Why.{Why}
 use Rattle.lg_loops.specs.declared.ending.Why.TheVariants.{Stopped, Ousted, LinkFailed, Refused, ReadBound}
 use Rattle.lg_loops.specs.Meaning.Links.{LinkEvent, handed, lost}
@@ -266,7 +266,7 @@ pub record Counts (turns : List Turn) (dropped unsent made : ℕ) : Type 0 where
   pub turns_is : made ≡ length turns
 
 -- A run of a loop: there are turns that it made, and by which it ended.
-pub record Ran (kind : Turn → Bool) (tells : Bool) (bound : ℕ) (k k' : LinkValue) (p q : PassValue) (end : End)
+pub record Ran (kind : Turn → Bool) (tells : Bool) (bound : ℕ) (k k' : LinkValue) (p q : PassValue) (end : LoopEnd)
     : Type 0 where
   pub turns : List Turn
   pub made : Made kind tells turns k k' p q
@@ -277,7 +277,7 @@ pub record Ran (kind : Turn → Bool) (tells : Bool) (bound : ℕ) (k k' : LinkV
 -- turns anew: so there are earlier stretches, no turn of which ended it, and the bound isn't why it ends. Otherwise
 -- there is one stretch. The end tells why the last stretch ended, and its counts are those of the last stretch.
 pub record Lasted
-    (kind : Turn → Bool) (tells : Bool) (bound : ℕ) (endless : Bool) (k k' : LinkValue) (p q : PassValue) (end : End)
+    (kind : Turn → Bool) (tells : Bool) (bound : ℕ) (endless : Bool) (k k' : LinkValue) (p q : PassValue) (end : LoopEnd)
     : Type 0 where
   pub stretches : ℕ
   pub earlier : List Turn
@@ -294,12 +294,12 @@ pub record Lasted
   pub turns_are : turns ≡ earlier ++ last.turns
 
 -- the end of a loop that makes no turn
-abbrev pub unstarted : End
+abbrev pub unstarted : LoopEnd
 unstarted = record { why = Stopped; dropped = 0; unsent = 0; turns = 0 }
 
 -- A loop that no thread could be started for: it ran as a loop does, but its end says that memory was refused.
 pub record HadNoThread
-    (kind : Turn → Bool) (tells : Bool) (bound : ℕ) (endless : Bool) (k k' : LinkValue) (p q : PassValue) (end : End)
+    (kind : Turn → Bool) (tells : Bool) (bound : ℕ) (endless : Bool) (k k' : LinkValue) (p q : PassValue) (end : LoopEnd)
     : Type 0 where
   pub was : Why
   pub ran : Lasted kind tells bound endless k k' p q (record end { why = was })
@@ -308,7 +308,7 @@ pub record HadNoThread
 -- How a receiving loop ran in a thread of its own, each of whose turns waits at most so many milliseconds, beside a
 -- ticking loop that ended so. If no thread could be started for it, the ticking loop made no turn.
 abbrev pub Receiving :
-    (wait : ℕ) (tells : Bool) (bound : ℕ) (endless : Bool) (k k' : LinkValue) (p q : PassValue) (end ticked : End)
+    (wait : ℕ) (tells : Bool) (bound : ℕ) (endless : Bool) (k k' : LinkValue) (p q : PassValue) (end ticked : LoopEnd)
     → Type 0
 Receiving wait tells bound endless k k' p q end ticked =
     Lasted (receives wait) tells bound endless k k' p q end

@@ -6,7 +6,7 @@ use Rattle.lg_agent.specs.Meaning.Values.{PassValue}
 use Rattle.lg_loops.specs.declared.agenda.Agenda.{Agenda}
 use Rattle.lg_loops.specs.declared.agenda.Duty.{Duty}
 use Rattle.lg_loops.specs.declared.agenda.Duty.TheVariants.{Seed, Look, Member, Rest}
-use Rattle.lg_loops.specs.declared.ending.End.{End}
+use Rattle.lg_loops.specs.declared.ending.LoopEnd.{LoopEnd}
 use Rattle.lg_loops.specs.declared.plan.Plan.{Plan}
 use Rattle.lg_loops.specs.declared.turned.Turned.{Turned}
 use Rattle.lg_loops.specs.Meaning.Turns.{Turn, LinkValue, Ran, Threw, ticks_before, words_in}
@@ -53,7 +53,7 @@ pub record Acted
 -- A stretch of the ticking loop, and the agenda before and after it.
 pub record Stretched
     {D : Type 0} (throws : D → List ℕ → D → Type 0) (dice rest : D) (plan : Plan) (tells : Bool) (bound : ℕ)
-    (k k' : LinkValue) (p q : PassValue) (a a' : Agenda) (end : End)
+    (k k' : LinkValue) (p q : PassValue) (a a' : Agenda) (end : LoopEnd)
     : Type 0 where
   pub ran : Ran (ticks_before plan.until) tells bound k k' p q end
   pub threw : Threw throws dice (flat_map words_in ran.turns) rest

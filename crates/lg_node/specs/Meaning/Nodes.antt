@@ -13,16 +13,16 @@ use Rattle.lg_agent.specs.declared.refusal.Refusal.TheVariants.{Behind, NoPlace,
 use Rattle.lg_agent.specs.Meaning.Values.{PassValue}
 use Rattle.lg_agent.specs.Meaning.Calls.{IsLook}
 use Rattle.lg_agent.specs.Meaning.Closing.{IsClosed, IsRefusedClosing}
-use Rattle.lg_watch.specs.declared.watched.Watched.{Watched}
-use Rattle.lg_watch.specs.Meaning.Sights.{HasWatched, OnlyLooked}
-use Rattle.lg_http.specs.declared.server.End.TheVariants as server
+use Rattle.lg_follow.specs.declared.watched.Watched.{Watched}
+use Rattle.lg_follow.specs.Meaning.Sights.{HasWatched, OnlyLooked}
+use Rattle.lg_http.specs.declared.server.ServerEnd.TheVariants as server
 use Rattle.lg_http.specs.declared.server.Server.{Server}
 use Rattle.lg_http.specs.Meaning.Slots.{AreFree, slots_of}
-use Rattle.lg_status.specs.declared.snapshot.ShownConfig.{ShownConfig}
-use Rattle.lg_serve.specs.declared.serving.Served.{Served}
-use Rattle.lg_serve.specs.declared.serving.Served.TheVariants as served
-use Rattle.lg_serve.specs.Meaning.Served.{served_line, ServedAs}
-use Rattle.lg_loops.specs.declared.ending.End.{End}
+use Rattle.lg_answers.specs.declared.snapshot.ShownConfig.{ShownConfig}
+use Rattle.lg_status_server.specs.declared.serving.Served.{Served}
+use Rattle.lg_status_server.specs.declared.serving.Served.TheVariants as served
+use Rattle.lg_status_server.specs.Meaning.Served.{served_line, ServedAs}
+use Rattle.lg_loops.specs.declared.ending.LoopEnd.{LoopEnd}
 use Rattle.lg_node.specs.declared.node.NodeEnd.{NodeEnd}
 use Rattle.lg_node.specs.declared.node.NodeFault.{NodeFault}
 use Rattle.lg_node.specs.declared.node.NodeFault.TheVariants.{Socket, Status, Clock, Refused}
@@ -58,7 +58,7 @@ pub record AreLinks (settings : Settings) (hears sends : LinkValue) : Type 0 whe
 -- started, the ticking loop made no turn.
 pub record HasServed
     {D : Type 0} (throws : D → List ℕ → D → Type 0) (dice : D) (tells : Bool) (bound wait : ℕ) (config : Config)
-    (pull_ms until start : ℕ) (hears hears' sends sends' : LinkValue) (received ticked : End)
+    (pull_ms until start : ℕ) (hears hears' sends sends' : LinkValue) (received ticked : LoopEnd)
     (receiver ticker asker : PassValue)
     : Type 0 where
   pub between : LinkValue
@@ -120,7 +120,7 @@ TellsServed (Some end) before after = Reports before after (served_line end)
 -- fourth pass looked for the status server, if there was one. Then the members were read, which may have been refused.
 -- `held` and `holds` are the bytes that the writer had taken before and after.
 pub record HasWorked
-    (config : Config) (settings : Settings) (until start : ℕ) (held holds : Option (List ℕ)) (received ticked : End)
+    (config : Config) (settings : Settings) (until start : ℕ) (held holds : Option (List ℕ)) (received ticked : LoopEnd)
     (watched : Option Watched) (served : Option Served) (members : Result (Vec Claim Global) Refusal)
     (receiver ticker reader status : PassValue)
     : Type 0 where

@@ -6,8 +6,8 @@ use Rattle.lg_rules.specs.declared.addr.Addr.{Addr}
 use Rattle.lg_timing.specs.declared.config.Config.{Config}
 use Rattle.lg_http.specs.declared.hosts.Hosts.{Hosts}
 use Rattle.lg_http.specs.declared.hosts.Hosts.TheVariants.{Any, Local}
-use Rattle.lg_status.specs.declared.snapshot.NodeNumber.{NodeNumber}
-use Rattle.lg_status.specs.declared.snapshot.ShownConfig.{ShownConfig}
+use Rattle.lg_answers.specs.declared.snapshot.NodeNumber.{NodeNumber}
+use Rattle.lg_answers.specs.declared.snapshot.ShownConfig.{ShownConfig}
 use Rattle.lg_node.specs.declared.node.Settings.{Settings}
 
 -- The stall of a node's clock by its `stall_ms`: one below 25 is taken as 25. With 0 the clock is the machine's, and

@@ -7,8 +7,8 @@ use super::loops::{Noted, shared, ticks_until};
 use super::playing::{Play, Shown};
 use arrayvec::ArrayVec;
 use lg_agent::{AgentName, Pass, Spent};
-use lg_node::{Counters, End, Ended, MAX_TURNS, Shared, Side, Why, receive_loop, tick_loop};
-use lg_playing::{Case, Left, Outcome, last_pass};
+use lg_agent_testing::{Case, Left, Outcome, last_pass};
+use lg_node::{Counters, Ended, LoopEnd, MAX_TURNS, Shared, Side, Why, receive_loop, tick_loop};
 use lg_testing::at;
 use std::alloc::Global;
 use std::sync::Wait;
@@ -95,7 +95,7 @@ impl Counted {
 #[derive(Drop)]
 pub struct LoopSeen {
     /// How it ended.
-    pub end: End,
+    pub end: LoopEnd,
     /// What it counted.
     pub counted: Counted,
     /// The first calls of its link, how many waited for a datagram, and how many failed.
@@ -251,7 +251,7 @@ impl<'a> Want<'a> {
 
     /// Whether an outcome is what it should be. Whatever the end, the others are told to stop.
     pub(super) fn is(&self, outcome: &Outcome<Shown>) -> bool {
-        let end = End {
+        let end = LoopEnd {
             why: self.why,
             dropped: self.dropped,
             unsent: self.unsent,

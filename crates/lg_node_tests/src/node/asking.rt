@@ -2,7 +2,7 @@
 //! system gives, so two runs on one machine don't meet.
 use lg_agent::{CloseFault, Closed};
 use lg_detector::Event;
-use lg_node::{End, Settings, Why, run_node};
+use lg_node::{LoopEnd, NodeStart, Settings, Why, run_node};
 use lg_rules::Addr;
 use lg_testing::{Room, at, letter, local};
 use lg_timing::{Config, Seed};
@@ -110,7 +110,7 @@ fn asked(closed: &Result<Closed, CloseFault>) -> Option<(Addr, Addr)> {
 }
 
 /// How the ticking loop of a node ended, and whom the node asked, in order.
-fn ran<R>(rt: &R, alloc: Global, config: &Config) -> Option<(End, Option<(Addr, Addr)>)>
+fn ran<R>(rt: &R, alloc: Global, config: &Config) -> Option<(LoopEnd, Option<(Addr, Addr)>)>
 where
     R: Threads + Wait + Net + Clock + RandomSource + Sync,
 {
@@ -126,23 +126,19 @@ where
     };
     let stop = AtomicBool::new(false);
     let (mut unread, mut faults) = (Room::failing(0), Room::failing(0));
-    let ran = run_node(
-        rt,
-        alloc,
+    let start = NodeStart {
         config,
-        &settings,
-        at(0),
-        &stop,
-        &mut unread,
-        &mut faults,
-    )
-    .ok()?;
+        settings: &settings,
+        until: at(0),
+        stop: &stop,
+    };
+    let ran = run_node(rt, alloc, &start, &mut unread, &mut faults).ok()?;
     Some((ran.ticked, asked(&ran.closed)))
 }
 
 /// A ticking loop that ended at once. This many packets weren't sent.
-fn ended(unsent: u64) -> End {
-    End {
+fn ended(unsent: u64) -> LoopEnd {
+    LoopEnd {
         why: Why::Stopped,
         dropped: 0,
         unsent,

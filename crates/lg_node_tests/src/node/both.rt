@@ -8,9 +8,9 @@ use super::links::{PING_7, put};
 use super::loops::{Noted, WAIT_MS, ticks_until};
 use super::playing::{Play, Shown, told};
 use lg_agent::{AgentName, Pass, Spent};
+use lg_agent_testing::{Case, Ending, Left, Outcome, both_passes};
 use lg_clock::Clock;
-use lg_node::{End, Ended, Link, LinkFault, MAX_DATAGRAM, Shared, Side, Why, run_loops};
-use lg_playing::{Case, Ending, Left, Outcome, both_passes};
+use lg_node::{Ended, Link, LinkFault, LoopEnd, MAX_DATAGRAM, Shared, Side, Why, run_loops};
 use lg_rules::Addr;
 use lg_testing::{at, local};
 use lg_timing::{MAX_MOMENT, Moment};
@@ -175,8 +175,8 @@ impl<'a, R: rt::Clock> Clock for StandingClock<'a, R> {
 /// How both loops ended, and how often their links failed.
 #[derive(Clone, Copy)]
 pub struct BothSeen {
-    pub receiving: End,
-    pub ticking: End,
+    pub receiving: LoopEnd,
+    pub ticking: LoopEnd,
     pub receiving_failures: u64,
     pub ticking_failures: u64,
 }
@@ -210,6 +210,7 @@ fn shared<'a, R, C>(
         stop,
         page_heard: &noted.page_heard,
         counters: &noted.counters,
+        changes: &noted.changes,
         signal: None,
         bound: BOUND,
         endless: false,
@@ -324,7 +325,7 @@ impl BothSeen {
     /// Whether the receiving loop ended as a row says, and the ticking one was stopped.
     fn is(&self, row: &Row) -> bool {
         let (_, _, why, turns, [unsent, lost], _) = *row;
-        let end = End {
+        let end = LoopEnd {
             why,
             dropped: 0,
             unsent,

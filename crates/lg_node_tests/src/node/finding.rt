@@ -6,8 +6,10 @@ use super::loops::{Noted, shared};
 use super::playing::{Play, Shown, told};
 use arrayvec::ArrayVec;
 use lg_agent::{AgentName, Pass, Spent};
-use lg_node::{End, Ended, Link, LinkFault, MAX_DATAGRAM, MAX_TURNS, Plan, Side, Why, tick_loop};
-use lg_playing::{Case, Left, Outcome, config, last_pass, spelled};
+use lg_agent_testing::{Case, Left, Outcome, config, last_pass, spelled};
+use lg_node::{
+    Ended, Link, LinkFault, LoopEnd, MAX_DATAGRAM, MAX_TURNS, Plan, Side, Why, tick_loop,
+};
 use lg_rules::{Addr, Claim};
 use lg_testing::{at, failed, local, ping};
 use std::alloc::Global;
@@ -151,7 +153,7 @@ impl<'a> Link for PullLink<'a> {
 /// How a loop ended and at which moment, and the first 16 Pulls that it handed over.
 #[derive(Drop)]
 pub struct Found {
-    end: End,
+    end: LoopEnd,
     over: u64,
     pulls: ArrayVec<Pulled, 16>,
 }
@@ -376,7 +378,7 @@ const ENDS: &[(u64, bool, u64, Why, u64, u64)] = &[
 ];
 
 /// Whether a loop ends so, at this moment.
-fn ends<R>(rt: &R, alloc: Global, search: Search, end: End, over: u64) -> bool
+fn ends<R>(rt: &R, alloc: Global, search: Search, end: LoopEnd, over: u64) -> bool
 where
     R: Threads + Wait + rt::Clock + Sync,
 {
@@ -396,7 +398,7 @@ fn an_endless_loop_goes_on(rt: HostRuntime) {
             endless,
             ..KNOWN
         };
-        let end = End {
+        let end = LoopEnd {
             why,
             dropped: 0,
             unsent: 0,

@@ -11,10 +11,10 @@ use super::wire::{
 };
 use arrayvec::ArrayVec;
 use lg_agent::{AgentName, Pass, Spent};
-use lg_key::{Keys, SEAL_LEN, TAG_LEN};
-use lg_node::{Counted, End, Ended, KeyedLink, Link, LinkFault, MAX_DATAGRAM, Why};
+use lg_agent_testing::{Case, Ending, Left, last_pass};
+use lg_node::{Counted, Ended, KeyedLink, Link, LinkFault, LoopEnd, MAX_DATAGRAM, Why};
 use lg_packet::MAX_PACKET;
-use lg_playing::{Case, Ending, Left, last_pass};
+use lg_seal::{Keys, SEAL_LEN, TAG_LEN};
 use lg_testing::local;
 use std::alloc::Global;
 use std::sync::Wait;
@@ -253,7 +253,7 @@ const ARRIVALS: [Arrival<'static>; 4] = [
 /// What a receiving loop over a keyed link did.
 #[derive(Clone, Copy, Debug, PartialEq, Eq)]
 pub struct KeyedSeen {
-    end: End,
+    end: LoopEnd,
     counted: Counted,
     /// How many datagrams were handed to the link inside, and whether the last one was the sealed Ack.
     handed: u64,
@@ -300,7 +300,7 @@ pub fn run_keyed<A: AgentName, R: Wait>(
 #[test]
 fn loops_hear_what_is_sealed(rt: HostRuntime) {
     let want = KeyedSeen {
-        end: End {
+        end: LoopEnd {
             why: Why::ReadBound,
             dropped: 0,
             unsent: 0,

@@ -4,7 +4,9 @@ ghost use Rattle.std.specs.Prelude.{◌≡◌, ◌≤◌};
 use super::clocks::{FixedDice, MemoryClock};
 use arrayvec::ArrayVec;
 use lg_agent::{AgentName, Pass};
-use lg_node::{Counters, Ended, Link, MAX_TURNS, Plan, Shared, Side, receive_loop, tick_loop};
+use lg_node::{
+    ChangeSignal, Counters, Ended, Link, MAX_TURNS, Plan, Shared, Side, receive_loop, tick_loop,
+};
 use lg_rules::Name;
 use lg_testing::at;
 use lg_timing::Moment;
@@ -20,6 +22,7 @@ pub(super) const WAIT_MS: u64 = 20;
 pub(super) struct Noted {
     pub(super) page_heard: AtomicBool,
     pub(super) counters: Counters,
+    pub(super) changes: ChangeSignal,
 }
 
 impl Noted {
@@ -28,6 +31,7 @@ impl Noted {
         Noted {
             page_heard: AtomicBool::new(page_heard),
             counters: Counters::new(Name::default(), at(0)),
+            changes: ChangeSignal::new(),
         }
     }
 }
@@ -51,6 +55,7 @@ pub(super) fn shared<'a, R>(
         stop,
         page_heard: &noted.page_heard,
         counters: &noted.counters,
+        changes: &noted.changes,
         signal: None,
         bound,
         endless,

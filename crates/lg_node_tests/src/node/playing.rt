@@ -7,7 +7,7 @@ use super::finding::{Found, Search, run_search};
 use super::keyed::{KeyedSeen, run_keyed};
 use super::rotating::{StreamSeen, run_stream};
 use lg_agent::{Agent, AgentName, Refusal, Spent};
-use lg_playing::{Case, Left, Outcome, room};
+use lg_agent_testing::{Case, Left, Outcome, room};
 use lg_view::UnnamedBook;
 use std::alloc::Global;
 use std::marker::Brand;

@@ -5,8 +5,8 @@ use super::both::{BothSeen, both_loops, seen_in};
 use super::links::{Call, Coming, Script};
 use super::playing::{Shown, told_at_last};
 use lg_agent::Refusal;
-use lg_node::{End, Why};
-use lg_playing::{Ending, Outcome};
+use lg_agent_testing::{Ending, Outcome};
+use lg_node::{LoopEnd, Why};
 
 /// How many packets were handed over.
 fn handed(calls: &[Call]) -> usize {
@@ -124,7 +124,7 @@ fn is_still(seen: (BothSeen, Ending)) -> bool {
     let (both, ending) = seen;
     let had_none = both.receiving.why == Why::Refused(Refusal::NoMemory)
         && both.receiving.turns == 0;
-    let still = End {
+    let still = LoopEnd {
         why: Why::Stopped,
         dropped: 0,
         unsent: 0,

@@ -5,9 +5,9 @@ use super::links::put;
 use super::loops::{receive, tick};
 use super::playing::{Play, Shown, told};
 use lg_agent::{AgentName, Pass, Spent};
+use lg_agent_testing::{Case, Ending, Left, both_passes, ping_of};
 use lg_clock::Clock;
-use lg_node::{End, Ended, Link, LinkFault, MAX_DATAGRAM, Why};
-use lg_playing::{Case, Ending, Left, both_passes, ping_of};
+use lg_node::{Ended, Link, LinkFault, LoopEnd, MAX_DATAGRAM, Why};
 use lg_rules::Addr;
 use lg_testing::local;
 use std::alloc::Global;
@@ -111,8 +111,8 @@ impl<'a> Link for StreamLink<'a> {
 /// What the two loops did.
 #[derive(Clone, Copy, Debug, PartialEq, Eq)]
 pub struct StreamSeen {
-    receiving: End,
-    ticking: End,
+    receiving: LoopEnd,
+    ticking: LoopEnd,
     /// What each handed over, and how many calls of each were answered.
     sent: [Sent; 2],
     made: [u64; 2],
@@ -125,7 +125,7 @@ fn receive_all<'a, A: AgentName, R: Wait>(
     pass: Pass<'_, A>,
     clock: &'a MemoryClock,
     stop: &'a AtomicBool,
-) -> (End, Sent, Spent<A>) {
+) -> (LoopEnd, Sent, Spent<A>) {
     let link = StreamLink::new(clock, stop);
     let Ended { link, spent, end } = receive(rt, alloc, pass, link, clock, stop, BOUND);
     (end, link.sent, spent)
@@ -138,7 +138,7 @@ fn tick_on<'a, A: AgentName, R: Wait>(
     pass: Pass<'_, A>,
     clock: &'a MemoryClock,
     stop: &'a AtomicBool,
-) -> (End, Sent, Spent<A>) {
+) -> (LoopEnd, Sent, Spent<A>) {
     let until = u64::from(DATAGRAMS) + TICKING_MS;
     let link = StreamLink::new(clock, stop);
     let Ended { link, spent, end } = tick(rt, alloc, pass, link, clock, until, stop, BOUND);

@@ -1,6 +1,6 @@
 //! A node with a status server, whose loops end at once.
 use super::asking::free_port;
-use lg_node::{Served, Settings, run_node};
+use lg_node::{NodeStart, Served, Settings, run_node};
 use lg_testing::{Room, at, letter, local};
 use lg_timing::Config;
 use std::alloc::Global;
@@ -36,16 +36,13 @@ where
     };
     let stop = AtomicBool::new(false);
     let mut unread = Room::failing(0);
-    let ran = run_node(
-        rt,
-        alloc,
-        &config,
-        &settings,
-        at(0),
-        &stop,
-        &mut unread,
-        faults,
-    );
+    let start = NodeStart {
+        config: &config,
+        settings: &settings,
+        until: at(0),
+        stop: &stop,
+    };
+    let ran = run_node(rt, alloc, &start, &mut unread, faults);
     ran.ok()?.served
 }
 

@@ -3,8 +3,8 @@ use super::alone::{BOUND, Calls, Run, Want};
 use super::clocks::Pauses;
 use super::links::{Call, Spelled};
 use super::playing::{Play, told};
+use lg_agent_testing::Case;
 use lg_node::Why;
-use lg_playing::Case;
 
 /// The first Ping of b, for c.
 const PING_OF_C: Call = Call::Send {

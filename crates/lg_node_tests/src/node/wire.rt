@@ -3,9 +3,9 @@ ghost use Rattle.std.specs.Prelude.{◌≡◌, ◌+◌, MatchBool};
 
 use super::links::{port_of, put};
 use arrayvec::ArrayVec;
-use lg_key::{Key, Keys};
 use lg_node::{Counted, Link, LinkFault, MAX_DATAGRAM};
 use lg_rules::Addr;
+use lg_seal::{GroupKey, Keys};
 use lg_testing::local;
 
 /// The key `00 01 .. 1f`.
@@ -153,7 +153,7 @@ impl<'a> Link for Wire<'a> {
 /// One key.
 pub(super) fn only(bytes: [u8; 32]) -> Keys {
     Keys {
-        first: Key::new(bytes),
+        first: GroupKey::new(bytes),
         second: None,
     }
 }
@@ -161,8 +161,8 @@ pub(super) fn only(bytes: [u8; 32]) -> Keys {
 /// Two keys, of which the first signs.
 pub(super) fn both(first: [u8; 32], second: [u8; 32]) -> Keys {
     Keys {
-        first: Key::new(first),
-        second: Some(Key::new(second)),
+        first: GroupKey::new(first),
+        second: Some(GroupKey::new(second)),
     }
 }
 

@@ -9,7 +9,7 @@ use Rattle.lg_packet.specs.declared.packet.Packet.{Packet}
 use Rattle.lg_packet.specs.declared.packet.Version.TheVariants.{One}
 use Rattle.lg_detector.specs.Meaning.Examples.{by_computing as detecting}
 use Rattle.lg_detector.specs.declared.event.Event.TheVariants as event
-use Rattle.lg_report.specs.Meaning.Examples.{by_computing as reporting}
+use Rattle.lg_lines.specs.Meaning.Examples.{by_computing as reporting}
 use Rattle.lg_script.specs.Meaning.Commands.{open_command, tick_command}
 use Rattle.lg_script.specs.Meaning.Lines.{command_of}
 use Rattle.lg_script.specs.Meaning.Values.{local}
@@ -19,7 +19,7 @@ use Rattle.lg_script.specs.declared.command.Command.TheVariants.{Set, Open, Tick
 use Rattle.lg_timing.specs.declared.keys.Key.TheVariants.{Alpha, Beta, IntervalMs}
 use Rattle.lg_script.specs.declared.fault.ScriptFault.TheVariants as fault
 use Rattle.lg_text.specs.Meaning.Lines.{newline}
-use Rattle.lg_text.specs.declared.end.End.TheVariants.{Done, Faulty}
+use Rattle.lg_text.specs.declared.end.RunEnd.TheVariants.{Done, Faulty}
 use Rattle.lg_sim.specs.Meaning.Members.{Happening, events_of, member_at, member_named, packet_number, sent}
 use Rattle.lg_sim.specs.Meaning.Outcome.{command_fault, happening_text, opening_fault, text_of}
 use Rattle.lg_sim.specs.Meaning.Past.{delivered, happening_of, happenings, new_member, opened}

@@ -20,8 +20,8 @@ use Rattle.std.specs.Prelude.{
 use Rattle.lg_timing.specs.Meaning.Config.{check_of}
 use Rattle.lg_timing.specs.declared.config.Config.{Config}
 use Rattle.lg_detector.specs.Meaning.Step.{reply_after, view_after}
-use Rattle.lg_report.specs.Meaning.Records.{table_text}
-use Rattle.lg_report.specs.Meaning.Replies.{reply_text}
+use Rattle.lg_lines.specs.Meaning.Records.{table_text}
+use Rattle.lg_lines.specs.Meaning.Replies.{reply_text}
 use Rattle.lg_text.specs.Meaning.Lines.{newline}
 use Rattle.lg_script.specs.declared.command.Command.{Command}
 use Rattle.lg_script.specs.declared.command.Command.TheVariants.{Set, Open, Tick, Deliver, Ask, Health, Pull, Table}

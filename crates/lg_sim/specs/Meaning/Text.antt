@@ -2,8 +2,8 @@
 use Rattle.std.specs.Prelude.{ℕ, ◌+◌, List, [], ◌∷◌, ◌++◌}
 use Rattle.std.specs.Prelude.{Option, Some, None, Result, Ok, Err, codes, decimal}
 use Rattle.lg_text.specs.Meaning.Lines.{lines_of, newline}
-use Rattle.lg_text.specs.declared.end.End.{End}
-use Rattle.lg_text.specs.declared.end.End.TheVariants.{Done, Faulty}
+use Rattle.lg_text.specs.declared.end.RunEnd.{RunEnd}
+use Rattle.lg_text.specs.declared.end.RunEnd.TheVariants.{Done, Faulty}
 use Rattle.lg_script.specs.Meaning.Faults.{fault_word}
 use Rattle.lg_script.specs.Meaning.Lines.{command_of}
 use Rattle.lg_script.specs.declared.command.Command.{Command}
@@ -53,7 +53,7 @@ text_from number before (line ∷ lines) =
       | Some fault ↦ fault_line number fault
     ]
 
-abbrev pub end_from : List Command → List (List ℕ) → End
+abbrev pub end_from : List Command → List (List ℕ) → RunEnd
 end_from before [] = Done
 end_from before (line ∷ lines) =
     elim (line_fault line before) [
@@ -66,5 +66,5 @@ unfoldable pub script_text : List ℕ → List ℕ
 script_text input = text_from 1 [] (lines_of input)
 
 -- how the run of a script ends: faulty exactly if some line is faulty after those before it
-unfoldable pub script_end : List ℕ → End
+unfoldable pub script_end : List ℕ → RunEnd
 script_end input = end_from [] (lines_of input)

@@ -1,12 +1,14 @@
 -- Worked rows.
 use Rattle.std.specs.Prelude.{◌≡◌, [], ◌∷◌, ◌++◌, Some, None, codes, refl}
+use Rattle.std.specs.declared.io.ErrorKind.TheVariants.{IsADirectory, StorageFull, TimedOut}
 use Rattle.lg_text.specs.Meaning.Cutting.{before, behind, colon}
 use Rattle.lg_text.specs.Meaning.Faults.{run_fault_text}
 use Rattle.lg_text.specs.Meaning.Lines.{lines_of}
 use Rattle.lg_text.specs.Meaning.Names.{member_name_of}
 use Rattle.lg_text.specs.Meaning.Numbers.{number_of, number_within, port_of}
 use Rattle.lg_text.specs.Meaning.Octets.{octets_of}
-use Rattle.lg_text.specs.declared.fault.RunFault.TheVariants.{Read}
+use Rattle.lg_text.specs.declared.fault.InputFault.TheVariants.{Failed, TooLong}
+use Rattle.lg_text.specs.declared.fault.RunFault.TheVariants.{Read, Write}
 
 two-lines : lines_of (codes "ab" ++ 10 ∷ 10 ∷ codes "c") ≡ codes "ab" ∷ [] ∷ codes "c" ∷ []
 two-lines = refl
@@ -77,8 +79,20 @@ no-name = refl
 blank-in-name : member_name_of (codes "b 2") ≡ None
 blank-in-name = refl
 
-read-fault : run_fault_text Read ≡ codes "lg: read" ++ 10 ∷ []
-read-fault = refl
+long-input : run_fault_text (Read TooLong) ≡ codes "lg: read\nstandard input has more than 1048576 bytes\n"
+long-input = refl
+
+folder-as-input : run_fault_text (Read (Failed IsADirectory))
+    ≡ codes "lg: read\nstandard input can't be read: it is a folder\n"
+folder-as-input = refl
+
+full-disk : run_fault_text (Write (record { kind = StorageFull }))
+    ≡ codes "lg: write\nstandard output can't be written: no space is left\n"
+full-disk = refl
+
+foreign-fault : run_fault_text (Write (record { kind = TimedOut }))
+    ≡ codes "lg: write\nstandard output can't be written: the machine refuses it\n"
+foreign-fault = refl
 
 an-address : octets_of (codes "10.0.0.255") ≡ Some (10 ∷ 0 ∷ 0 ∷ 255 ∷ [])
 unfolding octets_of before behind

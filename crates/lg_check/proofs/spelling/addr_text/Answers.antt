@@ -1,5 +1,5 @@
 use Rattle.std.proofs.Common.{ℕ, List, [], ◌∷◌, ◌++◌, append_assoc, ap, decimal, sym, ◌∙◌, string_bytes}
-use Rattle.lg_report.specs.Meaning.Records.{addr_text, dotted}
+use Rattle.lg_lines.specs.Meaning.Records.{addr_text, dotted}
 use Rattle.lg_config.proofs.ReasonLaws.{said_as}
 use Rattle.lg_check.proofs.spelling.addr_text.Goals as goal
 

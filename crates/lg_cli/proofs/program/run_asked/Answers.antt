@@ -1,5 +1,5 @@
 use Rattle.std.proofs.Common.{ℕ, Option, refl, subst}
-use Rattle.lg_launch.specs.Meaning.Running.{RunsFile}
+use Rattle.lg_run.specs.Meaning.Running.{RunsFile}
 use Rattle.lg_cli.proofs.program.run_asked.Goals as goal
 
 pub returns-in-Answer : goal.returns-in-Answer

@@ -1,6 +1,6 @@
 use Rattle.std.proofs.Common.{◌≡◌, length, cond, arith}
 use Rattle.lg_commands.specs.Meaning.Answering.{is_faulty}
-use Rattle.lg_text.specs.declared.end.End.TheVariants.{Faulty}
+use Rattle.lg_text.specs.declared.end.RunEnd.TheVariants.{Faulty}
 use Rattle.lg_commands.proofs.AnswerLaws.{accepts_lines, answered_none, answered_more, answered_end, ended_faulty, ended_well}
 use Rattle.lg_commands.proofs.answer.answer.Goals.{in-Done, in-Faulty}
 use Rattle.lg_commands.proofs.answer.answer.Goals as goal

@@ -8,15 +8,15 @@ use Rattle.lg_loops.specs.Meaning.Turns.{receives}
 use Rattle.lg_loops.specs.Meaning.Turns.Turn.{Heard, Dropped, Unheard}
 use Rattle.lg_loops.proofs.receiving.hear.Goals as goal
 
-pub returns-in-Ok : goal.returns-in-Ok
+pub returns-after-heard : goal.returns-after-heard
 unfolding receives
-returns-in-Ok g c = λ log came.
+returns-after-heard g c = λ log came.
     let a = c.in-Ok.ensures.answered in
     let h = c.of.ensures.handed in
     let reply : Reply = c.datagram.new.reply in
     let rest : List LinkEvent = handed reply.sends.items h.sent in
     record {
-      turn = Heard c.args.now c.args.source c.args.bytes.now a.0 (receipt_of c.in-Ok.field-0 reply) h.sent;
+      turn = Heard c.args.now c.args.source c.args.bytes.now a.0 (receipt_of c.in-Ok.heard.place reply) h.sent;
       kind_is = refl;
       is = (a.1, a.2, h.each);
       told = λ yes. h.told yes ∙ (ap (λ (l : List LinkEvent). l ++ rest) (came yes) ∙ append_assoc log (Received c.args.source c.args.bytes.now ∷ []) rest);

@@ -41,11 +41,11 @@ returns-clause-left g c = λ start name told.
             unsent = c.in_ok-unsent.unsent;
             later = threads.result.1.1.end.unsent;
             asked = rw (ready.2, seeds) at c.in_ok-unsent.ensures.asked;
-            received_so = rw (ready.0, c.requires.bound.0, c.requires.bound.1, c.requires.wait) at threads.ensures.received;
-            ticked_so = rw (ready.1, c.new-plan.ensures, c.requires.bound.0, c.requires.bound.1) at threads.ensures.ticked;
+            received_so = rw (c.new.ensures.pass, c.new.ensures.link, ready.0, c.requires.bound.0, c.requires.bound.1, c.requires.wait) at threads.ensures.received;
+            ticked_so = rw (c.new-2.ensures.pass, c.new-2.ensures.link, ready.1, c.new-3.ensures, c.requires.bound.0, c.requires.bound.1) at threads.ensures.ticked;
             counted = λ low. omega (arith, low);
           };
-      told = threads.ensures.watched;
-      shown = rw c.finish-2.ensures (rw (ready.3, c.requires.serving) at threads.ensures.served);
+      told = rw c.new-lookers.ensures.watcher at threads.ensures.watched;
+      shown = rw c.finish-2.ensures (rw (c.new-lookers.ensures.status, c.new-lookers.ensures.server, ready.3, c.requires.serving) at threads.ensures.served);
       read = rw c.finish.ensures c.members-members.ensures;
     }

@@ -2,7 +2,7 @@ use Rattle.std.proofs.Common.{◌≡◌, ℕ, ◌-◌, ◌≤◌, List, length, 
 use Rattle.std.specs.Result.{IsErrAnd}
 use Rattle.std.proofs.KnownBytes.{Consumes-trans}
 use Rattle.std.specs.Io.KnownBytes.{Consumes}
-use Rattle.lg_text.specs.Meaning.Running.{TakesAtMost}
+use Rattle.lg_text.specs.Meaning.Running.{TakesAtMost, TakesMore}
 use Rattle.lg_text.specs.declared.fault.RunFault.{RunFault}
 use Rattle.lg_text.proofs.input.read_input.Goals as goal
 
@@ -10,6 +10,13 @@ takes_more : (a b c : Option (List ℕ)) (xs : List ℕ) (len n : ℕ) → Consu
 takes_more a b c xs len n first same fits more = record {
   bytes = xs ++ more.bytes;
   few = omega (arith, length-append xs more.bytes, more.few);
+  taken = Consumes-trans a b c xs more.bytes first more.taken;
+}
+
+takes_past : (a b c : Option (List ℕ)) (xs : List ℕ) (len n : ℕ) → Consumes a b xs → len ≡ length xs → len ≤ n → TakesMore (n - len) b c → TakesMore n a c
+takes_past a b c xs len n first same fits more = record {
+  bytes = xs ++ more.bytes;
+  many = omega (arith, length-append xs more.bytes, more.many);
   taken = Consumes-trans a b c xs more.bytes first more.taken;
 }
 
@@ -23,8 +30,14 @@ of_fault : {V : Type 0} (r : Result V RunFault) (e : RunFault) (Q : RunFault →
 of_fault (Ok x) e Q is q = tt
 of_fault (Err y) e Q is q = subst Q (sym is) q
 
-pub returns-in_err-read_more-clause-memory : goal.returns-in_err-read_more-clause-memory
-returns-in_err-read_more-clause-memory g c =
+pub returns-in_err-read_more-clause-few : goal.returns-in_err-read_more-clause-few
+returns-in_err-read_more-clause-few g c =
     of_fault _ c.in_err-read_more.field-0.0 _ c.from_residual.ensures.1
-    (λ is. takes_more _ _ _ c.loop.input.items (vec_len c.loop.input) 1048576 c.loop.invariant.bytes
-    (omega (arith, c.loop.input.ok.0)) c.loop.invariant.within (c.in_err-read_more.ensures.memory is))
+    (λ short. takes_more _ _ _ c.loop.input.items (vec_len c.loop.input) 1048576 c.loop.invariant.bytes
+    (omega (arith, c.loop.input.ok.0)) c.loop.invariant.within (c.in_err-read_more.ensures.few short))
+
+pub returns-in_err-read_more-clause-many : goal.returns-in_err-read_more-clause-many
+returns-in_err-read_more-clause-many g c =
+    of_fault _ c.in_err-read_more.field-0.0 _ c.from_residual.ensures.1
+    (λ long. takes_past _ _ _ c.loop.input.items (vec_len c.loop.input) 1048576 c.loop.invariant.bytes
+    (omega (arith, c.loop.input.ok.0)) c.loop.invariant.within (c.in_err-read_more.ensures.many long))

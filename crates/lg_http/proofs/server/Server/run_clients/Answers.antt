@@ -3,12 +3,6 @@ use Rattle.lg_http.specs.Meaning.Slots.{slots_of}
 use Rattle.lg_http.proofs.SlotLaws.{slots_until, served_until}
 use Rattle.lg_http.proofs.server.Server.run_clients.Goals as goal
 
-pub returns-then-rest-eq0-clause-served : goal.returns-then-rest-eq0-clause-served
-returns-then-rest-eq0-clause-served g c = λ h.
-    let replies = Replies g.S.Site.answers g.S.Site.version g.S.Site.waits c.args.desk.now.hosts in
-    c.run-rest.ensures.served
-    (slots_until replies g.S.Site.later g.met.S.Site.order _ _ c.refresh-version.ensures.goes_on (slots_of c.args.self.now) h)
-
 pub returns-then-refresh-version-clause-served : goal.returns-then-refresh-version-clause-served
 returns-then-refresh-version-clause-served g c = λ h.
     let replies = Replies g.S.Site.answers g.S.Site.version g.S.Site.waits c.args.desk.now.hosts in
@@ -22,9 +16,6 @@ returns-else-refresh-version-clause-served g c = λ h.
     served_until replies g.S.Site.later g.met.S.Site.order _ _ c.refresh.ensures.goes_on _ _
     (c.run-rest.ensures.served
     (slots_until replies g.S.Site.later g.met.S.Site.order _ _ c.refresh-version.ensures.goes_on (slots_of c.args.self.now) h))
-
-pub returns-then-rest-eq0-clause-goes_on : goal.returns-then-rest-eq0-clause-goes_on
-returns-then-rest-eq0-clause-goes_on g c = rw c.run-rest.ensures.site c.refresh-version.ensures.goes_on
 
 pub returns-then-refresh-version-clause-goes_on : goal.returns-then-refresh-version-clause-goes_on
 returns-then-refresh-version-clause-goes_on g c =

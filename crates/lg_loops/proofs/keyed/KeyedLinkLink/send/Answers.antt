@@ -1,7 +1,7 @@
 use Rattle.std.proofs.Common.{◌≡◌, List, ℕ, [], ◌∷◌, ◌++◌, take, ap, ◌∙◌}
 use Rattle.std.specs.Prelude.{is_ok}
 use Rattle.std.proofs.lemmas.List.{take_min}
-use Rattle.lg_key.specs.Meaning.Sealing.{sealed}
+use Rattle.lg_seal.specs.Meaning.Sealing.{sealed}
 use Rattle.lg_loops.specs.Meaning.Links.LinkEvent.{Handed}
 use Rattle.lg_loops.proofs.keyed.KeyedLinkLink.send.Goals as goal
 

@@ -1,6 +1,6 @@
 use Rattle.std.proofs.Common.{◌++◌, List, sym, ap, ◌∙◌}
 use Rattle.lg_rules.specs.declared.claim.Claim.{Claim}
-use Rattle.lg_report.specs.Meaning.Records.{table_text}
+use Rattle.lg_lines.specs.Meaning.Records.{table_text}
 use Rattle.lg_sim.specs.Meaning.Members.{events_of}
 use Rattle.lg_sim.proofs.ClusterLaws.{named_after, named_at, named_nowhere, not_named, named_open}
 use Rattle.lg_sim.proofs.cluster.Cluster.put_table_of.Goals as goal

@@ -6,7 +6,7 @@ use Rattle.lg_timers.proofs.SiftLaws.{removed-around, removed-all}
 use Rattle.lg_timers.proofs.heap.Heap.remove.Goals as goal
 
 pub settle-requires-clause-around : goal.settle-requires-clause-around
-settle-requires-clause-around c =
+settle-requires-clause-around g c =
     let old = c.args.self.now in
     let n = c.exchange.new.self.count in
     let more : n + 1 ≡ old.count = omega (arith, c.exchange.ensures.count, c.requires.used) in
@@ -17,7 +17,7 @@ settle-requires-clause-around c =
     (subst (IsHeap (timer_at c.args.timers.now old.slots)) (sym more) c.requires.heap) c.if-place-self.true
 
 pub returns-then-place-self-clause-moved : goal.returns-then-place-self-clause-moved
-returns-then-place-self-clause-moved c =
+returns-then-place-self-clause-moved g c =
     let old = c.args.self.now in
     let n = c.exchange.new.self.count in
     let more : n + 1 ≡ old.count = omega (arith, c.exchange.ensures.count, c.requires.used) in
@@ -30,7 +30,7 @@ returns-then-place-self-clause-moved c =
     (ap (λ i. get_or old.slots i 0) at ∙ c.requires.placed) c.settle.ensures.settled.moved
 
 pub returns-else-place-self-clause-moved : goal.returns-else-place-self-clause-moved
-returns-else-place-self-clause-moved c =
+returns-else-place-self-clause-moved g c =
     let old = c.args.self.now in
     let n = c.exchange.new.self.count in
     let more : n + 1 ≡ old.count = omega (arith, c.exchange.ensures.count, c.requires.used) in

@@ -8,7 +8,7 @@ use Rattle.lg_timers.proofs.SiftLaws.{timers-swapped, swap-moved}
 use Rattle.lg_timers.proofs.heap.Heap.sift_down.Goals as goal
 
 pub loop-place-init : goal.loop-place-init
-loop-place-init c =
+loop-place-init g c =
     record {
       slots = c.requires.slots;
       count = refl;
@@ -20,7 +20,7 @@ loop-place-init c =
     }
 
 pub loop-place-preserved : goal.loop-place-preserved
-loop-place-preserved c =
+loop-place-preserved g c =
     let i = c.loop-place.invariant in
     let place = c.loop-place.place in
     let child = c.first_below-child.result in
@@ -37,11 +37,11 @@ loop-place-preserved c =
       within = first.within;
       below = down_step (timer_at c.args.timers.now slots) (timer_at c.args.timers.now after) count place child (timers-swapped c.args.timers.now slots after count place child few i.within first.within c.exchange.ensures.swapped) first i.below (sym c.is_before.ensures.before ∙ c.if-not-is_before.false);
       rises = omega (arith, c.first_below-child.ensures.rises, c.is_before.ensures.counted, i.rises);
-      levels = (levels.0, levels.2, omega (arith, levels.1, c.first_below-child.ensures.counted, c.is_before.ensures.counted, i.levels.2));
+      levels = (levels.0, levels.2, omega (arith, levels.1, c.first_below-child.ensures.counted, c.is_before.ensures.counted, c.is_before.ensures.once, i.levels.2));
     }
 
 pub returns-then-not-is_before-clause-settled : goal.returns-then-not-is_before-clause-settled
-returns-then-not-is_before-clause-settled c =
+returns-then-not-is_before-clause-settled g c =
     let i = c.loop-place.invariant in
     let place = c.loop-place.place in
     let child = c.first_below-child.result in
@@ -55,7 +55,7 @@ returns-then-not-is_before-clause-settled c =
     }
 
 pub returns-then-not-is_before-clause-counted : goal.returns-then-not-is_before-clause-counted
-returns-then-not-is_before-clause-counted c =
+returns-then-not-is_before-clause-counted g c =
     let i = c.loop-place.invariant in
     let place = c.loop-place.place in
     let child = c.first_below-child.result in
@@ -63,10 +63,10 @@ returns-then-not-is_before-clause-counted c =
     let count = c.args.self.now.count in
     let first : IsFirstBelow (timer_at c.args.timers.now slots) count place child = subst (λ (n : ℕ). IsFirstBelow (timer_at c.args.timers.now slots) n place child) i.count c.first_below-child.ensures.first in
     let levels = one_down i.levels.0 place child count (omega (arith, c.loop-place-test.true, i.count)) first.below first.after i.levels.1 in
-    omega (arith, levels.1, c.first_below-child.ensures.counted, c.is_before.ensures.counted, i.levels.2)
+    omega (arith, levels.1, c.first_below-child.ensures.counted, c.is_before.ensures.counted, c.is_before.ensures.once, i.levels.2)
 
 pub returns-clause-settled : goal.returns-clause-settled
-returns-clause-settled c =
+returns-clause-settled g c =
     let i = c.loop-place.invariant in
     let count = c.args.self.now.count in
     record {

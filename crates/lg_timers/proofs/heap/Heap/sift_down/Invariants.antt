@@ -6,16 +6,16 @@ use Rattle.lg_timers.proofs.heap.Heap.sift_down.Given as goal
 
 -- the slots in use are the same, and only the one at the place may stand too high
 abbrev pub invariant-loop-place : goal.invariant-loop-place
-invariant-loop-place l =
+invariant-loop-place g l =
     record {
       slots : AreTimerSlots l.timers l.self.slots l.self.places l.fn.self.count;
       count : l.self.count ≡ l.fn.self.count;
       moved : IsPermutation (take l.fn.self.count l.fn.self.slots) (take l.fn.self.count l.self.slots);
       within : l.place < l.fn.self.count;
       below : IsHeapBelow (timer_at l.timers l.self.slots) l.fn.self.count l.place;
-      rises : l.fn.steps ≤ l.steps;
-      levels : (levels : ℕ) × EndsWithin levels l.place l.fn.self.count × (l.steps + 2 * levels ≤ l.fn.steps + 16);
+      rises : g.C.Comparer.count l.fn.comparer ≤ g.C.Comparer.count l.comparer;
+      levels : (levels : ℕ) × EndsWithin levels l.place l.fn.self.count × (g.C.Comparer.count l.comparer + 2 * levels ≤ g.C.Comparer.count l.fn.comparer + 16);
     }
 
 abbrev pub decreases-loop-place : goal.decreases-loop-place
-decreases-loop-place l = 400 - l.place
+decreases-loop-place g l = 400 - l.place

@@ -8,7 +8,7 @@ use Rattle.lg_timers.proofs.SiftLaws.{timers-swapped, swap-moved}
 use Rattle.lg_timers.proofs.heap.Heap.sift_up.Goals as goal
 
 pub loop-place-init : goal.loop-place-init
-loop-place-init c =
+loop-place-init g c =
     record {
       slots = c.requires.slots;
       count = refl;
@@ -20,7 +20,7 @@ loop-place-init c =
     }
 
 pub loop-place-preserved : goal.loop-place-preserved
-loop-place-preserved c =
+loop-place-preserved g c =
     let i = c.loop-place.invariant in
     let place = c.loop-place.place in
     let slots = c.loop-place.self.slots in
@@ -36,11 +36,11 @@ loop-place-preserved c =
       within = up;
       above = up_step (timer_at c.args.timers.now slots) (timer_at c.args.timers.now after) count place (timers-swapped c.args.timers.now slots after count (parent place) place few up i.within c.exchange.ensures.swapped) c.loop-place-test.true i.within i.above (sym c.is_before.ensures.before ∙ c.if-not-is_before.false);
       rises = omega (arith, c.is_before.ensures.counted, i.rises);
-      levels = (levels.0, levels.2, omega (arith, levels.1, c.is_before.ensures.counted, i.levels.2));
+      levels = (levels.0, levels.2, omega (arith, levels.1, c.is_before.ensures.counted, c.is_before.ensures.once, i.levels.2));
     }
 
 pub returns-then-not-is_before-clause-settled : goal.returns-then-not-is_before-clause-settled
-returns-then-not-is_before-clause-settled c =
+returns-then-not-is_before-clause-settled g c =
     let i = c.loop-place.invariant in
     record {
       kept = i.slots;
@@ -49,13 +49,13 @@ returns-then-not-is_before-clause-settled c =
     }
 
 pub returns-then-not-is_before-clause-counted : goal.returns-then-not-is_before-clause-counted
-returns-then-not-is_before-clause-counted c =
+returns-then-not-is_before-clause-counted g c =
     let i = c.loop-place.invariant in
     let levels = one_up i.levels.0 c.loop-place.place c.loop-place-test.true i.levels.1 in
-    omega (arith, levels.1, c.is_before.ensures.counted, i.levels.2)
+    omega (arith, levels.1, c.is_before.ensures.counted, c.is_before.ensures.once, i.levels.2)
 
 pub returns-clause-settled : goal.returns-clause-settled
-returns-clause-settled c =
+returns-clause-settled g c =
     let i = c.loop-place.invariant in
     record {
       kept = i.slots;

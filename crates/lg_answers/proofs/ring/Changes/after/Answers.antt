@@ -1,0 +1,12 @@
+use Rattle.std.proofs.Common.{Some, ap, ◌∙◌}
+use Rattle.lg_answers.specs.Meaning.Changes.{all_changes}
+use Rattle.lg_answers.proofs.KeptLaws.{after_found, after_missed}
+use Rattle.lg_answers.proofs.ring.Changes.after.Goals as goal
+
+pub returns-then-version-self : goal.returns-then-version-self
+returns-then-version-self c looks has =
+    after_missed c.args.self.now (all_changes looks) c.args.version has c.if-version-self.true
+
+pub returns : goal.returns
+returns c looks has =
+    ap Some c.in_ok-found.ensures ∙ after_found c.args.self.now (all_changes looks) c.args.version has c.if-version-self.false

@@ -1,0 +1,84 @@
+-- The bodies of the health, of the configuration and of a fault, as JSON (this project's choice).
+use Rattle.std.specs.Prelude.{ℕ, Bool, true, false, not, List, ◌++◌, codes, decimal, count_by, length}
+use Rattle.std.specs.Prelude.{Option, Some, None}
+use Rattle.std.specs.List.{flat_map}
+use Rattle.lg_lines.specs.Meaning.Records.{addr_text}
+use Rattle.lg_rules.specs.declared.addr.Addr.{Addr}
+use Rattle.lg_rules.specs.declared.claim.Claim.{Claim}
+use Rattle.lg_rules.specs.Meaning.Table.{is_failed}
+use Rattle.lg_timing.specs.declared.config.Config.{Config}
+use Rattle.lg_timing.specs.declared.config.Seed.{Seed}
+use Rattle.lg_timing.specs.declared.keys.Key.{Key}
+use Rattle.lg_timing.specs.Meaning.Keys.{key_name, keys, number_of_key}
+use Rattle.lg_answers.specs.declared.snapshot.NodeNumber.{NodeNumber}
+use Rattle.lg_answers.specs.declared.snapshot.ShownConfig.{ShownConfig}
+use Rattle.lg_answers.specs.declared.snapshot.Snapshot.{Snapshot}
+use Rattle.lg_answers.specs.Meaning.Members.{address_fields, comma_separated}
+
+-- {"error":"TEXT"}
+abbrev pub error_body : List ℕ → List ℕ
+error_body reason = codes "{\"error\":\"" ++ (reason ++ codes "\"}")
+
+abbrev pub truth_text : Bool → List ℕ
+truth_text true = codes "true"
+truth_text false = codes "false"
+
+-- how many of these members haven't failed
+abbrev pub live_among : List Claim → ℕ
+live_among records = count_by (λ c. not (is_failed c.status)) records
+
+-- {"name":"NAME","score":S,"incarnation":N,"live":L,"known":K,"ousted":O,"uptime_ms":U,"stood_still_ms":T}
+abbrev pub health_front : Snapshot → List ℕ
+health_front s =
+    codes "{\"name\":\"" ++ (s.name ++ (codes "\",\"score\":" ++ (decimal s.score
+    ++ (codes ",\"incarnation\":" ++ decimal s.incarnation))))
+
+abbrev pub health_counts : ℕ → ℕ → List ℕ
+health_counts live known = codes ",\"live\":" ++ (decimal live ++ (codes ",\"known\":" ++ decimal known))
+
+abbrev pub health_times : Snapshot → List ℕ
+health_times s =
+    codes ",\"ousted\":" ++ (truth_text s.ousted ++ (codes ",\"uptime_ms\":" ++ (decimal s.uptime_ms
+    ++ (codes ",\"stood_still_ms\":" ++ (decimal s.stood_still_ms ++ codes "}")))))
+
+unfoldable pub health_body : Snapshot → List ℕ
+health_body s =
+    health_front s ++ health_counts (live_among s.records.items) (length s.records.items) ++ health_times s
+
+-- {"name":"NAME","address":"A.B.C.D","port":PORT, the numbers of the member and of the node's own,
+-- "status":STATUS,"status_open":OPEN,"seeds":[..]}
+abbrev pub config_front : Config → List ℕ
+config_front c = codes "{\"name\":\"" ++ (c.name ++ codes "\",") ++ address_fields c.addr
+
+-- ,"KEY":VALUE
+abbrev pub number_field : List ℕ → ℕ → List ℕ
+number_field key value = codes ",\"" ++ (key ++ (codes "\":" ++ decimal value))
+
+abbrev pub key_field : Config → Key → List ℕ
+key_field c key = number_field (key_name key) (number_of_key key c)
+
+abbrev pub own_field : NodeNumber → List ℕ
+own_field own = number_field own.key.now own.value
+
+-- where the node answers over HTTP: "A.B.C.D:PORT", or null if it doesn't
+abbrev pub status_value : Option Addr → List ℕ
+status_value None = codes "null"
+status_value (Some addr) = codes "\"" ++ addr_text addr ++ codes "\""
+
+-- ,"status":STATUS
+unfoldable pub status_field : Option Addr → List ℕ
+status_field status = codes ",\"status\":" ++ status_value status
+
+-- ,"status_open":OPEN, whether it may answer at an address that isn't loopback
+unfoldable pub open_field : Bool → List ℕ
+open_field is_open = codes ",\"status_open\":" ++ truth_text is_open
+
+-- {"name":"NAME","address":"A.B.C.D","port":PORT}
+unfoldable pub seed_json : Seed → List ℕ
+seed_json seed = codes "{\"name\":\"" ++ (seed.name ++ codes "\",") ++ address_fields seed.addr ++ codes "}"
+
+unfoldable pub config_body : ShownConfig → List ℕ
+config_body setup =
+    config_front setup.config ++ flat_map (key_field setup.config) keys ++ flat_map own_field setup.numbers.items
+    ++ status_field setup.status ++ open_field setup.status_open
+    ++ codes ",\"seeds\":[" ++ comma_separated seed_json setup.config.seeds.items ++ codes "]}"

@@ -1,0 +1,157 @@
+//! Writes the configuration as JSON.
+//!
+//! Defined in: `specs/Meaning/Bodies.antt`, `lg_timing/specs/Meaning/Keys.antt`;
+//! `lg_lines/specs/Meaning/Records.antt`.
+//! Tested in: `lg_answers_tests/src/answer.rt`.
+ghost use Rattle.std.specs.Prelude.{◌≡◌, ◌++◌, IfOk, OnOk, codes, string_bytes};
+ghost use Rattle.std.specs.List.{flat_map};
+ghost use Rattle.lg_lines.specs.Meaning.Records.{addr_text};
+ghost use Rattle.lg_timing.specs.Meaning.Keys.{keys};
+ghost use Rattle.lg_answers.specs.Meaning.Bodies.{config_body, config_front, key_field, number_field, own_field};
+ghost use Rattle.lg_answers.specs.Meaning.Bodies.{open_field, seed_json, status_field, status_value};
+ghost use Rattle.lg_answers.specs.Meaning.Members.{behind_comma, comma_separated};
+
+use crate::health::put_truth;
+use crate::members::put_address;
+use crate::snapshot::{NodeNumber, ShownConfig};
+use lg_check::text_of_name;
+use lg_rules::{Addr, Name};
+use lg_timing::{Config, KEYS, Key, Seed};
+use std::alloc::{AllocError, Global};
+
+/// Appends the brace of an object and the name.
+fn put_name(name: &Name, text: &mut String) -> Result<(), AllocError>
+    ensures { OnOk result (string_bytes text.new
+        ≡ string_bytes text.old ++ (codes "{\"name\":\"" ++ (name.now ++ codes "\","))) }
+{
+    let name = text_of_name(name);
+    write!(text, "{{\"name\":\"{name}\",")
+}
+
+/// Appends the name and the address.
+#[tactic(auto, unfolding(crate::specs::Meaning::Members::address_fields))]
+fn put_front(config: &Config, text: &mut String) -> Result<(), AllocError>
+    ensures { OnOk result (string_bytes text.new ≡ string_bytes text.old ++ config_front config.now) }
+{
+    put_name(&config.name, text)?;
+    put_address("\"address\":\"", &config.addr, text)
+}
+
+/// Appends a number with its key.
+fn put_number(key: &str, value: u64, text: &mut String) -> Result<(), AllocError>
+    ensures { OnOk result (string_bytes text.new ≡ string_bytes text.old ++ number_field key.now value) }
+{
+    write!(text, ",\"{key}\":{value}")
+}
+
+/// Appends some of the member's numbers.
+fn put_keys(config: &Config, keys: &[Key], text: &mut String) -> Result<(), AllocError>
+    ensures { OnOk result (string_bytes text.new ≡ string_bytes text.old ++ flat_map (key_field config.now) keys.now) }
+{
+    for key in keys {
+        put_number(key.name(), config.number(*key), text)?;
+    }
+    Ok(())
+}
+
+/// Appends the numbers of the node's own.
+fn put_owns(numbers: &[NodeNumber], text: &mut String) -> Result<(), AllocError>
+    ensures { OnOk result (string_bytes text.new ≡ string_bytes text.old ++ flat_map own_field numbers.now) }
+{
+    for own in numbers {
+        put_number(own.key, own.value, text)?;
+    }
+    Ok(())
+}
+
+/// Appends the text A.B.C.D:PORT of an address.
+fn put_addr_text(addr: &Addr, text: &mut String) -> Result<(), AllocError>
+    ensures { OnOk result (string_bytes text.new ≡ string_bytes text.old ++ addr_text addr.now) }
+{
+    let [a, b, c, d] = addr.octets;
+    let port = addr.port;
+    write!(text, "{a}.{b}.{c}.{d}:{port}")
+}
+
+/// Appends where the node answers over HTTP, or `null`.
+fn put_status(status: Option<Addr>, text: &mut String) -> Result<(), AllocError>
+    ensures { OnOk result (string_bytes text.new ≡ string_bytes text.old ++ status_value status) }
+{
+    match status {
+        Some(addr) => {
+            text.push_str("\"")?;
+            put_addr_text(&addr, text)?;
+            text.push_str("\"")
+        }
+        None => text.push_str("null"),
+    }
+}
+
+/// Appends where the node answers over HTTP, behind its key.
+#[tactic(auto, unfolding(crate::specs::Meaning::Bodies::status_field))]
+fn put_status_field(status: Option<Addr>, text: &mut String) -> Result<(), AllocError>
+    ensures { OnOk result (string_bytes text.new ≡ string_bytes text.old ++ status_field status) }
+{
+    text.push_str(",\"status\":")?;
+    put_status(status, text)
+}
+
+/// Appends whether the node may answer at an address that isn't loopback, behind its key.
+fn put_open_field(is_open: bool, text: &mut String) -> Result<(), AllocError>
+    ensures { OnOk result (string_bytes text.new ≡ string_bytes text.old ++ open_field is_open) }
+{
+    text.push_str(",\"status_open\":")?;
+    put_truth(is_open, text)
+}
+
+/// Appends a seed.
+#[tactic(auto, unfolding(crate::specs::Meaning::Bodies::seed_json, crate::specs::Meaning::Members::address_fields))]
+fn put_seed(seed: &Seed, text: &mut String) -> Result<(), AllocError>
+    ensures { OnOk result (string_bytes text.new ≡ string_bytes text.old ++ seed_json seed.now) }
+{
+    put_name(&seed.name, text)?;
+    put_address("\"address\":\"", &seed.addr, text)?;
+    text.push_str("}")
+}
+
+/// Appends seeds, each behind a comma.
+fn put_other_seeds(seeds: &[Seed], text: &mut String) -> Result<(), AllocError>
+    ensures { OnOk result
+        (string_bytes text.new ≡ string_bytes text.old ++ flat_map (behind_comma seed_json) seeds.now) }
+{
+    for seed in seeds {
+        text.push_str(",")?;
+        put_seed(seed, text)?;
+    }
+    Ok(())
+}
+
+/// Appends seeds with commas between them.
+fn put_seeds(seeds: &[Seed], text: &mut String) -> Result<(), AllocError>
+    ensures { OnOk result (string_bytes text.new ≡ string_bytes text.old ++ comma_separated seed_json seeds.now) }
+{
+    match seeds {
+        [] => Ok(()),
+        [seed, others @ ..] => {
+            put_seed(seed, text)?;
+            put_other_seeds(others, text)
+        }
+    }
+}
+
+/// The body of the configuration.
+#[tactic(auto, unfolding(crate::specs::Meaning::Bodies::config_body))]
+pub(crate) fn config_body(alloc: Global, setup: &ShownConfig) -> Result<String, AllocError>
+    ensures { IfOk result (λ body. string_bytes body ≡ config_body setup.now) }
+{
+    let mut text = String::new(alloc);
+    put_front(&setup.config, &mut text)?;
+    put_keys(&setup.config, &KEYS, &mut text)?;
+    put_owns(&setup.numbers, &mut text)?;
+    put_status_field(setup.status, &mut text)?;
+    put_open_field(setup.status_open, &mut text)?;
+    text.push_str(",\"seeds\":[")?;
+    put_seeds(&setup.config.seeds, &mut text)?;
+    text.push_str("]}")?;
+    Ok(text)
+}

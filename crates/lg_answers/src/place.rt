@@ -1,0 +1,75 @@
+//! The paths that there are, but for those of single members: one table.
+//!
+//! Defined in: `specs/Meaning/Places.antt`.
+//! Tested in: `lg_answers_tests/src/route.rt`.
+ghost use Rattle.std.specs.Prelude.{◌≡◌};
+ghost use Rattle.std.specs.Option.{option_map};
+ghost use Rattle.lg_answers.specs.Meaning.Places.{has_path, member_name, place_at, place_path};
+
+/// What stands before the name of a member in the path of one.
+const MEMBERS: &[u8] = b"/v1/members/";
+
+/// A path that there is, but for those of single members.
+#[derive(Clone, Copy, Debug, PartialEq, Eq)]
+pub(crate) enum Place {
+    /// `/`.
+    Page,
+    /// `/v1/members`.
+    Members,
+    /// `/v1/health`.
+    Health,
+    /// `/v1/changes`.
+    Changes,
+    /// `/v1/config`.
+    Config,
+    /// `/metrics`.
+    Metrics,
+}
+
+/// All of them.
+const PLACES: [Place; 6] = [
+    Place::Page,
+    Place::Members,
+    Place::Health,
+    Place::Changes,
+    Place::Config,
+    Place::Metrics,
+];
+
+impl Place {
+    /// The path.
+    fn path(self) -> &'static str
+        ensures { result.now ≡ place_path self }
+    {
+        match self {
+            Place::Page => "/",
+            Place::Members => "/v1/members",
+            Place::Health => "/v1/health",
+            Place::Changes => "/v1/changes",
+            Place::Config => "/v1/config",
+            Place::Metrics => "/metrics",
+        }
+    }
+
+    /// Whether these bytes are the path.
+    fn has_path(self, path: &[u8]) -> bool
+        ensures { result ≡ has_path path.now self }
+    {
+        path == self.path().as_bytes()
+    }
+
+    /// The place with a path. None if there is none.
+    pub(crate) fn at(path: &[u8]) -> Option<Place>
+        ensures { result ≡ place_at path.now }
+    {
+        PLACES.iter().copied().find(|place| place.has_path(path))
+    }
+}
+
+/// What stands in a path where the name of a member stands: what is behind `/v1/members/`. None if the path doesn't
+/// begin so.
+pub(crate) fn member_name(path: &[u8]) -> Option<&[u8]>
+    ensures { option_map (λ name. name.now) result ≡ member_name path.now }
+{
+    path.strip_prefix(MEMBERS)
+}

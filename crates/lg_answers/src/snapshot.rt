@@ -1,0 +1,59 @@
+//! What the answers are made of: plain values of one look at a node.
+//!
+//! Defined in: this file.
+//! Tested in: `lg_answers_tests/src/answer.rt`.
+
+use lg_counters::{Counts, Drops};
+use lg_rules::{Addr, Incarnation, Name, Record};
+use lg_timing::{Config, Moment};
+
+/// What one look at a node found.
+#[derive(Debug, Drop)]
+pub struct Snapshot {
+    /// How many events the records are after.
+    pub version: u64,
+    /// The moment of the look.
+    pub moment: Moment,
+    /// This member's name.
+    pub name: Name,
+    /// The records of all members that are known, this member's too, in the order of names.
+    pub records: Vec<Record>,
+    /// The health score of this member.
+    pub score: u64,
+    /// The incarnation of this member.
+    pub incarnation: Incarnation,
+    /// Whether this member is ousted.
+    pub ousted: bool,
+    /// How long the node has run, in milliseconds.
+    pub uptime_ms: u64,
+    /// How long the node stood still, in milliseconds.
+    pub stood_still_ms: u64,
+    /// The moment of the last event, in milliseconds.
+    pub last_event_ms: u64,
+    /// What the node counted.
+    pub counts: Counts,
+    /// How many datagrams it dropped for each fault.
+    pub dropped: Vec<Drops>,
+}
+
+/// A number of the configuration file that only the node uses.
+#[derive(Clone, Copy, Debug, PartialEq, Eq)]
+pub struct NodeNumber {
+    /// Its key, such as `pull_ms`. It has letters and `_` only, so that no byte needs an escape.
+    pub key: &'static str,
+    /// Its value.
+    pub value: u64,
+}
+
+/// The configuration that a node runs with, defaults filled in.
+#[derive(Debug, Drop)]
+pub struct ShownConfig {
+    /// The configuration of its member.
+    pub config: Config,
+    /// The numbers of the node's own, in the order in which they are shown.
+    pub numbers: Vec<NodeNumber>,
+    /// Where the node answers over HTTP. None if it doesn't.
+    pub status: Option<Addr>,
+    /// Whether it may answer at an address that isn't loopback.
+    pub status_open: bool,
+}

@@ -1,0 +1,80 @@
+//! What a node counts: the datagrams that a keyed link drops, and the calls of two loops at once.
+
+use lg_answers::Counts;
+use lg_counters::{Counters, Noted, Tally};
+use lg_packet::Fault;
+use lg_rules::Name;
+use lg_testing::at;
+use std::thread::join;
+
+/// They count as received, and each by its fault. The opening is the first event, and they are none.
+#[test]
+fn counts_unsealed_datagrams(rt: HostRuntime) {
+    let counters = Counters::new(Name::default(), at(7));
+    counters.note_unsigned();
+    counters.note_forged();
+    counters.note_forged();
+    assert_eq!(rt; (counters.counts().received, counters.last_event()), (3, 7));
+    let drops = counters.drops();
+    for (fault, want) in [("Trailing", 0), ("Unsigned", 1), ("Forged", 2)] {
+        let met = drops
+            .iter()
+            .any(|row| row.fault == fault && row.count == want);
+        assert!(rt; met, "{fault}");
+    }
+}
+
+/// How many calls each of two threads counts.
+const CALLS: u64 = 10_000;
+
+/// What is counted of each call.
+const NOTED: Noted = Noted {
+    sent: 2,
+    unsent: 3,
+    tally: Tally {
+        probe_begun: true,
+        probe_failed: true,
+        probe_helped: true,
+        suspicions_raised: 4,
+        refuted: true,
+    },
+};
+
+/// Counts the calls of one thread, each with a datagram that is received and dropped, a rotation and a refused call.
+fn count_calls(counters: &Counters) {
+    for _ in 0..CALLS {
+        counters.note_received();
+        counters.note_dropped(Fault::Magic);
+        counters.note_rotated();
+        counters.note_refused();
+        counters.note(at(5), &NOTED);
+    }
+}
+
+/// What two threads count at once adds up: no count of one is lost to the other.
+#[test]
+fn counts_of_two_threads_add_up(rt: HostRuntime) {
+    let counters = Counters::new(Name::default(), at(0));
+    join(&rt, || count_calls(&counters), || count_calls(&counters));
+    let calls = 2 * CALLS;
+    let want = Counts {
+        received: calls,
+        sent: 2 * calls,
+        unsent: 3 * calls,
+        probes_begun: calls,
+        probes_failed: calls,
+        probes_helped: calls,
+        suspicions_raised: 4 * calls,
+        suspicions_refuted: calls,
+        history_entries: calls + 1,
+        history_rotations: calls,
+        calls_refused: calls,
+    };
+    assert_eq!(rt; counters.counts(), want);
+    assert_eq!(rt; counters.last_event(), 5);
+    let magic = counters
+        .drops()
+        .iter()
+        .any(|row| row.fault == "Magic" && row.count == calls);
+    assert!(rt; magic);
+}

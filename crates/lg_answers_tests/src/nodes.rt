@@ -1,0 +1,174 @@
+//! What b answers from: it knows that a is suspected by c, and that c has failed.
+use crate::target::parts_of;
+use lg_answers::{
+    Changes, Counts, Drops, MAX_CHANGES, NodeNumber, ShownConfig, Snapshot, answer_to,
+};
+use lg_http::HttpAnswer;
+use lg_rules::{Record, Status};
+use lg_testing::{at, claim, incarnation, letter, local};
+use lg_timing::{Config, Seed};
+use std::alloc::{AllocError, Global};
+
+/// How b is.
+#[derive(Clone, Copy, Debug, PartialEq, Eq)]
+pub enum Node {
+    /// It lives, and recorded three changes.
+    Usual,
+    /// It is ousted, and may answer at any address, but has none.
+    Ousted,
+    /// It recorded 1,024 changes of a at version 7, before the three.
+    Busy,
+}
+
+/// What the answers of b are made of.
+#[derive(Drop)]
+pub struct Sources {
+    snapshot: Snapshot,
+    changes: Changes,
+    setup: ShownConfig,
+}
+
+/// The record of a member at a port.
+fn record(member: u8, port: u16, status: Status, number: u32) -> Record {
+    let mut record = claim(letter(member), status, number);
+    record.addr = local(port);
+    record
+}
+
+/// The record of b.
+fn own_record() -> Record {
+    record(b'b', 7102, Status::Alive, 4)
+}
+
+/// The records of a, b and c.
+fn records() -> [Record; 3] {
+    [
+        record(b'a', 7101, Status::Suspect(letter(b'c')), 0),
+        own_record(),
+        record(b'c', 7103, Status::Failed, 2),
+    ]
+}
+
+/// Counts of which no two are the same.
+fn counts() -> Counts {
+    Counts {
+        received: 111,
+        sent: 112,
+        unsent: 113,
+        probes_begun: 114,
+        probes_failed: 115,
+        probes_helped: 116,
+        suspicions_raised: 117,
+        suspicions_refuted: 118,
+        history_entries: 119,
+        history_rotations: 120,
+        calls_refused: 121,
+    }
+}
+
+/// Datagrams that were dropped.
+fn drops(fault: &'static str, count: u64) -> Drops {
+    Drops { fault, count }
+}
+
+/// A look of b after 41 events.
+fn snapshot(alloc: Global, ousted: bool) -> Result<Snapshot, AllocError> {
+    let records = Vec::from_array(alloc, records())?;
+    let dropped = Vec::from_array(alloc, [drops("Short", 0), drops("Magic", 3)])?;
+    Ok(Snapshot {
+        version: 41,
+        moment: at(5120),
+        name: letter(b'b'),
+        records,
+        score: 2,
+        incarnation: incarnation(4),
+        ousted,
+        uptime_ms: 5370,
+        stood_still_ms: 250,
+        last_event_ms: 5003,
+        counts: counts(),
+        dropped,
+    })
+}
+
+/// A seed at a port.
+fn seed(member: u8, port: u16) -> Seed {
+    Seed {
+        name: letter(member),
+        addr: local(port),
+    }
+}
+
+/// The default configuration but for its interval, with two seeds.
+fn config() -> Config {
+    let mut config = Config::new(letter(b'b'), local(7102));
+    config.interval_ms = 2000;
+    for seed in [seed(b'a', 7101), seed(b'd', 7104)] {
+        if !config.seeds.is_full() {
+            config.seeds.push(seed);
+        }
+    }
+    config
+}
+
+/// A number of the node's own.
+fn own(key: &'static str, value: u64) -> NodeNumber {
+    NodeNumber { key, value }
+}
+
+/// What b runs with.
+fn setup(alloc: Global, node: Node) -> Result<ShownConfig, AllocError> {
+    let is_open = node == Node::Ousted;
+    let numbers = [own("dice", 1), own("pull_ms", 30_000), own("stall_ms", 100)];
+    Ok(ShownConfig {
+        config: config(),
+        numbers: Vec::from_array(alloc, numbers)?,
+        status: (!is_open).then_some(local(8946)),
+        status_open: is_open,
+    })
+}
+
+/// Changes of a at version 7, and then three: b was found at version 30, and a and c at version 41. What b was told
+/// then is that it lives, so no change of b is among those of version 41.
+fn changes(alloc: Global, older: usize) -> Result<Changes, AllocError> {
+    let mut changes = Changes::new(alloc)?;
+    for _ in 0..older {
+        changes.add_look(&[], &[record(b'a', 7101, Status::Alive, 0)], 7, at(700));
+    }
+    changes.add_look(&[], &[own_record()], 30, at(4000));
+    changes.add_look(&[own_record()], &records(), 41, at(5120));
+    Ok(changes)
+}
+
+impl Node {
+    /// What the answers are made of.
+    pub fn sources(self, alloc: Global) -> Result<Sources, AllocError> {
+        let older = if self == Node::Busy { MAX_CHANGES } else { 0 };
+        Ok(Sources {
+            snapshot: snapshot(alloc, self == Node::Ousted)?,
+            changes: changes(alloc, older)?,
+            setup: setup(alloc, self)?,
+        })
+    }
+
+    /// The answer to a request for a target.
+    pub fn answer(self, alloc: Global, target: &str) -> Result<HttpAnswer, AllocError> {
+        let sources = self.sources(alloc)?;
+        sources.answer(alloc, target)
+    }
+}
+
+impl Sources {
+    /// The answer to a request for a target.
+    pub fn answer(&self, alloc: Global, target: &str) -> Result<HttpAnswer, AllocError> {
+        let (path, query) = parts_of(target);
+        answer_to(
+            alloc,
+            &self.snapshot,
+            &self.changes,
+            &self.setup,
+            path,
+            query,
+        )
+    }
+}

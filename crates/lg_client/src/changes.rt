@@ -1,0 +1,113 @@
+//! Reads the changes of an answer.
+//!
+//! Defined in: `specs/Meaning/Changes.antt`.
+//! Tested in: `lg_client_tests/src/watching.rt`.
+ghost use Rattle.std.specs.Prelude.{◌≡◌};
+ghost use Rattle.serde_json.specs.View.{items_view, view};
+ghost use Rattle.lg_client.specs.Meaning.Changes.{change_said, news_said};
+ghost use Rattle.lg_client.specs.Meaning.Fields.{each_read};
+ghost use Rattle.lg_client.specs.Support.Reading.{IsReadAs, PutsRow, news_shown};
+
+use crate::fault::AskFault;
+use crate::fields::{natural_at, rows_at, truth_at};
+use crate::members::member_in;
+use lg_rules::{Claim, Record};
+use serde_json::Value;
+use std::alloc::Global;
+
+/// A change: a record, and the moment of the look that found it, in milliseconds from the node's start.
+#[derive(Clone, Copy, Debug)]
+pub(crate) struct Change {
+    pub(crate) moment_ms: u64,
+    pub(crate) member: Record,
+}
+
+/// What a node says of changes.
+#[derive(Drop)]
+pub(crate) struct News {
+    /// How many events its members are after.
+    pub(crate) version: u64,
+    /// The changes stand for others, which it no longer has.
+    pub(crate) missed: bool,
+    /// The changes, the oldest first.
+    pub(crate) changes: Vec<Change>,
+}
+
+/// A change.
+#[tactic(auto, unfolding(crate::specs::Meaning::Changes::change_said))]
+fn change_in(change: &Value) -> Option<Change>
+    ensures { result ≡ change_said (view change.now) }
+{
+    let moment_ms = natural_at(change, "moment_ms")?;
+    let member = member_in(change)?;
+    Some(Change { moment_ms, member })
+}
+
+/// Appends a change to others.
+fn put_row(rows: &mut Vec<Change>, change: &Change) -> Result<(), AskFault>
+    ensures { PutsRow rows.old.items rows.new.items change.now result }
+{
+    // Built anew from its parts, since the checker doesn't follow a whole record into a generic call.
+    let Claim {
+        name,
+        addr,
+        status,
+        incarnation,
+    } = change.member;
+    let member = Claim {
+        name,
+        addr,
+        status,
+        incarnation,
+    };
+    let row = Change {
+        moment_ms: change.moment_ms,
+        member,
+    };
+    match rows.push(row) {
+        Ok(()) => Ok(()),
+        Err(_) => Err(AskFault::Memory),
+    }
+}
+
+/// The changes that the elements of an array say.
+fn rows_in(alloc: Global, values: &[Value]) -> Result<Vec<Change>, AskFault>
+    ensures { IsReadAs (λ rows. rows.items) (each_read change_said (items_view values.now)) result }
+{
+    let mut rows = Vec::new(alloc);
+    for value in values {
+        let Some(row) = change_in(value) else {
+            return Err(AskFault::Bad);
+        };
+        match put_row(&mut rows, &row) {
+            Ok(()) => {}
+            Err(fault) => return Err(fault),
+        }
+    }
+    Ok(rows)
+}
+
+/// What an answer says of changes. If a part of it isn't what is documented, that is [`AskFault::Bad`]. Memory is
+/// allocated for the changes.
+#[tactic(auto, unfolding(crate::specs::Meaning::Changes::news_said))]
+pub(crate) fn news_in(alloc: Global, answer: &Value) -> Result<News, AskFault>
+    ensures { IsReadAs news_shown (news_said (view answer.now)) result }
+{
+    let Some(version) = natural_at(answer, "version") else {
+        return Err(AskFault::Bad);
+    };
+    let Some(missed) = truth_at(answer, "missed") else {
+        return Err(AskFault::Bad);
+    };
+    let Some(values) = rows_at(answer, "changes") else {
+        return Err(AskFault::Bad);
+    };
+    match rows_in(alloc, values) {
+        Ok(changes) => Ok(News {
+            version,
+            missed,
+            changes,
+        }),
+        Err(fault) => Err(fault),
+    }
+}

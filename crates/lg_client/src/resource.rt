@@ -1,0 +1,54 @@
+//! What a node is asked, and the bytes of the request.
+//!
+//! Defined in: `specs/Meaning/Questions.antt`.
+//! Tested in: `lg_client_tests/src/asking.rt`.
+ghost use Rattle.std.specs.Prelude.{◌≡◌, IfOk, string_bytes};
+ghost use Rattle.lg_client.specs.Meaning.Questions.{changes_target, codes_of, request_text, target_of};
+
+use std::alloc::{AllocError, Global};
+
+/// What a node is asked once.
+#[derive(Clone, Copy, Debug, PartialEq, Eq)]
+pub enum Resource {
+    /// Its members.
+    Members,
+    /// Its health.
+    Health,
+}
+
+impl Resource {
+    /// The target of the request.
+    pub(crate) fn target(self) -> &'static str
+        ensures { result.now ≡ target_of self }
+    {
+        match self {
+            Resource::Members => "/v1/members",
+            Resource::Health => "/v1/health",
+        }
+    }
+
+    /// The status codes that the answer may have. A node that was ousted says so with 503.
+    pub(crate) fn codes(self) -> &'static [u16]
+        ensures { result.now ≡ codes_of self }
+    {
+        match self {
+            Resource::Members => &[200],
+            Resource::Health => &[200, 503],
+        }
+    }
+}
+
+/// The target that asks for the changes behind a version. The node waits 30,000 milliseconds for one at most.
+pub(crate) fn changes_target(alloc: Global, after: u64) -> Result<String, AllocError>
+    ensures { IfOk result (λ target. string_bytes target ≡ changes_target after) }
+{
+    format!(in alloc; "/v1/changes?after={after}&wait_ms=30000")
+}
+
+/// The bytes of a request for a target, to the server at an address (RFC 9112, sections 3 and 9.6).
+#[tactic(auto, unfolding(crate::specs::Meaning::Questions::request_text))]
+pub(crate) fn request_text(alloc: Global, target: &str, at: &str) -> Result<String, AllocError>
+    ensures { IfOk result (λ request. string_bytes request ≡ request_text target.now at.now) }
+{
+    format!(in alloc; "GET {target} HTTP/1.1\r\nhost: {at}\r\nconnection: close\r\n\r\n")
+}

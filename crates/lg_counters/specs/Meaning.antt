@@ -1,0 +1,4 @@
+-- What is right: whoever wants to believe the contracts reads these.
+pub mod Examples
+pub mod Faults
+pub mod Tally

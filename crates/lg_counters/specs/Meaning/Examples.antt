@@ -1,0 +1,59 @@
+-- Worked rows of what replies count. b is opened at 0; the others are a, c and d.
+use Rattle.std.specs.Prelude.{◌≡◌, true, false, List, [], ◌∷◌, refl}
+use Rattle.lg_packet.specs.declared.packet.Body.TheVariants.{PingReq}
+use Rattle.lg_detector.specs.declared.event.Event.{Event}
+use Rattle.lg_detector.specs.Meaning.Examples.{by_computing, a, b, c, at, alive, suspect}
+use Rattle.lg_detector.specs.Meaning.Examples.{opening, pings, says, ticks}
+use Rattle.lg_detector.specs.Meaning.Step.{reply_after}
+use Rattle.lg_counters.specs.declared.tally.Tally.{Tally}
+use Rattle.lg_counters.specs.Meaning.Tally.{tally_of}
+
+abbrev tally_after : List Event → Event → Tally
+tally_after events e = tally_of (b ∷ []) (reply_after events e)
+
+abbrev nothing : Tally
+nothing = record {
+  probe_begun = false;
+  probe_failed = false;
+  probe_helped = false;
+  suspicions_raised = 0;
+  refuted = false;
+}
+
+-- the events up to a Ping by which c is known
+abbrev known : List Event
+known = opening 0 ∷ pings 5 1 b (alive c 0 ∷ []) ∷ []
+
+-- a Ping is answered by an Ack, and nothing is counted of that
+pinged : tally_after (opening 0 ∷ []) (pings 5 1 b (alive c 0 ∷ [])) ≡ nothing
+unfolding by_computing
+pinged = refl
+
+-- the first tick starts a round, which pings c
+begins_a_probe : tally_after known (ticks 5) ≡ record nothing { probe_begun = true }
+unfolding by_computing
+begins_a_probe = refl
+
+-- with nobody else known no probe is begun
+begins_none : tally_after (opening 0 ∷ []) (ticks 0) ≡ nothing
+unfolding by_computing
+begins_none = refl
+
+-- no Ack came within the timeout of 500 ms
+fails : tally_after (opening 0 ∷ pings 0 1 b (alive c 0 ∷ []) ∷ ticks 0 ∷ []) (ticks 500)
+    ≡ record nothing { probe_failed = true }
+unfolding by_computing
+fails = refl
+
+-- a asks b to probe c
+helps : tally_after known (says 6 (PingReq 9 (c ∷ []) (at 7000)) []) ≡ record nothing { probe_helped = true }
+unfolding by_computing
+helps = refl
+
+raises_a_suspicion : tally_after known (pings 20 2 b (suspect c 0 a ∷ [])) ≡ record nothing { suspicions_raised = 1 }
+unfolding by_computing
+raises_a_suspicion = refl
+
+refutes_a_claim : tally_after known (pings 20 2 b (suspect b 0 a ∷ [])) ≡ record nothing { refuted = true }
+unfolding by_computing
+refutes_a_claim = refl

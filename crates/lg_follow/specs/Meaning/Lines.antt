@@ -1,0 +1,18 @@
+-- The lines that a watcher writes.
+use Rattle.std.specs.Prelude.{ℕ, List, ◌++◌, codes, decimal}
+use Rattle.std.specs.List.{flat_map}
+use Rattle.lg_rules.specs.declared.claim.Claim.{Claim}
+use Rattle.lg_text.specs.Meaning.Lines.{newline}
+use Rattle.lg_lines.specs.Meaning.Records.{blank, record_line}
+
+-- the line of a record that was told at this moment: MS record NAME STATUS INCARNATION A.B.C.D:PORT
+abbrev pub told_line : ℕ → Claim → List ℕ
+told_line moment c = decimal moment ++ blank ++ record_line c
+
+-- a line for each of these records
+unfoldable pub told_lines : ℕ → List Claim → List ℕ
+told_lines moment records = flat_map (λ c. told_line moment c) records
+
+-- the last line: how many milliseconds a clock had left out by this moment
+abbrev pub stood_line : ℕ → ℕ → List ℕ
+stood_line moment left_out = decimal moment ++ codes " stood-still " ++ decimal left_out ++ newline

@@ -1,0 +1,14 @@
+//! Tells the members of an agent while it runs: each change of a record, as a line of text.
+//!
+//! [`watch`] is a thread's work. It looks at the agent by a pass of its own, so nobody waits for it.
+#![tactic(auto)]
+
+mod lines;
+mod news;
+mod watched;
+mod watcher;
+mod watching;
+
+pub use news::News;
+pub use watched::Watched;
+pub use watching::{RETRY_MS, watch};

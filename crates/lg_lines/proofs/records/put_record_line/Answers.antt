@@ -1,0 +1,11 @@
+use Rattle.std.proofs.Transfers.{starts_with_trans}
+use Rattle.lg_lines.proofs.records.put_record_line.Goals as goal
+
+pub returns-in_err-put_record-clause-front : goal.returns-in_err-put_record-clause-front
+returns-in_err-put_record-clause-front c = starts_with_trans _ _ _ c.put_record.ensures.front c.put.ensures.front
+
+pub returns-in_err-put-2-clause-front : goal.returns-in_err-put-2-clause-front
+returns-in_err-put-2-clause-front c = starts_with_trans _ _ _ c.put-2.ensures.front (starts_with_trans _ _ _ c.put_record.ensures.front c.put.ensures.front)
+
+pub returns-clause-front : goal.returns-clause-front
+returns-clause-front c = starts_with_trans _ _ _ c.put-2.ensures.front (starts_with_trans _ _ _ c.put_record.ensures.front c.put.ensures.front)

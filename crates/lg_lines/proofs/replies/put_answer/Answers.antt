@@ -1,0 +1,11 @@
+use Rattle.std.proofs.Transfers.{starts_with_trans}
+use Rattle.lg_lines.proofs.replies.put_answer.Goals as goal
+
+pub returns-in_err-put_told-clause-front : goal.returns-in_err-put_told-clause-front
+returns-in_err-put_told-clause-front c = starts_with_trans _ _ _ c.put_told.ensures.front c.put.ensures.front
+
+pub returns-in_err-put-2-clause-front : goal.returns-in_err-put-2-clause-front
+returns-in_err-put-2-clause-front c = starts_with_trans _ _ _ c.put-in-Some.ensures.front (starts_with_trans _ _ _ c.put_told.ensures.front c.put.ensures.front)
+
+pub returns-in_ok-put-2-clause-front : goal.returns-in_ok-put-2-clause-front
+returns-in_ok-put-2-clause-front c = starts_with_trans _ _ _ c.put-in-Some.ensures.front (starts_with_trans _ _ _ c.put_told.ensures.front c.put.ensures.front)

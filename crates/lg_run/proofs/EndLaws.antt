@@ -1,0 +1,61 @@
+-- What is written and told at the end of a node, by the steps to it.
+use Rattle.std.proofs.Common.{◌≡◌, ℕ, Bool, true, false, List, Option, Result, Ok, Err, IfOk, IfErr, MatchResult, OnErr, refl, ap, sym, ◌∙◌, subst}
+use Rattle.lg_seal.specs.declared.key.Keys.{Keys}
+use Rattle.lg_config.specs.declared.node.NodeConfig.{NodeConfig}
+use Rattle.lg_text.specs.Meaning.Reporting.{Reported, Reports}
+use Rattle.lg_text.specs.declared.fault.RunFault.{RunFault}
+use Rattle.lg_node.specs.declared.node.NodeEnd.{NodeEnd}
+use Rattle.lg_node.specs.declared.node.NodeFault.{NodeFault}
+use Rattle.lg_node.specs.Meaning.Nodes.{IsEarly, TellsServed}
+use Rattle.lg_node.proofs.FollowingLaws.{unfollowed}
+use Rattle.lg_run.specs.Meaning.Reporting.{ReportsBoth}
+use Rattle.lg_run.specs.Meaning.Running.{node_settings, table_at_end, table_wished, HasRun, TellsMeanwhile, Writes, WritesEnd}
+
+-- a writer that was left alone until the table
+pub end-written : {W : Type 0} (contents : W → Option (List ℕ)) (follow : Bool) (before between after : W) (ran : Result NodeEnd NodeFault) (written : Result (Unit {0}) RunFault)
+    → (follow ≡ false → between ≡ before) → Writes between after (contents between) (contents after) (table_wished follow ran) written
+    → WritesEnd follow before after (contents before) (contents after) (table_at_end ran) written
+end-written contents true before between after ran written same wrote = wrote.1
+end-written contents false before between after ran written same wrote =
+    subst (λ w. Writes w after (contents w) (contents after) (table_at_end ran) written) (same refl) wrote
+
+-- two lines that are told are two others that are the same
+pub both-as : (reported reports : Reported) (first first' second second' : List ℕ) → ReportsBoth reported reports first second → first ≡ first' → second ≡ second'
+    → ReportsBoth reported reports first' second'
+both-as reported reports first first' second second' both same same' =
+    record {
+      between = both.between;
+      first_taken = subst (λ line. Reports reported both.between line) same both.first_taken;
+      second_taken = subst (λ line. Reports both.between reports line) same' both.second_taken;
+    }
+
+-- a node that didn't follow ran, whatever bytes a writer had taken
+unfollowed-as : (n : NodeConfig) (keys : Option Keys) (until : ℕ) (held holds held' holds' : Option (List ℕ)) (e : NodeEnd) → HasRun n keys until false held holds e → HasRun n keys until false held' holds' e
+unfollowed-as n keys until held holds held' holds' e ran = unfollowed n.config (node_settings n keys false) until held holds held' holds' e refl ran
+
+-- the run of a node, by the bytes that the writer had taken in the end: after it followed nothing more is written
+pub run-written : {W : Type 0} (contents : W → Option (List ℕ)) (n : NodeConfig) (keys : Option Keys) (until : ℕ) (follow : Bool) (held : Option (List ℕ)) (between after : W) (ran : Result NodeEnd NodeFault) (written : Result (Unit {0}) RunFault)
+    → MatchResult ran (HasRun n keys until follow held (contents between)) (IsEarly n.config) → Writes between after (contents between) (contents after) (table_wished follow ran) written
+    → MatchResult ran (HasRun n keys until follow held (contents after)) (IsEarly n.config)
+run-written contents n keys until follow held between after (Err fault) written ran wrote = ran
+run-written contents n keys until false held between after (Ok e) written ran wrote = unfollowed-as n keys until held (contents between) held (contents after) e ran
+run-written contents n keys until true held between after (Ok e) written ran wrote =
+    subst (λ bytes. HasRun n keys until true held bytes e) (ap contents (sym wrote.0)) ran
+
+-- nothing is written at the end of a node that ended before its loops
+pub unwritten-early : {W : Type 0} (contents : W → Option (List ℕ)) (follow : Bool) (before between after : W) (ran : Result NodeEnd NodeFault) (written : Result (Unit {0}) RunFault)
+    → OnErr ran (between ≡ before) → Writes between after (contents between) (contents after) (table_wished follow ran) written → OnErr ran (after ≡ before)
+unwritten-early contents follow before between after (Ok e) written same wrote = tt
+unwritten-early contents true before between after (Err fault) written same wrote = wrote.0 ∙ same
+unwritten-early contents false before between after (Err fault) written same wrote = wrote.0 ∙ same
+
+-- what a run says of both its outcomes
+pub either-outcome : {T E : Type 0} (P : T → Type 0) (Q : E → Type 0) (ran : Result T E) → IfOk ran P → IfErr ran Q → MatchResult ran P Q
+either-outcome P Q (Ok e) ok err = ok
+either-outcome P Q (Err fault) ok err = err
+
+-- what a node reported while it ran
+pub told-meanwhile : {F : Type 0} (reported : F → Reported) (before after : F) (ran : Result NodeEnd NodeFault) → IfOk ran (λ e. TellsServed e.served (reported before) (reported after)) → OnErr ran (after ≡ before)
+    → TellsMeanwhile ran (reported before) (reported after)
+told-meanwhile reported before after (Ok e) told untold = told
+told-meanwhile reported before after (Err fault) told untold = ap reported untold

@@ -1,0 +1,71 @@
+-- Worked lines in words.
+use Rattle.std.specs.Prelude.{◌≡◌, ℕ, true, false, List, [], ◌∷◌, Some, None, codes, refl}
+use Rattle.std.specs.Fmt.{digits}
+use Rattle.std.specs.declared.io.ErrorKind.TheVariants as error
+use Rattle.lg_rules.specs.declared.addr.Addr.{Addr}
+use Rattle.lg_timing.specs.declared.config.Seed.{Seed}
+use Rattle.lg_timing.specs.Meaning.Config.{defaults}
+use Rattle.lg_config.specs.declared.node.NodeConfig.{NodeConfig}
+use Rattle.lg_config.specs.Meaning.Settings.{with_seeds}
+use Rattle.lg_run.specs.Meaning.Wishes.{end_wished, is_announced}
+use Rattle.lg_run.specs.Meaning.Words.{link_reason, start_line}
+
+-- 127.0.0.1 with a port
+abbrev local_at : ℕ → Addr
+local_at port = record { octets = 127 ∷ 0 ∷ 0 ∷ 1 ∷ []; port = port }
+
+abbrev seed_of : ℕ → Seed
+seed_of letter = record { name = letter ∷ []; addr = local_at 7101 }
+
+-- the node b at port 7102 with the default numbers and these seeds
+abbrev b-knowing : List Seed → NodeConfig
+b-knowing seeds =
+    record {
+      config = with_seeds seeds (defaults (98 ∷ []) (local_at 7102));
+      dice = 1;
+      pull_ms = 30000;
+      stall_ms = 100;
+      status = None;
+      status_open = false;
+      key_file = None;
+    }
+
+two-seeds :
+    start_line (codes "b.toml") (b-knowing (seed_of 97 ∷ seed_of 99 ∷ []))
+    ≡ codes "lg: b at 127.0.0.1:7102, file b.toml, wire 1, 2 seeds\n"
+unfolding digits
+two-seeds = refl
+
+one-seed :
+    start_line (codes "/etc/b") (b-knowing (seed_of 97 ∷ []))
+    ≡ codes "lg: b at 127.0.0.1:7102, file /etc/b, wire 1, 1 seed\n"
+unfolding digits
+one-seed = refl
+
+taken : link_reason (local_at 7102) error.AddrInUse ≡ codes "127.0.0.1:7102 can't be bound: the address is in use\n"
+unfolding digits
+taken = refl
+
+elsewhere :
+    link_reason (local_at 7102) error.AddrNotAvailable
+    ≡ codes "127.0.0.1:7102 can't be bound: the address isn't one of this machine's\n"
+unfolding digits
+elsewhere = refl
+
+another-error :
+    link_reason (local_at 80) error.InvalidInput ≡ codes "127.0.0.1:80 can't be bound: the machine refuses it\n"
+unfolding digits
+another-error = refl
+
+-- a node that a time ends says nothing while it runs, unless it follows
+timed : is_announced (Some 60000) false ≡ false
+timed = refl
+
+timed-and-following : is_announced (Some 60000) true ≡ true
+timed-and-following = refl
+
+endless : is_announced None false ≡ true
+endless = refl
+
+last-moment : end_wished None ≡ 1000000000000000
+last-moment = refl

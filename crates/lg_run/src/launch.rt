@@ -1,0 +1,266 @@
+//! Runs a node from its configuration file: reads the file, checks what it means, runs the node, writes its members,
+//! and tells how it ended. The functions stand in this order.
+//!
+//! Defined in: `specs/Meaning/Running.antt`, `specs/Meaning/Telling.antt`, `lg_text/specs/Meaning/Running.antt`.
+//! Tested in: `cases/node.case`, `lg_command_tests/src/launch/ends.rt`.
+ghost use Rattle.std.specs.Prelude.{◌≡◌, ◌⊎◌, ℕ, List, [], Err, false, MatchResult, OnErr, OnOk, string_bytes};
+ghost use Rattle.std.specs.Option.{option_map};
+ghost use Rattle.lg_timing.specs.Meaning.Config.{IsChecked};
+ghost use Rattle.lg_run.specs.Meaning.Running.{node_settings, table_wished, Announces, IsSecond, RunsBytes};
+ghost use Rattle.lg_run.specs.Meaning.Running.{RunsFile, RunsOrRefused, Writes};
+ghost use Rattle.lg_run.specs.Meaning.Wishes.{end_wished};
+ghost use Rattle.lg_node.specs.Meaning.Nodes.{IsEarly};
+ghost use Rattle.lg_run.specs.Meaning.Reporting.{ReportsBoth};
+ghost use Rattle.lg_run.specs.Meaning.Telling.{line_of, status_told};
+ghost use Rattle.lg_run.specs.Meaning.Words.{link_reason, start_line};
+
+use crate::file::{file_bytes, tell_no_bytes};
+use crate::key_file::{keys_at, tell_no_keys};
+use crate::reporting::{tell, tell_both, tell_fault};
+use crate::telling::table_of;
+use crate::told::Told;
+use crate::wishes::{Wishes, end_wished, is_announced};
+use crate::words::{link_reason, start_line};
+use lg_config::{NodeConfig, ReadFault};
+use lg_lines::put_table;
+use lg_node::{NodeEnd, NodeFault, NodeStart, Settings, run_node};
+use lg_rules::{Addr, Record};
+use lg_seal::Keys;
+use lg_text::{FaultStream, RunFault, report, write_whole};
+use std::alloc::{AllocError, Global};
+use std::io::{ErrorKind, Write};
+use std::net::Net;
+use std::random::RandomSource;
+use std::rt;
+use std::rt::Files;
+use std::sync::Wait;
+use std::thread::Threads;
+
+/// Runs the node of the configuration file that the wishes name, as [`run_bytes`] does from its bytes.
+///
+/// At most 65,537 bytes of the file are read. A file that can't be read is told by [`Told::Read`], and a second line
+/// names it, and says why. Memory that is refused for its bytes is told by [`Told::Memory`]. In both cases nothing is
+/// written. No contract can say what a file holds.
+pub fn run_file<R, W, F>(
+    rt: &R,
+    alloc: Global,
+    wishes: &Wishes<'_>,
+    writer: &mut W,
+    faults: &mut F,
+) -> u8
+where
+    R: Wait + Threads + Net + rt::Clock + Files + RandomSource + Sync,
+    W: Write + Send,
+    F: FaultStream + Send,
+    ensures { RunsFile writer.old writer.new (W.contents writer.old) (W.contents writer.new)
+        (F.reported faults.old) (F.reported faults.new) wishes.now.file.now wishes.now.until wishes.now.follow
+        result }
+{
+    match file_bytes(rt, alloc, wishes.file) {
+        Ok(bytes) => run_bytes(rt, alloc, &bytes, wishes, writer, faults),
+        Err(none) => tell_no_bytes(alloc, wishes.file, none, faults),
+    }
+}
+
+/// Runs the node that the bytes of a configuration file mean, with the keys of the file that it names, if it names one,
+/// until its end is wished or the stop flag is set. Writes the members that it knows to `writer`, and gives the exit
+/// status. What is told on `faults` of a status other than 0 has one line or two.
+///
+/// Bytes that mean no configuration are told by [`Told::Config`], as [`NodeConfig::read`] answers, and a second line
+/// says in words what is wrong with them. Memory that is refused for them is told by [`Told::Memory`]. A key file that
+/// gives no keys is told by [`Told::Key`], and a second line says why: it can't be read, it is no regular file, it
+/// belongs to another user, others than its owner may use it, or it spells no keys. At most 131 bytes of it are read.
+/// No contract can say what it holds. In all these cases nothing is run or written.
+///
+/// A node that follows, or that no time ends, is announced by a line on `faults` before it starts: who runs where,
+/// with which file, in which version it writes its packets, and how many seeds it has. Memory that is refused for this
+/// line is told by [`Told::Memory`], and nothing is run.
+///
+/// If there are keys, the node takes and sends only sealed datagrams. It is run by [`run_node`](lg_node::run_node), and
+/// [`Told::of`] says what is told of it. If it follows, its watcher writes what it sees, and nothing else is written.
+/// Otherwise, if both loops stopped or the node was ousted, the members are written as
+/// [`put_table`](lg_lines::put_table) does, a line each. In all other cases nothing is written. Members that can't be
+/// written have a second line, which says why. A socket that can't be bound has one, which says to which address and
+/// why. So has a status server, and one that ended before the node. A line that `faults` doesn't take is dropped. Apart
+/// from what the node allocates, memory is allocated only for these texts.
+///
+/// What is said of bytes holds for writers that tell their bytes, as those over memory do.
+pub fn run_bytes<R, W, F>(
+    rt: &R,
+    alloc: Global,
+    bytes: &[u8],
+    wishes: &Wishes<'_>,
+    writer: &mut W,
+    faults: &mut F,
+) -> u8
+where
+    R: Wait + Threads + Net + rt::Clock + Files + RandomSource + Sync,
+    W: Write + Send,
+    F: FaultStream + Send,
+    ensures { RunsBytes writer.old writer.new (W.contents writer.old) (W.contents writer.new)
+        (F.reported faults.old) (F.reported faults.new) bytes.now wishes.now.file.now wishes.now.until
+        wishes.now.follow result }
+{
+    let node = match NodeConfig::read(alloc, bytes) {
+        Ok(node) => node,
+        Err(ReadFault::NoMemory) => return tell(Told::Memory, faults),
+        Err(ReadFault::File(fault)) => return tell_fault(alloc, bytes, fault, faults),
+    };
+    match keys_at(rt, alloc, &node.key_file) {
+        Ok(keys) => run_config(
+            rt,
+            alloc,
+            &Configured { node, keys },
+            wishes,
+            writer,
+            faults,
+        ),
+        Err(fault) => tell_no_keys(fault, faults),
+    }
+}
+
+/// A configuration that was read, with the keys of the file that it names, if it names one.
+#[derive(Drop)]
+struct Configured {
+    node: NodeConfig,
+    keys: Option<Keys>,
+}
+
+/// Runs the node of a configuration that was read, and tells its end, as [`run_bytes`] says. The configuration has to
+/// be checked.
+fn run_config<R, W, F>(
+    rt: &R,
+    alloc: Global,
+    read: &Configured,
+    wishes: &Wishes<'_>,
+    writer: &mut W,
+    faults: &mut F,
+) -> u8
+where
+    R: Wait + Threads + Net + rt::Clock + RandomSource + Sync,
+    W: Write + Send,
+    F: FaultStream + Send,
+    requires { IsChecked read.now.node.config }
+    ensures { RunsOrRefused writer.old writer.new (W.contents writer.old) (W.contents writer.new)
+        (F.reported faults.old) (F.reported faults.new) wishes.now.file.now read.now.node read.now.keys
+        wishes.now.until wishes.now.follow result }
+{
+    let node = &read.node;
+    let Ok(()) = announce(alloc, wishes, node, faults) else {
+        return tell(Told::Memory, faults);
+    };
+    let settings = settings_of(node, read.keys, wishes.follow);
+    let start = NodeStart {
+        config: &node.config,
+        settings: &settings,
+        until: end_wished(wishes.until),
+        stop: wishes.stop,
+    };
+    let ran = run_node(rt, alloc, &start, writer, faults);
+    let written = write_table(alloc, &ran, wishes.follow, writer);
+    tell_run(alloc, node, &ran, Told::of(&ran, written), faults)
+}
+
+/// The settings of a node: what its configuration says, with these keys, and whether it follows.
+fn settings_of(node: &NodeConfig, keys: Option<Keys>, follow: bool) -> Settings
+    ensures { result ≡ node_settings node.now keys follow }
+{
+    Settings {
+        dice: node.dice,
+        pull_ms: node.pull_ms,
+        stall_ms: node.stall_ms,
+        follow,
+        status: node.status,
+        status_open: node.status_open,
+        keys,
+    }
+}
+
+/// Announces a node, if it is to be announced. If memory for the line is refused, nothing is reported.
+fn announce<F: FaultStream>(
+    alloc: Global,
+    wishes: &Wishes<'_>,
+    node: &NodeConfig,
+    faults: &mut F,
+) -> Result<(), AllocError>
+    ensures said { OnOk result (Announces wishes.now.until wishes.now.follow (F.reported faults.old)
+        (F.reported faults.new) (start_line wishes.now.file.now node.now)) }
+    ensures refused { OnErr result (faults.new ≡ faults.old) }
+{
+    if is_announced(wishes) {
+        let line = start_line(alloc, wishes.file, node)?;
+        report(faults, line.as_str());
+    }
+    Ok(())
+}
+
+/// Why an address can't be bound. It is empty if memory for it was refused.
+fn bind_line(alloc: Global, addr: Addr, kind: ErrorKind) -> String
+    ensures { (string_bytes result ≡ []) ⊎ (string_bytes result ≡ link_reason addr kind) }
+{
+    match link_reason(alloc, addr, kind) {
+        Ok(line) => line,
+        Err(_) => String::new(alloc),
+    }
+}
+
+/// The second line of a node that couldn't be bound. It is empty if there is none, or if memory for it was refused.
+fn fault_line(alloc: Global, node: &NodeConfig, fault: &NodeFault) -> String
+    ensures { IsSecond node.now (Err fault.now) (string_bytes result) }
+{
+    match (fault, node.status) {
+        (NodeFault::Socket(kind), _) => bind_line(alloc, node.config.addr, *kind),
+        (NodeFault::Status(kind), Some(addr)) => bind_line(alloc, addr, *kind),
+        _ => String::new(alloc),
+    }
+}
+
+/// Reports what is told of a node that was run, with the second line if there is one, and gives the status.
+fn tell_run<F: FaultStream>(
+    alloc: Global,
+    node: &NodeConfig,
+    ran: &Result<NodeEnd, NodeFault>,
+    told: Told,
+    faults: &mut F,
+) -> u8
+    ensures lines { (second : List ℕ) × IsSecond node.now ran.now second
+        × ReportsBoth (F.reported faults.old) (F.reported faults.new) (line_of told) second }
+    ensures status { result ≡ status_told told }
+{
+    match ran {
+        Ok(_) => tell_both(told, "", faults),
+        Err(fault) => {
+            let line = fault_line(alloc, node, fault);
+            tell_both(told, line.as_str(), faults)
+        }
+    }
+}
+
+/// The records of the table that is to be written, if one is to be. A node that followed has told its members.
+fn table_wished(ran: &Result<NodeEnd, NodeFault>, follow: bool) -> Option<&[Record]>
+    ensures { option_map (λ records. records.now) result ≡ table_wished follow ran.now }
+{
+    if follow { None } else { table_of(ran) }
+}
+
+/// Writes the table of a node that was run, if one is to be written: if the node didn't follow, and came to an end that
+/// has a table. The whole text is made before its first byte is written.
+fn write_table<W: Write>(
+    alloc: Global,
+    ran: &Result<NodeEnd, NodeFault>,
+    follow: bool,
+    writer: &mut W,
+) -> Result<(), RunFault>
+    ensures { Writes writer.old writer.new (W.contents writer.old) (W.contents writer.new)
+        (table_wished follow ran.now) result }
+{
+    let Some(records) = table_wished(ran, follow) else {
+        return Ok(());
+    };
+    let mut text = Vec::new(alloc);
+    put_table(records, &mut text)?;
+    match write_whole(writer, &text) {
+        Ok(()) => Ok(()),
+        Err(fault) => Err(RunFault::Write(fault)),
+    }
+}

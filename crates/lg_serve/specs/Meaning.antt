@@ -1,6 +1,0 @@
--- What is right: whoever wants to believe the contracts reads these.
-pub mod Examples
-pub mod Readings
-pub mod Served
-pub mod Shown
-pub mod Tally

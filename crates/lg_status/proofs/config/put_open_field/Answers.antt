@@ -1,7 +1,0 @@
-use Rattle.lg_status.specs.Meaning.Bodies.{open_field}
-use Rattle.lg_status.proofs.Writing.{written_twice}
-use Rattle.lg_status.proofs.config.put_open_field.Goals as goal
-
-pub returns : goal.returns
-unfolding open_field
-returns c = written_twice c.put_truth.result _ _ _ _ _ c.in_ok-push_str.ensures.bytes c.put_truth.ensures

@@ -1,6 +1,0 @@
-use Rattle.lg_status.proofs.Pieces.{other_joined}
-use Rattle.lg_status.proofs.Writing.{written_as}
-use Rattle.lg_status.proofs.members.put_other.Goals as goal
-
-pub returns : goal.returns
-returns c = written_as c.put_behind.result _ _ _ _ c.put_behind.ensures (other_joined c.args.member.now)

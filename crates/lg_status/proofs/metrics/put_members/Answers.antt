@@ -1,7 +1,0 @@
-use Rattle.lg_status.specs.Meaning.Metrics.{members_lines}
-use Rattle.lg_status.proofs.Writing.{written_twice}
-use Rattle.lg_status.proofs.metrics.put_members.Goals as goal
-
-pub returns : goal.returns
-unfolding members_lines
-returns c = written_twice c.put_kinds.result _ _ _ _ _ c.in_ok-put_head.ensures c.put_kinds.ensures

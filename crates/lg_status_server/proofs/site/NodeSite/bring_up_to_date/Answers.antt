@@ -1,0 +1,46 @@
+use Rattle.lg_status_server.specs.Meaning.Shown.{SiteValue}
+use Rattle.lg_status_server.proofs.ShownLaws.{records_rise, site_look, later_look}
+use Rattle.lg_status_server.proofs.site.NodeSite.bring_up_to_date.Goals as goal
+
+pub look-self-inside-requires : goal.look-self-inside-requires
+look-self-inside-requires g c =
+    let site : SiteValue = record {
+      pass = c.self.inside.pass;
+      name = c.self.inside.basis.counters.now.name;
+      snapshot = c.self.inside.snapshot;
+      changes = c.self.inside.changes;
+      config = c.self.inside.basis.config;
+      changed = c.self.inside.changed;
+      looked = c.self.inside.looked;
+    } in
+    records_rise site c.self.invariant
+
+pub invariant_of-self : goal.invariant_of-self
+invariant_of-self g c =
+    let site : SiteValue = record {
+      pass = c.self.inside.pass;
+      name = c.self.inside.basis.counters.now.name;
+      snapshot = c.self.inside.snapshot;
+      changes = c.self.inside.changes;
+      config = c.self.inside.basis.config;
+      changed = c.self.inside.changed;
+      looked = c.self.inside.looked;
+    } in
+    site_look c.look-self-inside.result site c.look-self-inside.new.pass c.look-self-inside.new.snapshot c.put.new.snapshot c.look-self-inside.new.changes
+    c.last_version-self-inside.result c.of-reading.result c.self.invariant c.look-self-inside.ensures c.last_version-self-inside.ensures
+    c.put.ensures.same c.put.ensures.read
+
+pub returns : goal.returns
+returns g c =
+    let site : SiteValue = record {
+      pass = c.self.inside.pass;
+      name = c.self.inside.basis.counters.now.name;
+      snapshot = c.self.inside.snapshot;
+      changes = c.self.inside.changes;
+      config = c.self.inside.basis.config;
+      changed = c.self.inside.changed;
+      looked = c.self.inside.looked;
+    } in
+    rw (← c.self.view_is) (later_look c.look-self-inside.result site c.look-self-inside.new.pass c.look-self-inside.new.snapshot c.put.new.snapshot c.look-self-inside.new.changes
+    c.last_version-self-inside.result c.of-reading.result c.self.invariant c.look-self-inside.ensures c.last_version-self-inside.ensures
+    c.put.ensures.same c.put.ensures.read)

@@ -1,0 +1,5 @@
+-- What is right: whoever wants to believe the contracts reads these.
+pub mod Examples
+pub mod Readings
+pub mod Served
+pub mod Shown
