@@ -19,17 +19,17 @@ KEPT = 1024
 TOLD = 200
 PARKED = 192
 # How many changes come while nobody asks.
-UNASKED = 12
+UNASKED = 100
 
 
 class Lone:
     """A node b that runs alone, which has a status server unless it is to have none. `keys` are lines of its
-    configuration, and `seeds` its seeds, of whom none runs."""
+    configuration, and `seeds` its seeds, of whom none runs. Its input is empty unless it is to stay open."""
 
-    def __init__(self, program, *options, keys=QUIET, seeds=(), has_status=True):
+    def __init__(self, program, *options, keys=QUIET, seeds=(), has_status=True, has_input=False):
         [self.port], [self.status] = free_ports(1), free_status_ports(1)
         text = file_of("b", self.port, seeds, f'{keys}status = "{HOST}:{self.status}"\n' if has_status else keys)
-        self.node = Node(program, text, "--for-ms", str(LIFE_MS), *options)
+        self.node = Node(program, text, "--for-ms", str(LIFE_MS), *options, has_input=has_input)
         self.silent = bound_socket()
         try:
             wait_for("b", self.port)
@@ -114,30 +114,45 @@ def changes_come_of_a_followed_node(program):
 
 
 def changes_come_that_nobody_waited_for(program):
-    """A stranger changes one record again and again, a tenth of a second apart, while nobody asks. Afterwards each of
-    these changes is told, in order."""
+    """A stranger changes one record again and again while nobody asks, and without a pause but for one. Afterwards each
+    of these changes is told, in order, with a version of its own, and with the moment at which it came."""
     with Lone(program) as node:
         version = changes_after(node.status, 0)["version"]
         for incarnation in range(UNASKED):
             node.tell(incarnation)
-            time.sleep(0.1)
-        changes = changes_after(node.status, version)
+            time.sleep(0.1 if incarnation == 0 else 0)
+        changes = wait_for_changes(node, version, UNASKED)
         wanted = [("t000", incarnation) for incarnation in range(UNASKED)]
-        return None if incarnations(changes) == wanted and not changes["missed"] else f"got {changes}, wanted {wanted}"
+        if incarnations(changes) != wanted or changes["missed"]:
+            return f"got {changes}, wanted {wanted}"
+        versions = [it["version"] for it in changes["changes"]]
+        moments = [it["moment_ms"] for it in changes["changes"]]
+        if sorted(set(versions)) != versions or versions[-1] > changes["version"]:
+            return f"the versions are {versions} up to {changes['version']}"
+        # The node's clock leaves out a part of the pause if the machine stops the node.
+        return None if sorted(moments) == moments and moments[1] - moments[0] >= 50 else f"the moments are {moments}"
+
+
+def wait_for_changes(node, version, count):
+    """The changes behind a version, as soon as there are so many, or those of the last answer within ten seconds."""
+    limit = time.monotonic() + 10
+    while True:
+        changes = changes_after(node.status, version)
+        if len(changes["changes"]) >= count or time.monotonic() > limit:
+            return changes
+        time.sleep(0.01)
 
 
 def short_suspicions_are_told(program):
-    """A node that is followed hears again and again that a member is suspected, and a few hundredths of a second later
-    that it is alive after all. Each of these changes is told, in a line of its own and in order."""
-    with Lone(program, "--follow") as node:
+    """A node that is followed hears again and again that a member is suspected, and at once that it is alive after all.
+    Each of these changes is told, in a line of its own and in order."""
+    with Lone(program, "--follow", "--until-input-ends", has_input=True) as node:
         node.tell(0)
         for incarnation in range(UNASKED):
-            time.sleep(0.03)
             node.accuse(incarnation)
-            time.sleep(0.03)
             node.tell(incarnation + 1)
-        time.sleep(0.5)
-        _, output, _ = node.node.kill()
+        node.node.close_input()
+        _, output, _ = node.node.end()
         records = [line.split() for line in output.splitlines()]
         told = [(words[3], int(words[4])) for words in records if words[1:3] == ["record", "t000"]]
         wanted = [("alive", 0)]

@@ -1,6 +1,7 @@
 //! What a pass reads without the lock: each look answers from what was published last, and waits for nobody.
 //!
-//! Defined in: `specs/Meaning/Calls.antt`, `lg_detector/specs/Meaning/Step.antt`, `lg_view/specs/Meaning/Views.antt`.
+//! Defined in: `specs/Meaning/Calls.antt`, `lg_detector/specs/Meaning/Step.antt`, `lg_view/specs/Meaning/Views.antt`,
+//! `lg_view/specs/Meaning/Changes.antt`.
 //! Tested in: `lg_agent_tests/src/agent/rows.rt`.
 ghost use Rattle.std.specs.Prelude.{◌≡◌, ◌⊎◌, length, Some, MatchResult};
 ghost use Rattle.lg_rules.specs.Meaning.Claim.{name_of};
@@ -57,14 +58,16 @@ impl<'a, A: AgentName> Pass<'a, A> {
         self.own.members(alloc)
     }
 
-    /// The records of all members, how many events they are after, and what this member knows of itself after the same
-    /// events: its score, its incarnation, and whether it was ousted. So all of it agrees. Allocates memory for 256
-    /// records, and takes no lock. Refused as [`Pass::members`] is.
-    pub fn overview(&mut self, alloc: Global) -> Result<Overview, Refusal>
-        ensures { MatchResult result (λ found. IsOverview found self.new.seen × IsLook self.old self.new)
+    /// The records of all members, how many events they are after and at which moment, what this member knows of itself
+    /// after the same events (its score, its incarnation, and whether it was ousted), and the changes of these events
+    /// behind a version. So all of it agrees. No change is left out: if one behind the version is no longer kept, what is
+    /// found says so. Allocates memory for 256 records and for a copy of the changes, and takes no lock. Refused as
+    /// [`Pass::members`] is.
+    pub fn overview(&mut self, alloc: Global, version: u64) -> Result<Overview, Refusal>
+        ensures { MatchResult result (λ found. IsOverview found version self.new.seen × IsLook self.old self.new)
             (λ e. ((e ≡ NoView) ⊎ (e ≡ NoMemory)) × (self.new ≡ self.old)) }
     {
-        self.own.overview(alloc)
+        self.own.overview(alloc, version)
     }
 }
 
@@ -118,22 +121,36 @@ impl<A: AgentName> Spent<A> {
             (λ records. (records.items ≡ view_after self.new.seen) × IsLook self.old self.new)
             (λ e. ((e ≡ NoView) ⊎ (e ≡ NoMemory)) × (self.new ≡ self.old)) }
     {
-        let overview = self.overview(alloc)?;
-        Ok(overview.records)
+        let answer = self.look.members(alloc);
+        // What was seen is an accepted list.
+        let _seen = self.look.seen();
+        match answer {
+            Ok(records) => Ok(records),
+            Err(fault) => Err(look_refusal(fault)),
+        }
     }
 
     /// As [`Pass::overview`].
-    fn overview(&mut self, alloc: Global) -> Result<Overview, Refusal>
-        ensures { MatchResult result (λ found. IsOverview found self.new.seen × IsLook self.old self.new)
+    fn overview(&mut self, alloc: Global, version: u64) -> Result<Overview, Refusal>
+        ensures { MatchResult result (λ found. IsOverview found version self.new.seen × IsLook self.old self.new)
             (λ e. ((e ≡ NoView) ⊎ (e ≡ NoMemory)) × (self.new ≡ self.old)) }
     {
-        let answer = self.look.overview(alloc);
+        let answer = self.look.overview(alloc, version);
         // What was seen is an accepted list.
         let _seen = self.look.seen();
         match answer {
             Ok(overview) => Ok(overview),
-            Err(MembersFault::NoView) => Err(Refusal::NoView),
-            Err(MembersFault::NoMemory) => Err(Refusal::NoMemory),
+            Err(fault) => Err(look_refusal(fault)),
         }
+    }
+}
+
+/// The refusal of a look that had no members to give.
+fn look_refusal(fault: MembersFault) -> Refusal
+    ensures { (result ≡ NoView) ⊎ (result ≡ NoMemory) }
+{
+    match fault {
+        MembersFault::NoView => Refusal::NoView,
+        MembersFault::NoMemory => Refusal::NoMemory,
     }
 }

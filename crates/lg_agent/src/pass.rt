@@ -134,8 +134,8 @@ impl<'a, A: AgentName> Pass<'a, A> {
         })
     }
 
-    /// As [`Pass::datagram`], with the reply written over `reply`. Returns the position of the call's entry, and whether
-    /// the packet is a Page.
+    /// As [`Pass::datagram`], with the reply written over `reply`. Returns the position of the call's entry, and
+    /// whether the packet is a Page.
     pub fn datagram_into<R: Wait>(
         &mut self,
         rt: &R,

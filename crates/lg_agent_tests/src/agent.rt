@@ -1,4 +1,5 @@
-//! Agents: their calls and looks, both forms of the calls, how they are closed, and threads that share one.
+//! Agents: calls and looks, both forms of the calls, rotation, refused memory, whom rounds chose, closing, and threads
+//! that share one.
 pub mod calls;
 mod choosing;
 mod faults;

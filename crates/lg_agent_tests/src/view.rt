@@ -6,6 +6,7 @@ mod refused_memory;
 mod threads;
 
 use lg_detector::Event;
+use lg_rules::Claim;
 use lg_testing::{alive, at, letter, local, packet, ping};
 use lg_timing::Config;
 
@@ -17,13 +18,18 @@ fn opening() -> Event {
     }
 }
 
+/// A Ping of a for b with a claim, at a moment in milliseconds.
+fn says(now: u64, claim: Claim) -> Event {
+    Event::Heard {
+        now: at(now),
+        source: local(1),
+        packet: packet(b'a', ping(7, b'b'), &[claim]),
+    }
+}
+
 /// A Ping of a for b, at 0, that says that c is alive.
 fn ping_of_a() -> Event {
-    Event::Heard {
-        now: at(0),
-        source: local(1),
-        packet: packet(b'a', ping(7, b'b'), &[alive(b'c', 0)]),
-    }
+    says(0, alive(b'c', 0))
 }
 
 /// A tick at 0, whose words are all 0.

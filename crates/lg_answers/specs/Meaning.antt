@@ -5,7 +5,6 @@ pub mod BodyExamples
 pub mod ChangeExamples
 pub mod Changes
 pub mod Examples
-pub mod Kept
 pub mod Members
 pub mod MetricTable
 pub mod Metrics

@@ -4,10 +4,10 @@
 //! Tested in: `lg_answers_tests/src/answer.rt`, `lg_answers_tests/src/refused_memory.rt`.
 ghost use Rattle.std.specs.Prelude.{◌≡◌, IfOk, List, string_bytes};
 ghost use Rattle.std.specs.Option.{option_map};
+ghost use Rattle.lg_changes.specs.declared.change.Change.{Change};
+ghost use Rattle.lg_changes.specs.Meaning.Kept.{KeepsNewest};
 ghost use Rattle.lg_answers.specs.Meaning.Answers.{answer_to, answer_value, error_answer, found_answer, health_answer};
 ghost use Rattle.lg_answers.specs.Meaning.Answers.{health_status, member_answer, record_named, route_answer};
-ghost use Rattle.lg_answers.specs.Meaning.Changes.{all_changes, Recorded};
-ghost use Rattle.lg_answers.specs.Meaning.Kept.{HasRecorded};
 
 use crate::changes::changes_body;
 use crate::config::config_body;
@@ -16,9 +16,9 @@ use crate::members::{member_body, members_body};
 use crate::metrics::metrics_body;
 use crate::page::page_body;
 use crate::reason::RouteFault;
-use crate::ring::Changes;
 use crate::route::{Route, route_of};
 use crate::snapshot::{ShownConfig, Snapshot};
+use lg_changes::Changes;
 use lg_http::{HttpAnswer, HttpStatus, Kind};
 use lg_rules::{Name, Record};
 use std::alloc::{AllocError, Global};
@@ -102,8 +102,8 @@ fn route_answer(
     setup: &ShownConfig,
     route: Route,
 ) -> Result<HttpAnswer, AllocError>
-    ensures { (looks : List Recorded) → HasRecorded changes.now looks → IfOk result (λ answer.
-        answer_value answer ≡ route_answer snapshot.now (all_changes looks) setup.now route) }
+    ensures { (all : List Change) → KeepsNewest changes.now all → IfOk result (λ answer.
+        answer_value answer ≡ route_answer snapshot.now all setup.now route) }
 {
     match route {
         Route::Page => Ok(found(Kind::Html, page_body(alloc, snapshot)?)),
@@ -122,7 +122,7 @@ fn route_answer(
     }
 }
 
-/// The answer to a request for a path and a query, from one look at the node, the changes that were recorded, and the
+/// The answer to a request for a path and a query, from one look at the node, the changes that are kept, and the
 /// configuration that runs. It is made at once: to wait for a change is the caller's, who finds by
 /// [`wait_of`](crate::wait_of) how long.
 ///
@@ -138,9 +138,9 @@ pub fn answer_to(
     path: &[u8],
     query: Option<&[u8]>,
 ) -> Result<HttpAnswer, AllocError>
-    ensures { (looks : List Recorded) → HasRecorded changes.now looks → IfOk result (λ answer.
+    ensures { (all : List Change) → KeepsNewest changes.now all → IfOk result (λ answer.
         answer_value answer
-        ≡ answer_to snapshot.now (all_changes looks) setup.now path.now (option_map (λ bytes. bytes.now) query.entry)) }
+        ≡ answer_to snapshot.now all setup.now path.now (option_map (λ bytes. bytes.now) query.entry)) }
 {
     match route_of(path, query) {
         Ok(route) => route_answer(alloc, snapshot, changes, setup, route),

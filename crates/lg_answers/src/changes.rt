@@ -4,15 +4,16 @@
 //! Tested in: `lg_answers_tests/src/answer.rt`.
 ghost use Rattle.std.specs.Prelude.{◌≡◌, [], ◌∷◌, ◌++◌, IfOk, List, OnOk, string_bytes};
 ghost use Rattle.std.specs.List.{flat_map};
-ghost use Rattle.lg_answers.specs.Meaning.Changes.{all_changes, as_changes, change_at, change_json, changes_body};
-ghost use Rattle.lg_answers.specs.Meaning.Changes.{changes_json, Recorded};
+ghost use Rattle.lg_changes.specs.declared.change.Change.{Change as Changed};
+ghost use Rattle.lg_changes.specs.Meaning.Changes.{change_at};
+ghost use Rattle.lg_changes.specs.Meaning.Kept.{KeepsNewest};
+ghost use Rattle.lg_answers.specs.Meaning.Changes.{as_changes, change_json, changes_body, changes_json};
 ghost use Rattle.lg_answers.specs.Meaning.Members.{behind_comma, comma_separated};
-ghost use Rattle.lg_answers.specs.Meaning.Kept.{HasRecorded};
 
 use crate::health::truth_word;
 use crate::members::{put_fields, put_moment};
-use crate::ring::{Change, Changes};
 use crate::snapshot::Snapshot;
+use lg_changes::{Change, Changes};
 use lg_rules::{Claim, Record};
 use lg_timing::Moment;
 use std::alloc::{AllocError, Global};
@@ -128,8 +129,8 @@ pub(crate) fn changes_body(
     changes: &Changes,
     after: u64,
 ) -> Result<String, AllocError>
-    ensures { (looks : List Recorded) → HasRecorded changes.now looks
-        → IfOk result (λ body. string_bytes body ≡ changes_body snapshot.now after (all_changes looks)) }
+    ensures { (all : List Changed) → KeepsNewest changes.now all
+        → IfOk result (λ body. string_bytes body ≡ changes_body snapshot.now after all) }
 {
     match changes.after(alloc, after)? {
         Some(found) => changes_json(alloc, snapshot.version, false, &found),

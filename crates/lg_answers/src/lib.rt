@@ -1,7 +1,7 @@
 //! What a node answers when it is asked over HTTP: which route a path and a query are, and the body of each answer. No
 //! input, no output and no threads: plain values are handed in, and an answer is handed out.
 //!
-//! [`answer_to`] makes the answer to a request, from a [`Snapshot`], the [`Changes`] that were recorded, and the
+//! [`answer_to`] makes the answer to a request, from a [`Snapshot`], the [`Changes`] that are kept, and the
 //! [`ShownConfig`]. [`route_of`] says which route a request has, and [`wait_of`] what it waits for. `specs/Meaning`
 //! defines each route and each body, and the files there whose names end in `Examples` have worked ones.
 #![tactic(auto)]
@@ -17,14 +17,13 @@ mod page;
 mod place;
 mod query;
 mod reason;
-mod ring;
 mod route;
 mod snapshot;
 
 pub use answer::answer_to;
+pub use lg_changes::{Change, Changes, MAX_CHANGES};
 pub use lg_counters::{Counts, Drops};
 pub use query::MAX_WAIT_MS;
 pub use reason::RouteFault;
-pub use ring::{Change, Changes, MAX_CHANGES};
 pub use route::{Route, StatusKind, route_of, wait_of};
 pub use snapshot::{NodeNumber, ShownConfig, Snapshot};

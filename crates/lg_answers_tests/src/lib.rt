@@ -1,5 +1,5 @@
-//! Tests of what a node answers over HTTP. They call what `lg_answers` and `lg_status_server` have to offer, and show what only
-//! such a call can show.
+//! Tests of what a node answers over HTTP. They call what `lg_answers` and `lg_status_server` have to offer, and show
+//! what only such a call can show.
 #![tactic(auto)]
 
 #[cfg(test)]

@@ -12,11 +12,11 @@ use std::alloc::{AllocError, Global};
 /// How b is.
 #[derive(Clone, Copy, Debug, PartialEq, Eq)]
 pub enum Node {
-    /// It lives, and recorded three changes.
+    /// It lives, and keeps three changes.
     Usual,
     /// It is ousted, and may answer at any address, but has none.
     Ousted,
-    /// It recorded 1,024 changes of a at version 7, before the three.
+    /// Before the three there were 1,024 changes of a at version 7.
     Busy,
 }
 
@@ -40,13 +40,14 @@ fn own_record() -> Record {
     record(b'b', 7102, Status::Alive, 4)
 }
 
-/// The records of a, b and c.
-fn records() -> [Record; 3] {
-    [
-        record(b'a', 7101, Status::Suspect(letter(b'c')), 0),
-        own_record(),
-        record(b'c', 7103, Status::Failed, 2),
-    ]
+/// The record of a, which c suspects.
+fn suspected() -> Record {
+    record(b'a', 7101, Status::Suspect(letter(b'c')), 0)
+}
+
+/// The record of c, which has failed.
+fn gone() -> Record {
+    record(b'c', 7103, Status::Failed, 2)
 }
 
 /// Counts of which no two are the same.
@@ -73,7 +74,7 @@ fn drops(fault: &'static str, count: u64) -> Drops {
 
 /// A look of b after 41 events.
 fn snapshot(alloc: Global, ousted: bool) -> Result<Snapshot, AllocError> {
-    let records = Vec::from_array(alloc, records())?;
+    let records = Vec::from_array(alloc, [suspected(), own_record(), gone()])?;
     let dropped = Vec::from_array(alloc, [drops("Short", 0), drops("Magic", 3)])?;
     Ok(Snapshot {
         version: 41,
@@ -128,15 +129,14 @@ fn setup(alloc: Global, node: Node) -> Result<ShownConfig, AllocError> {
     })
 }
 
-/// Changes of a at version 7, and then three: b was found at version 30, and a and c at version 41. What b was told
-/// then is that it lives, so no change of b is among those of version 41.
+/// Changes of a at version 7, so many, and then three: of b at version 30, and of a and c at version 41.
 fn changes(alloc: Global, older: usize) -> Result<Changes, AllocError> {
     let mut changes = Changes::new(alloc)?;
     for _ in 0..older {
-        changes.add_look(&[], &[record(b'a', 7101, Status::Alive, 0)], 7, at(700));
+        changes.keep_changed(7, at(700), &[record(b'a', 7101, Status::Alive, 0)]);
     }
-    changes.add_look(&[], &[own_record()], 30, at(4000));
-    changes.add_look(&[own_record()], &records(), 41, at(5120));
+    changes.keep_changed(30, at(4000), &[own_record()]);
+    changes.keep_changed(41, at(5120), &[suspected(), gone()]);
     Ok(changes)
 }
 

@@ -1,8 +1,8 @@
 //! What a node shows over HTTP, from looks at an agent of b in memory, and what it counts. Another pass hears packets.
 
 use crate::steps::Step::{
-    self, Alive, Asked, Counted, Garbage, Gets, Goes, Shows, Stood, Suspect, Tells, Tick, Unsent,
-    Waits as ToWait,
+    self, Alive, Asked, Counted, Garbage, Gets, Goes, Refutes, Shows, Stood, Suspect, Tells, Tick,
+    Unsent, Waits as ToWait,
 };
 use crate::steps::play;
 use lg_http::HttpStatus;
@@ -32,7 +32,7 @@ const CASES: &[(&str, &[Step])] = &[
                 "/v1/changes",
                 Some("after=1&wait_ms=0"),
                 HttpStatus::Fine,
-                "{\"version\":2,\"missed\":false,\"changes\":[{\"version\":2,\"moment_ms\":25,\"name\":\"c\",\
+                "{\"version\":2,\"missed\":false,\"changes\":[{\"version\":2,\"moment_ms\":20,\"name\":\"c\",\
                  \"status\":\"alive\",\"incarnation\":0,\"address\":\"127.0.0.1\",\"port\":7000,\"accuser\":null}]}",
             ),
         ],
@@ -107,9 +107,9 @@ const CASES: &[(&str, &[Step])] = &[
                 "/v1/changes",
                 Some("after=2&wait_ms=0"),
                 HttpStatus::Fine,
-                "{\"version\":4,\"missed\":false,\"changes\":[{\"version\":3,\"moment_ms\":35,\"name\":\"d\",\
+                "{\"version\":4,\"missed\":false,\"changes\":[{\"version\":3,\"moment_ms\":30,\"name\":\"d\",\
                  \"status\":\"alive\",\"incarnation\":0,\"address\":\"127.0.0.1\",\"port\":7000,\"accuser\":null},\
-                 {\"version\":4,\"moment_ms\":45,\"name\":\"c\",\"status\":\"suspect\",\"incarnation\":0,\
+                 {\"version\":4,\"moment_ms\":40,\"name\":\"c\",\"status\":\"suspect\",\"incarnation\":0,\
                  \"address\":\"127.0.0.1\",\"port\":7000,\"accuser\":\"a\"}]}",
             ),
             Gets(
@@ -118,6 +118,32 @@ const CASES: &[(&str, &[Step])] = &[
                 HttpStatus::Fine,
                 "{\"version\":4,\"name\":\"c\",\"status\":\"suspect\",\"incarnation\":0,\"address\":\"127.0.0.1\",\
                  \"port\":7000,\"accuser\":\"a\"}",
+            ),
+        ],
+    ),
+    (
+        "a suspicion and its refutation 10 ms later, between two looks, are two changes",
+        &[
+            Alive(20, b'c'),
+            Shows(25, 2),
+            Suspect(400, b'c'),
+            Refutes(410, b'c'),
+            Shows(450, 4),
+            Gets(
+                "/v1/changes",
+                Some("after=2&wait_ms=0"),
+                HttpStatus::Fine,
+                "{\"version\":4,\"missed\":false,\"changes\":[{\"version\":3,\"moment_ms\":400,\"name\":\"c\",\
+                 \"status\":\"suspect\",\"incarnation\":0,\"address\":\"127.0.0.1\",\"port\":7000,\"accuser\":\"a\"},\
+                 {\"version\":4,\"moment_ms\":410,\"name\":\"c\",\"status\":\"alive\",\"incarnation\":1,\
+                 \"address\":\"127.0.0.1\",\"port\":7000,\"accuser\":null}]}",
+            ),
+            Gets(
+                "/v1/changes",
+                Some("after=3&wait_ms=0"),
+                HttpStatus::Fine,
+                "{\"version\":4,\"missed\":false,\"changes\":[{\"version\":4,\"moment_ms\":410,\"name\":\"c\",\
+                 \"status\":\"alive\",\"incarnation\":1,\"address\":\"127.0.0.1\",\"port\":7000,\"accuser\":null}]}",
             ),
         ],
     ),

@@ -2,8 +2,8 @@
 ghost use Rattle.std.specs.Prelude.{◌≡◌};
 
 use Step::{
-    Alive, Asked, Counted, Garbage, Gets, Goes, Shows, Stood, Suspect, Tells, Tick, Unsent,
-    Waits as ToWait,
+    Alive, Asked, Counted, Garbage, Gets, Goes, Refutes, Shows, Stood, Suspect, Tells, Tick,
+    Unsent, Waits as ToWait,
 };
 use arrayvec::ArrayVec;
 use lg_agent::{Agent, AgentName, Pass, Receipt, Refusal};
@@ -31,6 +31,8 @@ pub enum Step<'a> {
     Alive(u64, u8),
     /// The same that it is suspected by a.
     Suspect(u64, u8),
+    /// The same that it is alive at incarnation 1, so it refuted a suspicion.
+    Refutes(u64, u8),
     /// The same as `Alive`, and the packet by which b answers isn't sent.
     Unsent(u64, u8),
     /// b hears, at this moment, a packet that asks it to probe c.
@@ -167,6 +169,7 @@ impl<'a, R: Wait> Doing<'a, R> {
             Suspect(now, member) => {
                 Some(self.hear_claim(pass, now, suspect(member, 0, b'a'), 0))
             }
+            Refutes(now, member) => Some(self.hear_claim(pass, now, alive(member, 1), 0)),
             Asked(now) => Some(self.hear_packet(pass, now, &packet_of(&[], asks), 0)),
             Garbage(now) => Some(self.hear(pass, now, b"garbage", 0)),
             Tick(now) => Some(self.tick(pass, now)),

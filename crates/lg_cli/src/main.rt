@@ -18,7 +18,6 @@ fn main(rt: HostRuntime) -> ExitCode {
     let status = match words_of(&rt) {
         Ok(words) => program::run_words(
             &rt,
-            rt.alloc(),
             words.as_slice(),
             Owned {
                 input: rt.stdin(),

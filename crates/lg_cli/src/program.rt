@@ -13,7 +13,7 @@ ghost use Rattle.lg_command_line.specs.Support.Requests.{request_of};
 ghost use Rattle.lg_cli.specs.Meaning.Faults.{foreign_text};
 ghost use Rattle.lg_cli.specs.Meaning.Running.{streams, RunsLine, RunsRequest};
 
-use crate::ask::ask_node;
+use crate::ask::{AskWords, ask_node};
 use crate::node::{NodeWords, Owned, run_node};
 use crate::output::Pumped;
 use lg_command_line::{Asked, MAX_RUN_MS, take_words};
@@ -21,7 +21,6 @@ use lg_commands::{FAILED, USAGE, answer_named, order_lists, simulate, timeouts_o
 use lg_run::check_file;
 use lg_text::{FaultStream, RunFault, report};
 use lg_timing::Moment;
-use std::alloc::Global;
 use std::convert::AsStr;
 use std::io::{ErrorKind as IoErrorKind, Read, Write};
 use std::net::Net;
@@ -39,8 +38,8 @@ use std::{io, rt};
 /// `node`, `check`, `members`, `status` and `watch` alone use the machine `rt`. The first two read their file. `node`
 /// takes sockets, a clock and threads, writes its members, and tells its end, with the statuses of
 /// [`run_file`](lg_run::run_file); `check` has those of [`check_file`]. The other three ask a running node, with the
-/// statuses of [`tell_answer`](lg_client::tell_answer) and [`watch_changes`](lg_client::watch_changes). The statuses of all
-/// other command lines are:
+/// statuses of [`tell_answer`](lg_client::tell_answer) and [`watch_changes`](lg_client::watch_changes). The statuses of
+/// all other command lines are:
 ///
 /// - 0 if all was done. This includes help and the version, if they were asked for and written.
 /// - 1 if memory, a read or a write failed. That is reported as `lg: memory`, `lg: read` or `lg: write`. A second line
@@ -54,7 +53,6 @@ use std::{io, rt};
 /// No contract says what the texts of help, of the version and of a refusal are: they are the parser's.
 pub fn run_words<M, S, I, O, R, W, F>(
     rt: &M,
-    alloc: Global,
     words: &[S],
     owned: Owned<I, O>,
     reader: &mut R,
@@ -62,7 +60,8 @@ pub fn run_words<M, S, I, O, R, W, F>(
     faults: &mut F,
 ) -> u8
 where
-    M: Wait + Threads + Net + rt::Clock + Files + RandomSource + Copy + Send + Sync + 'static,
+    M: AllocGlobal + Wait + Threads + Net + rt::Clock + Files + RandomSource,
+    M: Copy + Send + Sync + 'static,
     S: AsStr,
     I: Read + Send + Drop + 'static,
     O: Write + Send + Drop + 'static,
@@ -75,8 +74,8 @@ where
         (streams reader.new (R.remaining reader.new) writer.new (W.contents writer.new) (F.reported faults.new))
         (map S.text words.now) result }
 {
-    match take_words(alloc, words, writer, faults) {
-        Ok(asked) => run_asked(rt, alloc, asked, owned, reader, writer, faults),
+    match take_words(rt.alloc(), words, writer, faults) {
+        Ok(asked) => run_asked(rt, asked, owned, reader, writer, faults),
         Err(status) => status,
     }
 }
@@ -84,7 +83,6 @@ where
 /// Runs what was asked for, as [`run_words`] does.
 fn run_asked<M, I, O, R, W, F>(
     rt: &M,
-    alloc: Global,
     request: Asked,
     owned: Owned<I, O>,
     reader: &mut R,
@@ -92,7 +90,8 @@ fn run_asked<M, I, O, R, W, F>(
     faults: &mut F,
 ) -> u8
 where
-    M: Wait + Threads + Net + rt::Clock + Files + RandomSource + Copy + Send + Sync + 'static,
+    M: AllocGlobal + Wait + Threads + Net + rt::Clock + Files + RandomSource,
+    M: Copy + Send + Sync + 'static,
     I: Read + Send + Drop + 'static,
     O: Write + Send + Drop + 'static,
     R: Read,
@@ -106,6 +105,7 @@ where
         (streams reader.new (R.remaining reader.new) writer.new (W.contents writer.new) (F.reported faults.new))
         (request_of request.entry) result }
 {
+    let alloc = rt.alloc();
     match request {
         Asked::Answer { name } => answer_named(alloc, name, reader, writer, faults),
         Asked::Order { names, words } => order_lists(alloc, names, words, writer, faults),
@@ -113,7 +113,8 @@ where
         Asked::Timeouts { numbers } => timeouts_of(alloc, &numbers, writer, faults),
         Asked::Check { file } => check_file(rt, alloc, file, writer, faults),
         Asked::Ask { question, at, json } => {
-            ask_node(rt, alloc, question, at, json, writer, faults)
+            let words = AskWords { question, at, json };
+            ask_node(rt, alloc, &words, writer, faults)
         }
         Asked::Node {
             file,

@@ -1,5 +1,5 @@
 -- A node that is asked again.
-use Rattle.std.proofs.Common.{◌≡◌, ◌⊎◌, ℕ, ◌+◌, ◌<◌, ◌≤◌, List, [], ◌∷◌, ◌++◌, length, Option, Some, None, Result, Ok, Err, inl, inr, refl, sym, ap, ◌∙◌, append_assoc, append-nil, arith}
+use Rattle.std.proofs.Common.{◌≡◌, ◌⊎◌, ℕ, ◌+◌, ◌<◌, ◌≤◌, List, [], ◌∷◌, ◌++◌, Some, None, Result, Ok, Err, inl, inr, refl, sym, ap, ◌∙◌, append_assoc, append-nil, arith}
 use Rattle.std.proofs.lemmas.Option.{same_Some}
 use Rattle.lg_client.specs.declared.fault.AskFault.{AskFault}
 use Rattle.lg_client.specs.declared.receiving.Answer.{Answer}
@@ -7,7 +7,7 @@ use Rattle.lg_client.specs.declared.unheard.Delay.{Delay}
 use Rattle.lg_client.specs.declared.unheard.Delay.TheVariants.{Closed, Told}
 use Rattle.lg_client.specs.declared.unheard.Unheard.{Unheard}
 use Rattle.lg_client.specs.declared.unheard.Unheard.TheVariants.{Lacking, Later, NoMemory, Wrong}
-use Rattle.lg_client.specs.Meaning.Waiting.{AskEvent, AsksAgain, AsksOnce, AsksOnceMore, AsksTwice, closed_in_row, closed_with, delay_of, most_closed, most_put_off, put_off, seconds_of, told_of}
+use Rattle.lg_client.specs.Meaning.Waiting.{AskEvent, AsksAgain, AsksOnce, AsksTwice, closed_with, delay_of, most_closed, most_put_off, put_off, seconds_of, told_of}
 use Rattle.lg_client.specs.Meaning.Waiting.AskEvent.{Asked, Waited}
 use Rattle.lg_client.specs.Support.Receiving.{IsPatient}
 

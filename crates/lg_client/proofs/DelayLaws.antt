@@ -1,11 +1,11 @@
 -- After how many seconds an answer says to ask again, by what is read of its head.
-use Rattle.std.proofs.Common.{◌≡◌, ◌≢◌, ℕ, Bool, true, false, List, [], map, take, drop, length, Option, Some, None, Err, inl, inr, refl, sym, ap, subst, ◌∙◌, append-nil, arith}
+use Rattle.std.proofs.Common.{◌≡◌, ◌≢◌, ℕ, false, List, [], map, take, drop, Option, Some, None, Err, inl, inr, sym, ap, subst, ◌∙◌, append-nil}
 use Rattle.httparse.specs.declared.spans.HeaderSpan.{HeaderSpan}
 use Rattle.httparse.specs.declared.spans.ResponseSpans.{ResponseSpans}
-use Rattle.httparse.specs.Grammar.{HasNoResponse, ReadsResponse, ResponseHead, status_code}
+use Rattle.httparse.specs.Grammar.{HasNoResponse, ResponseHead, status_code}
 use Rattle.httparse.specs.Spans.{IsResponseOf, ResponseOverflows, header_bytes, name_and_value}
 use Rattle.httparse.proofs.GrammarLemmas.{response_unique}
-use Rattle.lg_client.specs.Meaning.Answers.{IsDisallowed, IsHttpAnswer, IsOther, most_fields}
+use Rattle.lg_client.specs.Meaning.Answers.{IsHttpAnswer, most_fields}
 use Rattle.lg_client.specs.Meaning.Questions.{is_code_of}
 use Rattle.lg_client.specs.Meaning.Waiting.{IsTurnedDown, SaysLater, delay_said, unavailable}
 use Rattle.lg_client.specs.Support.Receiving.{HeadSays, IsEndOf, IsHeard, IsReceived, IsTurnedDownBy}

@@ -1,7 +1,7 @@
 //! Reads the changes of an answer.
 //!
 //! Defined in: `specs/Meaning/Changes.antt`.
-//! Tested in: `lg_client_tests/src/watching.rt`.
+//! Tested in: `lg_client_tests/src/watching.rt`, `lg_client_tests/src/edits.rt`.
 ghost use Rattle.std.specs.Prelude.{◌≡◌};
 ghost use Rattle.serde_json.specs.View.{items_view, view};
 ghost use Rattle.lg_client.specs.Meaning.Changes.{change_said, news_said};
@@ -15,7 +15,7 @@ use lg_rules::{Claim, Record};
 use serde_json::Value;
 use std::alloc::Global;
 
-/// A change: a record, and the moment of the look that found it, in milliseconds from the node's start.
+/// A change: a record, and the moment at which it changed, in milliseconds from the node's start.
 #[derive(Clone, Copy, Debug)]
 pub(crate) struct Change {
     pub(crate) moment_ms: u64,

@@ -1,7 +1,8 @@
-//! Looks up the values of an object by their keys.
+//! Looks up the values of a JSON object by their keys. Of a key that occurs twice the last value counts, as in the
+//! toolchain's reader.
 //!
 //! Defined in: `specs/Meaning/Fields.antt`.
-//! Tested in: `lg_client_tests/src/damaged.rt`.
+//! Tested in: `lg_client_tests/src/damaged.rt`, `lg_client_tests/src/edits.rt`.
 ghost use Rattle.std.specs.Prelude.{◌≡◌};
 ghost use Rattle.std.specs.Option.{option_map};
 ghost use Rattle.serde_json.specs.View.{items_view, view};
@@ -11,7 +12,7 @@ use lg_rules::Name;
 use lg_text::name_in;
 use serde_json::Value;
 
-/// The text at a key, if there is one.
+/// The string at a key. None if the key is missing or its value isn't a string.
 pub(crate) fn text_at<'a>(object: &'a Value, key: &str) -> Option<&'a str>
     ensures { option_map (λ text. text.now) result ≡ text_at_key key.now (view object.now) }
 {
@@ -21,7 +22,7 @@ pub(crate) fn text_at<'a>(object: &'a Value, key: &str) -> Option<&'a str>
     }
 }
 
-/// The name at a key, if there is one.
+/// The name at a key. None if the key is missing or its value isn't a string that is a name.
 pub(crate) fn name_at(object: &Value, key: &str) -> Option<Name>
     ensures { result ≡ name_at_key key.now (view object.now) }
 {
@@ -31,7 +32,7 @@ pub(crate) fn name_at(object: &Value, key: &str) -> Option<Name>
     }
 }
 
-/// The whole number at a key, if there is one and it isn't negative.
+/// The integer at a key, if it is 0 to 2^64 - 1. None if the key is missing or its value is anything else.
 pub(crate) fn natural_at(object: &Value, key: &str) -> Option<u64>
     ensures { result ≡ natural_at_key key.now (view object.now) }
 {
@@ -41,7 +42,7 @@ pub(crate) fn natural_at(object: &Value, key: &str) -> Option<u64>
     }
 }
 
-/// The truth at a key, if there is one.
+/// The truth value at a key. None if the key is missing or its value isn't one.
 pub(crate) fn truth_at(object: &Value, key: &str) -> Option<bool>
     ensures { result ≡ truth_at_key key.now (view object.now) }
 {
@@ -51,7 +52,7 @@ pub(crate) fn truth_at(object: &Value, key: &str) -> Option<bool>
     }
 }
 
-/// The elements of the array at a key, if there is one.
+/// The elements of the array at a key. None if the key is missing or its value isn't an array.
 pub(crate) fn rows_at<'a>(object: &'a Value, key: &str) -> Option<&'a [Value]>
     ensures { option_map (λ rows. items_view rows.now) result ≡ rows_at_key key.now (view object.now) }
 {

@@ -24,6 +24,6 @@ mod unheard;
 mod watching;
 
 pub use fault::AskFault;
-pub use resource::Resource;
+pub use resource::{NodeQuestion, Resource};
 pub use telling::tell_answer;
 pub use watching::watch_changes;

@@ -1,7 +1,7 @@
 //! Reads the members of an answer.
 //!
 //! Defined in: `specs/Meaning/Members.antt`.
-//! Tested in: `lg_client_tests/src/asking.rt`, `lg_client_tests/src/damaged.rt`.
+//! Tested in: `lg_client_tests/src/asking.rt`, `lg_client_tests/src/damaged.rt`, `lg_client_tests/src/edits.rt`.
 ghost use Rattle.std.specs.Prelude.{◌≡◌};
 ghost use Rattle.serde_json.specs.View.{items_view, view};
 ghost use Rattle.lg_client.specs.Meaning.Fields.{each_read};

@@ -16,6 +16,17 @@ pub enum Resource {
     Health,
 }
 
+/// A question to a node, and how its answer is told.
+#[derive(Clone, Copy, Debug)]
+pub struct NodeQuestion<'a> {
+    /// The text of the address at which the node answers, A.B.C.D:PORT. It may spell no address.
+    pub at: &'a str,
+    /// What the node is asked.
+    pub resource: Resource,
+    /// Whether the body of the answer is told as it came, in place of lines.
+    pub json: bool,
+}
+
 impl Resource {
     /// The target of the request.
     pub(crate) fn target(self) -> &'static str

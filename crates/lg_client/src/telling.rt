@@ -18,7 +18,7 @@ use crate::asker::ask_twice;
 use crate::asking::{NetAsker, Node, PATIENCE_MS};
 use crate::fault::AskFault;
 use crate::receiving::Answer;
-use crate::resource::Resource;
+use crate::resource::{NodeQuestion, Resource};
 use crate::told::{Told, told_in};
 use lg_text::{FaultStream, report, write_whole};
 use std::alloc::Global;
@@ -39,42 +39,42 @@ pub(crate) fn tell<F: FaultStream>(fault: AskFault, faults: &mut F) -> u8
 #[tactic(auto, using(crate::proofs::AskLaws::answers_from, crate::proofs::AskLaws::unheard_from))]
 fn told_from(
     alloc: Global,
-    question: Resource,
+    resource: Resource,
     json: bool,
     fetched: Result<Answer, AskFault>,
 ) -> Result<Told, AskFault>
-    requires { IsFetched (codes_of question) fetched }
-    ensures { AnswersQuestion (codes_of question) told_shown (question_told question json) result }
+    requires { IsFetched (codes_of resource) fetched }
+    ensures { AnswersQuestion (codes_of resource) told_shown (question_told resource json) result }
 {
     match fetched {
-        Ok(answer) => told_in(alloc, question, json, answer.body()),
+        Ok(answer) => told_in(alloc, resource, json, answer.body()),
         Err(fault) => Err(fault),
     }
 }
 
-/// What the node at an address answers.
+/// What the node at the address of a question answers.
 #[tactic(auto, using(crate::proofs::AskLaws::told_at, crate::proofs::AskLaws::unasked_at))]
 fn told_at<M: Net + rt::Clock>(
     rt: &M,
     alloc: Global,
-    at: &str,
-    question: Resource,
-    json: bool,
+    question: &NodeQuestion<'_>,
 ) -> Result<Told, AskFault>
-    ensures { IsToldAt at.now (codes_of question) told_shown (question_told question json) result }
+    ensures { IsToldAt question.now.at.now (codes_of question.now.resource) told_shown
+        (question_told question.now.resource question.now.json) result }
 {
-    let address = match address_in(at) {
+    let address = match address_in(question.at) {
         Ok(address) => address,
         Err(fault) => return Err(fault),
     };
     let node = Node {
-        at,
+        at: question.at,
         address,
         patience_ms: PATIENCE_MS,
     };
     let mut asker = NetAsker { rt, alloc, node };
-    let fetched = ask_twice(&mut asker, question.target(), question.codes());
-    told_from(alloc, question, json, fetched)
+    let resource = question.resource;
+    let fetched = ask_twice(&mut asker, resource.target(), resource.codes());
+    told_from(alloc, resource, question.json, fetched)
 }
 
 /// The status of what is told.
@@ -95,8 +95,8 @@ fn write_told<W: Write, F: FaultStream>(told: &Told, writer: &mut W, faults: &mu
     }
 }
 
-/// Asks the node at an address a question, and writes what it answers: its members or its health, as lines, or with
-/// `json` as the body came, with a newline behind it. Gives the exit status.
+/// Asks a node a question, and writes what it answers: its members or its health, as lines, or with `json` as the body
+/// came, with a newline behind it. Gives the exit status.
 ///
 /// The text of the address is A.B.C.D:PORT. The request is `GET /v1/members` or `GET /v1/health`, on a connection of
 /// its own. The answer has at most 1,048,576 bytes with its head, and the status code 200; that of a health may be 503
@@ -117,16 +117,14 @@ fn write_told<W: Write, F: FaultStream>(told: &Told, writer: &mut W, faults: &mu
 pub fn tell_answer<M: Net + rt::Clock, W: Write, F: FaultStream>(
     rt: &M,
     alloc: Global,
-    at: &str,
-    question: Resource,
-    json: bool,
+    question: &NodeQuestion<'_>,
     writer: &mut W,
     faults: &mut F,
 ) -> u8
-    ensures { TellsAnswer at.now question json writer.old writer.new (W.contents writer.old) (W.contents writer.new)
-        (F.reported faults.old) (F.reported faults.new) result }
+    ensures { TellsAnswer question.now.at.now question.now.resource question.now.json writer.old writer.new
+        (W.contents writer.old) (W.contents writer.new) (F.reported faults.old) (F.reported faults.new) result }
 {
-    match told_at(rt, alloc, at, question, json) {
+    match told_at(rt, alloc, question) {
         Ok(told) => write_told(&told, writer, faults),
         Err(fault) => tell(fault, faults),
     }

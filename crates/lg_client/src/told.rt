@@ -72,10 +72,10 @@ fn health_lines(alloc: Global, answer: &Value) -> Result<Told, AskFault>
 }
 
 /// The lines that answer a question.
-fn lines_of(alloc: Global, question: Resource, answer: &Value) -> Result<Told, AskFault>
-    ensures { IsReadAs told_shown (lines_said question (view answer.now)) result }
+fn lines_of(alloc: Global, resource: Resource, answer: &Value) -> Result<Told, AskFault>
+    ensures { IsReadAs told_shown (lines_said resource (view answer.now)) result }
 {
-    match question {
+    match resource {
         Resource::Members => members_lines(alloc, answer),
         Resource::Health => health_lines(alloc, answer),
     }
@@ -117,17 +117,17 @@ fn shown(alloc: Global, json: bool, body: &[u8], told: Told) -> Result<Told, Ask
 #[tactic(auto, unfolding(crate::specs::Meaning::Told::question_told))]
 pub(crate) fn told_in(
     alloc: Global,
-    question: Resource,
+    resource: Resource,
     json: bool,
     body: &[u8],
 ) -> Result<Told, AskFault>
-    ensures { IsReadAs told_shown (question_told question json body.now) result }
+    ensures { IsReadAs told_shown (question_told resource json body.now) result }
 {
     let value = match json_in(alloc, body) {
         Ok(value) => value,
         Err(fault) => return Err(fault),
     };
-    match lines_of(alloc, question, &value) {
+    match lines_of(alloc, resource, &value) {
         Ok(told) => shown(alloc, json, body, told),
         Err(fault) => Err(fault),
     }

@@ -2,7 +2,7 @@
 
 use crate::outputs::{Limit, Room};
 use crate::server::{Place, Reply, serve};
-use lg_client::{Resource, tell_answer, watch_changes};
+use lg_client::{NodeQuestion, Resource, tell_answer, watch_changes};
 use std::alloc::{AllocError, Global};
 use std::io::ErrorKind;
 use std::net::{Ipv4Addr, Net, SocketAddr, TcpListener, TcpStream};
@@ -68,8 +68,16 @@ impl Asking {
         let (out, told) = (&mut writer, &mut faults);
         let json = self.json;
         let status = match self.command {
-            Command::Members => tell_answer(rt, alloc, at, Resource::Members, json, out, told),
-            Command::Status => tell_answer(rt, alloc, at, Resource::Health, json, out, told),
+            Command::Members => {
+                let resource = Resource::Members;
+                let question = NodeQuestion { at, resource, json };
+                tell_answer(rt, alloc, &question, out, told)
+            }
+            Command::Status => {
+                let resource = Resource::Health;
+                let question = NodeQuestion { at, resource, json };
+                tell_answer(rt, alloc, &question, out, told)
+            }
             Command::Watch => watch_changes(rt, alloc, at, json, out, told),
         };
         Outcome {

@@ -15,7 +15,7 @@ use crate::answer::answer;
 use crate::order::{BadList, OrderFault, order};
 use crate::timeouts::{Numbers, timeouts};
 use lg_rules::Name;
-use lg_text::{MAX_INPUT, RunEnd, RunFault, read_input, write_whole};
+use lg_text::{MAX_INPUT, RunEnd, RunFault, read_input, write_text};
 use std::alloc::Global;
 use std::io::{Read, Write};
 
@@ -47,10 +47,8 @@ pub fn answer_run<R: Read, W: Write>(
 {
     let input = read_input(alloc, reader)?;
     let answered = answer(alloc, name, &input)?;
-    match write_whole(writer, &answered.text) {
-        Ok(()) => Ok(answered.end),
-        Err(fault) => Err(RunFault::Write(fault)),
-    }
+    write_text(writer, &answered.text)?;
+    Ok(answered.end)
 }
 
 /// Runs the command `timeouts`: writes the timeouts of a suspicion for some numbers, and nothing else.
@@ -72,10 +70,7 @@ pub fn timeouts_run<W: Write>(
         → AppendsFront (W.contents writer.old) (W.contents writer.new) (timeouts_text numbers.now)) }
 {
     let text = timeouts(alloc, numbers)?;
-    match write_whole(writer, text.as_bytes()) {
-        Ok(()) => Ok(()),
-        Err(fault) => Err(RunFault::Write(fault)),
-    }
+    write_text(writer, text.as_bytes())
 }
 
 /// Runs the command `order`: writes whom words choose one after another from some names, a line each, and nothing
@@ -105,8 +100,8 @@ pub fn order_run<W: Write>(
         (λ text. AppendsFront (W.contents writer.old) (W.contents writer.new) text)) }
 {
     let text = order(alloc, names, words)?;
-    match write_whole(writer, &text) {
+    match write_text(writer, &text) {
         Ok(()) => Ok(()),
-        Err(fault) => Err(OrderFault::Run(RunFault::Write(fault))),
+        Err(fault) => Err(OrderFault::Run(fault)),
     }
 }

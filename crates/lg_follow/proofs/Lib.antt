@@ -1,4 +1,5 @@
+pub mod LeadingLaws
 pub mod LineLaws
-pub mod SameRecords
 pub mod SightLaws
+pub mod TableLaws
 pub mod TellingLaws

@@ -1,14 +1,11 @@
--- The line of a record, by its parts; and the lines of the records that changed, with one more record.
-use Rattle.std.proofs.Common.{◌≡◌, ℕ, ◌+◌, ◌<◌, Bool, true, false, not, cond, List, [], ◌∷◌, ◌++◌, length, take, get_or, decimal, refl, sym, ap, ◌∙◌, append_assoc, append-nil}
+-- The line of a record, by its parts; and the lines of records and of changes, with one more.
+use Rattle.std.proofs.Common.{◌≡◌, ℕ, ◌+◌, ◌<◌, List, [], ◌∷◌, ◌++◌, length, take, get_or, decimal, sym, ap, ◌∙◌, append_assoc, append-nil}
 use Rattle.std.proofs.lemmas.List.{take_more}
-use Rattle.std.proofs.lemmas.List.Elements.{filter-append}
 use Rattle.std.proofs.lemmas.List.Concat.{flat_map-append}
 use Rattle.lg_rules.specs.declared.claim.Claim.{Claim}
-use Rattle.lg_rules.specs.Meaning.Claim.{name_of}
-use Rattle.lg_rules.specs.Meaning.Rows.{name_cmp, row_at}
-use Rattle.lg_rules.specs.Meaning.View.{changed, is_row}
+use Rattle.lg_changes.specs.declared.change.Change.{Change}
 use Rattle.lg_lines.specs.Meaning.Records.{record_line, table_text}
-use Rattle.lg_follow.specs.Meaning.Lines.{told_line, told_lines}
+use Rattle.lg_follow.specs.Meaning.Lines.{told_line, told_lines, changed_line, changed_lines}
 
 joined : (text digits line : List ℕ) → ((text ++ digits) ++ 32 ∷ []) ++ (line ++ []) ≡ text ++ ((digits ++ 32 ∷ []) ++ line)
 joined text digits line = simp (append_assoc, append-nil)
@@ -19,33 +16,38 @@ pub line_written : (moment : ℕ) (c : Claim) (text digits t1 t2 t3 : List ℕ) 
 unfolding table_text
 line_written moment c text digits t1 t2 t3 is e1 e2 e3 = rw (e3, e2, e1, is) (joined text (decimal moment) (record_line c))
 
-pub no_lines : (moment : ℕ) → told_lines moment [] ≡ []
+-- two texts, put behind a text one after another
+pub put_both : (text one other t1 t2 : List ℕ) → t1 ≡ text ++ one → t2 ≡ t1 ++ other → t2 ≡ text ++ (one ++ other)
+put_both text one other t1 t2 e1 e2 = rw (e2, e1) (append_assoc text one other)
+
+-- no lines behind a text
+pub no_lines : (moment : ℕ) (text : List ℕ) → text ≡ text ++ told_lines moment []
 unfolding told_lines
-no_lines moment = refl
+no_lines moment text = sym (append-nil text)
 
--- whether a record is among those told
-abbrev pub was_told : List Claim → Claim → Bool
-was_told told c = is_row c (row_at name_cmp name_of c.name told)
+pub none_changed : (text : List ℕ) → text ≡ text ++ changed_lines []
+unfolding changed_lines
+none_changed text = sym (append-nil text)
 
--- the lines of one record, unless it was told
-abbrev pub lines_of_one : ℕ → Claim → Bool → List ℕ
-lines_of_one moment c told = cond told [] (told_line moment c)
-
-one_changed : (moment : ℕ) (told : List Claim) (c : Claim) (b : Bool) → was_told told c ≡ b → told_lines moment (changed told (c ∷ [])) ≡ lines_of_one moment c b
+-- the lines so far behind a text, and one more
+pub lines_more : (moment : ℕ) (records : List Claim) (i : ℕ) (c : Claim) (text now next : List ℕ) → i < length records → c ≡ get_or records i c
+    → now ≡ text ++ told_lines moment (take i records) → next ≡ now ++ told_line moment c → next ≡ text ++ told_lines moment (take (i + 1) records)
 unfolding told_lines
-one_changed moment told c true is = rw is refl
-one_changed moment told c false is = rw is (append-nil (told_line moment c))
-
-pub changed_more : (moment : ℕ) (told records : List Claim) (i : ℕ) (c : Claim) (b : Bool) → i < length records → c ≡ get_or records i c → was_told told c ≡ b
-    → told_lines moment (changed told (take (i + 1) records)) ≡ told_lines moment (changed told (take i records)) ++ lines_of_one moment c b
-unfolding told_lines
-changed_more moment told records i c b within is was =
+lines_more moment records i c text now next within is e1 e2 =
     let before : List Claim = take i records in
-    ap (λ (rs : List Claim). told_lines moment (changed told rs)) (take_more records i c within ∙ ap (λ (x : Claim). before ++ x ∷ []) (sym is))
-    ∙ ap (λ (rs : List Claim). told_lines moment rs) (filter-append (λ (r : Claim). not (was_told told r)) before (c ∷ []))
-    ∙ flat_map-append (λ (r : Claim). told_line moment r) (changed told before) (changed told (c ∷ []))
-    ∙ ap (λ (l : List ℕ). told_lines moment (changed told before) ++ l) (one_changed moment told c b was)
+    let more : told_lines moment (take (i + 1) records) ≡ told_lines moment before ++ told_line moment c =
+    ap (λ (rs : List Claim). told_lines moment rs) (take_more records i c within ∙ ap (λ (x : Claim). before ++ x ∷ []) (sym is))
+    ∙ flat_map-append (λ (r : Claim). told_line moment r) before (c ∷ [])
+    ∙ ap (λ (l : List ℕ). told_lines moment before ++ l) (append-nil (told_line moment c)) in
+    put_both text (told_lines moment before) (told_line moment c) now next e1 e2 ∙ ap (λ (l : List ℕ). text ++ l) (sym more)
 
--- a text of the lines so far, with what comes next behind it
-pub lines_more : (text now next before line after : List ℕ) → next ≡ now ++ line → now ≡ text ++ before → after ≡ before ++ line → next ≡ text ++ after
-lines_more text now next before line after e1 e2 e3 = rw (e1, e2, e3) (append_assoc text before line)
+pub changed_more : (changes : List Change) (i : ℕ) (c : Change) (text now next : List ℕ) → i < length changes → c ≡ get_or changes i c
+    → now ≡ text ++ changed_lines (take i changes) → next ≡ now ++ changed_line c → next ≡ text ++ changed_lines (take (i + 1) changes)
+unfolding changed_lines
+changed_more changes i c text now next within is e1 e2 =
+    let before : List Change = take i changes in
+    let more : changed_lines (take (i + 1) changes) ≡ changed_lines before ++ changed_line c =
+    ap (λ (cs : List Change). changed_lines cs) (take_more changes i c within ∙ ap (λ (x : Change). before ++ x ∷ []) (sym is))
+    ∙ flat_map-append (λ (x : Change). changed_line x) before (c ∷ [])
+    ∙ ap (λ (l : List ℕ). changed_lines before ++ l) (append-nil (changed_line c)) in
+    put_both text (changed_lines before) (changed_line c) now next e1 e2 ∙ ap (λ (l : List ℕ). text ++ l) (sym more)

@@ -1,32 +1,21 @@
 //! The lines of a watcher, as text.
 //!
-//! Defined in: `specs/Meaning/Lines.antt`, `lg_rules/specs/Meaning/View.antt`.
+//! Defined in: `specs/Meaning/Lines.antt`, `specs/Support/Telling.antt`.
 //! Tested in: `lg_node_tests/src/watching.rt`.
-ghost use Rattle.std.specs.Prelude.{◌≡◌, ◌++◌, OnOk, map};
-ghost use Rattle.lg_rules.specs.Meaning.Claim.{name_of};
-ghost use Rattle.lg_rules.specs.Meaning.Rows.{name_cmp, row_at, Rises};
-ghost use Rattle.lg_rules.specs.Meaning.View.{changed, is_row};
-ghost use Rattle.lg_follow.specs.Meaning.Lines.{told_line, told_lines, stood_line};
+ghost use Rattle.std.specs.Prelude.{◌≡◌, ◌++◌, OnOk};
+ghost use Rattle.lg_follow.specs.Meaning.Lines.{told_line, told_lines, changed_lines, missed_line, stood_line};
+ghost use Rattle.lg_follow.specs.Support.Telling.{found_text};
 
 use arrayvec::ArrayString;
 use itoa::Buffer;
+use lg_changes::{Behind, Change};
 use lg_lines::{NoMemory, put_table};
-use lg_rules::{Record, index_of};
+use lg_rules::Record;
 use lg_timing::Moment;
+use lg_view::Overview;
 
 /// The most bytes of the last line: two numbers of 20 digits, the word between them and a newline.
 const MAX_LAST: usize = 54;
-
-/// Whether a record is among those told, which are in rising order of their names.
-fn is_told(told: &[Record], claim: &Record) -> bool
-    requires { Rises name_cmp (map name_of told.now) }
-    ensures { result ≡ is_row claim.now (row_at name_cmp name_of claim.now.name told.now) }
-{
-    match index_of(told, &claim.name) {
-        Ok(at) => told[at] == *claim,
-        Err(_) => false,
-    }
-}
 
 /// Appends the line of a record to a text.
 fn put_line(moment: Moment, claim: &Record, text: &mut Vec<u8>) -> Result<(), NoMemory>
@@ -39,24 +28,56 @@ fn put_line(moment: Moment, claim: &Record, text: &mut Vec<u8>) -> Result<(), No
     Ok(())
 }
 
-/// Appends to a text the lines of those records that differ from the records told, which are in rising order of their
-/// names. The only error is that memory was refused; the text may have grown by some of the lines then.
-pub(crate) fn put_changed(
-    moment: Moment,
-    told: &[Record],
-    records: &[Record],
-    text: &mut Vec<u8>,
-) -> Result<(), NoMemory>
-    requires { Rises name_cmp (map name_of told.now) }
-    ensures { OnOk result
-        (text.new.items ≡ text.old.items ++ told_lines moment (changed told.now records.now)) }
+/// Appends the lines of records to a text.
+fn put_members(moment: Moment, records: &[Record], text: &mut Vec<u8>) -> Result<(), NoMemory>
+    ensures { OnOk result (text.new.items ≡ text.old.items ++ told_lines moment records.now) }
 {
     for claim in records {
-        if !is_told(told, claim) {
-            put_line(moment, claim, text)?;
-        }
+        put_line(moment, claim, text)?;
     }
     Ok(())
+}
+
+/// Appends the lines of changes to a text.
+fn put_changes(changes: &[Change], text: &mut Vec<u8>) -> Result<(), NoMemory>
+    ensures { OnOk result (text.new.items ≡ text.old.items ++ changed_lines changes.now) }
+{
+    for change in changes {
+        put_line(change.moment, &change.member, text)?;
+    }
+    Ok(())
+}
+
+/// Appends to a text the line that says that changes were missed.
+fn put_missed(moment: Moment, text: &mut Vec<u8>) -> Result<(), NoMemory>
+    ensures { OnOk result (text.new.items ≡ text.old.items ++ missed_line moment) }
+{
+    let mut digits = Buffer::new();
+    text.extend_from_slice(digits.format(moment.milliseconds()).as_bytes())?;
+    text.extend_from_slice(b" missed\n")?;
+    Ok(())
+}
+
+/// Appends to a text the lines of what a look found: those of its records if nothing was told before, and otherwise
+/// those of its changes. If changes were missed, a line says so, and those of the records follow. The only error is
+/// that memory was refused; the text may have grown by some of the lines then.
+pub(crate) fn put_found(
+    told: Option<u64>,
+    found: &Overview,
+    text: &mut Vec<u8>,
+) -> Result<(), NoMemory>
+    ensures { OnOk result (text.new.items ≡ text.old.items ++ found_text told found.now) }
+{
+    if told.is_none() {
+        return put_members(found.moment, &found.records, text);
+    }
+    match &found.changes {
+        Behind::All(rows) => put_changes(rows, text),
+        Behind::Missed(_) => {
+            put_missed(found.moment, text)?;
+            put_members(found.moment, &found.records, text)
+        }
+    }
 }
 
 /// The last line.

@@ -35,19 +35,22 @@ fn finish<C: Clock, W: Write>(clock: &C, writer: &mut W, turned: Watched) -> Wat
     }
 }
 
-/// Tells each change of a record until the stop flag is set.
+/// Tells each change of a record until the stop flag is set: each once, in the order in which they happened, also those
+/// that came and went between two looks.
 ///
-/// It begins with a line for each member, its own included: `MS record NAME STATUS INCARNATION A.B.C.D:PORT`, as
-/// [`put_table`](lg_lines::put_table) writes a record, behind the moment in milliseconds. Then it looks whenever there
-/// are news, and writes such a line for each record that is new or differs from the one told before, in the order of
-/// names. A record that changed twice between two looks is told once. The news have to come when the stop flag was set
-/// too. After the flag was seen, it looks once more, and ends with a line `MS stood-still N`: the clock has left out N
-/// milliseconds.
+/// It begins with a line for each member, its own included, in the order of names:
+/// `MS record NAME STATUS INCARNATION A.B.C.D:PORT`, as [`put_table`](lg_lines::put_table) writes a record. Then it
+/// looks whenever there is news, and writes such a line for each change since the look before. MS of a change is the
+/// greatest moment handed in by then, in milliseconds, and MS of a member the greatest that the look found. If more
+/// than 1,024 changes came between two looks, they aren't all kept ([`MAX_CHANGES`](lg_changes::MAX_CHANGES)). It
+/// writes a line `MS missed` in their place, and then a line for each member. The news has to come when the stop flag
+/// was set too. After the flag was seen, it looks once more, and ends with a line `MS stood-still N`: by the moment MS
+/// its clock has left out N milliseconds.
 ///
-/// It takes no lock. A turn before which no event came allocates nothing; others allocate memory for 256 records, and
-/// for the text if it has to grow. If memory or the view is refused, the lines are told in the next turn, after
-/// [`RETRY_MS`] at most. The text of a look is written only once it is whole, and then the writer is flushed. A writer
-/// that fails ends the watcher at once.
+/// Its looks take no lock. A turn before which no event came allocates nothing; others allocate memory for 256 records,
+/// for a copy of the changes, and for the text if it has to grow. If memory or the view is refused, the lines are told
+/// in the next turn, after [`RETRY_MS`] at most. The text of a look is written only once it is whole, and then the
+/// writer is flushed. A writer that fails ends the watcher at once.
 pub fn watch<A: AgentName, C: Clock, N: News, W: Write>(
     alloc: Global,
     clock: &C,
@@ -63,12 +66,12 @@ pub fn watch<A: AgentName, C: Clock, N: News, W: Write>(
         if stop.load(SeqCst) {
             break;
         }
-        match watcher.turn(alloc, clock, pass, writer) {
+        match watcher.turn(alloc, pass, writer) {
             Watched::WriterFailed => return Watched::WriterFailed,
             Watched::Told => news.wait(None),
             Watched::Refused(_) => news.wait(Some(RETRY_MS)),
         }
     }
-    let turned = watcher.turn(alloc, clock, pass, writer);
+    let turned = watcher.turn(alloc, pass, writer);
     finish(clock, writer, turned)
 }

@@ -34,8 +34,8 @@ fn put_fault(number: u64, fault: ScriptFault, text: &mut Vec<u8>) -> Result<(), 
     Ok(())
 }
 
-/// What a script of at most [`MAX_INPUT`] bytes writes. Time and memory are in proportion to the script and to what it writes. The only error is that
-/// memory was refused.
+/// What a script of at most [`MAX_INPUT`] bytes writes. Time and memory are in proportion to the script and to what it
+/// writes. The only error is that memory was refused.
 pub fn play_script(alloc: Global, input: &[u8]) -> Result<Vec<u8>, NoMemory> {
     let mut group = Group::new(alloc);
     let mut output = Output {

@@ -18,7 +18,7 @@ use crate::calling;
 use crate::dice::Dice;
 use crate::link::Link;
 use crate::plan::Plan;
-use crate::shared::{Shared, Side};
+use crate::shared::{Shared, Side, Ticker};
 use crate::turned::Turned;
 use lg_agent::{AgentName, Pass};
 use lg_detector::Reply;
@@ -109,30 +109,30 @@ pub(crate) fn look<A: AgentName, R, L: Link, C>(
 /// Chooses a member by random words, and asks it. A choice for which the look is refused is put off to the next time.
 pub(crate) fn ask_member<A: AgentName, R: Wait, L: Link, C, D: Dice>(
     shared: &Shared<'_, R, C>,
-    side: &mut Side<'_, L, A>,
-    dice: &mut D,
+    ticker: &mut Ticker<'_, L, A, D>,
     plan: &Plan,
     agenda: &mut Agenda,
     now: Moment,
     reply: &mut Reply,
 ) -> Turned
-    ensures { (p : PassValue) → SeesNoneDue p now side.old.pass → now < plan.now.until
+    ensures { (p : PassValue) → SeesNoneDue p now ticker.old.side.pass → now < plan.now.until
         → IsDuty plan.now agenda.old now duty.Member
-        → (acted : Acted plan.now L.tells (line (L.log side.old.link) (L.failed side.old.link))
-        (line (L.log side.new.link) (L.failed side.new.link)) p side.new.pass agenda.old agenda.new result)
-        × Threw D.throws dice.old (words_in acted.took.turn) dice.new }
+        → (acted : Acted plan.now L.tells (line (L.log ticker.old.side.link) (L.failed ticker.old.side.link))
+        (line (L.log ticker.new.side.link) (L.failed ticker.new.side.link)) p ticker.new.side.pass agenda.old
+        agenda.new result)
+        × Threw D.throws ticker.old.dice (words_in acted.took.turn) ticker.new.dice }
 {
     agenda.note_choice(now);
-    let Some(records) = others(&mut side.pass, shared.alloc, &plan.name) else {
+    let Some(records) = others(&mut ticker.side.pass, shared.alloc, &plan.name) else {
         return Turned::on();
     };
     if records.len() == 0 {
         return Turned::on();
     }
-    let words = dice.words();
+    let words = ticker.dice.words();
     let peer = chosen(records.as_slice(), &words);
-    match calling::pull(shared, &mut side.pass, now, peer, reply) {
-        Ok(_) => Turned::of(shared, &mut side.link, now, reply),
+    match calling::pull(shared, &mut ticker.side.pass, now, peer, reply) {
+        Ok(_) => Turned::of(shared, &mut ticker.side.link, now, reply),
         Err(refusal) => Turned::refused(shared, refusal),
     }
 }

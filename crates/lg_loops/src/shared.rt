@@ -48,8 +48,8 @@ pub struct Shared<'a, R, C> {
 }
 
 impl<'a, R: Wait, C> Shared<'a, R, C> {
-    /// Adds what a call counts that was answered at a moment by this reply. If a record changed, it wakes those who look
-    /// at the agent for that: the status server, and the watcher of a node that is followed. Allocates nothing.
+    /// Adds what a call counts that was answered at a moment by this reply. If a record changed, it wakes those who
+    /// look at the agent for that: the status server, and the watcher of a node that is followed. Allocates nothing.
     pub(crate) fn note(&self, now: Moment, reply: &Reply, noted: &Noted) {
         self.counters.note(now, noted);
         if reply.changed.len() == 0 {
@@ -72,6 +72,16 @@ where
     pub pass: Pass<'a, A>,
     /// The link.
     pub link: L,
+}
+
+/// What the ticking loop works with: its side, and the dice that it throws.
+#[derive(Drop)]
+pub(crate) struct Ticker<'a, L, A: AgentName, D>
+where
+    Published<A>: Absorb<Update<A>, State = [Event; 0]>,
+{
+    pub(crate) side: Side<'a, L, A>,
+    pub(crate) dice: D,
 }
 
 impl<'a, L, A: AgentName> Side<'a, L, A> {

@@ -16,7 +16,7 @@ use crate::ending::{Ended, LoopEnd, Why};
 use crate::finding::{ask_member, ask_seed, look};
 use crate::link::Link;
 use crate::plan::Plan;
-use crate::shared::{MAX_TURNS, Shared, Side};
+use crate::shared::{MAX_TURNS, Shared, Side, Ticker};
 use crate::turned::Turned;
 use lg_agent::AgentName;
 use lg_clock::{Clock, Loop};
@@ -28,18 +28,25 @@ use std::sync::atomic::Ordering::SeqCst;
 /// Ticks, since the next deadline has come.
 fn tick<A: AgentName, R: Wait, L: Link, C, D: Dice>(
     shared: &Shared<'_, R, C>,
-    side: &mut Side<'_, L, A>,
-    dice: &mut D,
+    ticker: &mut Ticker<'_, L, A, D>,
     now: Moment,
     reply: &mut Reply,
 ) -> Turned
-    ensures { (plan : Planned) → (agenda : Agenda) → (p : PassValue) → SeesDue p now side.old.pass → now < plan.until
-        → (acted : Acted plan L.tells (line (L.log side.old.link) (L.failed side.old.link))
-        (line (L.log side.new.link) (L.failed side.new.link)) p side.new.pass agenda agenda result)
-        × Threw D.throws dice.old (words_in acted.took.turn) dice.new }
+    ensures { (plan : Planned) → (agenda : Agenda) → (p : PassValue) → SeesDue p now ticker.old.side.pass
+        → now < plan.until
+        → (acted : Acted plan L.tells (line (L.log ticker.old.side.link) (L.failed ticker.old.side.link))
+        (line (L.log ticker.new.side.link) (L.failed ticker.new.side.link)) p ticker.new.side.pass agenda agenda
+        result)
+        × Threw D.throws ticker.old.dice (words_in acted.took.turn) ticker.new.dice }
 {
-    match calling::tick(shared, &mut side.pass, now, dice.words(), reply) {
-        Ok(_) => Turned::of(shared, &mut side.link, now, reply),
+    match calling::tick(
+        shared,
+        &mut ticker.side.pass,
+        now,
+        ticker.dice.words(),
+        reply,
+    ) {
+        Ok(_) => Turned::of(shared, &mut ticker.side.link, now, reply),
         Err(refusal) => Turned::refused(shared, refusal),
     }
 }
@@ -48,30 +55,30 @@ fn tick<A: AgentName, R: Wait, L: Link, C, D: Dice>(
 /// reply is written over `reply`.
 fn tick_turn<A: AgentName, R: Wait, L: Link, C: Clock, D: Dice>(
     shared: &Shared<'_, R, C>,
-    side: &mut Side<'_, L, A>,
-    dice: &mut D,
+    ticker: &mut Ticker<'_, L, A, D>,
     plan: &Plan,
     agenda: &mut Agenda,
     now: Moment,
     reply: &mut Reply,
 ) -> Turned
     ensures { now < plan.now.until
-        → (acted : Acted plan.now L.tells (line (L.log side.old.link) (L.failed side.old.link))
-        (line (L.log side.new.link) (L.failed side.new.link)) side.old.pass side.new.pass agenda.old agenda.new result)
-        × Threw D.throws dice.old (words_in acted.took.turn) dice.new }
+        → (acted : Acted plan.now L.tells (line (L.log ticker.old.side.link) (L.failed ticker.old.side.link))
+        (line (L.log ticker.new.side.link) (L.failed ticker.new.side.link)) ticker.old.side.pass
+        ticker.new.side.pass agenda.old agenda.new result)
+        × Threw D.throws ticker.old.dice (words_in acted.took.turn) ticker.new.dice }
 {
-    let deadline = match side.pass.next_deadline() {
+    let deadline = match ticker.side.pass.next_deadline() {
         Ok(deadline) => deadline,
         Err(refusal) => return Turned::end(Why::Refused(refusal)),
     };
     let moment = now.milliseconds();
     if deadline <= moment {
-        return tick(shared, side, dice, now, reply);
+        return tick(shared, ticker, now, reply);
     }
     match agenda.duty(plan, now) {
-        Duty::Seed(peer) => ask_seed(shared, side, agenda, now, peer, reply),
-        Duty::Look => look(shared, side, plan, agenda, now),
-        Duty::Member => ask_member(shared, side, dice, plan, agenda, now, reply),
+        Duty::Seed(peer) => ask_seed(shared, &mut ticker.side, agenda, now, peer, reply),
+        Duty::Look => look(shared, &mut ticker.side, plan, agenda, now),
+        Duty::Member => ask_member(shared, ticker, plan, agenda, now, reply),
         Duty::Rest(limit) => {
             let pause = (deadline - moment).min(limit).min(shared.wait_ms);
             shared.clock.pause(pause);
@@ -99,16 +106,15 @@ fn next_moment<R, C: Clock>(shared: &Shared<'_, R, C>, until: Moment) -> Option<
 /// The turns of the loop, until one ends it or its end time comes.
 fn tick_turns<A: AgentName, R: Wait, L: Link, C: Clock, D: Dice>(
     shared: &Shared<'_, R, C>,
-    side: &mut Side<'_, L, A>,
-    dice: &mut D,
+    ticker: &mut Ticker<'_, L, A, D>,
     plan: &Plan,
     agenda: &mut Agenda,
 ) -> LoopEnd
     requires { shared.now.bound ≤ MAX_TURNS }
-    ensures { Stretched D.throws dice.old dice.new plan.now L.tells shared.now.bound
-        (line (L.log side.old.link) (L.failed side.old.link))
-        (line (L.log side.new.link) (L.failed side.new.link)) side.old.pass side.new.pass agenda.old agenda.new
-        result }
+    ensures { Stretched D.throws ticker.old.dice ticker.new.dice plan.now L.tells shared.now.bound
+        (line (L.log ticker.old.side.link) (L.failed ticker.old.side.link))
+        (line (L.log ticker.new.side.link) (L.failed ticker.new.side.link)) ticker.old.side.pass
+        ticker.new.side.pass agenda.old agenda.new result }
 {
     let mut reply = Reply::default();
     let (mut dropped, mut unsent) = (0, 0);
@@ -116,7 +122,7 @@ fn tick_turns<A: AgentName, R: Wait, L: Link, C: Clock, D: Dice>(
         let Some(now) = next_moment(shared, plan.until) else {
             return LoopEnd::of(Why::Stopped, dropped, unsent, turns);
         };
-        let turned = tick_turn(shared, side, dice, plan, agenda, now, &mut reply);
+        let turned = tick_turn(shared, ticker, plan, agenda, now, &mut reply);
         dropped += turned.dropped;
         unsent += turned.unsent;
         if let Some(why) = turned.why {
@@ -159,12 +165,13 @@ pub fn tick_loop<A: AgentName, R: Wait, L: Link, C: Clock, D: Dice + Drop>(
         (line (L.log side.entry.link) (L.failed side.entry.link))
         (line (L.log result.link) (L.failed result.link)) side.entry.pass result.spent result.end }
 {
-    let (mut side, mut dice) = (side, dice);
+    let mut ticker = Ticker { side, dice };
     let mut agenda = Agenda::begin(plan, shared.clock.now());
     for _ in shared.rt.forever() {
-        let end = tick_turns(shared, &mut side, &mut dice, plan, &mut agenda);
+        let end = tick_turns(shared, &mut ticker, plan, &mut agenda);
         if end.is_last(shared.endless) {
             shared.stop.store(true, SeqCst);
+            let Ticker { side, dice: _ } = ticker;
             return side.ended(end);
         }
     }

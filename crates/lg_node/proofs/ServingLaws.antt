@@ -4,7 +4,6 @@ use Rattle.lg_timing.specs.declared.config.Config.{Config}
 use Rattle.lg_agent.specs.Meaning.Values.{PassValue}
 use Rattle.lg_http.specs.declared.hosts.Hosts.{Hosts}
 use Rattle.lg_http.specs.declared.server.Server.{Server}
-use Rattle.lg_http.specs.Meaning.Slots.{AreFree, slots_of}
 use Rattle.lg_answers.specs.declared.snapshot.ShownConfig.{ShownConfig}
 use Rattle.lg_status_server.specs.declared.serving.Served.{Served}
 use Rattle.lg_status_server.specs.declared.serving.Served.TheVariants as served

@@ -15,8 +15,8 @@ use std::rt;
 use std::sync::Wait;
 use std::thread::{Threads, join};
 
-/// What a watcher beside the loops waits for. They set the signal when a record has changed, and once more when they have
-/// ended.
+/// What a watcher beside the loops waits for. They set the signal when a record has changed, and once more when they
+/// have ended.
 #[derive(Drop)]
 struct LoopNews<'a, R> {
     rt: &'a R,

@@ -115,8 +115,8 @@ pub enum NodeFault {
 /// node isn't followed, or there are no loops, the writer stays as it is.
 ///
 /// If the settings have an address for a status server, it is bound before the agent is opened. It serves beside the
-/// loops ([`lg_status_server::serve`]), in a thread of its own and with a pass of its own, until the loops have ended, and
-/// [`NodeEnd::served`] says how that ended. A server that fails ends nothing else. It is told on `faults` when it
+/// loops ([`lg_status_server::serve`]), in a thread of its own and with a pass of its own, until the loops have ended,
+/// and [`NodeEnd::served`] says how that ended. A server that fails ends nothing else. It is told on `faults` when it
 /// fails, before the node ends, by [`Served::line`](lg_status_server::Served::line). Nothing else is written there.
 ///
 /// A turn of a loop waits a tenth of the configuration's `timeout_ms` at most, but at least 5 and at most 50
@@ -161,6 +161,7 @@ where
         signal,
     } = sockets;
     let setup = Setup {
+        alloc,
         config: start.config,
         settings: start.settings,
         until: start.until,
@@ -172,13 +173,5 @@ where
         Ok(status) => status,
         Err(fault) => return Err(fault),
     };
-    open_and_serve::<Brand, R, W, F>(
-        rt,
-        alloc,
-        UnnamedBook::new(),
-        &setup,
-        status,
-        writer,
-        faults,
-    )
+    open_and_serve::<Brand, R, W, F>(rt, UnnamedBook::new(), &setup, status, writer, faults)
 }

@@ -49,6 +49,8 @@ const PLACES: usize = 4;
 /// What a node is set up with, when its ticking loop ends, what stops it earlier, and its sockets.
 #[derive(Drop)]
 pub(crate) struct Setup<'n, 's> {
+    /// From it the node takes all its memory.
+    pub(crate) alloc: Global,
     pub(crate) config: &'n Config,
     pub(crate) settings: &'n Settings,
     pub(crate) until: Moment,
@@ -61,7 +63,6 @@ pub(crate) struct Setup<'n, 's> {
 /// Opens a node over its socket, serves until one of its loops ends, and closes it.
 pub(crate) fn open_and_serve<A, R, W, F>(
     rt: &R,
-    alloc: Global,
     book: UnnamedBook,
     setup: &Setup<'_, '_>,
     status: Option<StatusServer<'_, '_, R>>,
@@ -86,7 +87,7 @@ where
     ensures told { IfOk result (λ e. TellsServed e.served (F.reported faults.old) (F.reported faults.new)) }
     ensures untold { OnErr result (faults.new ≡ faults.old) }
 {
-    let config = setup.config;
+    let (alloc, config) = (setup.alloc, setup.config);
     let stall = stall_of(setup.settings);
     let Ok(clock) = SteadyClock::new(rt, stall) else {
         return Err(NodeFault::Clock);

@@ -213,10 +213,11 @@ fn run_at_last<R: Wait>(
     }
 }
 
-/// One that is told to stop before its first look. A new member, which is suspected and fails. Two changes between two
-/// looks, which are told once. Packets that change nothing, after which nothing is written. Two new members, one of
-/// which comes before b. A change and the stop in one pause.
-const ROWS: [Watching; 6] = [
+/// One that is told to stop before its first look. A new member, which is suspected and fails. Two changes of a member
+/// between two looks, both told: it is suspected and fails, or is suspected and refutes it. Packets that change
+/// nothing, after which nothing is written. Two new members, told in the order in which they came. A change and the
+/// stop in one pause.
+const ROWS: [Watching; 7] = [
     Watching {
         stopped: true,
         pauses: &[&[Alive(b'c', 0)]],
@@ -244,7 +245,16 @@ const ROWS: [Watching; 6] = [
         ],
         texts: 4,
         text: "0 record b alive 0 127.0.0.1:7000\n50 record c alive 0 127.0.0.1:7000\n\
-            100 record c failed 0 127.0.0.1:7000\n150 stood-still 150\n",
+            100 record c suspect 0 127.0.0.1:7000 by a\n100 record c failed 0 127.0.0.1:7000\n\
+            150 stood-still 150\n",
+    },
+    Watching {
+        stopped: false,
+        pauses: &[&[Alive(b'c', 0)], &[Suspect(b'c', 0, b'a'), Alive(b'c', 1)]],
+        texts: 4,
+        text: "0 record b alive 0 127.0.0.1:7000\n50 record c alive 0 127.0.0.1:7000\n\
+            100 record c suspect 0 127.0.0.1:7000 by a\n100 record c alive 1 127.0.0.1:7000\n\
+            150 stood-still 150\n",
     },
     Watching {
         stopped: false,
@@ -256,8 +266,8 @@ const ROWS: [Watching; 6] = [
         stopped: false,
         pauses: &[&[Alive(b'c', 7), Alive(b'a', 2)]],
         texts: 3,
-        text: "0 record b alive 0 127.0.0.1:7000\n50 record a alive 2 127.0.0.1:7000\n\
-            50 record c alive 7 127.0.0.1:7000\n100 stood-still 150\n",
+        text: "0 record b alive 0 127.0.0.1:7000\n50 record c alive 7 127.0.0.1:7000\n\
+            50 record a alive 2 127.0.0.1:7000\n100 stood-still 150\n",
     },
     Watching {
         stopped: false,
@@ -271,11 +281,9 @@ const ROWS: [Watching; 6] = [
 #[test]
 fn tells_each_change(rt: HostRuntime) {
     for row in ROWS {
-        let met = run(&rt, rt.alloc(), &row, 0).is_some_and(|outcome| {
-            outcome.watched == Watched::Told
-                && outcome.writer.has(row.text.as_bytes())
-                && outcome.writer.calls == row.text.len().saturating_add(row.texts)
-        });
+        let met = run(&rt, rt.alloc(), &row, 0).is_some_and(|outcome| has_told(
+            &outcome, row.text, row.texts,
+        ));
         assert!(rt; met && RETRY_MS == 50, "{row:?}");
     }
 }
@@ -308,18 +316,29 @@ fn ends_where_the_writer_fails(rt: HostRuntime) {
     }
 }
 
-/// What is told if memory is refused to no look, or to the look that would have told of b, of c or of the suspicion.
-/// What isn't told in one turn is told in the next.
-const PUT_OFF: [&str; 4] = [
-    "0 record b alive 0 127.0.0.1:7000\n50 record c alive 0 127.0.0.1:7000\n\
-        150 record c suspect 0 127.0.0.1:7000 by a\n250 stood-still 150\n",
-    "50 record b alive 0 127.0.0.1:7000\n50 record c alive 0 127.0.0.1:7000\n\
-        150 record c suspect 0 127.0.0.1:7000 by a\n250 stood-still 150\n",
-    "0 record b alive 0 127.0.0.1:7000\n100 record c alive 0 127.0.0.1:7000\n\
-        150 record c suspect 0 127.0.0.1:7000 by a\n250 stood-still 150\n",
-    "0 record b alive 0 127.0.0.1:7000\n50 record c alive 0 127.0.0.1:7000\n\
-        200 record c suspect 0 127.0.0.1:7000 by a\n250 stood-still 150\n",
+/// What is told if memory is refused to no look, or to the one that would have told of c or of the suspicion: what
+/// isn't told in one turn is told in the next, with the moment of its change. And what is told if memory is refused to
+/// the look that would have told of b: the first look that is told then finds c as well, and the moment of its packet.
+/// Each with the number of texts, so that c and the suspicion are told in turns of their own.
+const PUT_OFF: [(&str, usize); 2] = [
+    (
+        "0 record b alive 0 127.0.0.1:7000\n50 record c alive 0 127.0.0.1:7000\n\
+            150 record c suspect 0 127.0.0.1:7000 by a\n250 stood-still 150\n",
+        4,
+    ),
+    (
+        "50 record b alive 0 127.0.0.1:7000\n50 record c alive 0 127.0.0.1:7000\n\
+            150 record c suspect 0 127.0.0.1:7000 by a\n250 stood-still 150\n",
+        3,
+    ),
 ];
+
+/// Whether a watcher wrote this text, and in so many pieces.
+fn has_told(outcome: &Outcome, text: &str, texts: usize) -> bool {
+    outcome.watched == Watched::Told
+        && outcome.writer.has(text.as_bytes())
+        && outcome.writer.calls == text.len().saturating_add(texts)
+}
 
 /// If any one allocation is refused, no line is lost: it is told in the turn after that.
 #[test]
@@ -328,13 +347,12 @@ fn tells_later_after_refused_memory(rt: HostRuntime) {
         stopped: false,
         pauses: &[&[Alive(b'c', 0)], &[], &[Suspect(b'c', 0, b'a')], &[]],
         texts: 4,
-        text: PUT_OFF[0],
+        text: PUT_OFF[0].0,
     };
     let met = run_at_last(&rt, rt.alloc(), &watching, 0).is_some_and(|outcome| {
-        outcome.watched == Watched::Told
-            && PUT_OFF
-                .iter()
-                .any(|text| outcome.writer.has(text.as_bytes()))
+        PUT_OFF
+            .iter()
+            .any(|(text, texts)| has_told(&outcome, text, *texts))
     });
     assert!(rt; met);
 }

@@ -295,8 +295,8 @@ impl Members {
     /// Hears a claim about another member.
     ///
     /// A claim about an unknown member becomes its record if fewer than 255 others are known. A claim that overrides
-    /// the record replaces it, with its address and its accuser. A name that becomes known gets the next slot, and keeps
-    /// it until the restart.
+    /// the record replaces it, with its address and its accuser. A name that becomes known gets the next slot, and
+    /// keeps it until the restart.
     #[tactic(auto, unfolding(crate::specs::Meaning::Table::takes))]
     pub fn hear(&mut self, claim: &Claim) -> Heard
         requires { claim.now.name ≢ self.old.own }

@@ -12,7 +12,7 @@ use crate::reporting::{tell, tell_fault};
 use crate::told::Told;
 use lg_check::check_text;
 use lg_config::{NodeConfig, ReadFault};
-use lg_text::{FaultStream, RunFault, write_whole};
+use lg_text::{FaultStream, RunFault, write_text};
 use std::alloc::Global;
 use std::io::Write;
 use std::rt::Files;
@@ -75,10 +75,7 @@ fn write_check<W: Write>(alloc: Global, node: &NodeConfig, writer: &mut W) -> Re
         (check_text node.now) result }
 {
     let text = check_text(alloc, node)?;
-    match write_whole(writer, text.as_bytes()) {
-        Ok(()) => Ok(()),
-        Err(fault) => Err(RunFault::Write(fault)),
-    }
+    write_text(writer, text.as_bytes())
 }
 
 /// What is told of a text that was to be written.

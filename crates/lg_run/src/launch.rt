@@ -26,7 +26,7 @@ use lg_lines::put_table;
 use lg_node::{NodeEnd, NodeFault, NodeStart, Settings, run_node};
 use lg_rules::{Addr, Record};
 use lg_seal::Keys;
-use lg_text::{FaultStream, RunFault, report, write_whole};
+use lg_text::{FaultStream, RunFault, report, write_text};
 use std::alloc::{AllocError, Global};
 use std::io::{ErrorKind, Write};
 use std::net::Net;
@@ -259,8 +259,5 @@ fn write_table<W: Write>(
     };
     let mut text = Vec::new(alloc);
     put_table(records, &mut text)?;
-    match write_whole(writer, &text) {
-        Ok(()) => Ok(()),
-        Err(fault) => Err(RunFault::Write(fault)),
-    }
+    write_text(writer, &text)
 }

@@ -19,10 +19,10 @@ ghost use Rattle.lg_timing.specs.Meaning.Config.{IsChecked};
 ghost use Rattle.lg_sim.specs.declared.host.Member.{Member as OfMember};
 ghost use Rattle.lg_sim.specs.declared.cluster.Stop.TheVariants.{NoMemory};
 
-use crate::host::{Host, Member, SentPacket, lead};
+use crate::host::{Host, Member, Scratch, SentPacket, lead};
 use arrayvec::ArrayVec;
-use lg_detector::{Detector, Event, NoMemory, Reply};
-use lg_lines::{PacketRow, put_table};
+use lg_detector::{Detector, Event, NoMemory};
+use lg_lines::put_table;
 use lg_rules::{Addr, Name};
 use lg_script::{ScriptFault, local};
 use lg_timing::{Config, Key, MAX_SEEDS, Moment, Seed};
@@ -46,6 +46,20 @@ impl From<AllocError> for Stop {
     fn from(_refused: AllocError) -> Stop {
         Stop::NoMemory
     }
+}
+
+/// A member that is to be opened, and when.
+#[derive(Debug, Drop)]
+pub struct Opening {
+    /// Its name.
+    pub name: Name,
+    /// Its port at 127.0.0.1, 1 to 65535.
+    pub port: u16,
+    /// The moment at which it is opened, in milliseconds.
+    pub now: Moment,
+    /// The members that it knows from the start: at most [`MAX_SEEDS`]. Whether their names differ is judged when it is
+    /// opened.
+    pub seeds: ArrayVec<Seed, MAX_SEEDS>,
 }
 
 /// A cluster of members, each with its detector.
@@ -101,8 +115,7 @@ impl Cluster {
         &mut self,
         at: usize,
         event: &Event,
-        reply: &mut Reply,
-        row: &mut PacketRow,
+        scratch: &mut Scratch,
         text: &mut Vec<u8>,
     ) -> Result<(), NoMemory>
         requires place { at < vec_len self.old.hosts }
@@ -113,7 +126,7 @@ impl Cluster {
             → LedOn self.old self.new text.old.items text.new.items members past
             (Some (record { member = m; event = event.now }))) }
     {
-        lead(&mut self.hosts[at], event, &mut self.sent, reply, row, text)?;
+        lead(&mut self.hosts[at], event, &mut self.sent, scratch, text)?;
         Ok(())
     }
 
@@ -122,8 +135,7 @@ impl Cluster {
         &mut self,
         name: &Name,
         event: &Event,
-        reply: &mut Reply,
-        row: &mut PacketRow,
+        scratch: &mut Scratch,
         text: &mut Vec<u8>,
     ) -> Result<(), Stop>
         requires reached { IsClusterReached self.old }
@@ -141,18 +153,18 @@ impl Cluster {
         let Some(at) = self.place_of(name) else {
             return Err(Stop::Faulty(ScriptFault::Member));
         };
-        self.happen(at, event, reply, row, text)?;
+        self.happen(at, event, scratch, text)?;
         Ok(())
     }
 
-    /// The configuration of a member with this name, port and seeds, and with the settings.
-    fn config_of(&self, name: Name, port: u16, seeds: ArrayVec<Seed, MAX_SEEDS>) -> Config
-        ensures { result ≡ opening_config name port seeds self.now.settings }
+    /// The configuration of a member that is to be opened: its name, port and seeds, with the settings.
+    fn config_of(&self, opening: Opening) -> Config
+        ensures { result ≡ opening_config opening.name opening.port opening.seeds self.now.settings }
     {
         Config {
-            seeds,
-            name,
-            addr: local(port),
+            seeds: opening.seeds,
+            name: opening.name,
+            addr: local(opening.port),
             ..self.settings
         }
     }
@@ -179,8 +191,7 @@ impl Cluster {
         alloc: Global,
         now: Moment,
         config: Config,
-        reply: &mut Reply,
-        row: &mut PacketRow,
+        scratch: &mut Scratch,
         text: &mut Vec<u8>,
     ) -> Result<(), NoMemory>
         requires { IsChecked config }
@@ -198,41 +209,41 @@ impl Cluster {
         let detector = Detector::blank(alloc)?;
         let mut host = Host { member, detector };
         let event = Event::Open { now, config };
-        lead(&mut host, &event, &mut self.sent, reply, row, text)?;
+        lead(&mut host, &event, &mut self.sent, scratch, text)?;
         self.hosts.push(host)?;
         Ok(())
     }
 
-    /// Opens a member with this name at this port of 127.0.0.1, with these seeds and the settings.
+    /// Opens a member, at its port of 127.0.0.1 and with the settings.
     pub fn open(
         &mut self,
         alloc: Global,
-        name: Name,
-        port: u16,
-        now: Moment,
-        seeds: ArrayVec<Seed, MAX_SEEDS>,
-        reply: &mut Reply,
-        row: &mut PacketRow,
+        opening: Opening,
+        scratch: &mut Scratch,
         text: &mut Vec<u8>,
     ) -> Result<(), Stop>
         ensures stops { (members : List OfMember) (past : List Happening)
             → IsCluster self.old.hosts.items self.old.sent.items members past
-            → StopsAt result (opening_fault (opening_config name port seeds self.old.settings) members) }
+            → StopsAt result (opening_fault
+            (opening_config opening.name opening.port opening.seeds self.old.settings) members) }
         ensures unchanged { IfErr result (λ stop. stop ≢ Stop.NoMemory
             → (self.new ≡ self.old) × (text.new.items ≡ text.old.items)) }
         ensures leads { OnOk result ((members : List OfMember) (past : List Happening)
             → IsCluster self.old.hosts.items self.old.sent.items members past
-            → LedOn self.old self.new text.old.items text.new.items (members ++ new_member name port ∷ []) past
+            → LedOn self.old self.new text.old.items text.new.items
+            (members ++ new_member opening.name opening.port ∷ []) past
             (Some (record {
-              member = new_member name port;
-              event = Happened.Open now (opening_config name port seeds self.old.settings);
+              member = new_member opening.name opening.port;
+              event = Happened.Open opening.now
+                  (opening_config opening.name opening.port opening.seeds self.old.settings);
             }))) }
     {
-        let config = self.config_of(name, port, seeds);
+        let now = opening.now;
+        let config = self.config_of(opening);
         if let Some(fault) = self.opening_fault(&config) {
             return Err(Stop::Faulty(fault));
         }
-        self.begin(alloc, now, config, reply, row, text)?;
+        self.begin(alloc, now, config, scratch, text)?;
         Ok(())
     }
 
@@ -257,8 +268,7 @@ impl Cluster {
         &mut self,
         packet: u64,
         now: Moment,
-        reply: &mut Reply,
-        row: &mut PacketRow,
+        scratch: &mut Scratch,
         text: &mut Vec<u8>,
     ) -> Result<(), Stop>
         requires reached { IsClusterReached self.old }
@@ -279,7 +289,7 @@ impl Cluster {
             text.extend_from_slice(b"nobody\n")?;
             return Ok(());
         };
-        self.happen(at, &event, reply, row, text)?;
+        self.happen(at, &event, scratch, text)?;
         Ok(())
     }
 

@@ -7,22 +7,19 @@ ghost use Rattle.lg_script.specs.declared.command.Command.{Command as Commanded}
 ghost use Rattle.lg_sim.specs.Meaning.Outcome.{command_fault};
 ghost use Rattle.lg_sim.specs.Support.After.{IsClusterAfter, IsClusterReached, RanCommand, StopsAt};
 
-use crate::cluster::{Cluster, Stop};
-use lg_detector::{Event, Reply};
-use lg_lines::PacketRow;
+use crate::cluster::{Cluster, Opening, Stop};
+use crate::host::Scratch;
+use lg_detector::Event;
 use lg_script::{Command, local};
 use std::alloc::Global;
 
-/// Carries out a command, and appends what it gives to a text.
-///
-/// `reply` and `row` are scratch buffers; what they hold before or after doesn't matter. If the command is faulty,
-/// nothing changes.
+/// Carries out a command, and appends what it gives to a text. If the command is faulty, nothing changes but the
+/// scratch buffers.
 pub fn run_command(
     alloc: Global,
     command: Command,
     cluster: &mut Cluster,
-    reply: &mut Reply,
-    row: &mut PacketRow,
+    scratch: &mut Scratch,
     text: &mut Vec<u8>,
 ) -> Result<(), Stop>
     requires { IsClusterReached cluster.old }
@@ -43,21 +40,29 @@ pub fn run_command(
             port,
             now,
             seeds,
-        } => cluster.open(alloc, name, port, now, seeds, reply, row, text),
-        Command::Tick { name, now, words } => {
-            cluster.happen_at(&name, &Event::Tick { now, words }, reply, row, text)
+        } => {
+            let opening = Opening {
+                name,
+                port,
+                now,
+                seeds,
+            };
+            cluster.open(alloc, opening, scratch, text)
         }
-        Command::Deliver { packet, now } => cluster.deliver(packet, now, reply, row, text),
+        Command::Tick { name, now, words } => {
+            cluster.happen_at(&name, &Event::Tick { now, words }, scratch, text)
+        }
+        Command::Deliver { packet, now } => cluster.deliver(packet, now, scratch, text),
         Command::Ask { name, now, other } => {
             let event = Event::Ask { now, name: other };
-            cluster.happen_at(&name, &event, reply, row, text)
+            cluster.happen_at(&name, &event, scratch, text)
         }
         Command::Health { name, now } => {
-            cluster.happen_at(&name, &Event::Health { now }, reply, row, text)
+            cluster.happen_at(&name, &Event::Health { now }, scratch, text)
         }
         Command::Pull { name, now, port } => {
             let peer = local(port);
-            cluster.happen_at(&name, &Event::Pull { now, peer }, reply, row, text)
+            cluster.happen_at(&name, &Event::Pull { now, peer }, scratch, text)
         }
         Command::Table { name } => cluster.put_table_of(alloc, &name, text),
     }

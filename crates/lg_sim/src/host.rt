@@ -40,6 +40,15 @@ pub struct SentPacket {
     pub outgoing: Outgoing,
 }
 
+/// Buffers that a run uses again for each event. What they hold before or after a call doesn't matter.
+#[derive(Drop)]
+pub struct Scratch {
+    /// The reply to the event.
+    pub reply: Reply,
+    /// The bytes of a packet of the reply.
+    pub row: PacketRow,
+}
+
 impl Member {
     /// Whether it has this name.
     pub fn is_named(&self, name: &Name) -> bool
@@ -69,14 +78,11 @@ fn keep_sends(from: Addr, sends: &[Outgoing], sent: &mut Vec<SentPacket>) -> Res
 
 /// Hands an event to a member's detector, appends what it sends to the packets sent so far, and appends the lines of
 /// its reply to a text.
-///
-/// `reply` and `row` are scratch buffers; what they hold before or after doesn't matter.
 pub fn lead(
     host: &mut Host,
     event: &Event,
     sent: &mut Vec<SentPacket>,
-    reply: &mut Reply,
-    row: &mut PacketRow,
+    scratch: &mut Scratch,
     text: &mut Vec<u8>,
 ) -> Result<(), NoMemory>
     requires { IsTrue (accepts_of host.old.detector event.now) }
@@ -88,7 +94,7 @@ pub fn lead(
         ≡ text.old.items ++ reply_text event.now (vec_len sent.old + 1) (reply_after f event.now)) }
 {
     let first = sent.len() as u64 + 1;
-    host.detector.step(event, reply);
-    keep_sends(host.member.addr, reply.sends.as_slice(), sent)?;
-    put_reply(event, first, reply, row, text)
+    host.detector.step(event, &mut scratch.reply);
+    keep_sends(host.member.addr, scratch.reply.sends.as_slice(), sent)?;
+    put_reply(event, first, &scratch.reply, &mut scratch.row, text)
 }

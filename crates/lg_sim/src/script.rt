@@ -9,10 +9,10 @@ ghost use Rattle.lg_sim.specs.Support.After.{IsClusterAfter, IsClusterReached, R
 
 use crate::cluster::{Cluster, Stop};
 use crate::command::run_command;
+use crate::host::Scratch;
 use arrayvec::ArrayVec;
 use itoa::Buffer;
 use lg_detector::{NoMemory, Reply};
-use lg_lines::PacketRow;
 use lg_script::{ScriptFault, command_in};
 use lg_text::{MAX_INPUT, RunEnd, cut_line};
 use std::alloc::{AllocError, Global};
@@ -44,8 +44,7 @@ fn run_line(
     alloc: Global,
     line: &[u8],
     cluster: &mut Cluster,
-    reply: &mut Reply,
-    row: &mut PacketRow,
+    scratch: &mut Scratch,
     text: &mut Vec<u8>,
 ) -> Result<(), Stop>
     requires { IsClusterReached cluster.old }
@@ -58,7 +57,7 @@ fn run_line(
 {
     match command_in(line) {
         Ok(None) => Ok(()),
-        Ok(Some(command)) => run_command(alloc, command, cluster, reply, row, text),
+        Ok(Some(command)) => run_command(alloc, command, cluster, scratch, text),
         Err(fault) => Err(Stop::Faulty(fault)),
     }
 }
@@ -73,14 +72,16 @@ pub fn run_script(alloc: Global, input: &[u8]) -> Result<Written, NoMemory>
     ensures end { IfOk result (λ written. written.end ≡ script_end input.now) }
 {
     let mut cluster = Cluster::new(alloc);
-    let mut reply = Reply::default();
-    let mut row = ArrayVec::new();
+    let mut scratch = Scratch {
+        reply: Reply::default(),
+        row: ArrayVec::new(),
+    };
     let mut text = Vec::new(alloc);
     let mut number = 1;
     let mut rest = input;
     'lines: while !rest.is_empty() {
         let (line, after) = cut_line(rest);
-        match run_line(alloc, line, &mut cluster, &mut reply, &mut row, &mut text) {
+        match run_line(alloc, line, &mut cluster, &mut scratch, &mut text) {
             Ok(()) => {}
             Err(Stop::NoMemory) => return Err(AllocError),
             Err(Stop::Faulty(fault)) => {

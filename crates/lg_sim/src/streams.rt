@@ -6,7 +6,7 @@ ghost use Rattle.lg_text.specs.Meaning.Running.{RunsWhole};
 ghost use Rattle.lg_sim.specs.Meaning.Text.{script_end, script_text};
 
 use crate::script::run_script;
-use lg_text::{MAX_INPUT, RunEnd, RunFault, read_input, write_whole};
+use lg_text::{MAX_INPUT, RunEnd, RunFault, read_input, write_text};
 use std::alloc::Global;
 use std::io::{Read, Write};
 
@@ -42,8 +42,6 @@ pub fn run<R: Read, W: Write>(
 {
     let input = read_input(alloc, reader)?;
     let written = run_script(alloc, &input)?;
-    match write_whole(writer, &written.text) {
-        Ok(()) => Ok(written.end),
-        Err(fault) => Err(RunFault::Write(fault)),
-    }
+    write_text(writer, &written.text)?;
+    Ok(written.end)
 }

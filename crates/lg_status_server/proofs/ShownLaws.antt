@@ -1,100 +1,71 @@
--- What a site has made and shows after its first sight, after a look, and after a reading.
-use Rattle.std.proofs.Common.{◌≡◌, ℕ, ◌≤◌, List, [], ◌∷◌, ◌++◌, length, map, refl, sym, ap, ◌∙◌, subst, inr, arith, true, length-append, append-nil}
+-- What a site shows after its first look, after a later look, and after a reading.
+use Rattle.std.proofs.Common.{◌≡◌, ℕ, ◌≤◌, List, [], ◌++◌, length, refl, sym, ap, ◌∙◌, subst, inr, arith, true, length-append}
+use Rattle.std.specs.Prelude.{filter, IfOk, Option, Result, Ok, Err}
+use Rattle.std.specs.declared.alloc.AllocError.{AllocError}
 use mathlib.Core.List.{IsPrefix}
 use Rattle.std.proofs.lemmas.List.{length-map}
-use Rattle.lg_rules.specs.declared.claim.Claim.{Claim}
-use Rattle.lg_rules.specs.Meaning.Claim.{name_of}
-use Rattle.lg_rules.specs.Meaning.Rows.{name_cmp, Rises}
+use Rattle.lg_changes.specs.declared.behind.Behind.{Behind}
+use Rattle.lg_changes.specs.declared.change.Change.{Change}
+use Rattle.lg_changes.specs.declared.ring.Changes.{Changes}
+use Rattle.lg_changes.specs.Meaning.Changes.{is_after, last_version}
+use Rattle.lg_changes.specs.Meaning.Kept.{HasBehind, KeepsNewest}
+use Rattle.lg_counters.specs.declared.counts.Drops.{Drops}
+use Rattle.lg_counters.specs.Meaning.Faults.{AreOfFaults}
 use Rattle.lg_detector.specs.declared.event.Event.{Event}
-use Rattle.lg_detector.specs.Meaning.Step.{view_after, is_accepted}
-use Rattle.lg_view.specs.declared.overview.Overview.{Overview}
-use Rattle.lg_view.specs.Meaning.Views.{IsOverview}
+use Rattle.lg_detector.specs.Meaning.Step.{is_accepted}
+use Rattle.lg_view.specs.Meaning.Changes.{changes_behind, changes_of}
+use Rattle.lg_view.proofs.ChangeLaws.{changes_grow}
+use Rattle.lg_view.proofs.Fronts.{prefix_whole}
 use Rattle.lg_agent.specs.Meaning.Values.{PassValue}
 use Rattle.lg_agent.specs.Meaning.Calls.{IsLook}
-use Rattle.lg_follow.specs.Meaning.Sights.{Sight, SightsGrow, EndsAt, OnlyLooked}
-use Rattle.lg_follow.specs.Support.Telling.{table_told}
-use Rattle.lg_follow.proofs.SightLaws.{table_told-more, rises-after, grow_on, grow_more, grow_last, prefix_itself, prefix_through, look_through, looked_prefix, looked_through}
-use Rattle.lg_answers.specs.declared.ring.Changes.{Changes}
-use Rattle.lg_counters.specs.declared.counts.Drops.{Drops}
+use Rattle.lg_follow.specs.Meaning.Sights.{OnlyLooked}
+use Rattle.lg_follow.proofs.SightLaws.{prefix_itself, prefix_through, look_through, looked_prefix, looked_through}
+use Rattle.lg_http.specs.declared.site.HttpAnswer.{HttpAnswer}
 use Rattle.lg_answers.specs.declared.snapshot.ShownConfig.{ShownConfig}
 use Rattle.lg_answers.specs.declared.snapshot.Snapshot.{Snapshot}
-use Rattle.lg_answers.specs.Meaning.Changes.{Recorded, all_changes, last_version}
-use Rattle.lg_answers.specs.Meaning.Kept.{HasRecorded}
+use Rattle.lg_answers.specs.Meaning.Answers.{answer_to, answer_value}
 use Rattle.lg_status_server.specs.declared.looked.Looked.{Looked}
 use Rattle.lg_status_server.specs.declared.looked.Looked.TheVariants.{Same, Taken, Refused}
 use Rattle.lg_status_server.specs.declared.reading.Reading.{Reading}
-use Rattle.lg_counters.specs.Meaning.Faults.{AreOfFaults}
 use Rattle.lg_status_server.specs.Meaning.Readings.{HasRead}
-use Rattle.lg_status_server.specs.Meaning.Shown.{recorded_at, recorded_from, IsNewest, ShowsEvents, IsShown, HasMade, SiteValue, IsLater}
-use Rattle.lg_status_server.specs.Support.Later.{made_none}
-use Rattle.lg_status_server.specs.Support.Showing.{IsSite, SameLook, SameReading, AddsLook, TakesLook, LeavesLook, LooksAs}
+use Rattle.lg_status_server.specs.Meaning.Shown.{IsNewest, ShowsEvents, IsShown, SiteShows, SiteValue, IsAnswerOf, IsLater}
+use Rattle.lg_status_server.specs.Support.Showing.{IsSite, SameLook, SameReading, KeepsOn, TakesLook, LeavesLook, LooksAs}
 
-abbrev pub sight_at : ℕ → List Event → Sight
-sight_at moment events = record { moment = moment; events = events }
-
--- the looks of sights with one more
-pub recorded_more : (told : List Claim) (sights : List Sight) (s : Sight)
-    → recorded_from told (sights ++ s ∷ []) ≡ recorded_from told sights ++ recorded_at (table_told told sights) s ∷ []
-unfolding recorded_from table_told
-recorded_more told [] s = refl
-recorded_more told (x ∷ xs) s = ap (λ (l : List Recorded). recorded_at told x ∷ l) (recorded_more (view_after x.events) xs s)
-
--- the records that are shown are those of the last sight
-pub table_shown : (sights : List Sight) (shown : List Event) → EndsAt sights shown → table_told [] sights ≡ view_after shown
-table_shown sights shown last =
-    ap (λ (l : List Sight). table_told [] l) last.are ∙ table_told-more [] last.earlier (sight_at last.moment shown)
-
-pub prefix_short : (xs ys : List Event) → IsPrefix xs ys → length xs ≤ length ys
+prefix_short : (xs ys : List Event) → IsPrefix xs ys → length xs ≤ length ys
 prefix_short xs ys p = omega (arith, length-append xs p.0, ap length p.1)
 
--- a beginning that is as long is the whole
-none_left : (xs rest : List Event) → length (xs ++ rest) ≡ length xs → xs ++ rest ≡ xs
-none_left xs [] e = append-nil xs
-none_left xs (x ∷ rest) e = absurd (omega (arith, e, length-append xs (x ∷ rest)))
+version_short : (site : SiteValue) (shown : List Event) → SiteShows site shown → site.snapshot.version ≤ length site.pass.seen
+version_short site shown shows =
+    omega (arith, shows.is_shown.shows.version_is, prefix_short shown site.pass.seen shows.begins)
 
-prefix_whole : (xs ys : List Event) → IsPrefix xs ys → length xs ≡ length ys → xs ≡ ys
-prefix_whole xs ys p e = sym (none_left xs p.0 (ap length p.1 ∙ sym e)) ∙ p.1
+-- What `catch_up` says of a ring.
+abbrev CatchesUp : Changes → Changes → Behind → Type 0
+CatchesUp old new found =
+    (all more : List Change) → (version : ℕ) → KeepsNewest old all → filter (is_after version) (all ++ more) ≡ more
+    → HasBehind found version (all ++ more) → KeepsNewest new (all ++ more)
 
--- what is shown begins what the pass has seen
-shown_prefix : (site : SiteValue) (sights : List Sight) (made : HasMade site sights) → IsPrefix made.shown site.pass.seen
-shown_prefix site sights made =
-    grow_last [] site.pass.seen made.last.earlier (sight_at made.last.moment made.shown)
-    (subst (λ (l : List Sight). SightsGrow [] l site.pass.seen) made.last.are made.grow)
+-- A ring that kept the changes of a beginning of some events, and caught up with those behind its length.
+pub kept_on : (old new : Changes) (found : Behind) (shown events : List Event) → CatchesUp old new found
+    → HasBehind found (length shown) (changes_of events) → KeepsOn old new shown events
+kept_on old new found shown events catches has grows kept =
+    let more : List Change = filter (is_after (length shown)) (changes_of events) in
+    let grow : changes_of events ≡ changes_of shown ++ more = changes_grow shown events grows in
+    subst (λ (all : List Change). KeepsNewest new all) (sym grow)
+    (catches (changes_of shown) more (length shown) kept
+    (ap (filter (is_after (length shown))) (sym grow))
+    (subst (λ (all : List Change). HasBehind found (length shown) all) grow has))
 
-version_short : (site : SiteValue) (sights : List Sight) → HasMade site sights → site.snapshot.version ≤ length site.pass.seen
-version_short site sights made =
-    omega (arith, made.is_shown.shows.version_is, prefix_short made.shown site.pass.seen (shown_prefix site sights made))
-
-pub records_rise : (site : SiteValue) → IsSite site → Rises name_cmp (map name_of site.snapshot.records.items)
-records_rise site is =
-    subst (λ (rs : List Claim). Rises name_cmp (map name_of rs)) (sym is.1.is_shown.shows.records_are) (rises-after is.1.shown)
+-- A ring with no changes, which keeps those of no events.
+pub kept_first : (old new : Changes) (events : List Event) → KeepsNewest old [] → KeepsOn old new [] events → KeepsNewest new (changes_of events)
+unfolding changes_behind
+kept_first old new events none on = on (events, refl) none
 
 -- a snapshot that shows a reading has a row for each fault
-pub rows_of : (rows : List Drops) → AreOfFaults rows → length rows ≡ 11
+rows_of : (rows : List Drops) → AreOfFaults rows → length rows ≡ 11
 rows_of rows are = sym (length-map rows (λ row. row.fault.now)) ∙ ap length are
 
-pub rows_read : (s : Snapshot) (reading : Reading) → HasRead s reading → length s.dropped.items ≡ 11
+rows_read : (s : Snapshot) (reading : Reading) → HasRead s reading → length s.dropped.items ≡ 11
 rows_read s reading read = rows_of s.dropped.items read.faults_are
-
--- the look that an overview is recorded as
-abbrev look_of : List Claim → Overview → ℕ → Recorded
-look_of told found moment = record { told = told; found = found.records.items; version = found.version; moment = moment }
-
-pub look_is : (told : List Claim) (found : Overview) (events : List Event) (moment : ℕ) → IsOverview found events
-    → look_of told found moment ≡ recorded_at told (sight_at moment events)
-look_is told found events moment is = rw (is.records_are, is.version_is) refl
-
--- a look whose overview was shown and recorded
-pub takes : (p p' : PassValue) (s s' : Snapshot) (c c' : Changes) (found : Overview) (moment : ℕ)
-    → IsLook p p' → IsOverview found p'.seen → ShowsEvents s' p'.seen → SameReading s s' → AddsLook c c' (look_of s.records.items found moment)
-    → TakesLook p p' s s' c c'
-takes p p' s s' c c' found moment look is shows same adds = record {
-  look = look;
-  shows = shows;
-  same = same;
-  moment = moment;
-  adds = subst (λ (one : Recorded). AddsLook c c' one) (look_is s.records.items found p'.seen moment is) adds;
-}
 
 leaves_through : (p q p' : PassValue) (s s' : Snapshot) (c c' : Changes) → IsLook p q → LeavesLook q p' s s' c c' → LeavesLook p p' s s' c c'
 leaves_through p q p' s s' c c' look went = record {
@@ -111,103 +82,91 @@ looks_through Taken p q p' s s' c c' look went = record {
   look = look_through p q p' look went.look;
   shows = went.shows;
   same = went.same;
-  moment = went.moment;
-  adds = went.adds;
+  kept = went.kept;
 }
 looks_through Refused p q p' s s' c c' look went = leaves_through p q p' s s' c c' look went
 
--- A first sight is made of what an overview found.
-pub made_first : (pass : PassValue) (name : List ℕ) (config : ShownConfig) (found : Overview) (snapshot : Snapshot) (changes : Changes) (changed moment : ℕ)
-    → IsOverview found pass.seen → is_accepted pass.seen ≡ true → IsShown snapshot name pass.seen
-    → HasRecorded changes (look_of [] found moment ∷ [])
-    → ((looks : List Recorded) → HasRecorded changes looks → changed ≡ last_version (all_changes looks))
-    → HasMade (record { pass = pass; name = name; snapshot = snapshot; changes = changes; config = config; changed = changed; looked = Taken }) (sight_at moment pass.seen ∷ [])
-unfolding recorded_from SightsGrow
-made_first pass name config found snapshot changes changed moment is accepted shown recorded newest =
-    let kept : HasRecorded changes (recorded_from [] (sight_at moment pass.seen ∷ [])) =
-    subst (λ (look : Recorded). HasRecorded changes (look ∷ [])) (look_is [] found pass.seen moment is) recorded in
-    record {
-      grow = ((pass.seen, refl), accepted, prefix_itself pass.seen);
-      shown = pass.seen;
-      last = record { earlier = []; moment = moment; are = refl };
-      is_shown = shown;
-      newest = refl;
-      recorded = kept;
-      changed_is = newest (recorded_from [] (sight_at moment pass.seen ∷ [])) kept;
-    }
-
 -- the version that a site tells is that of the newest change of a ring
 abbrev TellsLast : Changes → ℕ → Type 0
-TellsLast ring changed = (looks : List Recorded) → HasRecorded ring looks → changed ≡ last_version (all_changes looks)
+TellsLast ring changed = (all : List Change) → KeepsNewest ring all → changed ≡ last_version all
 
--- what a site shows is of all that its pass has seen, if that is as many events
-shown_all : (site : SiteValue) (p' : PassValue) (sights : List Sight) (made : HasMade site sights)
-    → IsPrefix site.pass.seen p'.seen → site.snapshot.version ≡ length p'.seen → made.shown ≡ p'.seen
-shown_all site p' sights made more e =
-    prefix_whole made.shown p'.seen (prefix_through made.shown site.pass.seen p'.seen (shown_prefix site sights made) more)
-    (sym made.is_shown.shows.version_is ∙ e)
+-- What a site shows after its first look.
+pub shows_first : (pass : PassValue) (name : List ℕ) (config : ShownConfig) (snapshot : Snapshot) (changes : Changes) (changed : ℕ)
+    → is_accepted pass.seen ≡ true → IsShown snapshot name pass.seen → KeepsNewest changes (changes_of pass.seen) → TellsLast changes changed
+    → SiteShows (record { pass = pass; name = name; snapshot = snapshot; changes = changes; config = config; changed = changed; looked = Taken }) pass.seen
+shows_first pass name config snapshot changes changed accepted shown kept tells = record {
+  accepted = accepted;
+  begins = prefix_itself pass.seen;
+  is_shown = shown;
+  newest = refl;
+  kept = kept;
+  changed_is = tells (changes_of pass.seen) kept;
+}
+
+-- what a site shows is all that its pass has seen, if that is as many events
+shown_all : (site : SiteValue) (p' : PassValue) (shown : List Event) → SiteShows site shown
+    → IsPrefix site.pass.seen p'.seen → site.snapshot.version ≡ length p'.seen → shown ≡ p'.seen
+shown_all site p' shown shows more e =
+    prefix_whole shown p'.seen (prefix_through shown site.pass.seen p'.seen shows.begins more)
+    (omega (arith, shows.is_shown.shows.version_is, e))
 
 -- A look that showed nothing, whatever is said of it.
-made_left : (r : Looked) (site : SiteValue) (p' : PassValue) (s' : Snapshot) (c' : Changes) (changed' : ℕ)
+shows_left : (r : Looked) (site : SiteValue) (p' : PassValue) (s' : Snapshot) (c' : Changes) (changed' : ℕ)
     → LeavesLook site.pass p' site.snapshot s' site.changes c' → TellsLast c' changed'
-    → (sights : List Sight) (made : HasMade site sights) → IsNewest r made.shown p'.seen
-    → HasMade (record site { pass = p'; snapshot = s'; changes = c'; changed = changed'; looked = r }) sights
-made_left r site p' s' c' changed' left tells sights made newest =
-    let kept : HasRecorded c' (recorded_from [] sights) = subst (λ (c : Changes). HasRecorded c (recorded_from [] sights)) (sym left.changes) made.recorded in
+    → (shown : List Event) → SiteShows site shown → IsNewest r shown p'.seen
+    → SiteShows (record site { pass = p'; snapshot = s'; changes = c'; changed = changed'; looked = r }) shown
+shows_left r site p' s' c' changed' left tells shown shows newest =
+    let kept : KeepsNewest c' (changes_of shown) = subst (λ (c : Changes). KeepsNewest c (changes_of shown)) (sym left.changes) shows.kept in
     record {
-      grow = grow_on [] site.pass.seen p'.seen sights made.grow (looked_prefix site.pass p' left.looked);
-      shown = made.shown;
-      last = made.last;
-      is_shown = subst (λ (s : Snapshot). IsShown s site.name made.shown) (sym left.snapshot) made.is_shown;
+      accepted = shows.accepted;
+      begins = prefix_through shown site.pass.seen p'.seen shows.begins (looked_prefix site.pass p' left.looked);
+      is_shown = subst (λ (s : Snapshot). IsShown s site.name shown) (sym left.snapshot) shows.is_shown;
       newest = newest;
-      recorded = kept;
-      changed_is = tells (recorded_from [] sights) kept;
+      kept = kept;
+      changed_is = tells (changes_of shown) kept;
     }
 
--- the records that are shown are those of the last sight
-told_shown : (site : SiteValue) (sights : List Sight) → HasMade site sights → site.snapshot.records.items ≡ table_told [] sights
-told_shown site sights made = made.is_shown.shows.records_are ∙ sym (table_shown sights made.shown made.last)
+-- A look that showed what it found.
+shows_taken : (site : SiteValue) (p' : PassValue) (s' : Snapshot) (c' : Changes) (changed' : ℕ)
+    → TakesLook site.pass p' site.snapshot s' site.changes c' → TellsLast c' changed'
+    → (shown : List Event) → SiteShows site shown
+    → IsPrefix shown p'.seen × SiteShows (record site { pass = p'; snapshot = s'; changes = c'; changed = changed'; looked = Taken }) p'.seen
+shows_taken site p' s' c' changed' takes tells shown shows =
+    let grows : IsPrefix shown p'.seen = prefix_through shown site.pass.seen p'.seen shows.begins takes.look.begins in
+    let kept : KeepsNewest c' (changes_of p'.seen) = takes.kept shown shows.is_shown.shows.version_is grows shows.kept in (
+      grows,
+      record {
+        accepted = takes.look.accepted;
+        begins = prefix_itself p'.seen;
+        is_shown = record {
+          name_is = takes.same.name ∙ shows.is_shown.name_is;
+          shows = takes.shows;
+          reading = shows.is_shown.reading;
+          read = takes.same.read shows.is_shown.reading shows.is_shown.read;
+        };
+        newest = refl;
+        kept = kept;
+        changed_is = tells (changes_of p'.seen) kept;
+      },
+    )
 
--- A look that showed what it found: one more sight.
-made_taken : (site : SiteValue) (p' : PassValue) (s' : Snapshot) (c' : Changes) (changed' : ℕ)
-    (takes : TakesLook site.pass p' site.snapshot s' site.changes c') → TellsLast c' changed'
-    → (sights : List Sight) → HasMade site sights
-    → HasMade (record site { pass = p'; snapshot = s'; changes = c'; changed = changed'; looked = Taken }) (sights ++ sight_at takes.moment p'.seen ∷ [])
-made_taken site p' s' c' changed' takes tells sights made =
-    let one : Sight = sight_at takes.moment p'.seen in
-    let added : HasRecorded c' (recorded_from [] sights ++ recorded_at site.snapshot.records.items one ∷ []) = takes.adds (recorded_from [] sights) made.recorded in
-    let told : HasRecorded c' (recorded_from [] sights ++ recorded_at (table_told [] sights) one ∷ []) =
-    subst (λ (t : List Claim). HasRecorded c' (recorded_from [] sights ++ recorded_at t one ∷ [])) (told_shown site sights made) added in
-    let kept : HasRecorded c' (recorded_from [] (sights ++ one ∷ [])) = subst (λ (looks : List Recorded). HasRecorded c' looks) (sym (recorded_more [] sights one)) told in
-    record {
-      grow = grow_more [] site.pass.seen p'.seen sights takes.moment made.grow takes.look.begins takes.look.accepted;
-      shown = p'.seen;
-      last = record { earlier = sights; moment = takes.moment; are = refl };
-      is_shown = record {
-        name_is = takes.same.name ∙ made.is_shown.name_is;
-        shows = takes.shows;
-        reading = made.is_shown.reading;
-        read = takes.same.read made.is_shown.reading made.is_shown.read;
-      };
-      newest = refl;
-      recorded = kept;
-      changed_is = tells (recorded_from [] (sights ++ one ∷ [])) kept;
-    }
+-- a site shows events that begin with these
+abbrev ShowsOn : SiteValue → List Event → Type 0
+ShowsOn site shown = (events : List Event) × IsPrefix shown events × SiteShows site events
 
--- what a site has made after a look
-made_on : (r : Looked) (site : SiteValue) (p' : PassValue) (s' : Snapshot) (c' : Changes) (changed' : ℕ)
+-- what a site shows after a look
+shows_on : (r : Looked) (site : SiteValue) (p' : PassValue) (s' : Snapshot) (c' : Changes) (changed' : ℕ)
     → LooksAs r site.pass p' site.snapshot s' site.changes c' → TellsLast c' changed'
-    → (sights : List Sight) → HasMade site sights
-    → (more : List Sight) × HasMade (record site { pass = p'; snapshot = s'; changes = c'; changed = changed'; looked = r }) (sights ++ more)
-made_on Same site p' s' c' changed' went tells sights made =
-    let newest = shown_all site p' sights made (looked_prefix site.pass p' went.0.looked) went.1 in
-    let after : SiteValue = record site { pass = p'; snapshot = s'; changes = c'; changed = changed'; looked = Same } in
-    ([], made_none after sights (made_left Same site p' s' c' changed' went.0 tells sights made newest))
-made_on Taken site p' s' c' changed' went tells sights made =
-    (sight_at went.moment p'.seen ∷ [], made_taken site p' s' c' changed' went tells sights made)
-made_on Refused site p' s' c' changed' went tells sights made =
-    let after : SiteValue = record site { pass = p'; snapshot = s'; changes = c'; changed = changed'; looked = Refused } in
-    ([], made_none after sights (made_left Refused site p' s' c' changed' went tells sights made tt))
+    → (shown : List Event) → SiteShows site shown
+    → ShowsOn (record site { pass = p'; snapshot = s'; changes = c'; changed = changed'; looked = r }) shown
+shows_on Same site p' s' c' changed' went tells shown shows =
+    let newest = shown_all site p' shown shows (looked_prefix site.pass p' went.0.looked) went.1 in
+    (shown, prefix_itself shown, shows_left Same site p' s' c' changed' went.0 tells shown shows newest)
+shows_on Taken site p' s' c' changed' went tells shown shows =
+    let taken = shows_taken site p' s' c' changed' went tells shown shows in
+    (p'.seen, taken.0, taken.1)
+shows_on Refused site p' s' c' changed' went tells shown shows =
+    (shown, prefix_itself shown, shows_left Refused site p' s' c' changed' went tells shown shows tt)
 
 -- the same members, and a new reading
 shows_same : (old new : Snapshot) (events : List Event) → SameLook old new → ShowsEvents old events → ShowsEvents new events
@@ -219,21 +178,20 @@ shows_same old new events same is = record {
   ousted_is = same.ousted ∙ is.ousted_is;
 }
 
-made_read : (site : SiteValue) (new : Snapshot) (reading : Reading) → SameLook site.snapshot new → HasRead new reading
-    → (sights : List Sight) → HasMade site sights → HasMade (record site { snapshot = new }) sights
-made_read site new reading same read sights made = record {
-  grow = made.grow;
-  shown = made.shown;
-  last = made.last;
+shows_read : (site : SiteValue) (new : Snapshot) (reading : Reading) → SameLook site.snapshot new → HasRead new reading
+    → (shown : List Event) → SiteShows site shown → SiteShows (record site { snapshot = new }) shown
+shows_read site new reading same read shown shows = record {
+  accepted = shows.accepted;
+  begins = shows.begins;
   is_shown = record {
-    name_is = same.name ∙ made.is_shown.name_is;
-    shows = shows_same site.snapshot new made.shown same made.is_shown.shows;
+    name_is = same.name ∙ shows.is_shown.name_is;
+    shows = shows_same site.snapshot new shown same shows.is_shown.shows;
     reading = reading;
     read = read;
   };
-  newest = made.newest;
-  recorded = made.recorded;
-  changed_is = made.changed_is;
+  newest = shows.newest;
+  kept = shows.kept;
+  changed_is = shows.changed_is;
 }
 
 -- a look only looked, and the version that is shown doesn't fall
@@ -256,19 +214,19 @@ rises_on Refused site p' s' c' is went = left_version site.pass p' site.snapshot
 abbrev pub after_look : Looked → SiteValue → PassValue → Snapshot → Changes → ℕ → SiteValue
 after_look r site p' new c' changed' = record site { pass = p'; snapshot = new; changes = c'; changed = changed'; looked = r }
 
-made_both : (r : Looked) (site : SiteValue) (p' : PassValue) (s' new : Snapshot) (c' : Changes) (changed' : ℕ) (reading : Reading)
+shows_both : (r : Looked) (site : SiteValue) (p' : PassValue) (s' new : Snapshot) (c' : Changes) (changed' : ℕ) (reading : Reading)
     → LooksAs r site.pass p' site.snapshot s' site.changes c' → TellsLast c' changed' → SameLook s' new → HasRead new reading
-    → (sights : List Sight) → HasMade site sights → (more : List Sight) × HasMade (after_look r site p' new c' changed') (sights ++ more)
-made_both r site p' s' new c' changed' reading went tells same read sights made =
-    let on = made_on r site p' s' c' changed' went tells sights made in
-    (on.0, made_read (after_look r site p' s' c' changed') new reading same read (sights ++ on.0) on.1)
+    → (shown : List Event) → SiteShows site shown → ShowsOn (after_look r site p' new c' changed') shown
+shows_both r site p' s' new c' changed' reading went tells same read shown shows =
+    let on = shows_on r site p' s' c' changed' went tells shown shows in
+    (on.0, on.1, shows_read (after_look r site p' s' c' changed') new reading same read on.0 on.2)
 
 pub later_look : (r : Looked) (site : SiteValue) (p' : PassValue) (s' new : Snapshot) (c' : Changes) (changed' : ℕ) (reading : Reading)
     → IsSite site → LooksAs r site.pass p' site.snapshot s' site.changes c' → TellsLast c' changed' → SameLook s' new → HasRead new reading
     → IsLater site (after_look r site p' new c' changed')
 later_look r site p' s' new c' changed' reading is went tells same read = record {
   looked = looks_only r site.pass p' site.snapshot s' site.changes c' went;
-  made = made_both r site p' s' new c' changed' reading went tells same read;
+  shows = shows_both r site p' s' new c' changed' reading went tells same read;
   version_rises = omega (arith, rises_on r site p' s' c' is went, same.version);
   name_is = refl;
   config_is = refl;
@@ -278,14 +236,14 @@ pub site_look : (r : Looked) (site : SiteValue) (p' : PassValue) (s' new : Snaps
     → IsSite site → LooksAs r site.pass p' site.snapshot s' site.changes c' → TellsLast c' changed' → SameLook s' new → HasRead new reading
     → IsSite (after_look r site p' new c' changed')
 site_look r site p' s' new c' changed' reading is went tells same read =
-    let both = made_both r site p' s' new c' changed' reading went tells same read is.0 is.1 in
-    (is.0 ++ both.0, both.1)
+    let both = shows_both r site p' s' new c' changed' reading went tells same read is.0 is.1 in
+    (both.0, both.2)
 
 rows_left : (site : SiteValue) (s' : Snapshot) → IsSite site → s' ≡ site.snapshot → length s'.dropped.items ≡ 11
 rows_left site s' is same = ap (λ (s : Snapshot). length s.dropped.items) same ∙ rows_read site.snapshot is.1.is_shown.reading is.1.is_shown.read
 
 -- a site has a row for each fault, also after a look
-pub rows_look : (r : Looked) (site : SiteValue) (p' : PassValue) (s' : Snapshot) (c' : Changes) → IsSite site
+rows_look : (r : Looked) (site : SiteValue) (p' : PassValue) (s' : Snapshot) (c' : Changes) → IsSite site
     → LooksAs r site.pass p' site.snapshot s' site.changes c' → length s'.dropped.items ≡ 11
 rows_look Same site p' s' c' is went = rows_left site s' is went.0.snapshot
 rows_look Taken site p' s' c' is went = rows_read s' is.1.is_shown.reading (went.same.read is.1.is_shown.reading is.1.is_shown.read)
@@ -305,3 +263,14 @@ shown_first blank new name reading events named read same shows = record {
 pub rows_fit : (rows : List Drops) (r : Looked) (site : SiteValue) (p' : PassValue) (s' : Snapshot) (c' : Changes) → AreOfFaults rows → IsSite site
     → LooksAs r site.pass p' site.snapshot s' site.changes c' → length rows ≡ length s'.dropped.items
 rows_fit rows r site p' s' c' are is went = rows_of rows are ∙ sym (rows_look r site p' s' c' is went)
+
+-- an answer made of what a site has, whatever events it shows
+pub answered : (site : SiteValue) (path : List ℕ) (query : Option (List ℕ)) (result : Result HttpAnswer AllocError) → IsSite site
+    → ((all : List Change) → KeepsNewest site.changes all → IfOk result (λ answer. answer_value answer ≡ answer_to site.snapshot all site.config path query))
+    → IfOk result (λ answer. IsAnswerOf site path query answer)
+answered site path query (Ok answer) is makes = record {
+  shown = is.0;
+  shows = is.1;
+  is = λ events shows. makes (changes_of events) shows.kept;
+}
+answered site path query (Err fault) is makes = tt

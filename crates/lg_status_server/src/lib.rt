@@ -1,7 +1,7 @@
 //! The status server of a node: what it shows over HTTP.
 //!
-//! [`NodeSite`] is a site of `lg_http` over a pass of the agent: it looks at the agent and at what the loops of the node
-//! count (`lg_counters`), and answers with the bodies of `lg_answers`. It takes no lock.
+//! [`NodeSite`] is a site of `lg_http` over a pass of the agent: it looks at the agent and at what the loops of the
+//! node count (`lg_counters`), and answers with the bodies of `lg_answers`. It takes no lock.
 #![tactic(auto)]
 
 mod looked;

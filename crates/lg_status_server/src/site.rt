@@ -3,12 +3,13 @@
 //! Defined in: `specs/Meaning/Shown.antt`, `specs/Meaning/Readings.antt`, `specs/Support/Showing.antt`,
 //! `lg_answers/specs/Meaning/Answers.antt`.
 //! Tested in: `lg_answers_tests/src/showing.rt`, `cases/status`.
-ghost use Rattle.std.specs.Prelude.{◌≡◌, ◌⊎◌, ◌∷◌, [], ℕ, List, IfErr, IfOk, MatchResult};
+ghost use Rattle.std.specs.Prelude.{◌≡◌, ◌⊎◌, [], List, IfErr, IfOk, MatchResult};
+ghost use Rattle.lg_changes.specs.Meaning.Kept.{KeepsNewest};
 ghost use Rattle.lg_detector.specs.declared.event.Event.{Event as Happened};
 ghost use Rattle.lg_agent.specs.declared.refusal.Refusal.TheVariants.{NoMemory, NoView};
+ghost use Rattle.lg_view.specs.Meaning.Changes.{changes_of};
 ghost use Rattle.lg_view.specs.Meaning.Views.{IsOverview};
 ghost use Rattle.lg_follow.specs.Meaning.Sights.{OnlyLooked};
-ghost use Rattle.lg_answers.specs.Meaning.Kept.{HasRecorded};
 ghost use Rattle.lg_status_server.specs.Meaning.Readings.{HasRead};
 ghost use Rattle.lg_status_server.specs.Meaning.Shown.{IsFirst, IsLater, IsShown};
 
@@ -41,8 +42,11 @@ pub struct SiteBasis<'n, C> {
 
 /// What a node shows to those who ask it over HTTP, by looks of a pass. It takes no lock, and nobody waits for it.
 ///
-/// A look that finds events that weren't shown yet allocates memory for 256 records. If that is refused, what is shown
-/// stays as it is until the next look.
+/// It keeps the newest changes of the events that it shows. A record that changed several times between two looks has
+/// several changes, each with the version and the moment of its own event.
+///
+/// A look that finds events that weren't shown yet allocates memory for 256 records and for a copy of the changes
+/// behind those that it keeps. If that is refused, what is shown stays as it is until the next look.
 #[derive(Drop)]
 pub struct NodeSite<'p, 'n, A: AgentName, C>
 where
@@ -88,25 +92,21 @@ where
     } };
 }
 
-/// What a site shows after its first look: each record is a change.
+/// What a site shows after its first look, which was asked for all changes: it keeps the newest of them.
 #[tactic(auto, using(crate::proofs::ShownLaws::shown_first))]
 fn first_shown<C: Clock>(
     basis: &SiteBasis<'_, C>,
     found: Overview,
 ) -> Result<(Snapshot, Changes), AllocError>
-    ensures shown { IfOk result (λ made. (events : List Happened) → IsOverview found events
+    ensures shown { IfOk result (λ made. (events : List Happened) → IsOverview found 0 events
         → IsShown made.0 basis.now.counters.now.name events) }
-    ensures recorded { IfOk result (λ made. (moment : ℕ) × HasRecorded made.1 (record {
-      told = [];
-      found = found.records.items;
-      version = found.version;
-      moment = moment;
-    } ∷ [])) }
+    ensures kept { IfOk result (λ made. (events : List Happened) → IsOverview found 0 events
+        → KeepsNewest made.1 (changes_of events)) }
 {
     let reading = Reading::of(basis.clock, basis.counters);
     let mut snapshot = blank(basis.alloc, basis.counters, &reading)?;
     let mut changes = Changes::new(basis.alloc)?;
-    show(&mut snapshot, &mut changes, found, reading.moment);
+    show(&mut snapshot, &mut changes, found);
     Ok((snapshot, changes))
 }
 
@@ -133,8 +133,9 @@ fn blank(alloc: Global, counters: &Counters, reading: &Reading) -> Result<Snapsh
 }
 
 impl<'p, 'n, A: AgentName, C: Clock> NodeSite<'p, 'n, A, C> {
-    /// A site over a pass, after its first look. Allocates memory for 256 records, for 1,024 changes, and for a row for
-    /// each fault. Refused as [`Pass::overview`] is, and then gives the pass back.
+    /// A site over a pass, after its first look. Allocates memory for 256 records, for 1,024 changes and a copy of
+    /// those that the agent keeps, and for a row for each fault. Refused as [`Pass::overview`] is, and then gives the
+    /// pass back.
     pub fn new(
         pass: Pass<'p, A>,
         basis: SiteBasis<'n, C>,
@@ -145,7 +146,7 @@ impl<'p, 'n, A: AgentName, C: Clock> NodeSite<'p, 'n, A, C> {
         ensures first { IfOk result (λ site. IsFirst site basis.entry.counters.now.name basis.entry.config) }
     {
         let mut pass = pass;
-        let found = match pass.overview(basis.alloc) {
+        let found = match pass.overview(basis.alloc, 0) {
             Ok(found) => found,
             Err(refusal) => return Err((refusal, pass)),
         };
@@ -171,7 +172,6 @@ impl<'p, 'n, A: AgentName, C: Clock> NodeSite<'p, 'n, A, C> {
         self.looked = look(
             &mut self.pass,
             self.basis.alloc,
-            self.basis.clock,
             &mut self.snapshot,
             &mut self.changes,
         );

@@ -36,8 +36,8 @@ enum Progress {
 ///
 /// A longer or endless input is [`InputFault::TooLong`]. It is found after at most `MAX_INPUT + 1` bytes and
 /// `2 * (MAX_INPUT + 1)` read calls. An interrupted call is made again within these calls. Any other error of the
-/// reader is [`InputFault::Failed`] with its kind, and so is an interruption of the last of these calls. The memory that
-/// is allocated is in proportion to the bytes; if it is refused, the fault is [`RunFault::Memory`].
+/// reader is [`InputFault::Failed`] with its kind, and so is an interruption of the last of these calls. The memory
+/// that is allocated is in proportion to the bytes; if it is refused, the fault is [`RunFault::Memory`].
 pub fn read_input<R: Read>(alloc: Global, reader: &mut R) -> Result<Vec<u8>, RunFault>
     ensures all { IfOk result (λ input. Consumes (R.remaining reader.old) (R.remaining reader.new) input.items) }
     ensures end { OnOk result (IsAtEnd (R.remaining reader.new)) }

@@ -21,5 +21,5 @@ pub use lines::cut_line;
 pub use name::name_in;
 pub use number::{MAX_DIGITS, number_in, number_within, port_among, port_in};
 pub use octets::octets_in;
-pub use output::write_whole;
+pub use output::{write_text, write_whole};
 pub use reporting::{FaultStream, report};

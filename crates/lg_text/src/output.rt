@@ -2,11 +2,12 @@
 //!
 //! Defined in: `specs/Meaning/Running.antt`.
 //! Tested in: `lg_command_tests/src/writers.rt`.
-ghost use Rattle.std.specs.Prelude.{◌≡◌, OnErr, OnOk};
+ghost use Rattle.std.specs.Prelude.{◌≡◌, IfErr, OnErr, OnOk, true};
 ghost use Rattle.std.specs.Io.KnownBytes.{Appends};
+ghost use Rattle.lg_text.specs.Meaning.Faults.{is_unwritten};
 ghost use Rattle.lg_text.specs.Meaning.Running.{AppendsFront};
 
-use crate::fault::WriteFault;
+use crate::fault::{RunFault, WriteFault};
 use std::io::{ErrorKind, Write};
 
 /// The fault of a write or a flush that failed by an error of this kind.
@@ -18,8 +19,8 @@ fn unwritten(kind: ErrorKind) -> WriteFault
 
 /// Writes a text and flushes the writer.
 ///
-/// The error says of which kind that of the write or the flush was that failed. What the writer held then has grown by a
-/// beginning of the text: by none of it, a part or all. An interrupted write is made again. A write that takes none of
+/// The error says of which kind the error was of the write or the flush that failed. What the writer held then has grown
+/// by a beginning of the text: by none of it, a part or all. An interrupted write is made again. A write that takes none of
 /// the bytes handed to it is an error too. No memory is allocated apart from what the writer allocates.
 pub fn write_whole<W: Write>(writer: &mut W, text: &[u8]) -> Result<(), WriteFault>
     ensures written { OnOk result (Appends (W.contents writer.old) (W.contents writer.new) text.now) }
@@ -29,6 +30,18 @@ pub fn write_whole<W: Write>(writer: &mut W, text: &[u8]) -> Result<(), WriteFau
     match writer.flush() {
         Ok(()) => Ok(()),
         Err(error) => Err(unwritten(error.kind())),
+    }
+}
+
+/// Writes the text of a run, as [`write_whole`] does. Its fault is [`RunFault::Write`].
+pub fn write_text<W: Write>(writer: &mut W, text: &[u8]) -> Result<(), RunFault>
+    ensures written { OnOk result (Appends (W.contents writer.old) (W.contents writer.new) text.now) }
+    ensures partly { OnErr result (AppendsFront (W.contents writer.old) (W.contents writer.new) text.now) }
+    ensures told { IfErr result (λ fault. is_unwritten fault ≡ true) }
+{
+    match write_whole(writer, text) {
+        Ok(()) => Ok(()),
+        Err(fault) => Err(RunFault::Write(fault)),
     }
 }
 

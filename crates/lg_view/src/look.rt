@@ -1,6 +1,6 @@
 //! A reader of a published pair, and what it has seen.
 //!
-//! Defined in: `lg_detector/specs/Meaning/Step.antt`, `specs/Meaning/Views.antt`.
+//! Defined in: `lg_detector/specs/Meaning/Step.antt`, `specs/Meaning/Views.antt`, `specs/Meaning/Changes.antt`.
 //! Tested in: `lg_agent_tests/src/view/looks.rt`.
 ghost use Rattle.std.specs.Prelude.{◌≡◌, length, true, Some, MatchResult};
 ghost use Rattle.lg_rules.specs.Meaning.Claim.{name_of};
@@ -9,7 +9,7 @@ ghost use Rattle.lg_detector.specs.Meaning.Step.{view_after, deadline_after, is_
 ghost use Rattle.lg_view.specs.Meaning.Views.{begins_open, IsOverview};
 ghost use mathlib.Core.List.{IsPrefix};
 
-use self::reading::{read_deadline, read_front, read_overview, read_status};
+use self::reading::{Blank, read_deadline, read_front, read_overview, read_status, read_table};
 use crate::book::PairName;
 use crate::front::Front;
 use crate::overview::Overview;
@@ -133,22 +133,40 @@ impl<P: PairName> Look<P> {
             (λ records. (records.items ≡ view_after self.new) × IsPrefix self.old self.new)
             (λ _. self.new ≡ self.old) }
     {
-        let overview = self.overview(alloc)?;
-        Ok(overview.records)
+        let Ok(records) = Vec::with_capacity(alloc, MAX_MEMBERS) else {
+            return Err(MembersFault::NoMemory);
+        };
+        match replace_with(&mut self.reader, records, read_table) {
+            Some((records, front)) if self.seen.advance_to(&front) => Ok(records),
+            _ => Err(MembersFault::NoView),
+        }
     }
 
-    /// The records of all members, how many events they are after, and what this member knows of itself after the same
-    /// events. Allocates memory and fails as [`Look::members`] does.
-    pub fn overview(&mut self, alloc: Global) -> Result<Overview, MembersFault>
-        ensures { MatchResult result (λ found. IsOverview found self.new × IsPrefix self.old self.new)
+    /// The records of all members, how many events they are after and at which moment, what this member knows of itself
+    /// after the same events, and the changes behind a version. Allocates memory for 256 records and for a copy of the
+    /// changes. Fails as [`Look::members`] does.
+    pub fn overview(&mut self, alloc: Global, version: u64) -> Result<Overview, MembersFault>
+        ensures { MatchResult result (λ found. IsOverview found version self.new × IsPrefix self.old self.new)
             (λ _. self.new ≡ self.old) }
     {
         let Ok(records) = Vec::with_capacity(alloc, MAX_MEMBERS) else {
             return Err(MembersFault::NoMemory);
         };
-        match replace_with(&mut self.reader, records, read_overview) {
-            Some((overview, front)) if self.seen.advance_to(&front) => Ok(overview),
-            _ => Err(MembersFault::NoView),
+        let blank = Blank {
+            alloc,
+            records,
+            version,
+        };
+        let Some((overview, front)) = replace_with(&mut self.reader, blank, read_overview) else {
+            return Err(MembersFault::NoView);
+        };
+        let Ok(overview) = overview else {
+            return Err(MembersFault::NoMemory);
+        };
+        if self.seen.advance_to(&front) {
+            Ok(overview)
+        } else {
+            Err(MembersFault::NoView)
         }
     }
 }

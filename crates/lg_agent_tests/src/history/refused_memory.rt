@@ -1,4 +1,5 @@
-//! Entries that are stored and read back. If memory is refused once, a second try succeeds.
+//! Entries that are stored and read back. If memory is refused once, a second try succeeds. Nothing here refuses
+//! memory: `gate/refusals` runs each test once for each allocation, with that one refused.
 use super::rows::{Row, all, opening, ping, question};
 use crate::comparing::is_same_event;
 use lg_history::{Entry, History};

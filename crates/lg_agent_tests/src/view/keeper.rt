@@ -34,7 +34,8 @@ where
 }
 
 impl<P: PairName> Keeper<P> {
-    /// A pair with this many looks. The only error to be looked for is that memory was refused.
+    /// A keeper of no events, and this many looks. Fails as [`pair`] does, and with [`PairFault::NoMemory`] if memory
+    /// for the detector was refused.
     pub(super) fn new<R: Wait>(
         rt: &R,
         alloc: Global,
@@ -68,7 +69,7 @@ impl<P: PairName> Keeper<P> {
         true
     }
 
-    /// Tells a look what is published, unless it has seen more. Returns whether it was told.
+    /// Tells a look what is published, unless it has seen more events than that. Returns whether it was told.
     pub(super) fn tell(&self, look: &mut Look<P>) -> bool
         ensures { MatchBool result (look.new ≡ self.now) (look.new ≡ look.old) }
     {

@@ -5,19 +5,22 @@ ghost use Rattle.lg_view.specs.Meaning.Views.{begins_open};
 
 use super::keeper::Keeper;
 use super::playing::{Outcome, Play, Shown, told};
-use super::{ping_of_a, tick};
+use super::{ping_of_a, says, tick};
+use lg_changes::{Behind, Change};
 use lg_detector::{Event, Standing};
-use lg_testing::{alive, at, incarnation, letter, local};
+use lg_rules::Claim;
+use lg_testing::{alive, at, incarnation, letter, local, suspect};
 use lg_timing::Config;
 use lg_view::{Look, PairName};
 use std::alloc::Global;
+use std::ops::Range;
 use std::sync::Wait;
 
-/// Whether each thing that has to hold held.
-pub(super) type Rows = [bool; 12];
+/// The outcome of each check in [`NAMES`].
+pub(super) type Checks = [bool; 18];
 
 /// What has to hold.
-const NAMES: &[&str] = &[
+const NAMES: [&str; 18] = [
     "a told reader has seen the opening",
     "the first deadline is 0",
     "the version is 1",
@@ -30,6 +33,12 @@ const NAMES: &[&str] = &[
     "its Ping waits for 500 ms",
     "the version is 3",
     "b and c are members",
+    "c is suspected at 400",
+    "c is alive after all at 410",
+    "both changes are told, and what came before isn't",
+    "all changes are told",
+    "1,025 changes more are heard",
+    "the first of these is no longer kept, and the others are",
 ];
 
 /// Opens b, and tells both looks of it.
@@ -57,7 +66,7 @@ fn look_on<P: PairName, R: Wait>(
     keeper: &mut Keeper<P>,
     one: &mut Look<P>,
     two: &mut Look<P>,
-) -> Rows
+) -> Checks
     requires { (begins_open one.old ≡ true) × (begins_open two.old ≡ true) }
 {
     let (c, known) = (letter(b'c'), alive(b'c', 0));
@@ -74,7 +83,80 @@ fn look_on<P: PairName, R: Wait>(
         two.next_deadline() == Ok(500),
         one.version() == Ok(3),
         has_both(alloc, one),
+        keeper.take(rt, alloc, &says(400, suspect(b'c', 0, b'd'))),
+        keeper.take(rt, alloc, &says(410, alive(b'c', 1))),
+        tells(alloc, two, 3, &refuted()),
+        tells(alloc, two, 0, &all_changes()),
+        hears_more(rt, alloc, keeper),
+        keeps_the_newest(alloc, two),
     ]
+}
+
+/// A change of c or of b, with how many events there were then and the moment.
+fn change(version: u64, now: u64, member: Claim) -> Change {
+    Change {
+        version,
+        moment: at(now),
+        member,
+    }
+}
+
+/// The suspicion of c and its end, 10 ms later.
+fn refuted() -> [Change; 2] {
+    [
+        change(4, 400, suspect(b'c', 0, b'd')),
+        change(5, 410, alive(b'c', 1)),
+    ]
+}
+
+/// All changes since the opening.
+fn all_changes() -> [Change; 4] {
+    let [suspected, cleared] = refuted();
+    [
+        change(1, 0, alive(b'b', 0)),
+        change(2, 0, alive(b'c', 0)),
+        suspected,
+        cleared,
+    ]
+}
+
+/// Whether a look tells just these changes behind a version, and that the last event came at 410.
+fn tells<P: PairName>(alloc: Global, look: &mut Look<P>, version: u64, wanted: &[Change]) -> bool {
+    let Ok(found) = look.overview(alloc, version) else {
+        return false;
+    };
+    match &found.changes {
+        Behind::All(rows) => rows.as_slice() == wanted && found.moment == at(410),
+        Behind::Missed(_) => false,
+    }
+}
+
+/// The incarnations of c that are heard one after another: 1,025, one more than changes are kept.
+const MORE: Range<u32> = 2..1027;
+
+/// Whether b hears that c is alive at each of these incarnations.
+fn hears_more<P: PairName, R: Wait>(rt: &R, alloc: Global, keeper: &mut Keeper<P>) -> bool {
+    for incarnation in MORE {
+        if !keeper.take(rt, alloc, &says(420, alive(b'c', incarnation))) {
+            return false;
+        }
+    }
+    true
+}
+
+/// Whether a look says that changes behind the fifth event are missed, and tells each of the 1,024 behind the sixth.
+fn keeps_the_newest<P: PairName>(alloc: Global, look: &mut Look<P>) -> bool {
+    let (Ok(fifth), Ok(sixth)) = (look.overview(alloc, 5), look.overview(alloc, 6)) else {
+        return false;
+    };
+    match (&fifth.changes, &sixth.changes) {
+        (Behind::Missed(_), Behind::All(rows)) => {
+            rows.len() == 1024
+                && rows.iter().zip(MORE.skip(1)).all(|(row, incarnation)| row.member
+                    == alive(b'c', incarnation))
+        }
+        _ => false,
+    }
 }
 
 /// Whether b and c are the members, as a look sees them, and b knows of itself that nothing was held against it.
@@ -85,7 +167,7 @@ fn has_both<P: PairName>(alloc: Global, look: &mut Look<P>) -> bool {
         number: incarnation(0),
         ousted: false,
     };
-    match (look.members(alloc), look.overview(alloc)) {
+    match (look.members(alloc), look.overview(alloc, 3)) {
         (Ok(members), Ok(overview)) => {
             members.as_slice() == both.as_slice()
                 && overview.records.as_slice() == both.as_slice()
@@ -96,14 +178,14 @@ fn has_both<P: PairName>(alloc: Global, look: &mut Look<P>) -> bool {
     }
 }
 
-/// The rows of two looks, which are told of the opening.
+/// The checks of two looks, which are told of the opening. None if they couldn't be told.
 pub(super) fn play_looks<P: PairName, R: Wait>(
     rt: &R,
     alloc: Global,
     keeper: &mut Keeper<P>,
     one: &mut Look<P>,
     two: &mut Look<P>,
-) -> Option<Rows>
+) -> Option<Checks>
     requires { keeper.old ≡ [] }
 {
     if opens(rt, alloc, keeper, one, two) {
@@ -114,7 +196,7 @@ pub(super) fn play_looks<P: PairName, R: Wait>(
 }
 
 /// The first thing that has to hold and didn't.
-fn first_unmet(rows: &Rows) -> Option<&'static str> {
+fn first_unmet(rows: &Checks) -> Option<&'static str> {
     for (met, name) in rows.iter().zip(NAMES.iter()) {
         if !*met {
             return Some(*name);

@@ -2,10 +2,10 @@
 ghost use Rattle.std.specs.Prelude.{◌≡◌, []};
 
 use super::keeper::Keeper;
-use super::looks::{Rows, play_looks};
+use super::looks::{Checks, play_looks};
 use super::refused_memory::goes_on;
 use super::threads::{Read, play_threads};
-use lg_view::{Look, NoView, PairFault, PairName, UnnamedBook};
+use lg_view::{Look, MembersFault, NoView, PairFault, PairName, UnnamedBook};
 use std::alloc::Global;
 use std::marker::Brand;
 use std::sync::Wait;
@@ -26,14 +26,15 @@ pub(super) enum Play {
 #[derive(Clone, Copy)]
 pub(super) enum Shown {
     /// Whether each thing that has to hold held, or None if a look wasn't told of the opening.
-    Looks(Option<Rows>),
+    Looks(Option<Checks>),
     /// Whether all went well, at the second try if memory was refused.
     Refused(bool),
     /// How many events were published, and what each reader found.
     Threads(u64, Read, Read),
 }
 
-/// What was seen of a pair, whether a look answered nothing after the pair's end, and how many events it had seen.
+/// What was seen of a pair, whether both looks answered nothing after the pair's end, and how many events the first had
+/// seen.
 #[derive(Clone, Copy)]
 pub(super) struct Outcome {
     pub(super) shown: Shown,
@@ -77,7 +78,9 @@ fn play_pair<P: PairName + Send + Sync, R: Threads + Wait + Sync>(
     keeper.end(rt);
     Ok(Outcome {
         shown,
-        ended: one.version() == Err(NoView),
+        ended: one.version() == Err(NoView)
+            && two.version() == Err(NoView)
+            && matches!(one.members(alloc), Err(MembersFault::NoView)),
         seen: one.seen(),
     })
 }

@@ -9,8 +9,8 @@ use Rattle.lg_http.specs.declared.site.Kind.TheVariants.{Json, Html}
 use Rattle.lg_http.specs.declared.site.HttpStatus.{HttpStatus}
 use Rattle.lg_http.specs.declared.site.HttpStatus.TheVariants.{Fine, NotFound, Unavailable}
 use Rattle.lg_rules.specs.declared.claim.Claim.{Claim}
+use Rattle.lg_changes.specs.declared.change.Change.{Change}
 use Rattle.lg_answers.specs.declared.reason.RouteFault.{RouteFault}
-use Rattle.lg_answers.specs.declared.ring.Change.{Change}
 use Rattle.lg_answers.specs.declared.route.Route.{Route}
 use Rattle.lg_answers.specs.declared.route.Route.TheVariants.{Page, Members, Member, Health, Changes, Config, Metrics}
 use Rattle.lg_answers.specs.declared.snapshot.ShownConfig.{ShownConfig}
@@ -57,7 +57,7 @@ health_status ousted = if ousted then Unavailable else Fine
 abbrev pub health_answer : Snapshot → AnswerValue
 health_answer s = record { status = health_status s.ousted; kind = Json; body = health_body s }
 
--- the answer for a route, from one look, all changes that were recorded, and the configuration
+-- the answer for a route, from one look, all changes, and the configuration
 unfoldable pub route_answer : Snapshot → List Change → ShownConfig → Route → AnswerValue
 route_answer s all setup Page = found_answer Html (page_body s)
 route_answer s all setup (Members kind) = found_answer Json (members_body s kind)

@@ -27,6 +27,7 @@ pub record AreOpened (before words : List ℕ) (number : ℕ) : Type 0 where
 pub record AreFallen (before words : List ℕ) (number index : ℕ) : Type 0 where
   pub are : AreWords words
   pub below : (other : ℕ) → other < number → bit_flag words other ≡ bit_flag before other
-  pub fallen : (other : ℕ) → number ≤ other → other + 1 < 64 * index → bit_flag words other ≡ bit_flag before (other + 1)
+  pub fallen : (other : ℕ) → number ≤ other → other + 1 < 64 * index
+      → bit_flag words other ≡ bit_flag before (other + 1)
   pub last : bit_flag words (64 * index - 1) ≡ 0
   pub kept : (j : ℕ) → index ≤ j → slice_index words j ≡ slice_index before j

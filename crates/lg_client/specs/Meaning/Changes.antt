@@ -13,7 +13,7 @@ pub record NewsSaid : Type 0 where
   pub missed : Bool
   pub changes : List Change
 
--- a change: the moment of the look that found it, and the record
+-- a change: the moment at which the record changed, and the record
 unfoldable pub change_said : Data → Option Change
 change_said change = do
   moment ← natural_at_key (codes "moment_ms") change

@@ -46,12 +46,12 @@ abbrev pub missed_text : Bool → List ℕ
 missed_text missed = if missed then codes "missed" ++ newline else []
 
 -- the changes of an answer; of none nothing
-abbrev pub changes_behind : List ℕ → List Change → List ℕ
-changes_behind front [] = []
-changes_behind front (change ∷ changes) = front ++ flat_map change_line (change ∷ changes)
+abbrev pub change_lines : List ℕ → List Change → List ℕ
+change_lines front [] = []
+change_lines front (change ∷ changes) = front ++ flat_map change_line (change ∷ changes)
 
 unfoldable pub news_text : Bool → NewsSaid → List ℕ
-news_text is_first news = changes_behind (missed_text (news.missed && not is_first)) news.changes
+news_text is_first news = change_lines (missed_text (news.missed && not is_first)) news.changes
 
 -- a body as it came, as a line
 abbrev pub body_line : List ℕ → List ℕ

@@ -67,20 +67,20 @@ IsAnswerTold held holds reported reports told status =
 
 -- Some answer with an allowed status code comes, and what its body tells is written.
 pub record TellsTold
-    (at : List ℕ) (question : Resource) (json : Bool) (held holds : Option (List ℕ)) (reported reports : Reported)
+    (at : List ℕ) (resource : Resource) (json : Bool) (held holds : Option (List ℕ)) (reported reports : Reported)
     (status : ℕ)
     : Type 0 where
   pub address : HasNodeAddress at
   pub body : List ℕ
-  pub answered : IsAnswerBody (codes_of question) body
+  pub answered : IsAnswerBody (codes_of resource) body
   pub told : AnswerText
-  pub says : question_told question json body ≡ Some told
+  pub says : question_told resource json body ≡ Some told
   pub ends : IsAnswerTold held holds reported reports told status
 
 -- A node is asked a question. What some answer tells is written, or it is told why nothing is.
 abbrev pub TellsAnswer :
     {W : Type 0} → (at : List ℕ) → Resource → (json : Bool) (before after : W)
     (held holds : Option (List ℕ)) (reported reports : Reported) (status : ℕ) → Type 0
-TellsAnswer at question json before after held holds reported reports status =
-    TellsTold at question json held holds reported reports status
-    ⊎ TellsFaultAlone at (codes_of question) (question_told question json) before after reported reports status
+TellsAnswer at resource json before after held holds reported reports status =
+    TellsTold at resource json held holds reported reports status
+    ⊎ TellsFaultAlone at (codes_of resource) (question_told resource json) before after reported reports status

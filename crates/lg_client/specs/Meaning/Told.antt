@@ -38,9 +38,9 @@ text_shown json body lines = if json then body_line body else lines
 
 -- what a body tells that answers a question
 unfoldable pub question_told : Resource → Bool → List ℕ → Option AnswerText
-question_told question json body = do
+question_told resource json body = do
   answer ← json_of body
-  told ← lines_said question answer
+  told ← lines_said resource answer
   Some record { text = text_shown json body told.text; ousted = told.ousted }
 
 -- the body of an answer with changes as it came; nothing if there are none

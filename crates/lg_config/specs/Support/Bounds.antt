@@ -4,7 +4,8 @@ use Rattle.lg_config.specs.declared.document.TheConstants.{MAX_FILE}
 use Rattle.lg_config.specs.declared.key_file.TheConstants.{MAX_PATH}
 use Rattle.lg_config.specs.declared.node_keys.TheConstants.{MAX_PULL_MS, MAX_STALL_MS}
 use Rattle.lg_config.specs.declared.settings.TheConstants.{DEFAULT_PORT, DEFAULT_DICE}
-use Rattle.lg_config.specs.Meaning.Bounds.{most_bytes, most_path_bytes, most_pull_ms, most_stall_ms, default_port, default_dice}
+use Rattle.lg_config.specs.Meaning.Bounds.{most_bytes, most_path_bytes, most_pull_ms, most_stall_ms}
+use Rattle.lg_config.specs.Meaning.Bounds.{default_port, default_dice}
 
 most_bytes-is : MAX_FILE ≡ most_bytes
 most_bytes-is = refl

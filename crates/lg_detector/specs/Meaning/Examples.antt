@@ -30,9 +30,9 @@ use Rattle.lg_detector.specs.declared.event.Event.TheVariants.{Open, Tick, Heard
 use Rattle.lg_detector.specs.declared.reply.Answer.TheVariants.{Status as OfStatus, Health as OfHealth}
 use Rattle.lg_detector.specs.declared.reply.Outgoing.{Outgoing}
 use Rattle.lg_detector.specs.declared.reply.Reply.{Reply}
-use Rattle.lg_detector.specs.Meaning.Log.{Log, moment, group_log}
+use Rattle.lg_detector.specs.Meaning.Log.{Log, group_log}
 use Rattle.lg_detector.specs.Meaning.Step.{log_of, reply_after, view_after, deadline_after, own_standing_after}
-use Rattle.lg_detector.specs.Meaning.Step.{is_accepted}
+use Rattle.lg_detector.specs.Meaning.Step.{is_accepted, moment_after}
 
 -- What has to be unfolded to compute a worked event.
 unfoldable pub by_computing : Unit {0}
@@ -280,9 +280,6 @@ unfolding by_computing
 it_knows_that_it_is_ousted = refl
 
 -- Moments may go back: an event at an earlier moment leaves the moment as it is, and no packet moves a deadline.
-abbrev moment_after : List Event → ℕ
-moment_after f = moment (log_after f)
-
 the_greatest_moment_counts : moment_after (opening 5000 ∷ pings 4000 1 b [] ∷ []) ≡ 5000
 the_greatest_moment_counts = refl
 

@@ -31,7 +31,7 @@ use Rattle.lg_detector.specs.declared.reply.Answer.{Answer}
 use Rattle.lg_detector.specs.declared.reply.Outgoing.{Outgoing}
 use Rattle.lg_detector.specs.declared.reply.Reply.{Reply}
 use Rattle.lg_detector.specs.declared.standing.Standing.{Standing}
-use Rattle.lg_detector.specs.Meaning.Log.{Log, group_log}
+use Rattle.lg_detector.specs.Meaning.Log.{Log, group_log, moment}
 use Rattle.lg_detector.specs.Meaning.Timing.{due, pending, deadline_in, or_zero}
 use Rattle.lg_detector.specs.Meaning.Apply.{come}
 use Rattle.lg_detector.specs.Meaning.Open.{open_with}
@@ -96,7 +96,7 @@ reply e log =
     }
 
 -- The same after a list of events, the earliest first: the reply to one more event, the member table, the least
--- deadline, and what this member knows of itself.
+-- deadline, what this member knows of itself, and the greatest moment handed in.
 abbrev pub reply_after : List Event → Event → Reply
 reply_after f e = reply e (log_of (reverse f))
 
@@ -108,6 +108,9 @@ deadline_after f = deadline_in (pending (log_of (reverse f)))
 
 abbrev pub own_standing_after : List Event → Standing
 own_standing_after f = own_standing (log_of (reverse f))
+
+abbrev pub moment_after : List Event → ℕ
+moment_after f = moment (log_of (reverse f))
 
 -- the most events of a list that is accepted (this project's choice)
 abbrev pub most_events : ℕ

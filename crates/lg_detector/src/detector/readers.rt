@@ -7,7 +7,7 @@ ghost use Rattle.std.specs.Prelude.{◌≡◌, List, IfOk, length};
 ghost use Rattle.lg_rules.specs.Meaning.Claim.{name_of};
 ghost use Rattle.lg_rules.specs.Meaning.Rows.{name_cmp, row_at};
 ghost use Rattle.lg_detector.specs.declared.event.Event.{Event as Happened};
-ghost use Rattle.lg_detector.specs.Meaning.Step.{view_after, deadline_after, own_standing_after};
+ghost use Rattle.lg_detector.specs.Meaning.Step.{view_after, deadline_after, moment_after, own_standing_after};
 ghost use Rattle.lg_detector.specs.Meaning.Timing.{or_zero};
 ghost use Rattle.lg_detector.specs.Support.Ask.{own_standing_state};
 ghost use Rattle.lg_detector.specs.Support.Step.{state_after, deadline_state, view_state};
@@ -16,6 +16,7 @@ use super::{Detector, NoMemory};
 use crate::standing::Standing;
 use arrayvec::ArrayVec;
 use lg_rules::{MAX_MEMBERS, Name, Record};
+use lg_timing::Moment;
 use std::alloc::Global;
 
 impl Detector {
@@ -61,6 +62,14 @@ impl Detector {
             number: self.parts.membership.number(),
             ousted: self.parts.membership.is_ousted(),
         }
+    }
+
+    /// The greatest moment handed in so far, or 0 if nothing has happened yet. Allocates nothing.
+    pub fn moment(&self) -> Moment
+        ensures state { result ≡ self.now.moment }
+        ensures list { (f : List Happened) → self.now ≡ state_after f → result ≡ moment_after f }
+    {
+        self.parts.moment
     }
 
     /// The least deadline of the timers that are set, in milliseconds. There is none before the opening.

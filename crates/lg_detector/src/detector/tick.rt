@@ -23,7 +23,8 @@ ghost use Rattle.lg_rules.specs.Meaning.View.{changed};
 ghost use Rattle.lg_detector.specs.Meaning.Tick.{failed_of};
 ghost use Rattle.lg_detector.specs.Support.State.{come_state};
 ghost use Rattle.lg_detector.specs.Support.Step.{view_state};
-ghost use Rattle.lg_detector.specs.Support.Tick.{due_state, expire_sends_state, expire_state, sends_at_state, tick_state};
+ghost use Rattle.lg_detector.specs.Support.Tick.{due_state, expire_sends_state, expire_state, sends_at_state};
+ghost use Rattle.lg_detector.specs.Support.Tick.{tick_state};
 
 use super::{Detector, MAX_EVENTS};
 use crate::reply::{MAX_CHANGED, MAX_SENDS, Outgoing, Reply};

@@ -3,8 +3,8 @@ use super::happening::Happens::{Ask, Health, Opens, Ping, Tick};
 use super::happening::Setting::MaxScore;
 use super::playing::Due::Nothing;
 use super::playing::Step::{
-    self, Acks, Answers, AnswersHealth, AnswersNothing, Changed, Events, Fired, Known, Next,
-    Ousted, Refuses, Sends, Table, Takes,
+    self, Acks, Answers, AnswersHealth, AnswersNothing, Changed, Events, Fired, Known, Moment,
+    Next, Ousted, Refuses, Sends, Table, Takes,
 };
 use super::playing::{Case, blank, play, play_blank, play_on};
 use crate::says::Said::{self, Alive, Failed, Suspect};
@@ -282,8 +282,22 @@ const TWO_DUE: Case = (
     ],
 );
 
+/// The greatest moment counts, also when an event comes with an earlier one.
+const MOMENTS: Case = (
+    "a moment that goes back",
+    &[
+        Moment(0),
+        Takes(Ask(20, "b")),
+        Moment(20),
+        Takes(Health(10)),
+        Moment(20),
+        Takes(Ping(30, 1, "b", &[])),
+        Moment(30),
+    ],
+);
+
 /// Each case of questions to a b that is open.
-const PLAYED: &[&[Case]] = &[&[RECORDS], MARKED, COUNTED, &[TWO_DUE]];
+const PLAYED: &[&[Case]] = &[&[RECORDS], MARKED, COUNTED, &[TWO_DUE], &[MOMENTS]];
 
 #[test]
 fn answers(rt: HostRuntime) {

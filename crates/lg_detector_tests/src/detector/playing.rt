@@ -7,7 +7,7 @@ use arrayvec::ArrayVec;
 use lg_detector::{Answer, Detector, Event, MAX_MEMBERS, Outgoing, Reply, Timer, TimerId};
 use lg_packet::Version;
 use lg_rules::Record;
-use lg_testing::{incarnation, local};
+use lg_testing::{at, incarnation, local};
 use std::alloc::Global;
 use std::process::Abort;
 
@@ -80,6 +80,8 @@ pub(crate) enum Step<'a> {
     Members(usize),
     /// How many events came.
     Events(u64),
+    /// The greatest moment handed in.
+    Moment(u64),
 }
 
 /// The timer that is due.
@@ -216,6 +218,7 @@ fn plays(step: &Step<'_>, detector: &mut Detector, reply: &mut Reply) -> bool {
         Step::Table(said) => are_said(table_of(detector).as_slice(), said),
         Step::Members(count) => table_of(detector).len() == *count,
         Step::Events(count) => detector.events() == *count,
+        Step::Moment(moment) => detector.moment() == at(*moment),
         Step::AnswersHealth(score, number, _) => {
             let standing = detector.standing();
             is_replied(step, reply)

@@ -66,8 +66,8 @@ const RAISED_TO_32000: Did = Did {
     ..CHANGED
 };
 
-/// Alive at the record's incarnation clears no suspicion. A second accuser moves the deadline, known or not, and does so
-/// once, also if it becomes a member in between; among two members none does.
+/// Alive at the record's incarnation clears no suspicion. A second accuser moves the deadline, known or not, and does
+/// so once, also if it becomes a member in between; among two members none does.
 const SUSPICIONS: &[Case] = &[
     (
         "alive at the number",

@@ -1,10 +1,18 @@
 -- Worked texts of a watcher. b is opened at 0, hears of c, then that a suspects it, and then that it has failed.
-use Rattle.std.specs.Prelude.{◌≡◌, ℕ, List, [], ◌∷◌, ◌++◌, codes, refl}
+use Rattle.std.specs.Prelude.{⊤, ◌≡◌, List, [], ◌∷◌, ◌++◌, None, codes, refl}
 use Rattle.std.specs.Fmt.{digits}
+use Rattle.lg_changes.specs.Meaning.Changes.{changes_after}
 use Rattle.lg_detector.specs.declared.event.Event.{Event}
-use Rattle.lg_detector.specs.Meaning.Examples.{by_computing, a, b, c, alive, failed, suspect, opening, pings}
-use Rattle.lg_follow.specs.Meaning.Lines.{told_lines, stood_line}
-use Rattle.lg_follow.specs.Meaning.Sights.{Sight, later_text, sights_text}
+use Rattle.lg_detector.specs.Meaning.Examples.{by_computing, a, b, c, d, alive, failed, suspect, opening, pings, seeded}
+use Rattle.lg_view.specs.Meaning.Changes.{changed_at, changes_at, changes_behind}
+use Rattle.lg_follow.specs.Meaning.Lines.{told_lines, changed_lines, missed_line, stood_line}
+use Rattle.lg_follow.specs.Meaning.Sights.{behind_text, later_text, sights_text}
+
+-- what the rows have to unfold
+unfoldable by_telling : ⊤
+unfolding by_computing changed_at changes_at changes_behind changes_after told_lines changed_lines later_text
+    sights_text
+by_telling = tt
 
 -- the events up to each of these packets
 abbrev known : List Event
@@ -16,33 +24,49 @@ accused = known ++ pings 20 2 b (suspect c 0 a ∷ []) ∷ []
 abbrev gone : List Event
 gone = accused ++ pings 30 3 b (failed c 0 ∷ []) ∷ []
 
-abbrev sight : ℕ → List Event → Sight
-sight moment events = record { moment = moment; events = events }
-
-it_is_alone : sights_text (sight 4 (opening 0 ∷ []) ∷ []) ≡ codes "4 record b alive 0 127.0.0.1:7000\n"
-unfolding sights_text later_text told_lines by_computing
+it_is_alone : sights_text ((opening 0 ∷ []) ∷ []) ≡ codes "0 record b alive 0 127.0.0.1:7000\n"
+unfolding by_telling
 it_is_alone = refl
 
--- the first sight tells each member, and the later ones what differs
+-- the first sight tells each member, and the later ones each change behind the one before
 suspected_and_then_failed :
-    sights_text (sight 7 known ∷ sight 57 accused ∷ sight 107 gone ∷ [])
-    ≡ codes "7 record b alive 0 127.0.0.1:7000\n7 record c alive 0 127.0.0.1:7000\n"
-    ++ codes "57 record c suspect 0 127.0.0.1:7000 by a\n107 record c failed 0 127.0.0.1:7000\n"
-unfolding sights_text later_text told_lines by_computing
+    sights_text (known ∷ accused ∷ gone ∷ [])
+    ≡ codes "5 record b alive 0 127.0.0.1:7000\n5 record c alive 0 127.0.0.1:7000\n"
+    ++ codes "20 record c suspect 0 127.0.0.1:7000 by a\n30 record c failed 0 127.0.0.1:7000\n"
+unfolding by_telling
 suspected_and_then_failed = refl
 
--- c changed twice between two looks, and is told once
-told_once :
-    sights_text (sight 7 known ∷ sight 57 gone ∷ [])
-    ≡ codes "7 record b alive 0 127.0.0.1:7000\n7 record c alive 0 127.0.0.1:7000\n"
-    ++ codes "57 record c failed 0 127.0.0.1:7000\n"
-unfolding sights_text later_text told_lines by_computing
-told_once = refl
+-- so it makes no difference how many looks there were
+one_look_fewer : sights_text (known ∷ gone ∷ []) ≡ sights_text (known ∷ accused ∷ gone ∷ [])
+unfolding by_telling
+one_look_fewer = refl
 
--- a look at the same records tells nothing
-nothing_changed : sights_text (sight 7 known ∷ sight 57 known ∷ []) ≡ sights_text (sight 7 known ∷ [])
-unfolding sights_text later_text told_lines by_computing
+-- b has the seed c. Between two looks c is suspected, and refutes it 10 ms later: both are told.
+came_and_went :
+    sights_text
+    ((seeded ∷ [])
+    ∷ (seeded ∷ pings 400 1 b (suspect c 0 d ∷ []) ∷ pings 410 2 b (alive c 1 ∷ []) ∷ [])
+    ∷ [])
+    ≡ codes "0 record b alive 0 127.0.0.1:7000\n0 record c alive 0 127.0.0.1:7000\n"
+    ++ codes "400 record c suspect 0 127.0.0.1:7000 by d\n410 record c alive 1 127.0.0.1:7000\n"
+unfolding by_telling
+came_and_went = refl
+
+-- a look behind which nothing changed tells nothing
+nothing_changed : sights_text (known ∷ known ∷ []) ≡ sights_text (known ∷ [])
+unfolding by_telling
 nothing_changed = refl
+
+-- if changes are no longer kept, the line before the members says so
+told_anew :
+    behind_text gone None
+    ≡ codes "30 missed\n30 record b alive 0 127.0.0.1:7000\n30 record c failed 0 127.0.0.1:7000\n"
+unfolding by_telling
+told_anew = refl
+
+missed_by_then : missed_line 30 ≡ codes "30 missed\n"
+unfolding digits
+missed_by_then = refl
 
 last_line : stood_line 1207 150 ≡ codes "1207 stood-still 150\n"
 unfolding digits

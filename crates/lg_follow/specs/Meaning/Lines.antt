@@ -2,6 +2,7 @@
 use Rattle.std.specs.Prelude.{ℕ, List, ◌++◌, codes, decimal}
 use Rattle.std.specs.List.{flat_map}
 use Rattle.lg_rules.specs.declared.claim.Claim.{Claim}
+use Rattle.lg_changes.specs.declared.change.Change.{Change}
 use Rattle.lg_text.specs.Meaning.Lines.{newline}
 use Rattle.lg_lines.specs.Meaning.Records.{blank, record_line}
 
@@ -12,6 +13,18 @@ told_line moment c = decimal moment ++ blank ++ record_line c
 -- a line for each of these records
 unfoldable pub told_lines : ℕ → List Claim → List ℕ
 told_lines moment records = flat_map (λ c. told_line moment c) records
+
+-- the line of a change: that of its record, at its moment
+abbrev pub changed_line : Change → List ℕ
+changed_line change = told_line change.moment change.member
+
+-- a line for each of these changes
+unfoldable pub changed_lines : List Change → List ℕ
+changed_lines changes = flat_map (λ change. changed_line change) changes
+
+-- the line that says that changes were missed, as of this moment: MS missed
+abbrev pub missed_line : ℕ → List ℕ
+missed_line moment = decimal moment ++ codes " missed" ++ newline
 
 -- the last line: how many milliseconds a clock had left out by this moment
 abbrev pub stood_line : ℕ → ℕ → List ℕ

@@ -277,7 +277,8 @@ pub record Ran (kind : Turn → Bool) (tells : Bool) (bound : ℕ) (k k' : LinkV
 -- turns anew: so there are earlier stretches, no turn of which ended it, and the bound isn't why it ends. Otherwise
 -- there is one stretch. The end tells why the last stretch ended, and its counts are those of the last stretch.
 pub record Lasted
-    (kind : Turn → Bool) (tells : Bool) (bound : ℕ) (endless : Bool) (k k' : LinkValue) (p q : PassValue) (end : LoopEnd)
+    (kind : Turn → Bool) (tells : Bool) (bound : ℕ) (endless : Bool) (k k' : LinkValue) (p q : PassValue)
+    (end : LoopEnd)
     : Type 0 where
   pub stretches : ℕ
   pub earlier : List Turn
@@ -299,7 +300,8 @@ unstarted = record { why = Stopped; dropped = 0; unsent = 0; turns = 0 }
 
 -- A loop that no thread could be started for: it ran as a loop does, but its end says that memory was refused.
 pub record HadNoThread
-    (kind : Turn → Bool) (tells : Bool) (bound : ℕ) (endless : Bool) (k k' : LinkValue) (p q : PassValue) (end : LoopEnd)
+    (kind : Turn → Bool) (tells : Bool) (bound : ℕ) (endless : Bool) (k k' : LinkValue) (p q : PassValue)
+    (end : LoopEnd)
     : Type 0 where
   pub was : Why
   pub ran : Lasted kind tells bound endless k k' p q (record end { why = was })

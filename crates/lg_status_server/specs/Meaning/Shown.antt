@@ -1,34 +1,22 @@
--- What the status server of a node shows: its sights of the agent, and the answers made of them.
-use Rattle.std.specs.Prelude.{◌≡◌, ◌≤◌, ℕ, List, [], ◌∷◌, ◌++◌, length, Option}
-use Rattle.lg_rules.specs.declared.claim.Claim.{Claim}
+-- What the status server of a node shows: a list of events of the agent, its changes, and the answers made of them.
+use Rattle.std.specs.Prelude.{◌≡◌, ◌≤◌, ℕ, true, List, length, Option}
+use mathlib.Core.List.{IsPrefix}
+use Rattle.lg_changes.specs.declared.ring.Changes.{Changes}
+use Rattle.lg_changes.specs.Meaning.Changes.{last_version}
+use Rattle.lg_changes.specs.Meaning.Kept.{KeepsNewest}
 use Rattle.lg_detector.specs.declared.event.Event.{Event}
-use Rattle.lg_detector.specs.Meaning.Step.{view_after, own_standing_after}
+use Rattle.lg_detector.specs.Meaning.Step.{view_after, own_standing_after, is_accepted}
+use Rattle.lg_view.specs.Meaning.Changes.{changes_of}
 use Rattle.lg_agent.specs.Meaning.Values.{PassValue}
-use Rattle.lg_follow.specs.Meaning.Sights.{Sight, SightsGrow, EndsAt, OnlyLooked}
+use Rattle.lg_follow.specs.Meaning.Sights.{OnlyLooked}
 use Rattle.lg_http.specs.declared.site.HttpAnswer.{HttpAnswer}
 use Rattle.lg_answers.specs.declared.snapshot.ShownConfig.{ShownConfig}
 use Rattle.lg_answers.specs.declared.snapshot.Snapshot.{Snapshot}
 use Rattle.lg_answers.specs.Meaning.Answers.{answer_to, answer_value}
-use Rattle.lg_answers.specs.declared.ring.Changes.{Changes}
-use Rattle.lg_answers.specs.Meaning.Changes.{Recorded, all_changes, last_version}
-use Rattle.lg_answers.specs.Meaning.Kept.{HasRecorded}
 use Rattle.lg_status_server.specs.declared.looked.Looked.{Looked}
 use Rattle.lg_status_server.specs.declared.looked.Looked.TheVariants.{Same, Taken, Refused}
 use Rattle.lg_status_server.specs.declared.reading.Reading.{Reading}
 use Rattle.lg_status_server.specs.Meaning.Readings.{HasRead}
-
--- Sights as looks that are recorded: each told the table of the one before it, and the first told none.
-abbrev pub recorded_at : List Claim → Sight → Recorded
-recorded_at told s = record {
-  told = told;
-  found = view_after s.events;
-  version = length s.events;
-  moment = s.moment;
-}
-
-unfoldable pub recorded_from : List Claim → List Sight → List Recorded
-recorded_from told [] = []
-recorded_from told (s ∷ later) = recorded_at told s ∷ recorded_from (view_after s.events) later
 
 -- A snapshot shows the members and this member after a list of events, and its version is the length of the list.
 pub record ShowsEvents (s : Snapshot) (events : List Event) : Type 0 where
@@ -63,41 +51,40 @@ IsNewest Same shown seen = shown ≡ seen
 IsNewest Taken shown seen = shown ≡ seen
 IsNewest Refused shown seen = Unit {0}
 
--- A site has made these sights, one after another. Their lists of events grow up to what its pass has seen. It shows
--- the last of them, keeps the changes of all of them, and `changed` is the version of the newest change.
-pub record HasMade (site : SiteValue) (sights : List Sight) : Type 0 where
-  pub grow : SightsGrow [] sights site.pass.seen
-  pub shown : List Event
-  pub last : EndsAt sights shown
+-- A site shows this list of events, which is accepted and begins what its pass has seen. It keeps the newest of all
+-- changes of these events, each with the version and the moment of its own event, and `changed` is the version of the
+-- newest change.
+pub record SiteShows (site : SiteValue) (shown : List Event) : Type 0 where
+  pub accepted : is_accepted shown ≡ true
+  pub begins : IsPrefix shown site.pass.seen
   pub is_shown : IsShown site.snapshot site.name shown
   pub newest : IsNewest site.looked shown site.pass.seen
-  pub recorded : HasRecorded site.changes (recorded_from [] sights)
-  pub changed_is : site.changed ≡ last_version (all_changes (recorded_from [] sights))
+  pub kept : KeepsNewest site.changes (changes_of shown)
+  pub changed_is : site.changed ≡ last_version (changes_of shown)
 
--- A site after its first look: it shows this name and this configuration, and has made one sight, of all that its pass
--- has seen.
+-- A site after its first look: it has this name and this configuration, and shows all that its pass has seen.
 pub record IsFirst (site : SiteValue) (name : List ℕ) (config : ShownConfig) : Type 0 where
   pub name_is : site.name ≡ name
   pub config_is : site.config ≡ config
-  pub moment : ℕ
-  pub made : HasMade site (record { moment = moment; events = site.pass.seen } ∷ [])
+  pub shows : SiteShows site site.pass.seen
 
--- What a site answers to a path and a query: the text of what it shows, of the changes of all sights that it has made,
--- and of the configuration.
+-- What a site answers to a path and a query: the text of what it shows, of all changes of the events that it shows, and
+-- of the configuration.
 pub record IsAnswerOf
     (site : SiteValue) (path : List ℕ) (query : Option (List ℕ)) (answer : HttpAnswer)
     : Type 0 where
-  pub sights : List Sight
-  pub made : HasMade site sights
-  pub is : (all : List Sight) → HasMade site all
-      → answer_value answer
-      ≡ answer_to site.snapshot (all_changes (recorded_from [] all)) site.config path query
+  pub shown : List Event
+  pub shows : SiteShows site shown
+  pub is : (events : List Event) → SiteShows site events
+      → answer_value answer ≡ answer_to site.snapshot (changes_of events) site.config path query
 
--- A later state of a site. Its pass made nothing but looks. The site has made the sights that it had made before, and
--- perhaps more. Its version never falls, and its name and its configuration are as they were.
+-- A later state of a site. Its pass made nothing but looks. The events that it shows begin with those that it showed
+-- before, so their changes begin with the changes from before: none is lost, and none comes a second time. Its version
+-- never falls, and its name and its configuration are as they were.
 pub record IsLater (before after : SiteValue) : Type 0 where
   pub looked : OnlyLooked before.pass after.pass
-  pub made : (sights : List Sight) → HasMade before sights → (more : List Sight) × HasMade after (sights ++ more)
+  pub shows : (shown : List Event) → SiteShows before shown
+      → (events : List Event) × IsPrefix shown events × SiteShows after events
   pub version_rises : before.snapshot.version ≤ after.snapshot.version
   pub name_is : after.name ≡ before.name
   pub config_is : after.config ≡ before.config

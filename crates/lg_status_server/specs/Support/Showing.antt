@@ -1,22 +1,23 @@
 -- What a site keeps, and what a look leaves.
-use Rattle.std.specs.Prelude.{◌≡◌, ℕ, List, [], ◌∷◌, ◌++◌, length}
-use Rattle.lg_detector.specs.Meaning.Step.{view_after}
+use Rattle.std.specs.Prelude.{◌≡◌, List, length}
+use mathlib.Core.List.{IsPrefix}
+use Rattle.lg_changes.specs.declared.ring.Changes.{Changes}
+use Rattle.lg_changes.specs.Meaning.Kept.{KeepsNewest}
+use Rattle.lg_detector.specs.declared.event.Event.{Event}
+use Rattle.lg_view.specs.Meaning.Changes.{changes_of}
 use Rattle.lg_agent.specs.Meaning.Values.{PassValue}
 use Rattle.lg_agent.specs.Meaning.Calls.{IsLook}
-use Rattle.lg_follow.specs.Meaning.Sights.{Sight, OnlyLooked}
-use Rattle.lg_answers.specs.declared.ring.Changes.{Changes}
+use Rattle.lg_follow.specs.Meaning.Sights.{OnlyLooked}
 use Rattle.lg_answers.specs.declared.snapshot.Snapshot.{Snapshot}
-use Rattle.lg_answers.specs.Meaning.Changes.{Recorded}
-use Rattle.lg_answers.specs.Meaning.Kept.{HasRecorded}
 use Rattle.lg_status_server.specs.declared.looked.Looked.{Looked}
 use Rattle.lg_status_server.specs.declared.looked.Looked.TheVariants.{Same, Taken, Refused}
 use Rattle.lg_status_server.specs.declared.reading.Reading.{Reading}
 use Rattle.lg_status_server.specs.Meaning.Readings.{HasRead}
-use Rattle.lg_status_server.specs.Meaning.Shown.{HasMade, ShowsEvents, SiteValue}
+use Rattle.lg_status_server.specs.Meaning.Shown.{SiteShows, ShowsEvents, SiteValue}
 
--- it has made some sights
+-- it shows a list of events
 abbrev pub IsSite : SiteValue → Type 0
-IsSite site = (sights : List Sight) × HasMade site sights
+IsSite site = (shown : List Event) × SiteShows site shown
 
 -- what a snapshot says of the members is as it was
 pub record SameLook (before after : Snapshot) : Type 0 where
@@ -27,27 +28,23 @@ pub record SameLook (before after : Snapshot) : Type 0 where
   pub incarnation : after.incarnation ≡ before.incarnation
   pub ousted : after.ousted ≡ before.ousted
 
--- a look was recorded behind the others: what it found, if these records were told before it
-abbrev pub AddsLook : Changes → Changes → Recorded → Type 0
-AddsLook before after look = (looks : List Recorded) → HasRecorded before looks → HasRecorded after (looks ++ look ∷ [])
+-- A ring that kept the newest changes of a beginning of these events keeps the newest changes of all of them.
+abbrev pub KeepsOn : Changes → Changes → List Event → List Event → Type 0
+KeepsOn before after shown events =
+    IsPrefix shown events → KeepsNewest before (changes_of shown) → KeepsNewest after (changes_of events)
 
 -- The rest of a snapshot is as it was: whatever was read of the clock and of the counters, it shows that.
 pub record SameReading (before after : Snapshot) : Type 0 where
   pub name : after.name ≡ before.name
   pub read : (reading : Reading) → HasRead before reading → HasRead after reading
 
--- What a look leaves that found events: the snapshot shows them, and the changes are recorded.
+-- What a look leaves that found events: the snapshot shows them. If the ring kept the newest changes of as many events
+-- as the snapshot showed before, it keeps those of all events.
 pub record TakesLook (p p' : PassValue) (s s' : Snapshot) (c c' : Changes) : Type 0 where
   pub look : IsLook p p'
   pub shows : ShowsEvents s' p'.seen
   pub same : SameReading s s'
-  pub moment : ℕ
-  pub adds : AddsLook c c' (record {
-    told = s.records.items;
-    found = view_after p'.seen;
-    version = length p'.seen;
-    moment = moment;
-  })
+  pub kept : (shown : List Event) → s.version ≡ length shown → KeepsOn c c' shown p'.seen
 
 -- What a look leaves that changes nothing of what is shown.
 pub record LeavesLook (p p' : PassValue) (s s' : Snapshot) (c c' : Changes) : Type 0 where

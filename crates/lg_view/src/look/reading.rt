@@ -3,7 +3,7 @@
 //!
 //! Defined in: `lg_detector/specs/Meaning/Step.antt`.
 //! Tested in: `lg_agent_tests/src/view/looks.rt`.
-ghost use Rattle.std.specs.Prelude.{◌≡◌, ◌≤◌, [], IfSome};
+ghost use Rattle.std.specs.Prelude.{◌≡◌, ◌≤◌, [], IfOk, IfSome};
 ghost use Rattle.std.specs.Vec.{vec_capacity};
 ghost use Rattle.lg_rules.specs.Meaning.Claim.{name_of};
 ghost use Rattle.lg_rules.specs.Meaning.Rows.{name_cmp, row_at};
@@ -20,6 +20,7 @@ use arrayvec::ArrayVec;
 use crossbeam_utils::rule::Unruled;
 use lg_detector::MAX_MEMBERS;
 use lg_rules::{Name, Record};
+use std::alloc::{AllocError, Global};
 
 /// The front alone.
 pub(super) fn read_front<P: PairName>(
@@ -69,17 +70,31 @@ pub(super) fn read_deadline<P: PairName>(
     }
 }
 
-/// An overview, with the records in a list that has enough capacity for them.
+/// What an overview is made with.
+#[derive(Drop)]
+pub(super) struct Blank {
+    /// From it comes the memory for the changes.
+    pub(super) alloc: Global,
+    /// An empty list for the records, with enough capacity for them.
+    pub(super) records: Vec<Record>,
+    /// The version behind which changes are taken.
+    pub(super) version: u64,
+}
+
+/// An overview, unless memory is refused for its changes.
 pub(super) fn read_overview<P: PairName>(
     reader: LookReader<P>,
-    records: Vec<Record>,
-) -> (LookReader<P>, Option<(Overview, Front<P>)>)
-    requires { (records.items ≡ []) × (MAX_MEMBERS ≤ vec_capacity records) }
-    ensures { IfSome result.1 (λ taken. IsOverview taken.0 taken.1) }
+    blank: Blank,
+) -> (
+    LookReader<P>,
+    Option<(Result<Overview, AllocError>, Front<P>)>,
+)
+    requires { (blank.records.items ≡ []) × (MAX_MEMBERS ≤ vec_capacity blank.records) }
+    ensures { IfSome result.1 (λ taken. IfOk taken.0 (λ found. IsOverview found blank.version taken.1)) }
 {
     match reader.enter_as::<Unruled>() {
         Ok(reading) => {
-            let overview = overview_of(reading.get(), records);
+            let overview = overview_of(reading.get(), blank);
             let front = reading.get().front().copy();
             (reading.leave(), Some((overview, front)))
         }
@@ -87,16 +102,43 @@ pub(super) fn read_overview<P: PairName>(
     }
 }
 
-/// An overview of what is published, with the records in an empty list that has enough capacity for them.
-fn overview_of<P: PairName>(published: &Published<P>, mut records: Vec<Record>) -> Overview
-    requires { (records.items ≡ []) × (MAX_MEMBERS ≤ vec_capacity records) }
-    ensures { IsOverview result published.now }
+/// An overview of what is published. The only error is that memory was refused for its changes.
+fn overview_of<P: PairName>(published: &Published<P>, blank: Blank) -> Result<Overview, AllocError>
+    requires { (blank.records.items ≡ []) × (MAX_MEMBERS ≤ vec_capacity blank.records) }
+    ensures { IfOk result (λ found. IsOverview found blank.version published.now) }
 {
+    let Blank {
+        alloc,
+        mut records,
+        version,
+    } = blank;
     put_records(published, &mut records);
-    Overview {
+    let changes = published.changes_behind(alloc, version)?;
+    Ok(Overview {
         version: published.front().len(),
+        moment: published.moment(),
         records,
         standing: published.standing(),
+        changes,
+    })
+}
+
+/// The records of all members, in an empty list that has enough capacity for them.
+pub(super) fn read_table<P: PairName>(
+    reader: LookReader<P>,
+    records: Vec<Record>,
+) -> (LookReader<P>, Option<(Vec<Record>, Front<P>)>)
+    requires { (records.items ≡ []) × (MAX_MEMBERS ≤ vec_capacity records) }
+    ensures { IfSome result.1 (λ taken. taken.0.items ≡ view_after taken.1) }
+{
+    match reader.enter_as::<Unruled>() {
+        Ok(reading) => {
+            let mut records = records;
+            put_records(reading.get(), &mut records);
+            let front = reading.get().front().copy();
+            (reading.leave(), Some((records, front)))
+        }
+        Err(reader) => (reader, None),
     }
 }
 

@@ -1,5 +1,5 @@
 use Rattle.std.proofs.Common.{◌≡◌, map, take}
-use Rattle.lg_answers.specs.Meaning.Changes.{change_at}
+use Rattle.lg_changes.specs.Meaning.Changes.{change_at}
 use Rattle.lg_answers.proofs.changes.as_changes.Given as goal
 
 -- the changes so far

@@ -19,7 +19,7 @@ returns-in_default g c = λ p look low duty.
           turn = t;
           kind_is = before_until c.args.now c.args.plan.now.until low;
           is = rw c.in_default.ensures look;
-          told = λ yes. sym (append-nil (g.L.Link.log c.args.side.now.link));
+          told = λ yes. sym (append-nil (g.L.Link.log c.args.ticker.now.side.link));
           failed = omega arith;
           why = sym on.why;
           dropped = on.dropped;
@@ -43,8 +43,8 @@ returns-then-len-eq0 g c = λ p look low duty.
         took = record {
           turn = t;
           kind_is = before_until c.args.now c.args.plan.now.until low;
-          is = record { between = c.args.side.now.pass; none_due = look; look = e.1; saw = refl };
-          told = λ yes. sym (append-nil (g.L.Link.log c.args.side.now.link));
+          is = record { between = c.args.ticker.now.side.pass; none_due = look; look = e.1; saw = refl };
+          told = λ yes. sym (append-nil (g.L.Link.log c.args.ticker.now.side.link));
           failed = omega arith;
           why = sym on.why;
           dropped = on.dropped;
@@ -68,7 +68,7 @@ returns-in-Ok g c = λ p look low duty.
         took = record {
           turn = t;
           kind_is = before_until c.args.now c.args.plan.now.until low;
-          is = (c.others.new.pass, record { between = c.args.side.now.pass; none_due = look; look = e.1; saw = refl }, c.in-Ok.ensures.answered, h.each);
+          is = (c.others.new.pass, record { between = c.args.ticker.now.side.pass; none_due = look; look = e.1; saw = refl }, c.in-Ok.ensures.answered, h.each);
           told = h.told;
           failed = omega (arith, h.failed_is, h.unsent_is);
           why = sym c.of.ensures.why;
@@ -94,8 +94,8 @@ returns g c = λ p look low duty.
         took = record {
           turn = t;
           kind_is = before_until c.args.now c.args.plan.now.until low;
-          is = (c.others.new.pass, record { between = c.args.side.now.pass; none_due = look; look = e.1; saw = refl }, f.answered, f.refusal);
-          told = λ yes. sym (append-nil (g.L.Link.log c.args.side.now.link));
+          is = (c.others.new.pass, record { between = c.args.ticker.now.side.pass; none_due = look; look = e.1; saw = refl }, f.answered, f.refusal);
+          told = λ yes. sym (append-nil (g.L.Link.log c.args.ticker.now.side.link));
           failed = omega arith;
           why = sym end.why;
           dropped = end.dropped;

@@ -4,5 +4,5 @@ use Rattle.lg_loops.proofs.ticking.tick_loop.Given as goal
 
 abbrev pub invariant-loop : goal.invariant-loop
 invariant-loop g l =
-    TicksOn g.D.Dice.throws l.fn.dice l.dice l.plan g.L.Link.tells l.shared.bound l.shared.endless (line (g.L.Link.log l.fn.side.link) (g.L.Link.failed l.fn.side.link)) (line (g.L.Link.log l.side.link) (g.L.Link.failed l.side.link))
-    l.fn.side.pass l.side.pass l.agenda
+    TicksOn g.D.Dice.throws l.fn.dice l.ticker.dice l.plan g.L.Link.tells l.shared.bound l.shared.endless (line (g.L.Link.log l.fn.side.link) (g.L.Link.failed l.fn.side.link)) (line (g.L.Link.log l.ticker.side.link) (g.L.Link.failed l.ticker.side.link))
+    l.fn.side.pass l.ticker.side.pass l.agenda

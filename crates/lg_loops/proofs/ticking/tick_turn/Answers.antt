@@ -15,7 +15,7 @@ returns-in-Err g c = λ low.
           turn = t;
           kind_is = refl;
           is = (e.1, e.0);
-          told = λ yes. sym (append-nil (g.L.Link.log c.args.side.now.link));
+          told = λ yes. sym (append-nil (g.L.Link.log c.args.ticker.now.side.link));
           failed = omega arith;
           why = sym end.why;
           dropped = end.dropped;
@@ -32,7 +32,7 @@ returns-in-Err g c = λ low.
 pub returns-then-deadline-moment : goal.returns-then-deadline-moment
 returns-then-deadline-moment g c = λ low.
     let e = c.in-Ok.ensures in
-    c.tick.ensures c.args.plan.now c.args.agenda.now c.args.side.now.pass
+    c.tick.ensures c.args.plan.now c.args.agenda.now c.args.ticker.now.side.pass
     (record { look = e.1; due = c.in-Ok.deadline; deadline = e.0; come = omega (arith, c.if-deadline-moment.true, c.milliseconds-moment.ensures.milliseconds) }) low
 
 pub ask_seed-requires : goal.ask_seed-requires
@@ -41,27 +41,27 @@ ask_seed-requires g c = c.in-Seed.ensures.0
 pub returns-in-Seed : goal.returns-in-Seed
 returns-in-Seed g c = λ low.
     let e = c.in-Ok.ensures in
-    let sees : SeesNoneDue c.args.side.now.pass c.args.now c.next_deadline.new.self = record { look = e.1; due = c.in-Ok.deadline; deadline = e.0; later = omega (arith, c.if-deadline-moment.false, c.milliseconds-moment.ensures.milliseconds) } in
-    let acted = c.ask_seed.ensures c.args.plan.now c.args.side.now.pass sees low c.in-Seed.ensures in
+    let sees : SeesNoneDue c.args.ticker.now.side.pass c.args.now c.next_deadline.new.self = record { look = e.1; due = c.in-Ok.deadline; deadline = e.0; later = omega (arith, c.if-deadline-moment.false, c.milliseconds-moment.ensures.milliseconds) } in
+    let acted = c.ask_seed.ensures c.args.plan.now c.args.ticker.now.side.pass sees low c.in-Seed.ensures in
     (acted.0, rw acted.1 refl)
 
 pub returns-in-Look : goal.returns-in-Look
 returns-in-Look g c = λ low.
     let e = c.in-Ok.ensures in
-    let sees : SeesNoneDue c.args.side.now.pass c.args.now c.next_deadline.new.self = record { look = e.1; due = c.in-Ok.deadline; deadline = e.0; later = omega (arith, c.if-deadline-moment.false, c.milliseconds-moment.ensures.milliseconds) } in
-    let acted = c.look.ensures c.args.side.now.pass sees low c.in-Look.ensures in
+    let sees : SeesNoneDue c.args.ticker.now.side.pass c.args.now c.next_deadline.new.self = record { look = e.1; due = c.in-Ok.deadline; deadline = e.0; later = omega (arith, c.if-deadline-moment.false, c.milliseconds-moment.ensures.milliseconds) } in
+    let acted = c.look.ensures c.args.ticker.now.side.pass sees low c.in-Look.ensures in
     (acted.0, rw acted.1 refl)
 
 pub returns-in-Member : goal.returns-in-Member
 returns-in-Member g c = λ low.
     let e = c.in-Ok.ensures in
-    let sees : SeesNoneDue c.args.side.now.pass c.args.now c.next_deadline.new.self = record { look = e.1; due = c.in-Ok.deadline; deadline = e.0; later = omega (arith, c.if-deadline-moment.false, c.milliseconds-moment.ensures.milliseconds) } in
-    c.ask_member.ensures c.args.side.now.pass sees low c.in-Member.ensures
+    let sees : SeesNoneDue c.args.ticker.now.side.pass c.args.now c.next_deadline.new.self = record { look = e.1; due = c.in-Ok.deadline; deadline = e.0; later = omega (arith, c.if-deadline-moment.false, c.milliseconds-moment.ensures.milliseconds) } in
+    c.ask_member.ensures c.args.ticker.now.side.pass sees low c.in-Member.ensures
 
 pub returns-in-Rest : goal.returns-in-Rest
 returns-in-Rest g c = λ low.
     let e = c.in-Ok.ensures in
-    let sees : SeesNoneDue c.args.side.now.pass c.args.now c.next_deadline.new.self = record { look = e.1; due = c.in-Ok.deadline; deadline = e.0; later = omega (arith, c.if-deadline-moment.false, c.milliseconds-moment.ensures.milliseconds) } in
+    let sees : SeesNoneDue c.args.ticker.now.side.pass c.args.now c.next_deadline.new.self = record { look = e.1; due = c.in-Ok.deadline; deadline = e.0; later = omega (arith, c.if-deadline-moment.false, c.milliseconds-moment.ensures.milliseconds) } in
     let on = c.on.ensures in
     let t : Turn = Paused c.args.now in (
       record {
@@ -69,7 +69,7 @@ returns-in-Rest g c = λ low.
           turn = t;
           kind_is = before_until c.args.now c.args.plan.now.until low;
           is = sees;
-          told = λ yes. sym (append-nil (g.L.Link.log c.args.side.now.link));
+          told = λ yes. sym (append-nil (g.L.Link.log c.args.ticker.now.side.link));
           failed = omega arith;
           why = sym on.why;
           dropped = on.dropped;

@@ -10,7 +10,7 @@ use Rattle.lg_sim.proofs.cluster.Cluster.open.Goals as goal
 pub returns-in-Some-clause-stops : goal.returns-in-Some-clause-stops
 returns-in-Some-clause-stops c = λ members past is.
     let hosts = c.args.self.now.hosts.items in
-    let config : Config = opening_config c.args.name c.args.port c.args.seeds c.args.self.now.settings in
+    let config : Config = opening_config c.args.opening.name c.args.opening.port c.args.opening.seeds c.args.self.now.settings in
     sym (fault_in-is hosts c.args.self.now.sent.items members past config is)
     ∙ ap (λ (k : Config). fault_in k hosts) (sym c.config_of-config.ensures)
     ∙ sym c.opening_fault.ensures ∙ c.in-Some.is
@@ -18,7 +18,7 @@ returns-in-Some-clause-stops c = λ members past is.
 pub returns-clause-stops : goal.returns-clause-stops
 returns-clause-stops c = λ members past is.
     let hosts = c.args.self.now.hosts.items in
-    let config : Config = opening_config c.args.name c.args.port c.args.seeds c.args.self.now.settings in
+    let config : Config = opening_config c.args.opening.name c.args.opening.port c.args.opening.seeds c.args.self.now.settings in
     sym (fault_in-is hosts c.args.self.now.sent.items members past config is)
     ∙ ap (λ (k : Config). fault_in k hosts) (sym c.config_of-config.ensures)
     ∙ sym c.opening_fault.ensures ∙ c.in_default.is
@@ -29,5 +29,5 @@ returns-clause-leads c = λ members past is.
     let good : opening_fault made members ≡ None =
     sym (fault_in-is c.args.self.now.hosts.items c.args.self.now.sent.items members past made is) ∙ sym c.opening_fault.ensures ∙ c.in_default.is in
     subst (λ (k : Config). LedOn c.args.self.now c.begin.new.self c.args.text.now.items c.begin.new.text.items (members ++ record { name = k.name; addr = k.addr } ∷ []) past
-    (Some (record { member = record { name = k.name; addr = k.addr }; event = Open c.args.now k })))
+    (Some (record { member = record { name = k.name; addr = k.addr }; event = Open c.args.opening.now k })))
     c.config_of-config.ensures (c.in_ok-begin.ensures members past is (opens_new made members good))

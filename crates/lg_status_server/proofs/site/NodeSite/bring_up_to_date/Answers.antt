@@ -1,19 +1,6 @@
 use Rattle.lg_status_server.specs.Meaning.Shown.{SiteValue}
-use Rattle.lg_status_server.proofs.ShownLaws.{records_rise, site_look, later_look}
+use Rattle.lg_status_server.proofs.ShownLaws.{site_look, later_look}
 use Rattle.lg_status_server.proofs.site.NodeSite.bring_up_to_date.Goals as goal
-
-pub look-self-inside-requires : goal.look-self-inside-requires
-look-self-inside-requires g c =
-    let site : SiteValue = record {
-      pass = c.self.inside.pass;
-      name = c.self.inside.basis.counters.now.name;
-      snapshot = c.self.inside.snapshot;
-      changes = c.self.inside.changes;
-      config = c.self.inside.basis.config;
-      changed = c.self.inside.changed;
-      looked = c.self.inside.looked;
-    } in
-    records_rise site c.self.invariant
 
 pub invariant_of-self : goal.invariant_of-self
 invariant_of-self g c =
