@@ -60,9 +60,9 @@ impl<'a, A: AgentName> Pass<'a, A> {
 
     /// The records of all members, how many events they are after and at which moment, what this member knows of itself
     /// after the same events (its score, its incarnation, and whether it was ousted), and the changes of these events
-    /// behind a version. So all of it agrees. No change is left out: if one behind the version is no longer kept, what is
-    /// found says so. Allocates memory for 256 records and for a copy of the changes, and takes no lock. Refused as
-    /// [`Pass::members`] is.
+    /// behind a version. So all of it agrees. No change is left out: if one behind the version is no longer kept, what
+    /// is found says so. Allocates memory for 256 records and for a copy of the changes. It takes no lock; a call that
+    /// publishes may wait until the copy is made. Refused as [`Pass::members`] is.
     pub fn overview(&mut self, alloc: Global, version: u64) -> Result<Overview, Refusal>
         ensures { MatchResult result (λ found. IsOverview found version self.new.seen × IsLook self.old self.new)
             (λ e. ((e ≡ NoView) ⊎ (e ≡ NoMemory)) × (self.new ≡ self.old)) }

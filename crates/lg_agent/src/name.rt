@@ -15,6 +15,7 @@ pub trait AgentName: PairName {
     ghost places: { ℕ };
 }
 
+// Nobody reads these places: a caller's contract names its own type parameter, which requires a number of its own.
 impl AgentName for Brand {
     ghost places = { 0 };
 }

@@ -3,22 +3,19 @@
 //! Defined in: `specs/Meaning/Running.antt`, `specs/Meaning/Faults.antt`,
 //! `lg_command_line/specs/Meaning/Commands.antt`, `Leaving.antt`.
 //! Tested in: `cases/command_line.case`, `cases/node.case`, `cases/node_command.case`, `cases/ask.case`.
-ghost use Rattle.std.specs.Prelude.{◌≡◌, ◌≢◌, ◌≤◌, IfSome, map, true};
+ghost use Rattle.std.specs.Prelude.{◌≡◌, ◌≢◌, ◌≤◌, IfSome, map};
 ghost use Rattle.std.specs.IoError.{error_kind};
 ghost use Rattle.lg_text.specs.Meaning.Faults.{run_fault_text};
 ghost use Rattle.lg_text.specs.Meaning.Reporting.{Reports};
-ghost use Rattle.lg_commands.specs.Meaning.Timeouts.{are_good};
-ghost use Rattle.lg_command_line.specs.Meaning.Commands.{IfNode, IfTimeouts};
-ghost use Rattle.lg_command_line.specs.Support.Requests.{request_of};
 ghost use Rattle.lg_cli.specs.Meaning.Faults.{foreign_text};
-ghost use Rattle.lg_cli.specs.Meaning.Running.{streams, RunsLine, RunsRequest};
+ghost use Rattle.lg_cli.specs.Meaning.Running.{streams, RunsLine};
 
 use crate::ask::{AskWords, ask_node};
-use crate::node::{NodeWords, Owned, run_node};
+use crate::node::{Owned, stop_flag, tell_unstarted};
 use crate::output::Pumped;
 use lg_command_line::{Asked, MAX_RUN_MS, take_words};
 use lg_commands::{FAILED, USAGE, answer_named, order_lists, simulate, timeouts_of};
-use lg_run::check_file;
+use lg_run::{Wishes, check_file, run_file};
 use lg_text::{FaultStream, RunFault, report};
 use lg_timing::Moment;
 use std::convert::AsStr;
@@ -33,13 +30,13 @@ use std::{io, rt};
 /// Runs the program on the words of a command line, and gives its exit status. The first word is the program's name.
 ///
 /// `reader`, `writer` and `faults` stand for standard input, output and error. Only `answer` and `sim` read. `owned`
-/// has standard input and output too, for the threads of `node --until-input-ends` and `node --follow`. A line that
-/// `faults` doesn't take is dropped.
+/// has standard input and output too, for the threads of `node --until-input-ends` and `node --follow`
+/// ([`stop_flag`]). A line that `faults` doesn't take is dropped.
 /// `node`, `check`, `members`, `status` and `watch` alone use the machine `rt`. The first two read their file. `node`
-/// takes sockets, a clock and threads, writes its members, and tells its end, with the statuses of
-/// [`run_file`](lg_run::run_file); `check` has those of [`check_file`]. The other three ask a running node, with the
-/// statuses of [`tell_answer`](lg_client::tell_answer) and [`watch_changes`](lg_client::watch_changes). The statuses of
-/// all other command lines are:
+/// takes sockets, a clock and threads, writes its members, and tells its end, with the statuses of [`run_file`]. If its
+/// stop flag can't be had, it isn't run, and has the status of [`tell_unstarted`]. `check` has those of [`check_file`].
+/// The other three ask a running node, with the statuses of [`tell_answer`](lg_client::tell_answer) and
+/// [`watch_changes`](lg_client::watch_changes). The statuses of all other command lines are:
 ///
 /// - 0 if all was done. This includes help and the version, if they were asked for and written.
 /// - 1 if memory, a read or a write failed. That is reported as `lg: memory`, `lg: read` or `lg: write`. A second line
@@ -74,39 +71,12 @@ where
         (streams reader.new (R.remaining reader.new) writer.new (W.contents writer.new) (F.reported faults.new))
         (map S.text words.now) result }
 {
-    match take_words(rt.alloc(), words, writer, faults) {
-        Ok(asked) => run_asked(rt, asked, owned, reader, writer, faults),
-        Err(status) => status,
-    }
-}
-
-/// Runs what was asked for, as [`run_words`] does.
-fn run_asked<M, I, O, R, W, F>(
-    rt: &M,
-    request: Asked,
-    owned: Owned<I, O>,
-    reader: &mut R,
-    writer: &mut W,
-    faults: &mut F,
-) -> u8
-where
-    M: AllocGlobal + Wait + Threads + Net + rt::Clock + Files + RandomSource,
-    M: Copy + Send + Sync + 'static,
-    I: Read + Send + Drop + 'static,
-    O: Write + Send + Drop + 'static,
-    R: Read,
-    W: Write + Pumped + Send,
-    F: FaultStream + Send,
-    requires good { IfTimeouts (request_of request) (λ numbers. are_good numbers ≡ true) }
-    requires ending { IfNode (request_of request) (λ _ for_ms _ _.
-        IfSome for_ms (λ ms. (1 ≤ ms) × (ms ≤ MAX_RUN_MS))) }
-    ensures { RunsRequest
-        (streams reader.old (R.remaining reader.old) writer.old (W.contents writer.old) (F.reported faults.old))
-        (streams reader.new (R.remaining reader.new) writer.new (W.contents writer.new) (F.reported faults.new))
-        (request_of request.entry) result }
-{
     let alloc = rt.alloc();
-    match request {
+    let asked = match take_words(alloc, words, writer, faults) {
+        Ok(asked) => asked,
+        Err(status) => return status,
+    };
+    match asked {
         Asked::Answer { name } => answer_named(alloc, name, reader, writer, faults),
         Asked::Order { names, words } => order_lists(alloc, names, words, writer, faults),
         Asked::Sim => simulate(alloc, reader, writer, faults),
@@ -122,18 +92,16 @@ where
             follow,
             until_input_ends,
         } => {
-            let until = end_after(for_ms);
-            let words = NodeWords {
+            let Ok(stop) = stop_flag(rt, alloc, owned, until_input_ends, follow, writer) else {
+                return tell_unstarted(faults);
+            };
+            let wishes = Wishes {
                 file,
-                until,
+                until: end_after(for_ms),
                 follow,
+                stop: &stop,
             };
-            let Owned { input, output } = owned;
-            let owned = Owned {
-                input: until_input_ends.then_some(input),
-                output,
-            };
-            run_node(rt, alloc, &words, owned, writer, faults)
+            run_file(rt, alloc, &wishes, writer, faults)
         }
     }
 }

@@ -1,6 +1,7 @@
 //! Tells the members of an agent while it runs: each change of a record, as a line of text.
 //!
-//! [`watch`] is a thread's work. It looks at the agent by a pass of its own, so nobody waits for it.
+//! [`watch`] is a thread's work. It looks at the agent by a pass of its own, so it takes no lock. A call that
+//! publishes waits only until a look has left.
 #![tactic(auto)]
 
 mod lines;

@@ -32,9 +32,9 @@ impl Signal {
         })
     }
 
-    /// Call this after each change was published, in the thread that published it. It wakes the server if that sleeps or
-    /// is about to, so that its site looks at each change soon, whether anybody asks or not. Otherwise it costs one load
-    /// of a flag.
+    /// Call this after each change was published, in the thread that published it. It wakes the server if that sleeps
+    /// or is about to, so that its site looks at each change soon, whether anybody asks or not. Otherwise it costs one
+    /// load of a flag.
     ///
     /// The change has to be published by an atomic that is `SeqCst`, which [`Site::refresh`](crate::Site::refresh)
     /// reads, or under a lock that `refresh` takes.

@@ -50,6 +50,9 @@ all_made bound turns why is ends = subst (λ (w : Why). Ends bound turns w) is e
 pub true_not_false : (b : Bool) → b ≡ true → b ≡ false → ⊥
 true_not_false b h k = let e : true ≡ false = sym h ∙ k in absurd cc
 
+pub many_more : (turns more : List Turn) (stretches bound : ℕ) → length turns ≡ stretches * bound → length more ≡ bound → length (turns ++ more) ≡ (stretches + 1) * bound
+many_more turns more stretches bound one two = let three = length-append turns more in grind arith
+
 unfoldable pub stretch_more : (kind : Turn → Bool) (tells : Bool) (bound : ℕ) (endless : Bool) (a b c : LinkValue) (p m q : PassValue) (end : LoopEnd)
     → Lasting kind tells bound endless a b p m → Ran kind tells bound b c m q end → end.why ≡ ReadBound → endless ≡ true → Lasting kind tells bound endless a c p q
 stretch_more kind tells bound endless a b c p m q end was ran why always =
@@ -59,7 +62,7 @@ stretch_more kind tells bound endless a b c p m q end was ran why always =
       earlier = was.earlier ++ ran.turns;
       made = made_join kind tells was.earlier ran.turns a b c p m q was.made ran.made;
       went_on = All-append goes_on was.earlier ran.turns was.went_on all.0;
-      many = let one = was.many in let two = all.1 in let three = length-append was.earlier ran.turns in grind arith;
+      many = many_more was.earlier ran.turns was.stretches bound was.many all.1;
       once = λ never. absurd (true_not_false endless always never);
     }
 

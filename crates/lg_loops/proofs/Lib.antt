@@ -6,4 +6,5 @@ pub mod SeenLaws
 pub mod SendingLaws
 pub mod StretchLaws
 pub mod TurnLaws
+pub mod UnderwayLaws
 pub mod WordLaws

@@ -1,152 +1,127 @@
--- One more turn of the ticking loop, and one more stretch.
-use Rattle.std.proofs.Common.{◌≡◌, ℕ, ◌+◌, Bool, true, List, [], ◌∷◌, ◌++◌, refl, sym, subst, append_assoc, append-nil}
+-- The ticking loop as it runs: whether its turns so far were timely, its agenda after them, and its dice.
+use Rattle.std.proofs.Common.{◌≡◌, ℕ, ◌+◌, Bool, true, false, List, [], ◌∷◌, ◌++◌, refl, sym, subst, append_assoc, append-nil}
 use Rattle.std.specs.Prelude.{Some, None}
 use Rattle.std.specs.List.{flat_map}
-use Rattle.std.proofs.lemmas.List.Concat.{flat_map-append}
 use Rattle.lg_agent.specs.Meaning.Values.{PassValue}
 use Rattle.lg_loops.specs.declared.agenda.Agenda.{Agenda}
-use Rattle.lg_loops.specs.declared.ending.LoopEnd.{LoopEnd}
 use Rattle.lg_loops.specs.declared.ending.Why.{Why}
 use Rattle.lg_loops.specs.declared.ending.Why.TheVariants.{Stopped, ReadBound}
 use Rattle.lg_loops.specs.declared.plan.Plan.{Plan}
+use Rattle.lg_loops.specs.declared.stretch.Stretch.{Stretch}
 use Rattle.lg_loops.specs.declared.turned.Turned.{Turned}
 use Rattle.lg_loops.specs.Meaning.Turns.{Turn, LinkValue, Threw, ticks_before, words_in}
-use Rattle.lg_loops.specs.Meaning.Pulling.{IsTimely, AreTimely, Ticking}
-use Rattle.lg_loops.specs.Support.Acted.{Acted, IsAgenda, Stretched}
-use Rattle.lg_loops.proofs.TurnLaws.{Going, none_yet, on, over, stopped, bounded, threw-append, threw_more}
-use Rattle.lg_loops.proofs.LastingLaws.{Lasting, no_stretch, stretch_more, lasted}
+use Rattle.lg_loops.specs.Meaning.Pulling.{AreTimely, Ticking}
+use Rattle.lg_loops.specs.Support.Acted.{Acted, IsAgenda}
+use Rattle.lg_loops.proofs.TurnLaws.{none_yet, on, over, stopped, bounded, threw_more}
+use Rattle.lg_loops.proofs.LastingLaws.{no_stretch, stretch_more, lasted}
+use Rattle.lg_loops.proofs.UnderwayLaws.{Underway, underway_none, underway_on, underway_over, underway_stopped, underway_bounded, underway_anew}
 use Rattle.lg_loops.proofs.PullingLaws.{timely_join}
 
--- The turns of a stretch so far.
-pub record Stretching
-    {D : Type 0} (throws : D → List ℕ → D → Type 0) (dice rest : D) (plan : Plan) (tells : Bool) (k k' : LinkValue) (p q : PassValue) (a a' : Agenda) (dropped unsent n : ℕ)
-    : Type 0 where
-  pub going : Going (ticks_before plan.until) tells k k' p q dropped unsent n
-  pub threw : Threw throws dice (flat_map words_in going.turns) rest
-  pub timely : (since : ℕ) → (before : List Turn) → IsAgenda plan since before a → AreTimely plan since before going.turns
-  pub noted : (since : ℕ) → (before : List Turn) → IsAgenda plan since before a → IsAgenda plan since (before ++ going.turns) a'
+-- All turns so far were timely. The agenda is the one after them, and their words are those that the dice gave.
+pub record Kept {D : Type 0} (throws : D → List ℕ → D → Type 0) (dice rest : D) (plan : Plan) (since : ℕ) (turns : List Turn) (a : Agenda) : Type 0 where
+  pub timely : AreTimely plan since [] turns
+  pub noted : IsAgenda plan since turns a
+  pub threw : Threw throws dice (flat_map words_in turns) rest
 
-no_more : (plan : Plan) (since : ℕ) (before : List Turn) (a : Agenda) → IsAgenda plan since before a → IsAgenda plan since (before ++ []) a
-no_more plan since before a was = subst (λ (l : List Turn). IsAgenda plan since l a) (sym (append-nil before)) was
-
-pub stretch_none : {D : Type 0} (throws : D → List ℕ → D → Type 0) (dice : D) (plan : Plan) (tells : Bool) (k : LinkValue) (p : PassValue) (a : Agenda)
-    → Stretching throws dice dice plan tells k k p p a a 0 0 0
-unfolding none_yet
-stretch_none throws dice plan tells k p a = record {
-  going = none_yet (ticks_before plan.until) tells k p;
-  threw = refl;
-  timely = λ since before was. tt;
-  noted = λ since before was. no_more plan since before a was;
+kept_more : {D : Type 0} (throws : D → List ℕ → D → Type 0) (dice d e : D) (plan : Plan) (tells : Bool) (since : ℕ) (turns : List Turn) (k l : LinkValue) (p q : PassValue) (a b : Agenda) (turned : Turned)
+    → Kept throws dice d plan since turns a → (acted : Acted plan tells k l p q a b turned) → Threw throws d (words_in acted.took.turn) e
+    → Kept throws dice e plan since (turns ++ acted.took.turn ∷ []) b
+kept_more throws dice d e plan tells since turns k l p q a b turned was acted threw = record {
+  timely = timely_join plan since [] turns (acted.took.turn ∷ []) was.timely (acted.timely since turns was.noted, tt);
+  noted = acted.noted since turns was.noted;
+  threw = threw_more throws dice d e turns acted.took.turn was.threw threw;
 }
 
--- one more turn is timely, and its agenda is that after it
-one_timely : (plan : Plan) (since : ℕ) (before turns : List Turn) (t : Turn) → AreTimely plan since before turns → IsTimely plan since (before ++ turns) t → AreTimely plan since before (turns ++ t ∷ [])
-one_timely plan since before turns t were is = timely_join plan since before turns (t ∷ []) were (is, tt)
+-- the same, where the turns before are those of two lists
+kept_on : {D : Type 0} (throws : D → List ℕ → D → Type 0) (dice d e : D) (plan : Plan) (tells : Bool) (since : ℕ) (before turns : List Turn) (k l : LinkValue) (p q : PassValue) (a b : Agenda) (turned : Turned)
+    → Kept throws dice d plan since (before ++ turns) a → (acted : Acted plan tells k l p q a b turned) → Threw throws d (words_in acted.took.turn) e
+    → Kept throws dice e plan since (before ++ (turns ++ acted.took.turn ∷ [])) b
+kept_on throws dice d e plan tells since before turns k l p q a b turned was acted threw =
+    subst (λ (ts : List Turn). Kept throws dice e plan since ts b) (append_assoc before turns (acted.took.turn ∷ [])) (kept_more throws dice d e plan tells since (before ++ turns) k l p q a b turned was acted threw)
 
-one_noted : (plan : Plan) (since : ℕ) (before turns : List Turn) (t : Turn) (a : Agenda) → IsAgenda plan since ((before ++ turns) ++ t ∷ []) a → IsAgenda plan since (before ++ (turns ++ t ∷ [])) a
-one_noted plan since before turns t a is = subst (λ (l : List Turn). IsAgenda plan since l a) (append_assoc before turns (t ∷ [])) is
-
-pub stretch_on : {D : Type 0} (throws : D → List ℕ → D → Type 0) (dice d e : D) (plan : Plan) (tells : Bool) (k l m : LinkValue) (p o q : PassValue) (a b c : Agenda) (dropped unsent n : ℕ) (turned : Turned)
-    → Stretching throws dice d plan tells k l p o a b dropped unsent n → (acted : Acted plan tells l m o q b c turned) → Threw throws d (words_in acted.took.turn) e → turned.why ≡ None
-    → Stretching throws dice e plan tells k m p q a c (dropped + turned.dropped) (unsent + turned.unsent) (n + 1)
-unfolding on
-stretch_on throws dice d e plan tells k l m p o q a b c dropped unsent n turned was acted threw none = record {
-  going = on (ticks_before plan.until) tells k l m p o q dropped unsent n turned was.going acted.took none;
-  threw = threw_more throws dice d e was.going.turns acted.took.turn was.threw threw;
-  timely = λ since before first. one_timely plan since before was.going.turns acted.took.turn (was.timely since before first) (acted.timely since (before ++ was.going.turns) (was.noted since before first));
-  noted = λ since before first. one_noted plan since before was.going.turns acted.took.turn c (acted.noted since (before ++ was.going.turns) (was.noted since before first));
-}
-
-pub stretch_over : {D : Type 0} (throws : D → List ℕ → D → Type 0) (dice d e : D) (plan : Plan) (tells : Bool) (bound : ℕ) (k l m : LinkValue) (p o q : PassValue) (a b c : Agenda) (dropped unsent n : ℕ) (turned : Turned) (why : Why)
-    → Stretching throws dice d plan tells k l p o a b dropped unsent n → (acted : Acted plan tells l m o q b c turned) → Threw throws d (words_in acted.took.turn) e → turned.why ≡ Some why
-    → Stretched throws dice e plan tells bound k m p q a c (record { why = why; dropped = dropped + turned.dropped; unsent = unsent + turned.unsent; turns = n + 1 })
-unfolding over
-stretch_over throws dice d e plan tells bound k l m p o q a b c dropped unsent n turned why was acted threw some = record {
-  ran = over (ticks_before plan.until) tells bound k l m p o q dropped unsent n turned why was.going acted.took some;
-  threw = threw_more throws dice d e was.going.turns acted.took.turn was.threw threw;
-  timely = λ since before first. one_timely plan since before was.going.turns acted.took.turn (was.timely since before first) (acted.timely since (before ++ was.going.turns) (was.noted since before first));
-  noted = λ since before first. one_noted plan since before was.going.turns acted.took.turn c (acted.noted since (before ++ was.going.turns) (was.noted since before first));
-}
-
-pub stretch_stopped : {D : Type 0} (throws : D → List ℕ → D → Type 0) (dice d : D) (plan : Plan) (tells : Bool) (bound : ℕ) (k l : LinkValue) (p q : PassValue) (a b : Agenda) (dropped unsent n : ℕ)
-    → Stretching throws dice d plan tells k l p q a b dropped unsent n
-    → Stretched throws dice d plan tells bound k l p q a b (record { why = Stopped; dropped = dropped; unsent = unsent; turns = n })
-unfolding stopped
-stretch_stopped throws dice d plan tells bound k l p q a b dropped unsent n was = record {
-  ran = stopped (ticks_before plan.until) tells bound k l p q dropped unsent n was.going;
-  threw = was.threw;
-  timely = was.timely;
-  noted = was.noted;
-}
-
-pub stretch_bounded : {D : Type 0} (throws : D → List ℕ → D → Type 0) (dice d : D) (plan : Plan) (tells : Bool) (bound : ℕ) (k l : LinkValue) (p q : PassValue) (a b : Agenda) (dropped unsent n : ℕ)
-    → n ≡ bound → Stretching throws dice d plan tells k l p q a b dropped unsent n
-    → Stretched throws dice d plan tells bound k l p q a b (record { why = ReadBound; dropped = dropped; unsent = unsent; turns = bound })
-unfolding bounded
-stretch_bounded throws dice d plan tells bound k l p q a b dropped unsent n is was = record {
-  ran = bounded (ticks_before plan.until) tells bound k l p q dropped unsent n is was.going;
-  threw = was.threw;
-  timely = was.timely;
-  noted = was.noted;
-}
-
--- The stretches of the ticking loop so far.
+-- The ticking loop as it runs. All its turns are those of its earlier stretches, and those of the current one.
 pub record TicksOn
-    {D : Type 0} (throws : D → List ℕ → D → Type 0) (dice rest : D) (plan : Plan) (tells : Bool) (bound : ℕ) (endless : Bool) (k k' : LinkValue) (p q : PassValue) (a : Agenda)
+    {D : Type 0} (throws : D → List ℕ → D → Type 0) (dice rest : D) (plan : Plan) (tells : Bool) (bound : ℕ) (endless : Bool) (k k' : LinkValue) (p q : PassValue) (a : Agenda) (s : Stretch)
     : Type 0 where
-  pub lasting : Lasting (ticks_before plan.until) tells bound endless k k' p q
+  pub underway : Underway (ticks_before plan.until) tells bound endless k k' p q s
   pub since : ℕ
-  pub timely : AreTimely plan since [] lasting.earlier
-  pub noted : IsAgenda plan since lasting.earlier a
-  pub threw : Threw throws dice (flat_map words_in lasting.earlier) rest
+  pub kept : Kept throws dice rest plan since (underway.before.earlier ++ underway.current.turns) a
 
 pub ticks_none : {D : Type 0} (throws : D → List ℕ → D → Type 0) (dice : D) (plan : Plan) (tells : Bool) (bound : ℕ) (endless : Bool) (k : LinkValue) (p : PassValue) (a : Agenda) (since : ℕ)
-    → IsAgenda plan since [] a → TicksOn throws dice dice plan tells bound endless k k p p a
-unfolding no_stretch
+    → IsAgenda plan since [] a → TicksOn throws dice dice plan tells bound endless k k p p a (record { dropped = 0; unsent = 0; turns = 0 })
+unfolding underway_none no_stretch none_yet
 ticks_none throws dice plan tells bound endless k p a since is = record {
-  lasting = no_stretch (ticks_before plan.until) tells bound endless k p;
+  underway = underway_none (ticks_before plan.until) tells bound endless k p;
   since = since;
-  timely = tt;
-  noted = is;
-  threw = refl;
+  kept = record { timely = tt; noted = is; threw = refl };
 }
 
-threw_join : {D : Type 0} (throws : D → List ℕ → D → Type 0) (dice d e : D) (ts us : List Turn) → Threw throws dice (flat_map words_in ts) d → Threw throws d (flat_map words_in us) e
-    → Threw throws dice (flat_map words_in (ts ++ us)) e
-threw_join throws dice d e ts us one two = rw (flat_map-append words_in ts us) (threw-append throws dice d e (flat_map words_in ts) (flat_map words_in us) one two)
-
-pub ticks_more : {D : Type 0} (throws : D → List ℕ → D → Type 0) (dice d e : D) (plan : Plan) (tells : Bool) (bound : ℕ) (endless : Bool) (k l m : LinkValue) (p o q : PassValue) (a b : Agenda) (end : LoopEnd)
-    → TicksOn throws dice d plan tells bound endless k l p o a → Stretched throws d e plan tells bound l m o q a b end → end.why ≡ ReadBound → endless ≡ true
-    → TicksOn throws dice e plan tells bound endless k m p q b
-unfolding stretch_more
-ticks_more throws dice d e plan tells bound endless k l m p o q a b end was one why always = record {
-  lasting = stretch_more (ticks_before plan.until) tells bound endless k l m p o q end was.lasting one.ran why always;
+pub ticks_on : {D : Type 0} (throws : D → List ℕ → D → Type 0) (dice d e : D) (plan : Plan) (tells : Bool) (bound : ℕ) (endless : Bool) (k l m : LinkValue) (p o q : PassValue) (a b : Agenda) (s : Stretch) (turned : Turned)
+    → TicksOn throws dice d plan tells bound endless k l p o a s → (acted : Acted plan tells l m o q a b turned) → Threw throws d (words_in acted.took.turn) e → turned.why ≡ None
+    → TicksOn throws dice e plan tells bound endless k m p q b (record { dropped = s.dropped + turned.dropped; unsent = s.unsent + turned.unsent; turns = s.turns + 1 })
+unfolding underway_on on
+ticks_on throws dice d e plan tells bound endless k l m p o q a b s turned was acted threw none = record {
+  underway = underway_on (ticks_before plan.until) tells bound endless k l m p o q s turned was.underway acted.took none;
   since = was.since;
-  timely = timely_join plan was.since [] was.lasting.earlier one.ran.turns was.timely (one.timely was.since was.lasting.earlier was.noted);
-  noted = one.noted was.since was.lasting.earlier was.noted;
-  threw = threw_join throws dice d e was.lasting.earlier one.ran.turns was.threw one.threw;
+  kept = kept_on throws dice d e plan tells was.since was.underway.before.earlier was.underway.current.turns l m o q a b turned was.kept acted threw;
 }
 
-pub ticks_over : {D : Type 0} (throws : D → List ℕ → D → Type 0) (dice d e : D) (plan : Plan) (tells : Bool) (bound : ℕ) (endless : Bool) (k l m : LinkValue) (p o q : PassValue) (a b : Agenda) (end : LoopEnd)
-    → TicksOn throws dice d plan tells bound endless k l p o a → Stretched throws d e plan tells bound l m o q a b end → (endless ≡ true → end.why ≡ ReadBound → ⊥)
-    → Ticking throws dice plan tells bound endless k m p q end
-unfolding lasted
-ticks_over throws dice d e plan tells bound endless k l m p o q a b end was one not = record {
-  lasted = lasted (ticks_before plan.until) tells bound endless k l m p o q end was.lasting one.ran not;
+pub ticks_over : {D : Type 0} (throws : D → List ℕ → D → Type 0) (dice d e : D) (plan : Plan) (tells : Bool) (bound : ℕ) (endless : Bool) (k l m : LinkValue) (p o q : PassValue) (a b : Agenda) (s : Stretch) (turned : Turned)
+    (why : Why)
+    → TicksOn throws dice d plan tells bound endless k l p o a s → (acted : Acted plan tells l m o q a b turned) → Threw throws d (words_in acted.took.turn) e → turned.why ≡ Some why
+    → Ticking throws dice plan tells bound endless k m p q (record { why = why; dropped = s.dropped + turned.dropped; unsent = s.unsent + turned.unsent; turns = s.turns + 1 })
+unfolding underway_over lasted over
+ticks_over throws dice d e plan tells bound endless k l m p o q a b s turned why was acted threw some =
+    let kept : Kept throws dice e plan was.since (was.underway.before.earlier ++ (was.underway.current.turns ++ acted.took.turn ∷ [])) b = kept_on throws dice d e plan tells was.since was.underway.before.earlier was.underway.current.turns l m o q a b turned was.kept acted threw in
+    record {
+      lasted = underway_over (ticks_before plan.until) tells bound endless k l m p o q s turned why was.underway acted.took some;
+      since = was.since;
+      timely = kept.timely;
+      rest = e;
+      threw = kept.threw;
+    }
+
+pub ticks_stopped : {D : Type 0} (throws : D → List ℕ → D → Type 0) (dice d : D) (plan : Plan) (tells : Bool) (bound : ℕ) (endless : Bool) (k l : LinkValue) (p q : PassValue) (a : Agenda) (s : Stretch)
+    → TicksOn throws dice d plan tells bound endless k l p q a s → Ticking throws dice plan tells bound endless k l p q (record { why = Stopped; dropped = s.dropped; unsent = s.unsent; turns = s.turns })
+unfolding underway_stopped lasted stopped
+ticks_stopped throws dice d plan tells bound endless k l p q a s was = record {
+  lasted = underway_stopped (ticks_before plan.until) tells bound endless k l p q s was.underway;
   since = was.since;
-  timely = timely_join plan was.since [] was.lasting.earlier one.ran.turns was.timely (one.timely was.since was.lasting.earlier was.noted);
-  rest = e;
-  threw = threw_join throws dice d e was.lasting.earlier one.ran.turns was.threw one.threw;
+  timely = was.kept.timely;
+  rest = d;
+  threw = was.kept.threw;
+}
+
+pub ticks_bounded : {D : Type 0} (throws : D → List ℕ → D → Type 0) (dice d : D) (plan : Plan) (tells : Bool) (bound : ℕ) (endless : Bool) (k l : LinkValue) (p q : PassValue) (a : Agenda) (s : Stretch)
+    → s.turns ≡ bound → endless ≡ false → TicksOn throws dice d plan tells bound endless k l p q a s
+    → Ticking throws dice plan tells bound endless k l p q (record { why = ReadBound; dropped = s.dropped; unsent = s.unsent; turns = s.turns })
+unfolding underway_bounded lasted bounded
+ticks_bounded throws dice d plan tells bound endless k l p q a s all never was = record {
+  lasted = underway_bounded (ticks_before plan.until) tells bound endless k l p q s all never was.underway;
+  since = was.since;
+  timely = was.kept.timely;
+  rest = d;
+  threw = was.kept.threw;
+}
+
+pub ticks_anew : {D : Type 0} (throws : D → List ℕ → D → Type 0) (dice d : D) (plan : Plan) (tells : Bool) (bound : ℕ) (endless : Bool) (k l : LinkValue) (p q : PassValue) (a : Agenda) (s : Stretch)
+    → s.turns ≡ bound → endless ≡ true → TicksOn throws dice d plan tells bound endless k l p q a s
+    → TicksOn throws dice d plan tells bound endless k l p q a (record { dropped = 0; unsent = 0; turns = 0 })
+unfolding underway_anew stretch_more bounded none_yet
+ticks_anew throws dice d plan tells bound endless k l p q a s all always was = record {
+  underway = underway_anew (ticks_before plan.until) tells bound endless k l p q s all always was.underway;
+  since = was.since;
+  kept = subst (λ (ts : List Turn). Kept throws dice d plan was.since ts a) (sym (append-nil (was.underway.before.earlier ++ was.underway.current.turns))) was.kept;
 }
 
 -- a ticking loop that makes no turn
 pub ticks_unstarted : {D : Type 0} (throws : D → List ℕ → D → Type 0) (dice : D) (plan : Plan) (tells : Bool) (bound : ℕ) (endless : Bool) (k : LinkValue) (p : PassValue)
     → Ticking throws dice plan tells bound endless k k p p (record { why = Stopped; dropped = 0; unsent = 0; turns = 0 })
-unfolding no_stretch none_yet stopped lasted
+unfolding underway_none underway_stopped no_stretch none_yet stopped lasted
 ticks_unstarted throws dice plan tells bound endless k p =
     let kind : Turn → Bool = ticks_before plan.until in
     record {
-      lasted = lasted kind tells bound endless k k k p p p (record { why = Stopped; dropped = 0; unsent = 0; turns = 0 }) (no_stretch kind tells bound endless k p) (stopped kind tells bound k k p p 0 0 0 (none_yet kind tells k p)) (λ always is. absurd cc);
+      lasted = underway_stopped kind tells bound endless k k p p (record { dropped = 0; unsent = 0; turns = 0 }) (underway_none kind tells bound endless k p);
       since = 0;
       timely = tt;
       rest = dice;

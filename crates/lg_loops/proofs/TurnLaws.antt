@@ -1,5 +1,5 @@
 -- One more turn of a loop.
-use Rattle.std.proofs.Common.{◌≡◌, ℕ, ◌+◌, Bool, true, false, List, [], ◌∷◌, ◌++◌, length, All, refl, ap, sym, ◌∙◌, subst, arith, append_assoc, append-nil, length-append}
+use Rattle.std.proofs.Common.{◌≡◌, ℕ, ◌+◌, Bool, true, false, List, [], ◌∷◌, ◌++◌, All, refl, ap, sym, ◌∙◌, subst, arith, append_assoc, append-nil, length-append}
 use Rattle.std.specs.Prelude.{◌<◌, nat_lt, Option, Some, None, if◌then◌else◌}
 use Rattle.std.proofs.lemmas.Bool.Decides.{nat_tests}
 use Rattle.std.specs.List.{flat_map}
@@ -75,6 +75,9 @@ stops_of_turn (Pulled now peer r sent) = refl
 of_turn : (t : Turn) (why : Why) → stops t ≡ Some why → is_of_turn why ≡ true
 of_turn t why is = sym (ap are_of_turn is) ∙ stops_of_turn t
 
+pub not_bound : (t : Turn) (why : Why) → stops t ≡ Some why → why ≡ ReadBound → ⊥
+not_bound t why is bound = let e : is_of_turn ReadBound ≡ true = subst (λ (w : Why). is_of_turn w ≡ true) bound (of_turn t why is) in absurd cc
+
 pub ends_by : (bound : ℕ) (before : List Turn) (t : Turn) (why : Why) → All goes_on before → stops t ≡ Some why → Ends bound (before ++ t ∷ []) why
 ends_by bound before t Stopped on is = absurd (let e = of_turn t Stopped is in cc)
 ends_by bound before t ReadBound on is = absurd (let e = of_turn t ReadBound is in cc)
@@ -125,15 +128,8 @@ unfoldable pub stopped : (kind : Turn → Bool) (tells : Bool) (bound : ℕ) (a 
 stopped kind tells bound a b p q dropped unsent n going = record { turns = going.turns; made = going.made; counts = going.counts; why = going.went_on }
 
 unfoldable pub bounded : (kind : Turn → Bool) (tells : Bool) (bound : ℕ) (a b : LinkValue) (p q : PassValue) (dropped unsent n : ℕ) → n ≡ bound → Going kind tells a b p q dropped unsent n
-    → Ran kind tells bound a b p q (record { why = ReadBound; dropped = dropped; unsent = unsent; turns = bound })
-bounded kind tells bound a b p q dropped unsent n is going =
-    let all : bound ≡ length going.turns = sym is ∙ going.counts.turns_is in
-    record {
-      turns = going.turns;
-      made = going.made;
-      counts = record { dropped_is = going.counts.dropped_is; unsent_is = going.counts.unsent_is; turns_is = all };
-      why = (going.went_on, sym all);
-    }
+    → Ran kind tells bound a b p q (record { why = ReadBound; dropped = dropped; unsent = unsent; turns = n })
+bounded kind tells bound a b p q dropped unsent n is going = record { turns = going.turns; made = going.made; counts = going.counts; why = (going.went_on, sym going.counts.turns_is ∙ is) }
 
 pub before_until : (now until : ℕ) → now < until → nat_lt now until ≡ true
 before_until now until low = grind (arith, nat_tests)

@@ -2,8 +2,6 @@
 //!
 //! Defined in: this file.
 //! Tested in: `lg_node_tests/src/node/receiving.rt`, `lg_node_tests/src/node/ticking.rt`.
-ghost use Rattle.std.specs.Prelude.{◌≡◌, true, MatchBool};
-ghost use Rattle.lg_loops.specs.declared.ending.Why.TheVariants.{ReadBound};
 
 use lg_agent::{AgentName, Refusal, Spent};
 use thiserror::Error;
@@ -40,28 +38,6 @@ pub struct LoopEnd {
     pub unsent: u64,
     /// How many turns it made.
     pub turns: u64,
-}
-
-impl LoopEnd {
-    /// An end of these parts.
-    pub(crate) fn of(why: Why, dropped: u64, unsent: u64, turns: u64) -> LoopEnd
-        ensures { result ≡ record { why = why; dropped = dropped; unsent = unsent; turns = turns } }
-    {
-        LoopEnd {
-            why,
-            dropped,
-            unsent,
-            turns,
-        }
-    }
-
-    /// Whether a loop that may be endless ends so.
-    pub(crate) fn is_last(&self, endless: bool) -> bool
-        ensures { MatchBool result (endless ≡ true → self.now.why ≡ ReadBound → ⊥)
-            ((endless ≡ true) × (self.now.why ≡ ReadBound)) }
-    {
-        !endless || !matches!(self.why, Why::ReadBound)
-    }
 }
 
 /// What a loop gives back.

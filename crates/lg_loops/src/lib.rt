@@ -1,5 +1,5 @@
 //! The two loops of a node over an agent: one hears datagrams, and one ticks and finds its group. With them come their
-//! links, their dice, and what they share.
+//! links, their dice, and what they share. Their caller starts the threads in which they run.
 #![tactic(auto)]
 
 mod agenda;
@@ -14,9 +14,9 @@ mod link;
 mod node_link;
 mod plan;
 mod receiving;
-mod running;
 mod sending;
 mod shared;
+mod stretch;
 mod ticking;
 mod turned;
 mod udp;
@@ -31,7 +31,6 @@ pub use link::{Link, LinkFault, MAX_DATAGRAM};
 pub use node_link::{NodeLink, NotedLink};
 pub use plan::Plan;
 pub use receiving::receive_loop;
-pub use running::run_loops;
 pub use shared::{MAX_TURNS, Shared, Side};
 pub use ticking::tick_loop;
 pub use udp::UdpLink;

@@ -2,16 +2,17 @@
 //!
 //! Defined in: `specs/Meaning/Turns.antt`, `specs/Support/Took.antt`.
 //! Tested in: `lg_node_tests/src/node/receiving.rt`.
-ghost use Rattle.std.specs.Prelude.{◌≡◌, ◌≤◌, ◌+◌, ◌∷◌, ◌++◌, [], List, length, true};
+ghost use Rattle.std.specs.Prelude.{◌≡◌, ◌≤◌, ◌∷◌, ◌++◌, [], List, true};
 ghost use Rattle.lg_loops.specs.Meaning.Links.{LinkEvent};
 ghost use Rattle.lg_loops.specs.Meaning.Links.LinkEvent.{Received};
-ghost use Rattle.lg_loops.specs.Meaning.Turns.{line, receives, Ran, Lasted};
+ghost use Rattle.lg_loops.specs.Meaning.Turns.{line, receives, Lasted};
 ghost use Rattle.lg_loops.specs.Support.Took.{Took};
 
 use crate::calling;
-use crate::ending::{Ended, LoopEnd, Why};
+use crate::ending::{Ended, Why};
 use crate::link::{Link, MAX_DATAGRAM};
 use crate::shared::{MAX_TURNS, Shared, Side};
+use crate::stretch::Stretch;
 use crate::turned::Turned;
 use lg_agent::{AgentName, Refusal};
 use lg_clock::{Clock, Loop};
@@ -74,34 +75,6 @@ fn receive_turn<A: AgentName, R: Wait, L: Link, C: Clock>(
     }
 }
 
-/// The turns of the loop, until one ends it.
-fn receive_turns<A: AgentName, R: Wait, L: Link, C: Clock>(
-    shared: &Shared<'_, R, C>,
-    side: &mut Side<'_, L, A>,
-) -> LoopEnd
-    requires { shared.now.bound ≤ MAX_TURNS }
-    ensures { Ran (receives shared.now.wait_ms) L.tells shared.now.bound
-        (line (L.log side.old.link) (L.failed side.old.link))
-        (line (L.log side.new.link) (L.failed side.new.link)) side.old.pass side.new.pass result }
-{
-    let mut buffer = [0; MAX_DATAGRAM];
-    let mut reply = Reply::default();
-    let (mut dropped, mut unsent) = (0, 0);
-    for turns in 0..shared.bound {
-        shared.clock.begin_turn(Loop::Receiving);
-        if shared.stop.load(SeqCst) {
-            return LoopEnd::of(Why::Stopped, dropped, unsent, turns);
-        }
-        let turned = receive_turn(shared, side, &mut buffer, &mut reply);
-        dropped += turned.dropped;
-        unsent += turned.unsent;
-        if let Some(why) = turned.why {
-            return LoopEnd::of(why, dropped, unsent, turns + 1);
-        }
-    }
-    LoopEnd::of(Why::ReadBound, dropped, unsent, shared.bound)
-}
-
 /// Hears the datagrams that come over a link, and hands the packets of the replies to it, until the stop flag is set.
 ///
 /// It makes at most `shared.bound` turns, each of which waits for a datagram, `shared.wait_ms` milliseconds at most.
@@ -125,11 +98,25 @@ pub fn receive_loop<A: AgentName, R: Wait, L: Link, C: Clock>(
         (line (L.log result.link) (L.failed result.link)) side.entry.pass result.spent result.end }
 {
     let mut side = side;
+    let mut buffer = [0; MAX_DATAGRAM];
+    let mut reply = Reply::default();
+    let mut stretch = Stretch::new();
     for _ in shared.rt.forever() {
-        let end = receive_turns(shared, &mut side);
-        if end.is_last(shared.endless) {
-            shared.stop.store(true, SeqCst);
-            return side.ended(end);
+        if stretch.turns == shared.bound {
+            if !shared.endless {
+                return side.end_loop(shared.stop, stretch.end(Why::ReadBound));
+            }
+            stretch = Stretch::new();
+            continue;
+        }
+        shared.clock.begin_turn(Loop::Receiving);
+        if shared.stop.load(SeqCst) {
+            return side.end_loop(shared.stop, stretch.end(Why::Stopped));
+        }
+        let turned = receive_turn(shared, &mut side, &mut buffer, &mut reply);
+        stretch.add(&turned);
+        if let Some(why) = turned.why {
+            return side.end_loop(shared.stop, stretch.end(why));
         }
     }
     unreachable!()

@@ -1,11 +1,13 @@
 //! What a loop takes: what the loops of a node share, and its own side.
 //!
-//! Defined in: this file.
+//! Defined in: this file, `specs/Meaning/Turns.antt`.
 //! Tested in: `lg_node_tests/src/node/both.rt`.
 ghost use Rattle.std.specs.Prelude.{◌≡◌};
+ghost use Rattle.lg_loops.specs.Meaning.Turns.{unstarted};
 
 use crate::changes::ChangeSignal;
-use crate::ending::{Ended, LoopEnd};
+use crate::ending::{Ended, LoopEnd, Why};
+use crate::stretch::Stretch;
 use left_right::Absorb;
 use lg_agent::{AgentName, Pass};
 use lg_counters::{Counters, Noted};
@@ -16,6 +18,7 @@ use lg_view::{Published, Update};
 use std::alloc::Global;
 use std::sync::Wait;
 use std::sync::atomic::AtomicBool;
+use std::sync::atomic::Ordering::SeqCst;
 
 /// The most turns that a loop of a node makes before it counts them anew or ends: 1,000,000,000.
 pub const MAX_TURNS: u64 = 1_000_000_000;
@@ -80,7 +83,9 @@ pub(crate) struct Ticker<'a, L, A: AgentName, D>
 where
     Published<A>: Absorb<Update<A>, State = [Event; 0]>,
 {
+    /// Its side.
     pub(crate) side: Side<'a, L, A>,
+    /// The dice.
     pub(crate) dice: D,
 }
 
@@ -105,5 +110,25 @@ impl<'a, L, A: AgentName> Side<'a, L, A> {
             spent: pass.finish(),
             end,
         }
+    }
+
+    /// Ends the loop of this side: sets the stop flag for the other loop, and gives back what [`Side::ended`] does.
+    pub(crate) fn end_loop(self, stop: &AtomicBool, end: LoopEnd) -> Ended<L, A>
+        ensures link { result.link ≡ self.entry.link }
+        ensures spent { result.spent ≡ self.entry.pass }
+        ensures end { result.end ≡ end }
+    {
+        stop.store(true, SeqCst);
+        self.ended(end)
+    }
+
+    /// What a ticking loop leaves that makes no turn, since no thread could be started for the receiving one: its end
+    /// is [`Why::Stopped`] with no turns.
+    pub fn unstarted(self) -> Ended<L, A>
+        ensures link { result.link ≡ self.entry.link }
+        ensures spent { result.spent ≡ self.entry.pass }
+        ensures end { result.end ≡ unstarted }
+    {
+        self.ended(Stretch::new().end(Why::Stopped))
     }
 }

@@ -2,21 +2,22 @@
 //!
 //! Defined in: `specs/Meaning/Turns.antt`, `specs/Meaning/Pulling.antt`, `specs/Support/Acted.antt`.
 //! Tested in: `lg_node_tests/src/node/ticking.rt`, `cases/groups`.
-ghost use Rattle.std.specs.Prelude.{◌≡◌, ◌≤◌, ◌<◌, IfSome, [], ℕ};
+ghost use Rattle.std.specs.Prelude.{◌≤◌, ◌<◌, IfSome};
 ghost use Rattle.lg_agent.specs.Meaning.Values.{PassValue};
 ghost use Rattle.lg_loops.specs.declared.plan.Plan.{Plan as Planned};
 ghost use Rattle.lg_loops.specs.Meaning.Pulling.{Ticking};
 ghost use Rattle.lg_loops.specs.Meaning.Turns.{line, words_in, SeesDue, Threw};
-ghost use Rattle.lg_loops.specs.Support.Acted.{Acted, Stretched, IsAgenda};
+ghost use Rattle.lg_loops.specs.Support.Acted.{Acted};
 
 use crate::agenda::{Agenda, Duty};
 use crate::calling;
 use crate::dice::Dice;
-use crate::ending::{Ended, LoopEnd, Why};
+use crate::ending::{Ended, Why};
 use crate::finding::{ask_member, ask_seed, look};
 use crate::link::Link;
 use crate::plan::Plan;
 use crate::shared::{MAX_TURNS, Shared, Side, Ticker};
+use crate::stretch::Stretch;
 use crate::turned::Turned;
 use lg_agent::AgentName;
 use lg_clock::{Clock, Loop};
@@ -103,35 +104,6 @@ fn next_moment<R, C: Clock>(shared: &Shared<'_, R, C>, until: Moment) -> Option<
     }
 }
 
-/// The turns of the loop, until one ends it or its end time comes.
-fn tick_turns<A: AgentName, R: Wait, L: Link, C: Clock, D: Dice>(
-    shared: &Shared<'_, R, C>,
-    ticker: &mut Ticker<'_, L, A, D>,
-    plan: &Plan,
-    agenda: &mut Agenda,
-) -> LoopEnd
-    requires { shared.now.bound ≤ MAX_TURNS }
-    ensures { Stretched D.throws ticker.old.dice ticker.new.dice plan.now L.tells shared.now.bound
-        (line (L.log ticker.old.side.link) (L.failed ticker.old.side.link))
-        (line (L.log ticker.new.side.link) (L.failed ticker.new.side.link)) ticker.old.side.pass
-        ticker.new.side.pass agenda.old agenda.new result }
-{
-    let mut reply = Reply::default();
-    let (mut dropped, mut unsent) = (0, 0);
-    for turns in 0..shared.bound {
-        let Some(now) = next_moment(shared, plan.until) else {
-            return LoopEnd::of(Why::Stopped, dropped, unsent, turns);
-        };
-        let turned = tick_turn(shared, ticker, plan, agenda, now, &mut reply);
-        dropped += turned.dropped;
-        unsent += turned.unsent;
-        if let Some(why) = turned.why {
-            return LoopEnd::of(why, dropped, unsent, turns + 1);
-        }
-    }
-    LoopEnd::of(Why::ReadBound, dropped, unsent, shared.bound)
-}
-
 /// Ticks whenever the next deadline has come, and hands the packets of the replies to a link, until the stop flag is
 /// set or its end time comes. Meanwhile it finds its group, as the plan says.
 ///
@@ -167,12 +139,25 @@ pub fn tick_loop<A: AgentName, R: Wait, L: Link, C: Clock, D: Dice + Drop>(
 {
     let mut ticker = Ticker { side, dice };
     let mut agenda = Agenda::begin(plan, shared.clock.now());
+    let mut reply = Reply::default();
+    let mut stretch = Stretch::new();
     for _ in shared.rt.forever() {
-        let end = tick_turns(shared, &mut ticker, plan, &mut agenda);
-        if end.is_last(shared.endless) {
-            shared.stop.store(true, SeqCst);
-            let Ticker { side, dice: _ } = ticker;
-            return side.ended(end);
+        if stretch.turns == shared.bound {
+            if !shared.endless {
+                return ticker
+                    .side
+                    .end_loop(shared.stop, stretch.end(Why::ReadBound));
+            }
+            stretch = Stretch::new();
+            continue;
+        }
+        let Some(now) = next_moment(shared, plan.until) else {
+            return ticker.side.end_loop(shared.stop, stretch.end(Why::Stopped));
+        };
+        let turned = tick_turn(shared, &mut ticker, plan, &mut agenda, now, &mut reply);
+        stretch.add(&turned);
+        if let Some(why) = turned.why {
+            return ticker.side.end_loop(shared.stop, stretch.end(why));
         }
     }
     unreachable!()

@@ -3,20 +3,22 @@
 //! Defined in: `specs/Meaning/Nodes.antt`, `lg_follow/specs/Meaning/Sights.antt`.
 //! Tested in: `cases/nodes`, `cases/groups`.
 ghost use Rattle.std.specs.Prelude.{◌≡◌, false};
-ghost use Rattle.lg_follow.specs.Meaning.Sights.{HasWatched};
 ghost use Rattle.lg_node.specs.Meaning.Nodes.{WatchesIf};
 
+use crate::parts::Work;
+use left_right::Absorb;
 use lg_agent::{AgentName, Pass};
 use lg_clock::Clock;
+use lg_detector::Event;
 use lg_follow::{News, Watched, watch};
 use lg_loops::{ChangeSignal, Shared};
+use lg_view::{Published, Update};
 use std::io::Write;
 use std::rt;
 use std::sync::Wait;
-use std::thread::{Threads, join};
 
-/// What a watcher beside the loops waits for. They set the signal when a record has changed, and once more when they
-/// have ended.
+/// What a watcher beside the loops waits for. The loops set the signal when a record has changed, and it is set once
+/// more when both have ended.
 #[derive(Drop)]
 struct LoopNews<'a, R> {
     rt: &'a R,
@@ -32,16 +34,27 @@ impl<R: Wait + rt::Clock> News for LoopNews<'_, R> {
     }
 }
 
-/// Watches with a pass until the stop flag is set, or the writer fails. Gives both back, with how the watcher ended.
-fn watch_by<'p, 'w, A: AgentName, R: Wait + rt::Clock, C: Clock, W: Write>(
+/// Watches with a pass until the stop flag is set, or the writer fails, if the node is followed. Otherwise it does
+/// nothing. A writer that fails ends the watcher alone. Gives both back, with how the watcher ended.
+pub(crate) fn watch_if<'p, 'w, A, R, C, W>(
     shared: &Shared<'_, R, C>,
+    followed: bool,
     pass: Pass<'p, A>,
     writer: &'w mut W,
-) -> (Pass<'p, A>, (&'w mut W, Watched))
+) -> (Pass<'p, A>, (&'w mut W, Option<Watched>))
+where
+    A: AgentName,
+    R: Wait + rt::Clock,
+    C: Clock,
+    W: Write,
     ensures same { result.1.0.ghost_name ≡ writer.entry.ghost_name }
-    ensures watched { HasWatched pass.entry result.0 (W.contents writer.entry.now) (W.contents result.1.0.now)
-        result.1.1 }
+    ensures watched { WatchesIf followed pass.entry result.0 (W.contents writer.entry.now)
+        (W.contents result.1.0.now) result.1.1 }
+    ensures alone { followed ≡ false → result.1.0.now ≡ writer.entry.now }
 {
+    if !followed {
+        return (pass, (writer, None));
+    }
     let mut pass = pass;
     let news = LoopNews {
         rt: shared.rt,
@@ -55,57 +68,40 @@ fn watch_by<'p, 'w, A: AgentName, R: Wait + rt::Clock, C: Clock, W: Write>(
         &mut pass,
         writer,
     );
-    (pass, (writer, watched))
+    (pass, (writer, Some(watched)))
 }
 
-/// Does nothing. By this use a returned reference stays tied to the parameter that lent it.
-pub(crate) fn take_back<T>(returned: &mut T)
-    ensures { returned.new ≡ returned.old }
-{}
-
-/// Does some work. If the node is followed, it watches beside that in a thread of its own, until the stop flag is set.
-/// If no thread can be started for that, it watches when the work is done. A writer that fails ends the watcher alone.
-///
-/// Returns the pass, how the watcher ended if there was one, and what the work gave.
-pub(crate) fn watch_beside<'p, A, R, C, W, G, B>(
-    shared: &Shared<'_, R, C>,
-    followed: bool,
-    pass: Pass<'p, A>,
-    writer: &mut W,
-    work: G,
-) -> ((Pass<'p, A>, Option<Watched>), B)
+/// The work of a watcher: with what it watches, if the node is followed.
+#[derive(Drop)]
+pub(crate) struct Watching<'x, 'a, 'p, 'w, A: AgentName, R, C, W>
 where
-    A: AgentName + Send + Sync,
-    R: Wait + Threads + rt::Clock + Sync,
-    C: Clock + Sync,
-    W: Write + Send,
-    G: FnOnce() -> B,
-    requires { G.pre work }
-    ensures watched { WatchesIf followed pass.entry result.0.0 (W.contents writer.old) (W.contents writer.new)
-        result.0.1 }
-    ensures alone { followed ≡ false → writer.new ≡ writer.old }
-    ensures gave { G.post work result.1 }
+    Published<A>: Absorb<Update<A>, State = [Event; 0]>,
 {
-    if !followed {
-        return ((pass, None), work());
+    pub(crate) shared: &'x Shared<'a, R, C>,
+    pub(crate) followed: bool,
+    pub(crate) pass: Pass<'p, A>,
+    pub(crate) writer: &'w mut W,
+}
+
+impl<'x, 'a, 'p, 'w, A, R, C, W> Work<(Pass<'p, A>, (&'w mut W, Option<Watched>))>
+    for Watching<'x, 'a, 'p, 'w, A, R, C, W>
+where
+    A: AgentName,
+    R: Wait + rt::Clock,
+    C: Clock,
+    W: Write,
+{
+    ghost needs = { λ w. Unit {0} };
+
+    ghost gives = { λ w r. (r.1.0.ghost_name ≡ w.writer.ghost_name)
+        × WatchesIf w.followed w.pass r.0 (W.contents w.writer.now) (W.contents r.1.0.now) r.1.1
+        × (w.followed ≡ false → r.1.0.now ≡ w.writer.now) };
+
+    fn is_wanted(&self) -> bool {
+        self.followed
     }
-    let (given, gave) = join(
-        shared.rt,
-        move || -> (Pass<'_, A>, (&mut W, Watched))
-            ensures same { result.1.0.ghost_name ≡ writer.entry.ghost_name }
-            ensures watched { HasWatched pass.entry result.0 (W.contents writer.entry.now)
-                (W.contents result.1.0.now) result.1.1 }
-        { watch_by(shared, pass, writer) },
-        move || -> B
-            requires { G.pre work }
-            ensures { G.post work result }
-        {
-            let gave = work();
-            shared.changes.set(shared.rt);
-            gave
-        },
-    );
-    let (pass, (writer, watched)) = given;
-    take_back(writer);
-    ((pass, Some(watched)), gave)
+
+    fn work(self) -> (Pass<'p, A>, (&'w mut W, Option<Watched>)) {
+        watch_if(self.shared, self.followed, self.pass, self.writer)
+    }
 }

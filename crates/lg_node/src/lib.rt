@@ -1,8 +1,12 @@
 //! A node: its loops over an agent, and beside them a watcher and a status server.
 #![tactic(auto)]
 
+mod beginning;
+mod closing;
 mod following;
 mod node;
+mod parts;
+mod receiving;
 mod serving;
 mod sockets;
 mod start;
@@ -13,7 +17,9 @@ pub use lg_counters::Counters;
 pub use lg_follow::Watched;
 pub use lg_loops::{
     ChangeSignal, Counted, Dice, Ended, KeyedLink, LOOK_MS, Link, LinkFault, LoopEnd, MAX_DATAGRAM,
-    MAX_TURNS, PcgDice, Plan, Shared, Side, UdpLink, Why, receive_loop, run_loops, tick_loop,
+    MAX_TURNS, PcgDice, Plan, Shared, Side, UdpLink, Why, receive_loop, tick_loop,
 };
 pub use lg_status_server::Served;
 pub use node::{NodeEnd, NodeFault, NodeStart, Settings, run_node};
+pub use serving::StatusServer;
+pub use threads::{Both, Joined, Looked, Lookers, Sides, join_threads};

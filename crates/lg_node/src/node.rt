@@ -105,7 +105,7 @@ pub enum NodeFault {
 /// of its loops ends before that.
 ///
 /// It binds a socket to the configured address, opens an agent with four passes, and asks each seed for its table,
-/// in order. Then it runs [`run_loops`](crate::run_loops) with the steady clock
+/// in order. Then it runs [`join_threads`](crate::join_threads) with the steady clock
 /// ([`SteadyClock`](lg_clock::SteadyClock)), the words of [`PcgDice`](crate::PcgDice), and loops that are endless. So
 /// the ticking loop asks the seeds until a Page is heard, and again while it is alone. It asks a member every
 /// `pull_ms`. At the end the members are read, and the agent is closed. A node that hears of no member goes on alone.

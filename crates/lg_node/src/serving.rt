@@ -7,28 +7,29 @@ ghost use Rattle.std.specs.Prelude.{◌≡◌, is_some, IfErr, IfOk, IfSome, Som
 ghost use Rattle.lg_timing.specs.declared.config.Config.{Config as Opened};
 ghost use Rattle.lg_follow.specs.Meaning.Sights.{OnlyLooked};
 ghost use Rattle.lg_http.specs.Meaning.Slots.{AreFree, slots_of};
-ghost use Rattle.lg_node.specs.Meaning.Nodes.{DidServe, IsEarly, ServesIf, ServesNode, TellsServed};
+ghost use Rattle.lg_node.specs.Meaning.Nodes.{DidServe, IsEarly, ServesIf, TellsServed};
 ghost use Rattle.lg_node.specs.Meaning.Starts.{Shows, hosts_of};
 
 use crate::node::{NodeFault, Settings};
-use crate::start::Setup;
+use crate::parts::Work;
+use left_right::Absorb;
 use lg_agent::{AgentName, Pass, Refusal};
 use lg_answers::{NodeNumber, ShownConfig};
 use lg_clock::{Clock, MachineClock};
+use lg_detector::Event;
 use lg_http::{Hosts, Server, ServerEnd, Signal};
 use lg_loops::Shared;
 use lg_rules::Addr;
 use lg_status_server::{Served, SiteBasis, serve};
 use lg_text::{FaultStream, report};
 use lg_timing::Config;
+use lg_view::{Published, Update};
 use std::alloc::{AllocError, Global};
 use std::rt;
-use std::sync::Wait;
-use std::thread::{Threads, join};
 
-/// A status server that is bound and doesn't serve yet.
+/// A status server that is bound and doesn't serve yet. Only a node makes one.
 #[derive(Drop)]
-pub(crate) struct StatusServer<'s, 'r, R> {
+pub struct StatusServer<'s, 'r, R> {
     pub(crate) server: Server,
     /// It is told to stop by this, as soon as the loops have ended.
     pub(crate) signal: &'s Signal,
@@ -97,31 +98,45 @@ pub(crate) fn status_server<'s, 'r, R: rt::Clock>(
     }
 }
 
+/// By what a status server is told to stop, if there is one.
+pub(crate) fn signal_of<'s, R>(status: &Option<StatusServer<'s, '_, R>>) -> Option<&'s Signal> {
+    match status {
+        Some(status) => Some(status.signal),
+        None => None,
+    }
+}
+
 /// Serves with a pass until the loops have ended, and gives it back.
 fn serve_with<'p, A: AgentName, R: rt::Clock, C: Clock>(
     shared: &Shared<'_, R, C>,
-    setup: &Setup<'_, '_>,
-    server: &mut Server,
-    signal: &Signal,
-    machine: &MachineClock<'_, R>,
+    config: &Config,
+    settings: &Settings,
+    status: &mut StatusServer<'_, '_, R>,
     pass: Pass<'p, A>,
 ) -> (Pass<'p, A>, Served)
-    requires { shared.now.counters.now.name ≡ setup.now.config.now.name }
+    requires { shared.now.counters.now.name ≡ config.now.name }
     ensures looked { OnlyLooked pass.entry result.0 }
-    ensures did { DidServe setup.now.config.now setup.now.settings.now pass.entry result.0 server.old server.new
+    ensures did { DidServe config.now settings.now pass.entry result.0 status.old.server status.new.server
         result.1 }
 {
-    let Ok(config) = shown_of(shared.alloc, setup.config, setup.settings) else {
+    let Ok(shown) = shown_of(shared.alloc, config, settings) else {
         return (pass, Served::Refused(Refusal::NoMemory));
     };
     let basis = SiteBasis {
         alloc: shared.alloc,
         clock: shared.clock,
         counters: shared.counters,
-        config,
+        config: shown,
     };
-    let hosts = hosts_of(setup.settings.status);
-    serve(server, signal, machine, pass, basis, hosts)
+    let hosts = hosts_of(settings.status);
+    serve(
+        &mut status.server,
+        status.signal,
+        &status.machine,
+        pass,
+        basis,
+        hosts,
+    )
 }
 
 /// Reports how a status server ended, unless it was told to stop.
@@ -135,79 +150,72 @@ fn report_end<F: FaultStream>(served: Served, faults: &mut F)
     }
 }
 
-/// Serves with a pass until the loops have ended. If the server ends before that by itself, this is reported. Gives the
-/// pass and the stream back, with how the server ended.
-fn serve_by<'p, 'f, A: AgentName, R: rt::Clock, C: Clock, F: FaultStream>(
+/// Serves with a pass until the loops have ended, if there is a status server. Otherwise it does nothing. A server that
+/// ends before that by itself is reported. Gives the pass and the stream back, with how the server ended.
+pub(crate) fn serve_if<'p, 'f, A: AgentName, R: rt::Clock, C: Clock, F: FaultStream>(
     shared: &Shared<'_, R, C>,
-    setup: &Setup<'_, '_>,
-    status: StatusServer<'_, '_, R>,
-    pass: Pass<'p, A>,
-    faults: &'f mut F,
-) -> (Pass<'p, A>, (&'f mut F, Served))
-    requires free { AreFree (slots_of status.server) }
-    requires name { shared.now.counters.now.name ≡ setup.now.config.now.name }
-    ensures same { result.1.0.ghost_name ≡ faults.entry.ghost_name }
-    ensures served { ServesNode setup.now.config.now setup.now.settings.now pass.entry result.0 result.1.1 }
-    ensures told { TellsServed (Some result.1.1) (F.reported faults.entry.now) (F.reported result.1.0.now) }
-{
-    let StatusServer {
-        mut server,
-        signal,
-        machine,
-    } = status;
-    let (pass, served) = serve_with(shared, setup, &mut server, signal, &machine, pass);
-    report_end(served, faults);
-    (pass, (faults, served))
-}
-
-/// Does some work. If there is a status server, it serves beside that in a thread of its own, until the work is done.
-/// If no thread can be started for that, nobody is served. Gives the stream back beside what the work gave.
-pub(crate) fn serve_beside<'p, 'f, A, R, C, F, G, B>(
-    shared: &Shared<'_, R, C>,
-    setup: &Setup<'_, '_>,
+    config: &Config,
+    settings: &Settings,
     status: Option<StatusServer<'_, '_, R>>,
     pass: Pass<'p, A>,
     faults: &'f mut F,
-    work: G,
-) -> ((Pass<'p, A>, Option<Served>), (&'f mut F, B))
-where
-    A: AgentName + Send + Sync,
-    R: Wait + Threads + rt::Clock + Sync,
-    C: Clock + Sync,
-    F: FaultStream + Send,
-    G: FnOnce() -> B,
-    requires work { G.pre work }
+) -> (Pass<'p, A>, (&'f mut F, Option<Served>))
     requires free { IfSome status (λ status. AreFree (slots_of status.server)) }
-    requires name { shared.now.counters.now.name ≡ setup.now.config.now.name }
+    requires name { shared.now.counters.now.name ≡ config.now.name }
     ensures same { result.1.0.ghost_name ≡ faults.entry.ghost_name }
-    ensures served { ServesIf (is_some status.entry) setup.now.config.now setup.now.settings.now pass.entry
-        result.0.0 result.0.1 }
-    ensures told { TellsServed result.0.1 (F.reported faults.entry.now) (F.reported result.1.0.now) }
-    ensures gave { G.post work result.1.1 }
+    ensures served { ServesIf (is_some status.entry) config.now settings.now pass.entry result.0 result.1.1 }
+    ensures told { TellsServed result.1.1 (F.reported faults.entry.now) (F.reported result.1.0.now) }
 {
     let Some(status) = status else {
-        return ((pass, None), (faults, work()));
+        return (pass, (faults, None));
     };
-    let signal = status.signal;
-    let (given, gave) = join(
-        shared.rt,
-        move || -> (Pass<'_, A>, (&mut F, Served))
-            requires free { AreFree (slots_of status.server) }
-            requires name { shared.now.counters.now.name ≡ setup.now.config.now.name }
-            ensures same { result.1.0.ghost_name ≡ faults.entry.ghost_name }
-            ensures served { ServesNode setup.entry.now.config.now setup.entry.now.settings.now pass.entry result.0
-                result.1.1 }
-            ensures told { TellsServed (Some result.1.1) (F.reported faults.entry.now) (F.reported result.1.0.now) }
-        { serve_by(shared, setup, status, pass, faults) },
-        move || -> B
-            requires { G.pre work }
-            ensures { G.post work result }
-        {
-            let gave = work();
-            signal.stop();
-            gave
-        },
-    );
-    let (pass, (faults, served)) = given;
-    ((pass, Some(served)), (faults, gave))
+    let mut status = status;
+    let (pass, served) = serve_with(shared, config, settings, &mut status, pass);
+    report_end(served, faults);
+    (pass, (faults, Some(served)))
+}
+
+/// The work of a status server: with what it serves, if there is one.
+#[derive(Drop)]
+pub(crate) struct Serving<'x, 'a, 'n, 's, 'r, 'p, 'f, A: AgentName, R, C, F>
+where
+    Published<A>: Absorb<Update<A>, State = [Event; 0]>,
+{
+    pub(crate) shared: &'x Shared<'a, R, C>,
+    pub(crate) config: &'n Config,
+    pub(crate) settings: &'n Settings,
+    pub(crate) server: Option<StatusServer<'s, 'r, R>>,
+    pub(crate) pass: Pass<'p, A>,
+    pub(crate) faults: &'f mut F,
+}
+
+impl<'x, 'a, 'n, 's, 'r, 'p, 'f, A, R, C, F> Work<(Pass<'p, A>, (&'f mut F, Option<Served>))>
+    for Serving<'x, 'a, 'n, 's, 'r, 'p, 'f, A, R, C, F>
+where
+    A: AgentName,
+    R: rt::Clock,
+    C: Clock,
+    F: FaultStream,
+{
+    ghost needs = { λ w. IfSome w.server (λ server. AreFree (slots_of server.server))
+        × (w.shared.now.counters.now.name ≡ w.config.now.name) };
+
+    ghost gives = { λ w r. (r.1.0.ghost_name ≡ w.faults.ghost_name)
+        × ServesIf (is_some w.server) w.config.now w.settings.now w.pass r.0 r.1.1
+        × TellsServed r.1.1 (F.reported w.faults.now) (F.reported r.1.0.now) };
+
+    fn is_wanted(&self) -> bool {
+        self.server.is_some()
+    }
+
+    fn work(self) -> (Pass<'p, A>, (&'f mut F, Option<Served>)) {
+        serve_if(
+            self.shared,
+            self.config,
+            self.settings,
+            self.server,
+            self.pass,
+            self.faults,
+        )
+    }
 }

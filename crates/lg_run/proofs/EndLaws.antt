@@ -6,10 +6,16 @@ use Rattle.lg_text.specs.Meaning.Reporting.{Reported, Reports}
 use Rattle.lg_text.specs.declared.fault.RunFault.{RunFault}
 use Rattle.lg_node.specs.declared.node.NodeEnd.{NodeEnd}
 use Rattle.lg_node.specs.declared.node.NodeFault.{NodeFault}
-use Rattle.lg_node.specs.Meaning.Nodes.{IsEarly, TellsServed}
+use Rattle.lg_node.specs.declared.node.Settings.{Settings}
+use Rattle.lg_node.specs.Meaning.Nodes.{IsEarly, IsRun, TellsServed}
 use Rattle.lg_node.proofs.FollowingLaws.{unfollowed}
+use Rattle.lg_run.specs.declared.told.Told.{Told}
 use Rattle.lg_run.specs.Meaning.Reporting.{ReportsBoth}
-use Rattle.lg_run.specs.Meaning.Running.{node_settings, table_at_end, table_wished, HasRun, TellsMeanwhile, Writes, WritesEnd}
+use Rattle.lg_run.specs.Meaning.Running.{node_settings, table_at_end, table_wished, Announces, HasRun, IsSecond, RunsAnnounced}
+use Rattle.lg_run.specs.Meaning.Running.{TellsMeanwhile, Writes, WritesEnd}
+use Rattle.lg_run.specs.Meaning.Telling.{line_of, run_told, status_told}
+use Rattle.lg_run.specs.Meaning.Wishes.{end_wished}
+use Rattle.lg_run.specs.Meaning.Words.{start_line}
 
 -- a writer that was left alone until the table
 pub end-written : {W : Type 0} (contents : W → Option (List ℕ)) (follow : Bool) (before between after : W) (ran : Result NodeEnd NodeFault) (written : Result (Unit {0}) RunFault)
@@ -59,3 +65,35 @@ pub told-meanwhile : {F : Type 0} (reported : F → Reported) (before after : F)
     → TellsMeanwhile ran (reported before) (reported after)
 told-meanwhile reported before after (Ok e) told untold = told
 told-meanwhile reported before after (Err fault) told untold = ap reported untold
+
+-- A node is announced and run, by what each step says: `between` is its writer, and `meanwhile` its stream for faults, when it has ended.
+pub announced-runs : {W F : Type 0} (contents : W → Option (List ℕ)) (reported : F → Reported) (before between after : W) (faults announced meanwhile faults' : F) (file : List ℕ) (n : NodeConfig) (keys : Option Keys)
+    (wished : Option ℕ) (follow : Bool) (settings : Settings) (until : ℕ) (ran : Result NodeEnd NodeFault) (written : Result (Unit {0}) RunFault) (told : Told) (status : ℕ)
+    → Announces wished follow (reported faults) (reported announced) (start_line file n) → settings ≡ node_settings n keys follow → until ≡ end_wished wished
+    → IfOk ran (IsRun n.config settings until (contents before) (contents between)) → IfErr ran (IsEarly n.config) → (settings.follow ≡ false → between ≡ before) → OnErr ran (between ≡ before)
+    → IfOk ran (λ e. TellsServed e.served (reported announced) (reported meanwhile)) → OnErr ran (meanwhile ≡ announced)
+    → Writes between after (contents between) (contents after) (table_wished follow ran) written → told ≡ run_told ran written
+    → (second : List ℕ) × IsSecond n ran second × ReportsBoth (reported meanwhile) (reported faults') (line_of told) second → status ≡ status_told told
+    → RunsAnnounced before after (contents before) (contents after) (reported faults) (reported faults') file n keys wished follow status
+announced-runs contents reported before between after faults announced meanwhile faults' file n keys wished follow settings until ran written told status start set ends ok early alone unwritten served unserved wrote tells lines is =
+    let here = subst (λ s. IfOk ran (IsRun n.config s until (contents before) (contents between))) set ok in
+    let run = subst (λ end. IfOk ran (HasRun n keys end follow (contents before) (contents between))) ends here in
+    let either = either-outcome (HasRun n keys (end_wished wished) follow (contents before) (contents between)) (IsEarly n.config) ran run early in
+    record {
+      announced = reported announced;
+      start = start;
+      runs =
+          record {
+            ran = ran;
+            written = written;
+            second = lines.0;
+            run = run-written contents n keys (end_wished wished) follow (contents before) between after ran written either wrote;
+            unwritten = unwritten-early contents follow before between after ran written unwritten wrote;
+            table = end-written contents follow before between after ran written (subst (λ s. s.follow ≡ false → between ≡ before) set alone) wrote;
+            meanwhile = reported meanwhile;
+            told = told-meanwhile reported announced meanwhile ran served unserved;
+            reason = lines.1;
+            lines = both-as _ _ _ _ _ _ lines.2 (ap line_of tells) refl;
+            is = is ∙ ap status_told tells;
+          };
+    }

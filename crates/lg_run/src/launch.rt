@@ -3,13 +3,10 @@
 //!
 //! Defined in: `specs/Meaning/Running.antt`, `specs/Meaning/Telling.antt`, `lg_text/specs/Meaning/Running.antt`.
 //! Tested in: `cases/node.case`, `lg_command_tests/src/launch/ends.rt`.
-ghost use Rattle.std.specs.Prelude.{◌≡◌, ◌⊎◌, ℕ, List, [], Err, false, MatchResult, OnErr, OnOk, string_bytes};
+ghost use Rattle.std.specs.Prelude.{◌≡◌, ◌⊎◌, ℕ, List, [], Err, OnErr, OnOk, string_bytes};
 ghost use Rattle.std.specs.Option.{option_map};
-ghost use Rattle.lg_timing.specs.Meaning.Config.{IsChecked};
 ghost use Rattle.lg_run.specs.Meaning.Running.{node_settings, table_wished, Announces, IsSecond, RunsBytes};
-ghost use Rattle.lg_run.specs.Meaning.Running.{RunsFile, RunsOrRefused, Writes};
-ghost use Rattle.lg_run.specs.Meaning.Wishes.{end_wished};
-ghost use Rattle.lg_node.specs.Meaning.Nodes.{IsEarly};
+ghost use Rattle.lg_run.specs.Meaning.Running.{RunsFile, Writes};
 ghost use Rattle.lg_run.specs.Meaning.Reporting.{ReportsBoth};
 ghost use Rattle.lg_run.specs.Meaning.Telling.{line_of, status_told};
 ghost use Rattle.lg_run.specs.Meaning.Words.{link_reason, start_line};
@@ -106,50 +103,14 @@ where
         Err(ReadFault::NoMemory) => return tell(Told::Memory, faults),
         Err(ReadFault::File(fault)) => return tell_fault(alloc, bytes, fault, faults),
     };
-    match keys_at(rt, alloc, &node.key_file) {
-        Ok(keys) => run_config(
-            rt,
-            alloc,
-            &Configured { node, keys },
-            wishes,
-            writer,
-            faults,
-        ),
-        Err(fault) => tell_no_keys(fault, faults),
-    }
-}
-
-/// A configuration that was read, with the keys of the file that it names, if it names one.
-#[derive(Drop)]
-struct Configured {
-    node: NodeConfig,
-    keys: Option<Keys>,
-}
-
-/// Runs the node of a configuration that was read, and tells its end, as [`run_bytes`] says. The configuration has to
-/// be checked.
-fn run_config<R, W, F>(
-    rt: &R,
-    alloc: Global,
-    read: &Configured,
-    wishes: &Wishes<'_>,
-    writer: &mut W,
-    faults: &mut F,
-) -> u8
-where
-    R: Wait + Threads + Net + rt::Clock + RandomSource + Sync,
-    W: Write + Send,
-    F: FaultStream + Send,
-    requires { IsChecked read.now.node.config }
-    ensures { RunsOrRefused writer.old writer.new (W.contents writer.old) (W.contents writer.new)
-        (F.reported faults.old) (F.reported faults.new) wishes.now.file.now read.now.node read.now.keys
-        wishes.now.until wishes.now.follow result }
-{
-    let node = &read.node;
-    let Ok(()) = announce(alloc, wishes, node, faults) else {
+    let keys = match keys_at(rt, alloc, &node.key_file) {
+        Ok(keys) => keys,
+        Err(fault) => return tell_no_keys(fault, faults),
+    };
+    let Ok(()) = announce(alloc, wishes, &node, faults) else {
         return tell(Told::Memory, faults);
     };
-    let settings = settings_of(node, read.keys, wishes.follow);
+    let settings = settings_of(&node, keys, wishes.follow);
     let start = NodeStart {
         config: &node.config,
         settings: &settings,
@@ -158,7 +119,7 @@ where
     };
     let ran = run_node(rt, alloc, &start, writer, faults);
     let written = write_table(alloc, &ran, wishes.follow, writer);
-    tell_run(alloc, node, &ran, Told::of(&ran, written), faults)
+    tell_run(alloc, &node, &ran, Told::of(&ran, written), faults)
 }
 
 /// The settings of a node: what its configuration says, with these keys, and whether it follows.

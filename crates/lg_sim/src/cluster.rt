@@ -19,7 +19,7 @@ ghost use Rattle.lg_timing.specs.Meaning.Config.{IsChecked};
 ghost use Rattle.lg_sim.specs.declared.host.Member.{Member as OfMember};
 ghost use Rattle.lg_sim.specs.declared.cluster.Stop.TheVariants.{NoMemory};
 
-use crate::host::{Host, Member, Scratch, SentPacket, lead};
+use crate::host::{Host, Member, RunBuffers, SentPacket, lead};
 use arrayvec::ArrayVec;
 use lg_detector::{Detector, Event, NoMemory};
 use lg_lines::put_table;
@@ -50,7 +50,7 @@ impl From<AllocError> for Stop {
 
 /// A member that is to be opened, and when.
 #[derive(Debug, Drop)]
-pub struct Opening {
+pub struct NewMember {
     /// Its name.
     pub name: Name,
     /// Its port at 127.0.0.1, 1 to 65535.
@@ -115,7 +115,7 @@ impl Cluster {
         &mut self,
         at: usize,
         event: &Event,
-        scratch: &mut Scratch,
+        buffers: &mut RunBuffers,
         text: &mut Vec<u8>,
     ) -> Result<(), NoMemory>
         requires place { at < vec_len self.old.hosts }
@@ -126,7 +126,7 @@ impl Cluster {
             → LedOn self.old self.new text.old.items text.new.items members past
             (Some (record { member = m; event = event.now }))) }
     {
-        lead(&mut self.hosts[at], event, &mut self.sent, scratch, text)?;
+        lead(&mut self.hosts[at], event, &mut self.sent, buffers, text)?;
         Ok(())
     }
 
@@ -135,7 +135,7 @@ impl Cluster {
         &mut self,
         name: &Name,
         event: &Event,
-        scratch: &mut Scratch,
+        buffers: &mut RunBuffers,
         text: &mut Vec<u8>,
     ) -> Result<(), Stop>
         requires reached { IsClusterReached self.old }
@@ -153,12 +153,12 @@ impl Cluster {
         let Some(at) = self.place_of(name) else {
             return Err(Stop::Faulty(ScriptFault::Member));
         };
-        self.happen(at, event, scratch, text)?;
+        self.happen(at, event, buffers, text)?;
         Ok(())
     }
 
     /// The configuration of a member that is to be opened: its name, port and seeds, with the settings.
-    fn config_of(&self, opening: Opening) -> Config
+    fn config_of(&self, opening: NewMember) -> Config
         ensures { result ≡ opening_config opening.name opening.port opening.seeds self.now.settings }
     {
         Config {
@@ -191,7 +191,7 @@ impl Cluster {
         alloc: Global,
         now: Moment,
         config: Config,
-        scratch: &mut Scratch,
+        buffers: &mut RunBuffers,
         text: &mut Vec<u8>,
     ) -> Result<(), NoMemory>
         requires { IsChecked config }
@@ -209,7 +209,7 @@ impl Cluster {
         let detector = Detector::blank(alloc)?;
         let mut host = Host { member, detector };
         let event = Event::Open { now, config };
-        lead(&mut host, &event, &mut self.sent, scratch, text)?;
+        lead(&mut host, &event, &mut self.sent, buffers, text)?;
         self.hosts.push(host)?;
         Ok(())
     }
@@ -218,8 +218,8 @@ impl Cluster {
     pub fn open(
         &mut self,
         alloc: Global,
-        opening: Opening,
-        scratch: &mut Scratch,
+        opening: NewMember,
+        buffers: &mut RunBuffers,
         text: &mut Vec<u8>,
     ) -> Result<(), Stop>
         ensures stops { (members : List OfMember) (past : List Happening)
@@ -243,7 +243,7 @@ impl Cluster {
         if let Some(fault) = self.opening_fault(&config) {
             return Err(Stop::Faulty(fault));
         }
-        self.begin(alloc, now, config, scratch, text)?;
+        self.begin(alloc, now, config, buffers, text)?;
         Ok(())
     }
 
@@ -268,7 +268,7 @@ impl Cluster {
         &mut self,
         packet: u64,
         now: Moment,
-        scratch: &mut Scratch,
+        buffers: &mut RunBuffers,
         text: &mut Vec<u8>,
     ) -> Result<(), Stop>
         requires reached { IsClusterReached self.old }
@@ -289,7 +289,7 @@ impl Cluster {
             text.extend_from_slice(b"nobody\n")?;
             return Ok(());
         };
-        self.happen(at, &event, scratch, text)?;
+        self.happen(at, &event, buffers, text)?;
         Ok(())
     }
 

@@ -7,8 +7,8 @@ ghost use Rattle.lg_script.specs.declared.command.Command.{Command as Commanded}
 ghost use Rattle.lg_sim.specs.Meaning.Outcome.{command_fault};
 ghost use Rattle.lg_sim.specs.Support.After.{IsClusterAfter, IsClusterReached, RanCommand, StopsAt};
 
-use crate::cluster::{Cluster, Opening, Stop};
-use crate::host::Scratch;
+use crate::cluster::{Cluster, NewMember, Stop};
+use crate::host::RunBuffers;
 use lg_detector::Event;
 use lg_script::{Command, local};
 use std::alloc::Global;
@@ -19,7 +19,7 @@ pub fn run_command(
     alloc: Global,
     command: Command,
     cluster: &mut Cluster,
-    scratch: &mut Scratch,
+    buffers: &mut RunBuffers,
     text: &mut Vec<u8>,
 ) -> Result<(), Stop>
     requires { IsClusterReached cluster.old }
@@ -41,28 +41,28 @@ pub fn run_command(
             now,
             seeds,
         } => {
-            let opening = Opening {
+            let opening = NewMember {
                 name,
                 port,
                 now,
                 seeds,
             };
-            cluster.open(alloc, opening, scratch, text)
+            cluster.open(alloc, opening, buffers, text)
         }
         Command::Tick { name, now, words } => {
-            cluster.happen_at(&name, &Event::Tick { now, words }, scratch, text)
+            cluster.happen_at(&name, &Event::Tick { now, words }, buffers, text)
         }
-        Command::Deliver { packet, now } => cluster.deliver(packet, now, scratch, text),
+        Command::Deliver { packet, now } => cluster.deliver(packet, now, buffers, text),
         Command::Ask { name, now, other } => {
             let event = Event::Ask { now, name: other };
-            cluster.happen_at(&name, &event, scratch, text)
+            cluster.happen_at(&name, &event, buffers, text)
         }
         Command::Health { name, now } => {
-            cluster.happen_at(&name, &Event::Health { now }, scratch, text)
+            cluster.happen_at(&name, &Event::Health { now }, buffers, text)
         }
         Command::Pull { name, now, port } => {
             let peer = local(port);
-            cluster.happen_at(&name, &Event::Pull { now, peer }, scratch, text)
+            cluster.happen_at(&name, &Event::Pull { now, peer }, buffers, text)
         }
         Command::Table { name } => cluster.put_table_of(alloc, &name, text),
     }

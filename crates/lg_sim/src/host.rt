@@ -42,7 +42,7 @@ pub struct SentPacket {
 
 /// Buffers that a run uses again for each event. What they hold before or after a call doesn't matter.
 #[derive(Drop)]
-pub struct Scratch {
+pub struct RunBuffers {
     /// The reply to the event.
     pub reply: Reply,
     /// The bytes of a packet of the reply.
@@ -82,7 +82,7 @@ pub fn lead(
     host: &mut Host,
     event: &Event,
     sent: &mut Vec<SentPacket>,
-    scratch: &mut Scratch,
+    buffers: &mut RunBuffers,
     text: &mut Vec<u8>,
 ) -> Result<(), NoMemory>
     requires { IsTrue (accepts_of host.old.detector event.now) }
@@ -94,7 +94,7 @@ pub fn lead(
         ≡ text.old.items ++ reply_text event.now (vec_len sent.old + 1) (reply_after f event.now)) }
 {
     let first = sent.len() as u64 + 1;
-    host.detector.step(event, &mut scratch.reply);
-    keep_sends(host.member.addr, scratch.reply.sends.as_slice(), sent)?;
-    put_reply(event, first, &scratch.reply, &mut scratch.row, text)
+    host.detector.step(event, &mut buffers.reply);
+    keep_sends(host.member.addr, buffers.reply.sends.as_slice(), sent)?;
+    put_reply(event, first, &buffers.reply, &mut buffers.row, text)
 }

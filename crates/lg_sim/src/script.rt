@@ -9,7 +9,7 @@ ghost use Rattle.lg_sim.specs.Support.After.{IsClusterAfter, IsClusterReached, R
 
 use crate::cluster::{Cluster, Stop};
 use crate::command::run_command;
-use crate::host::Scratch;
+use crate::host::RunBuffers;
 use arrayvec::ArrayVec;
 use itoa::Buffer;
 use lg_detector::{NoMemory, Reply};
@@ -44,7 +44,7 @@ fn run_line(
     alloc: Global,
     line: &[u8],
     cluster: &mut Cluster,
-    scratch: &mut Scratch,
+    buffers: &mut RunBuffers,
     text: &mut Vec<u8>,
 ) -> Result<(), Stop>
     requires { IsClusterReached cluster.old }
@@ -57,7 +57,7 @@ fn run_line(
 {
     match command_in(line) {
         Ok(None) => Ok(()),
-        Ok(Some(command)) => run_command(alloc, command, cluster, scratch, text),
+        Ok(Some(command)) => run_command(alloc, command, cluster, buffers, text),
         Err(fault) => Err(Stop::Faulty(fault)),
     }
 }
@@ -72,7 +72,7 @@ pub fn run_script(alloc: Global, input: &[u8]) -> Result<Written, NoMemory>
     ensures end { IfOk result (λ written. written.end ≡ script_end input.now) }
 {
     let mut cluster = Cluster::new(alloc);
-    let mut scratch = Scratch {
+    let mut buffers = RunBuffers {
         reply: Reply::default(),
         row: ArrayVec::new(),
     };
@@ -81,7 +81,7 @@ pub fn run_script(alloc: Global, input: &[u8]) -> Result<Written, NoMemory>
     let mut rest = input;
     'lines: while !rest.is_empty() {
         let (line, after) = cut_line(rest);
-        match run_line(alloc, line, &mut cluster, &mut scratch, &mut text) {
+        match run_line(alloc, line, &mut cluster, &mut buffers, &mut text) {
             Ok(()) => {}
             Err(Stop::NoMemory) => return Err(AllocError),
             Err(Stop::Faulty(fault)) => {

@@ -40,7 +40,8 @@ pub struct SiteBasis<'n, C> {
     pub config: ShownConfig,
 }
 
-/// What a node shows to those who ask it over HTTP, by looks of a pass. It takes no lock, and nobody waits for it.
+/// What a node shows to those who ask it over HTTP, by looks of a pass. It takes no lock. A call that
+/// publishes waits only until a look has left.
 ///
 /// It keeps the newest changes of the events that it shows. A record that changed several times between two looks has
 /// several changes, each with the version and the moment of its own event.

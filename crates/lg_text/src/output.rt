@@ -19,8 +19,8 @@ fn unwritten(kind: ErrorKind) -> WriteFault
 
 /// Writes a text and flushes the writer.
 ///
-/// The error says of which kind the error was of the write or the flush that failed. What the writer held then has grown
-/// by a beginning of the text: by none of it, a part or all. An interrupted write is made again. A write that takes none of
+/// The error has the kind of the error of the write or flush that failed. What the writer held then has grown by a
+/// beginning of the text: by none of it, a part or all. An interrupted write is made again. A write that takes none of
 /// the bytes handed to it is an error too. No memory is allocated apart from what the writer allocates.
 pub fn write_whole<W: Write>(writer: &mut W, text: &[u8]) -> Result<(), WriteFault>
     ensures written { OnOk result (Appends (W.contents writer.old) (W.contents writer.new) text.now) }

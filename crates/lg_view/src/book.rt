@@ -72,6 +72,7 @@ pub trait PairName {
     ghost book: { Book };
 }
 
+// Nobody reads this book: a caller's contract names its own type parameter, which requires a book of its own.
 impl PairName for Brand {
     ghost use Rattle.lg_view.specs.Meaning.Rule.{no_book};
 

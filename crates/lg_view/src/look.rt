@@ -9,7 +9,9 @@ ghost use Rattle.lg_detector.specs.Meaning.Step.{view_after, deadline_after, is_
 ghost use Rattle.lg_view.specs.Meaning.Views.{begins_open, IsOverview};
 ghost use mathlib.Core.List.{IsPrefix};
 
-use self::reading::{Blank, read_deadline, read_front, read_overview, read_status, read_table};
+use self::reading::{
+    OverviewBasis, read_deadline, read_front, read_overview, read_status, read_table,
+};
 use crate::book::PairName;
 use crate::front::Front;
 use crate::overview::Overview;
@@ -144,7 +146,7 @@ impl<P: PairName> Look<P> {
 
     /// The records of all members, how many events they are after and at which moment, what this member knows of itself
     /// after the same events, and the changes behind a version. Allocates memory for 256 records and for a copy of the
-    /// changes. Fails as [`Look::members`] does.
+    /// changes. This copy is made inside, so a call that publishes may wait for it. Fails as [`Look::members`] does.
     pub fn overview(&mut self, alloc: Global, version: u64) -> Result<Overview, MembersFault>
         ensures { MatchResult result (λ found. IsOverview found version self.new × IsPrefix self.old self.new)
             (λ _. self.new ≡ self.old) }
@@ -152,12 +154,12 @@ impl<P: PairName> Look<P> {
         let Ok(records) = Vec::with_capacity(alloc, MAX_MEMBERS) else {
             return Err(MembersFault::NoMemory);
         };
-        let blank = Blank {
+        let basis = OverviewBasis {
             alloc,
             records,
             version,
         };
-        let Some((overview, front)) = replace_with(&mut self.reader, blank, read_overview) else {
+        let Some((overview, front)) = replace_with(&mut self.reader, basis, read_overview) else {
             return Err(MembersFault::NoView);
         };
         let Ok(overview) = overview else {

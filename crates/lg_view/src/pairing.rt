@@ -29,8 +29,8 @@ pub enum PairFault {
 
 /// Makes a feed and `places` looks, at least one and fewer than 2^32, over a book that has no events. Nothing is
 /// published yet, and each look has seen nothing. Allocates memory for the looks, for two detectors, each with some 5
-/// KB for a reply, and for what the threads share. If that is refused, it fails with [`PairFault::NoMemory`]. If no
-/// reader is given for a look, it fails with [`PairFault::NoPlace`].
+/// KB for a reply and a ring of 1,024 changes, and for what the threads share. If that is refused, it fails with
+/// [`PairFault::NoMemory`]. If no reader is given for a look, it fails with [`PairFault::NoPlace`].
 pub fn pair<P: PairName, R: Wait>(
     rt: &R,
     alloc: Global,

@@ -99,7 +99,7 @@ impl<P: PairName> Published<P> {
     }
 
     /// The changes behind a version. Allocates memory for them; the only error is that it was refused.
-    pub(crate) fn changes_behind(&self, alloc: Global, version: u64) -> Result<Behind, AllocError>
+    pub(crate) fn behind(&self, alloc: Global, version: u64) -> Result<Behind, AllocError>
         ensures { IfOk result (λ found. HasBehind found version (changes_of self.now)) }
     {
         self.changes.behind(alloc, version)

@@ -6,12 +6,10 @@ use Rattle.lg_agent.specs.Meaning.Values.{PassValue}
 use Rattle.lg_loops.specs.declared.agenda.Agenda.{Agenda}
 use Rattle.lg_loops.specs.declared.agenda.Duty.{Duty}
 use Rattle.lg_loops.specs.declared.agenda.Duty.TheVariants.{Seed, Look, Member, Rest}
-use Rattle.lg_loops.specs.declared.ending.LoopEnd.{LoopEnd}
 use Rattle.lg_loops.specs.declared.plan.Plan.{Plan}
 use Rattle.lg_loops.specs.declared.turned.Turned.{Turned}
-use Rattle.lg_loops.specs.Meaning.Turns.{Turn, LinkValue, Ran, Threw, ticks_before, words_in}
-use Rattle.lg_loops.specs.Meaning.Pulling.{addrs, look_ms, looks_in, choices_in, last_moment, waiting_after}
-use Rattle.lg_loops.specs.Meaning.Pulling.{IsTimely, AreTimely}
+use Rattle.lg_loops.specs.Meaning.Turns.{Turn, LinkValue, ticks_before}
+use Rattle.lg_loops.specs.Meaning.Pulling.{addrs, look_ms, looks_in, choices_in, last_moment, waiting_after, IsTimely}
 use Rattle.lg_loops.specs.Support.Took.{Took}
 
 -- the seeds that wait by an agenda
@@ -49,14 +47,3 @@ pub record Acted
   pub timely : (since : ℕ) → (before : List Turn) → IsAgenda plan since before a → IsTimely plan since before took.turn
   pub noted : (since : ℕ) → (before : List Turn) → IsAgenda plan since before a
       → IsAgenda plan since (before ++ took.turn ∷ []) a'
-
--- A stretch of the ticking loop, and the agenda before and after it.
-pub record Stretched
-    {D : Type 0} (throws : D → List ℕ → D → Type 0) (dice rest : D) (plan : Plan) (tells : Bool) (bound : ℕ)
-    (k k' : LinkValue) (p q : PassValue) (a a' : Agenda) (end : LoopEnd)
-    : Type 0 where
-  pub ran : Ran (ticks_before plan.until) tells bound k k' p q end
-  pub threw : Threw throws dice (flat_map words_in ran.turns) rest
-  pub timely : (since : ℕ) → (before : List Turn) → IsAgenda plan since before a → AreTimely plan since before ran.turns
-  pub noted : (since : ℕ) → (before : List Turn) → IsAgenda plan since before a
-      → IsAgenda plan since (before ++ ran.turns) a'

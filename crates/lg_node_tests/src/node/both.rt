@@ -3,17 +3,22 @@
 //! ten seconds at most.
 ghost use Rattle.std.specs.Prelude.{◌≡◌, ◌+◌, MatchBool};
 
-use super::clocks::FixedDice;
 use super::links::{PING_7, put};
 use super::loops::{Noted, WAIT_MS, ticks_until};
 use super::playing::{Play, Shown, told};
+use left_right::Absorb;
 use lg_agent::{AgentName, Pass, Spent};
-use lg_agent_testing::{Case, Ending, Left, Outcome, both_passes};
+use lg_agent_testing::{Case, Ending, Left, Outcome};
 use lg_clock::Clock;
-use lg_node::{Ended, Link, LinkFault, LoopEnd, MAX_DATAGRAM, Shared, Side, Why, run_loops};
+use lg_detector::Event;
+use lg_node::{
+    Both, ChangeSignal, Counters, Link, LinkFault, Looked, Lookers, LoopEnd, MAX_DATAGRAM, PcgDice,
+    Settings, Shared, Side, Sides, StatusServer, Why, join_threads,
+};
 use lg_rules::Addr;
-use lg_testing::{at, local};
-use lg_timing::{MAX_MOMENT, Moment};
+use lg_testing::{Room, at, letter, local};
+use lg_timing::{Config, MAX_MOMENT, Moment};
+use lg_view::{Published, Update};
 use std::alloc::Global;
 use std::sync::Wait;
 use std::sync::atomic::AtomicBool;
@@ -190,8 +195,45 @@ fn begun() -> Meeting {
     }
 }
 
-/// What both loops give back, the receiving one first.
-type BothEnded<'a, A, R> = (Ended<MeetingLink<'a, R>, A>, Ended<MeetingLink<'a, R>, A>);
+/// The settings of a node that nobody follows or asks.
+fn settings() -> Settings {
+    Settings {
+        dice: 1,
+        pull_ms: 0,
+        stall_ms: 0,
+        follow: false,
+        status: None,
+        status_open: false,
+        keys: None,
+    }
+}
+
+/// The four passes of a node.
+#[derive(Drop)]
+struct Four<'a, A: AgentName>
+where
+    Published<A>: Absorb<Update<A>, State = [Event; 0]>,
+{
+    receiver: Pass<'a, A>,
+    ticker: Pass<'a, A>,
+    watcher: Pass<'a, A>,
+    status: Pass<'a, A>,
+}
+
+/// These passes, unless there are fewer than four.
+fn taken<'a, A: AgentName>(passes: Vec<Pass<'a, A>>) -> Option<Four<'a, A>> {
+    let mut passes = passes;
+    let status = passes.pop()?;
+    let watcher = passes.pop()?;
+    let ticker = passes.pop()?;
+    let receiver = passes.pop()?;
+    Some(Four {
+        receiver,
+        ticker,
+        watcher,
+        status,
+    })
+}
 
 /// What the loops share: one clock, and the flag by which they are told to stop.
 fn shared<'a, R, C>(
@@ -201,7 +243,8 @@ fn shared<'a, R, C>(
     stop: &'a AtomicBool,
     noted: &'a Noted,
 ) -> Shared<'a, R, C>
-    ensures { result.bound ≡ BOUND }
+    ensures bound { result.bound ≡ BOUND }
+    ensures name { result.counters.now.name ≡ noted.now.counters.name }
 {
     Shared {
         rt,
@@ -218,63 +261,55 @@ fn shared<'a, R, C>(
     }
 }
 
-/// Runs both loops until the last moment.
-fn run<'a, A, R>(
-    rt: &'a R,
+/// Runs the threads of a node that nobody follows or asks, until the last moment. One clock always says 0.
+fn run_threads<'p, 'm, A, R>(
+    rt: &'m R,
     alloc: Global,
-    meeting: &'a Meeting,
-    receiver: Side<'_, MeetingLink<'a, R>, A>,
-    ticker: Side<'_, MeetingLink<'a, R>, A>,
-) -> BothEnded<'a, A, R>
+    meeting: &'m Meeting,
+    passes: Four<'p, A>,
+    fails_at: FailsAt,
+) -> (Looked<'p, A>, Both<MeetingLink<'m, R>, A>)
 where
     A: AgentName + Send + Sync,
     R: Threads + Wait + rt::Clock + Sync,
 {
+    let name = letter(b'b');
+    let config = Config::new(name, local(7102));
+    let settings = settings();
     let clock = StandingClock { rt };
-    let noted = Noted::new(false);
+    let noted = Noted {
+        page_heard: AtomicBool::new(false),
+        counters: Counters::new(name, at(0)),
+        changes: ChangeSignal::new(),
+    };
     let shared = shared(rt, alloc, &clock, &meeting.stop, &noted);
-    let dice = FixedDice { word: 0 };
-    run_loops(
-        &shared,
+    let Four {
         receiver,
         ticker,
-        dice,
-        &ticks_until(at(MAX_MOMENT)),
-    )
+        watcher,
+        status,
+    } = passes;
+    let sides = Sides::of(
+        Side::new(receiver, MeetingLink::new(rt, meeting, fails_at[0])),
+        Side::new(ticker, MeetingLink::new(rt, meeting, fails_at[1])),
+        PcgDice::new(0),
+        ticks_until(at(MAX_MOMENT)),
+    );
+    let server: Option<StatusServer<'m, 'm, R>> = None;
+    let lookers = Lookers {
+        config: &config,
+        settings: &settings,
+        watcher,
+        status,
+        server,
+    };
+    let mut writer = Room::failing(0);
+    let mut faults = Room::failing(0);
+    let (looked, (both, _)) = join_threads(&shared, sides, lookers, &mut writer, &mut faults);
+    (looked, both)
 }
 
-/// Runs both loops with these passes, the receiving one with the first.
-fn run_passes<A, R>(
-    rt: &R,
-    alloc: Global,
-    first: Pass<'_, A>,
-    second: Pass<'_, A>,
-    fails_at: FailsAt,
-) -> (BothSeen, (Spent<A>, Spent<A>))
-where
-    A: AgentName + Send + Sync,
-    R: Threads + Wait + rt::Clock + Sync,
-{
-    let meeting = begun();
-    let receiver = Side {
-        pass: first,
-        link: MeetingLink::new(rt, &meeting, fails_at[0]),
-    };
-    let ticker = Side {
-        pass: second,
-        link: MeetingLink::new(rt, &meeting, fails_at[1]),
-    };
-    let (received, ticked) = run(rt, alloc, &meeting, receiver, ticker);
-    let seen = BothSeen {
-        receiving: received.end,
-        ticking: ticked.end,
-        receiving_failures: received.link.failures,
-        ticking_failures: ticked.link.failures,
-    };
-    (seen, (received.spent, ticked.spent))
-}
-
-/// Runs both loops with the last two passes.
+/// Runs both loops of a node with four passes.
 pub fn run_both<A, R>(
     rt: &R,
     alloc: Global,
@@ -286,16 +321,26 @@ where
     A: AgentName + Send + Sync,
     R: Threads + Wait + rt::Clock + Sync,
 {
-    let Some((first, second)) = both_passes(passes) else {
+    let Some(passes) = taken(passes) else {
         return Left::nothing(spents);
     };
-    let (seen, both) = run_passes(rt, alloc, first, second, fails_at);
-    Left::with_both(spents, both, Shown::Both(seen))
+    let meeting = begun();
+    let (looked, (received, ticked)) = run_threads(rt, alloc, &meeting, passes, fails_at);
+    let seen = BothSeen {
+        receiving: received.end,
+        ticking: ticked.end,
+        receiving_failures: received.link.failures,
+        ticking_failures: ticked.link.failures,
+    };
+    let mut spents = spents;
+    let _refused = spents.push(looked.watcher.finish()).is_err();
+    let _refused = spents.push(looked.status.finish()).is_err();
+    Left::with_both(spents, (received.spent, ticked.spent), Shown::Both(seen))
 }
 
 /// An agent that knows c, and runs both loops.
 pub fn both_loops(fails_at: FailsAt) -> Case<Play> {
-    let mut case = Case::new(2, Play::Both { fails_at });
+    let mut case = Case::new(4, Play::Both { fails_at });
     case.others = 1;
     case
 }

@@ -119,7 +119,7 @@ fn one_loop(rt: HostRuntime) {
 }
 
 /// Whether there was a thread for the receiving loop, or neither loop made a turn. In that case the agent holds only
-/// its opening.
+/// its opening. If there was one, the ticking loop has made a turn.
 fn is_still(seen: (BothSeen, Ending)) -> bool {
     let (both, ending) = seen;
     let had_none = both.receiving.why == Why::Refused(Refusal::NoMemory)
@@ -130,7 +130,7 @@ fn is_still(seen: (BothSeen, Ending)) -> bool {
         unsent: 0,
         turns: 0,
     };
-    !had_none || both.ticking == still && ending.entries == Some(1)
+    both.ticking != still || had_none && ending.entries == Some(1)
 }
 
 /// Both loops. Memory may be refused to the thread of the receiving loop; then the ticking loop makes no turn either.

@@ -1,4 +1,4 @@
--- Worked changes: b, which has the seed c, hears that c is suspected by d, refutes nothing, and hears c refute it.
+-- Worked changes: b, which has the seed c, hears that c is suspected by d, and hears c refute it.
 use Rattle.std.specs.Prelude.{⊤, ◌≡◌, List, [], ◌∷◌, refl}
 use Rattle.lg_changes.specs.Meaning.Changes.{change_at}
 use Rattle.lg_detector.specs.declared.event.Event.{Event}

@@ -72,7 +72,7 @@ pub(super) fn read_deadline<P: PairName>(
 
 /// What an overview is made with.
 #[derive(Drop)]
-pub(super) struct Blank {
+pub(super) struct OverviewBasis {
     /// From it comes the memory for the changes.
     pub(super) alloc: Global,
     /// An empty list for the records, with enough capacity for them.
@@ -84,17 +84,17 @@ pub(super) struct Blank {
 /// An overview, unless memory is refused for its changes.
 pub(super) fn read_overview<P: PairName>(
     reader: LookReader<P>,
-    blank: Blank,
+    basis: OverviewBasis,
 ) -> (
     LookReader<P>,
     Option<(Result<Overview, AllocError>, Front<P>)>,
 )
-    requires { (blank.records.items ≡ []) × (MAX_MEMBERS ≤ vec_capacity blank.records) }
-    ensures { IfSome result.1 (λ taken. IfOk taken.0 (λ found. IsOverview found blank.version taken.1)) }
+    requires { (basis.records.items ≡ []) × (MAX_MEMBERS ≤ vec_capacity basis.records) }
+    ensures { IfSome result.1 (λ taken. IfOk taken.0 (λ found. IsOverview found basis.version taken.1)) }
 {
     match reader.enter_as::<Unruled>() {
         Ok(reading) => {
-            let overview = overview_of(reading.get(), blank);
+            let overview = overview_of(reading.get(), basis);
             let front = reading.get().front().copy();
             (reading.leave(), Some((overview, front)))
         }
@@ -103,17 +103,20 @@ pub(super) fn read_overview<P: PairName>(
 }
 
 /// An overview of what is published. The only error is that memory was refused for its changes.
-fn overview_of<P: PairName>(published: &Published<P>, blank: Blank) -> Result<Overview, AllocError>
-    requires { (blank.records.items ≡ []) × (MAX_MEMBERS ≤ vec_capacity blank.records) }
-    ensures { IfOk result (λ found. IsOverview found blank.version published.now) }
+fn overview_of<P: PairName>(
+    published: &Published<P>,
+    basis: OverviewBasis,
+) -> Result<Overview, AllocError>
+    requires { (basis.records.items ≡ []) × (MAX_MEMBERS ≤ vec_capacity basis.records) }
+    ensures { IfOk result (λ found. IsOverview found basis.version published.now) }
 {
-    let Blank {
+    let OverviewBasis {
         alloc,
         mut records,
         version,
-    } = blank;
+    } = basis;
     put_records(published, &mut records);
-    let changes = published.changes_behind(alloc, version)?;
+    let changes = published.behind(alloc, version)?;
     Ok(Overview {
         version: published.front().len(),
         moment: published.moment(),

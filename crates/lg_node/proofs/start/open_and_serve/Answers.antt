@@ -1,19 +1,49 @@
+use Rattle.std.proofs.Common.{◌≡◌, [], rules}
+use Rattle.lg_loops.specs.Meaning.Turns.{line}
+use Rattle.lg_loops.specs.Meaning.NodeLinks.{failures_of}
 use Rattle.lg_node.proofs.start.open_and_serve.Goals as goal
 
-pub returns-in-Ok-serve-clause-ran : goal.returns-in-Ok-serve-clause-ran
-returns-in-Ok-serve-clause-ran g c =
+pub returns-clause-ran : goal.returns-clause-ran
+returns-clause-ran g c =
     let config = c.copy.ensures in
-    let worked = c.in-Ok-serve.ensures.left c.now-start.result (rw config at c.in-Ok-open.ensures.name) (rw config at c.in-Ok-open.ensures.told.1) in record {
+    let begun = c.in-Ok-begin.ensures.begun c.now-start.result (rw config at c.in-Ok-open.ensures.name) (rw config at c.in-Ok-open.ensures.told.1) in
+    let ready = c.in-Ok-begin.ready in
+    let told = c.in-Ok-begin.ensures.told in
+    let left = c.leave-left in
+    let end = c.close.ensures in
+    let threads = c.join_threads-looked in record {
       start = c.now-start.result;
-      receiver = c.in-Ok-serve.left.receiver;
-      ticker = c.in-Ok-serve.left.ticker;
-      reader = c.in-Ok-serve.left.reader;
-      status = c.in-Ok-serve.left.status;
-      worked = rw (c.close.ensures.received, c.close.ensures.ticked, c.close.ensures.watched, c.close.ensures.served, c.close.ensures.members) worked;
-      closed = rw (← c.requires.places) c.close.ensures.closed;
+      receiver = left.result.receiver;
+      ticker = left.result.ticker;
+      reader = left.result.reader;
+      status = left.result.status;
+      worked =
+          record {
+            hears = line [] (failures_of ready.sides.receiver.link);
+            hears' = line [] (failures_of threads.result.1.0.0.link);
+            sends = begun.sends;
+            sends' = line [] (failures_of threads.result.1.0.1.link);
+            asker = ready.lookers.watcher;
+            watcher = threads.result.0.watcher;
+            links = begun.links;
+            looped =
+                record {
+                  between = line [] (failures_of ready.sides.ticker.link);
+                  unsent = ready.unsent;
+                  later = threads.result.1.0.1.end.unsent;
+                  asked = begun.asked;
+                  received_so = rw (end.received, left.ensures.received, end.ticked, left.ensures.ticked, left.ensures.passes.0, ← begun.receiver_is, ← c.stall_of-stall.ensures, ← c.wait_of.ensures) threads.ensures.received;
+                  ticked_so = rw (end.ticked, left.ensures.ticked, left.ensures.passes.1, ← begun.ticker_is, ← c.in-Ok-begin.ensures.dice, ← c.in-Ok-begin.ensures.plan) threads.ensures.ticked;
+                  counted = rw end.ticked left.ensures.counted;
+                };
+            told = search rules;
+            shown = rw (end.served, left.ensures.served, left.ensures.passes.2) (rw (told.0, told.1, told.2, c.requires.serving, begun.status_is) at threads.ensures.served);
+            read = rw end.members left.ensures.read;
+          };
+      closed = rw (← c.requires.places) end.closed;
     }
 
-pub returns-clause-refused : goal.returns-clause-refused
-returns-clause-refused g c =
+pub returns-in-Err-begin-clause-refused : goal.returns-in-Err-begin-clause-refused
+returns-in-Err-begin-clause-refused g c =
     let config = c.copy.ensures in
-    c.in-Err-serve.ensures.refused c.now-start.result (rw config at c.in-Ok-open.ensures.name) (rw config at c.in-Ok-open.ensures.told.1)
+    c.in-Err-begin.ensures.refused c.now-start.result (rw config at c.in-Ok-open.ensures.name) (rw config at c.in-Ok-open.ensures.told.1)

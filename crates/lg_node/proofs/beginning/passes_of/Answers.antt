@@ -3,7 +3,7 @@ use Rattle.lg_detector.specs.declared.event.Event.TheVariants.{Open}
 use Rattle.lg_agent.specs.Meaning.Values.{PassValue}
 use Rattle.lg_agent.specs.Meaning.Calls.{AreFresh}
 use Rattle.lg_node.proofs.PassesLaws.{four_are, four_fresh}
-use Rattle.lg_node.proofs.start.passes_of.Goals as goal
+use Rattle.lg_node.proofs.beginning.passes_of.Goals as goal
 
 pub returns-in-Some-Some-Some-Some : goal.returns-in-Some-Some-Some-Some
 returns-in-Some-Some-Some-Some g c = λ config start name all.

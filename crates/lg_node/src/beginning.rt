@@ -1,0 +1,141 @@
+//! What a node does before its threads: it hands out the passes of its agent, makes its links, and asks its seeds.
+//!
+//! Defined in: `specs/Support/Begun.antt`, `specs/Meaning/Nodes.antt`, `lg_loops/specs/Meaning/NodeLinks.antt`.
+//! Tested in: `lg_node_tests/src/node/asking.rt`, `cases/nodes`.
+ghost use Rattle.std.specs.Prelude.{◌≡◌, ◌∷◌, [], ℕ, All, IfErr, IfOk, IfSome, length};
+ghost use Rattle.lg_timing.specs.declared.config.Config.{Config as Opened};
+ghost use Rattle.lg_detector.specs.declared.event.Event.TheVariants.{Open};
+ghost use Rattle.lg_node.specs.Meaning.Nodes.{fresh_own, IsRefusedEarly};
+ghost use Rattle.lg_node.specs.Support.Begun.{HasBegun};
+ghost use Rattle.lg_loops.specs.Meaning.NodeLinks.{failures_of, link_keys};
+ghost use Rattle.lg_loops.specs.Meaning.Pulling.{plan_of};
+ghost use Rattle.lg_loops.specs.Meaning.Turns.{line};
+ghost use Rattle.lg_loops.specs.Meaning.Words.{seeded};
+
+use crate::serving::StatusServer;
+use crate::start::{PLACES, Setup};
+use crate::threads::{Lookers, Sides};
+use left_right::Absorb;
+use lg_agent::{Agent, AgentName, Pass, Refusal};
+use lg_clock::Clock;
+use lg_counters::Counters;
+use lg_detector::Event;
+use lg_loops::{NodeLink, PcgDice, Plan, Shared, Side, UdpLink, ask_each};
+use lg_view::{Published, Update};
+use std::alloc::Global;
+use std::sync::Wait;
+
+/// What the threads of a node begin with, and how many packets weren't sent to the seeds.
+#[derive(Drop)]
+pub(crate) struct Ready<'p, 'n, 's, 'c, 'r, A: AgentName, R>
+where
+    Published<A>: Absorb<Update<A>, State = [Event; 0]>,
+{
+    pub(crate) sides: Sides<'p, 'p, NodeLink<'s, 'c>, A>,
+    pub(crate) lookers: Lookers<'p, 'n, 's, 'r, A, R>,
+    pub(crate) unsent: u64,
+}
+
+/// Hands out the passes of a fresh agent, makes the links of a node, and asks the seeds.
+pub(crate) fn begin<'p, 'n, 's, 'c, 'r, A: AgentName, R: Wait, C: Clock>(
+    shared: &Shared<'c, R, C>,
+    agent: &'p mut Agent<A>,
+    setup: &Setup<'n, 's>,
+    server: Option<StatusServer<'s, 'r, R>>,
+) -> Result<Ready<'p, 'n, 's, 'c, 'r, A, R>, Refusal>
+    requires places { length agent.old.told ≡ PLACES }
+    ensures begun { (start : ℕ) → agent.old.name ≡ setup.now.config.now.name
+        → All (λ seen. seen ≡ Open start setup.now.config.now ∷ []) agent.old.told
+        → IfOk result (λ r. HasBegun setup.now.config.now setup.now.settings.now start
+        (line [] (failures_of r.sides.receiver.link)) (line [] (failures_of r.sides.ticker.link))
+        r.sides.receiver.pass r.sides.ticker.pass r.lookers.watcher r.lookers.status r.unsent) }
+    ensures plan { IfOk result (λ r. r.sides.plan
+        ≡ plan_of setup.now.config.now setup.now.settings.now.pull_ms setup.now.until) }
+    ensures dice { IfOk result (λ r. r.sides.dice ≡ seeded setup.now.settings.now.dice) }
+    ensures told { IfOk result (λ r. (r.lookers.config.now ≡ setup.now.config.now)
+        × (r.lookers.settings.now ≡ setup.now.settings.now) × (r.lookers.server ≡ server.entry)) }
+    ensures refused { (start : ℕ) → agent.old.name ≡ setup.now.config.now.name
+        → All (λ seen. seen ≡ Open start setup.now.config.now ∷ []) agent.old.told
+        → IfErr result (IsRefusedEarly setup.now.config.now) }
+{
+    let Some(passes) = passes_of(shared.alloc, agent) else {
+        return Err(Refusal::NoMemory);
+    };
+    let Passes {
+        receiver,
+        ticker,
+        mut asker,
+        status,
+    } = passes;
+    let mut sends = link_of(shared.counters, setup);
+    let unsent = ask_each(shared, &mut asker, &mut sends, &setup.config.seeds)?;
+    let sides = Sides::of(
+        Side::new(receiver, link_of(shared.counters, setup)),
+        Side::new(ticker, sends),
+        PcgDice::new(setup.settings.dice),
+        Plan::new(setup.config, setup.settings.pull_ms, setup.until),
+    );
+    let lookers = Lookers {
+        config: setup.config,
+        settings: setup.settings,
+        watcher: asker,
+        status,
+        server,
+    };
+    Ok(Ready {
+        sides,
+        lookers,
+        unsent,
+    })
+}
+
+/// A link over the socket of a node, with its keys if it has any. It hasn't failed yet.
+fn link_of<'n, 's, 'c>(counters: &'c Counters, setup: &Setup<'n, 's>) -> NodeLink<'s, 'c>
+    ensures keys { link_keys result ≡ setup.now.settings.now.keys }
+    ensures unfailed { failures_of result ≡ 0 }
+{
+    NodeLink::new(
+        UdpLink::new(setup.socket),
+        setup.settings.keys.as_ref(),
+        counters,
+    )
+}
+
+/// The four passes of a node.
+#[derive(Drop)]
+struct Passes<'a, A: AgentName> {
+    receiver: Pass<'a, A>,
+    ticker: Pass<'a, A>,
+    /// It asks the seeds, watches, and reads the members.
+    asker: Pass<'a, A>,
+    /// It looks for the status server.
+    status: Pass<'a, A>,
+}
+
+/// The passes of a fresh agent, or none if memory was refused.
+fn passes_of<'a, A: AgentName>(alloc: Global, agent: &'a mut Agent<A>) -> Option<Passes<'a, A>>
+    requires { length agent.old.told ≡ PLACES }
+    ensures { (config : Opened) → (start : ℕ) → agent.old.name ≡ config.name
+        → All (λ seen. seen ≡ Open start config ∷ []) agent.old.told
+        → IfSome result (λ passes. (passes.receiver ≡ fresh_own config start 1)
+        × (passes.ticker ≡ fresh_own config start 2) × (passes.asker ≡ fresh_own config start 3)
+        × (passes.status ≡ fresh_own config start 4)) }
+{
+    let Ok(passes) = agent.passes(alloc) else {
+        return None;
+    };
+    let mut passes = passes;
+    let status = passes.pop();
+    let asker = passes.pop();
+    let ticker = passes.pop();
+    let receiver = passes.pop();
+    match (receiver, ticker, asker, status) {
+        (Some(receiver), Some(ticker), Some(asker), Some(status)) => Some(Passes {
+            receiver,
+            ticker,
+            asker,
+            status,
+        }),
+        _ => None,
+    }
+}

@@ -1,0 +1,91 @@
+//! Work that a thread of its own does, if it is wanted and a thread can be started.
+//!
+//! Defined in: this file.
+//! Tested in: `lg_node_tests/src/node/both.rt`, `cases/nodes`, `cases/groups`, `cases/status`.
+ghost use Rattle.std.specs.Prelude.{◌≡◌, IfErr, IfOk};
+
+use std::snapshot::Snapshot;
+use std::thread::{Promise, PromisedHandle, Scope, Threads};
+
+/// Work that a thread may do.
+pub(crate) trait Work<T> {
+    // What holds of it before it is done.
+    ghost needs: { Self → Type 0 };
+
+    // What holds of it, as it began, and of what it gave.
+    ghost gives: { Self → T → Type 0 };
+
+    /// Whether it is wanted in a thread of its own.
+    fn is_wanted(&self) -> bool;
+
+    /// Does it.
+    fn work(self) -> T
+        requires { needs self }
+        ensures { gives self result };
+}
+
+/// What a thread promises that does some work.
+#[derive(Drop)]
+pub(crate) struct Does<V> {
+    work: Snapshot<V>,
+}
+
+impl<T, V: Work<T>> Promise<T> for Does<V> {
+    ghost kept_by = { λ p r. V.gives p.work.value r };
+}
+
+impl<V> Does<V> {
+    /// The promise of a thread that does this work.
+    pub(crate) fn of(work: &V) -> Does<V>
+        ensures { result.work.value ≡ work.now }
+    {
+        Does {
+            work: Snapshot::of(work),
+        }
+    }
+}
+
+/// What was made of some work: the thread that does it, or the work itself; and what it promised.
+pub(crate) type Started<T, P, F> = (Result<PromisedHandle<T, P>, F>, Snapshot<P>);
+
+/// Starts a thread that does some work, if it is wanted and can be started. Otherwise this gives the work back.
+pub(crate) fn start_if<
+    's,
+    E,
+    P: Promise<T> + Drop,
+    F: FnOnce() -> T + Send + 's,
+    T: Send + Drop + 's,
+>(scope: &Scope<'s, E>, is_wanted: bool, promise: P, work: F) -> Started<T, P, F>
+    requires runs { F.pre work }
+    requires keeps { (r : T) → F.post work r → P.kept_by promise r }
+    ensures promised { result.1.value ≡ promise }
+    ensures begun { IfOk result.0 (λ h. h.promise ≡ result.1.value) }
+    ensures runs { IfErr result.0 (λ f. F.pre f) }
+    ensures keeps { IfErr result.0 (λ f. (r : T) → F.post f r → P.kept_by result.1.value r) }
+{
+    let promised = Snapshot::of(&promise);
+    if !is_wanted {
+        return (Err(work), promised);
+    }
+    match scope.spawn_with(promise, work) {
+        Ok(child) => (Ok(child), promised),
+        Err(refused) => (Err(refused.value), promised),
+    }
+}
+
+/// Waits until the thread that does some work has ended. If none was started, this does the work.
+pub(crate) fn ended<R: Threads, P: Promise<T> + Drop, F: FnOnce() -> T, T>(
+    rt: &R,
+    started: Started<T, P, F>,
+) -> T
+    requires begun { IfOk started.0 (λ h. h.promise ≡ started.1.value) }
+    requires runs { IfErr started.0 (λ f. F.pre f) }
+    requires keeps { IfErr started.0 (λ f. (r : T) → F.post f r → P.kept_by started.1.value r) }
+    ensures { P.kept_by started.1.value result }
+{
+    let (thread, _promised) = started;
+    match thread {
+        Ok(child) => child.join(rt),
+        Err(work) => work(),
+    }
+}
