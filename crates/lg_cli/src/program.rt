@@ -15,7 +15,7 @@ use crate::node::{Owned, stop_flag, tell_unstarted};
 use crate::output::Pumped;
 use lg_command_line::{Asked, MAX_RUN_MS, take_words};
 use lg_commands::{FAILED, USAGE, answer_named, order_lists, simulate, timeouts_of};
-use lg_run::{Wishes, check_file, run_file};
+use lg_run::{Wishes, check_file, file_bytes, run_bytes, tell_no_bytes};
 use lg_text::{FaultStream, RunFault, report};
 use lg_timing::Moment;
 use std::convert::AsStr;
@@ -33,8 +33,9 @@ use std::{io, rt};
 /// has standard input and output too, for the threads of `node --until-input-ends` and `node --follow`
 /// ([`stop_flag`]). A line that `faults` doesn't take is dropped.
 /// `node`, `check`, `members`, `status` and `watch` alone use the machine `rt`. The first two read their file. `node`
-/// takes sockets, a clock and threads, writes its members, and tells its end, with the statuses of [`run_file`]. If its
-/// stop flag can't be had, it isn't run, and has the status of [`tell_unstarted`]. `check` has those of [`check_file`].
+/// takes sockets, a clock and threads, writes its members, and tells its end, with the statuses of [`run_bytes`]. If
+/// its file gives no bytes, it isn't run, and has the status of [`tell_no_bytes`]. If its stop flag can't be had, it
+/// has that of [`tell_unstarted`]. `check` has those of [`check_file`].
 /// The other three ask a running node, with the statuses of [`tell_answer`](lg_client::tell_answer) and
 /// [`watch_changes`](lg_client::watch_changes). The statuses of all other command lines are:
 ///
@@ -92,6 +93,10 @@ where
             follow,
             until_input_ends,
         } => {
+            let bytes = match file_bytes(rt, alloc, file) {
+                Ok(bytes) => bytes,
+                Err(none) => return tell_no_bytes(alloc, file, none, faults),
+            };
             let Ok(stop) = stop_flag(rt, alloc, owned, until_input_ends, follow, writer) else {
                 return tell_unstarted(faults);
             };
@@ -101,7 +106,7 @@ where
                 follow,
                 stop: &stop,
             };
-            run_file(rt, alloc, &wishes, writer, faults)
+            run_bytes(rt, alloc, &bytes, &wishes, writer, faults)
         }
     }
 }

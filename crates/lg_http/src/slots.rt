@@ -2,7 +2,7 @@
 //!
 //! Defined in: `specs/Meaning/Slots.antt`.
 //! Tested in: `lg_http_tests/src/serving.rt`, `lg_http_tests/src/crowd.rt`.
-ghost use Rattle.std.specs.Prelude.{◌≡◌, ◌≤◌, ◌<◌, ◌+◌, ◌-◌, [], length, get_or, position, All};
+ghost use Rattle.std.specs.Prelude.{◌≡◌, ◌≤◌, ◌<◌, ◌+◌, ◌-◌, [], length, get_or, position, replicate, All};
 ghost use Rattle.std.specs.Prelude.{IfOk, IfSome, IsSome};
 ghost use Rattle.lg_http.specs.declared.hosts.Hosts.{Hosts};
 ghost use Rattle.lg_http.specs.Meaning.Answers.{RepliesAmong, Replies};
@@ -215,6 +215,19 @@ fn first_to_have(slots: &[Option<Peer>], at: Moment) -> Option<usize>
     slots.iter().position(|slot| may_yield(slot, at))
 }
 
+/// So many places that are free. The error is refused memory.
+fn free_places<T: Drop>(alloc: Global, count: usize) -> Result<Vec<Option<T>>, AllocError>
+    ensures { IfOk result (λ places. places.items ≡ replicate count None) }
+{
+    let mut places = Vec::with_capacity(alloc, count)?;
+    for number in 0..count {
+        // The counter is named, so that the invariant can tell how many places there are.
+        let _number = number;
+        places.push(None)?;
+    }
+    Ok(places)
+}
+
 // Some methods have the type parameter of a site for their contracts alone.
 impl Slots {
     /// Free slots. The error is refused memory.
@@ -222,14 +235,8 @@ impl Slots {
         ensures free { IfOk result (λ s. AreFree s.slots.items) }
         ensures ended { IfOk result (λ s. s.ended.items ≡ []) }
     {
-        let mut slots = Vec::with_capacity(alloc, MAX_PEERS)?;
-        for number in 0..MAX_PEERS {
-            // The counter is named, so that the invariant can tell how many slots there are.
-            let _number = number;
-            slots.push(None)?;
-        }
         Ok(Slots {
-            slots,
+            slots: free_places(alloc, MAX_PEERS)?,
             ended: Log::new(),
         })
     }

@@ -1,7 +1,7 @@
 //! Work that a thread of its own does, if it is wanted and a thread can be started.
 //!
 //! Defined in: this file.
-//! Tested in: `lg_node_tests/src/node/both.rt`, `cases/nodes`, `cases/groups`, `cases/status`.
+//! Tested in: `lg_node_tests/src/node/both.rt`, `refused_memory.rt`, `cases/nodes`, `cases/groups`, `cases/status`.
 ghost use Rattle.std.specs.Prelude.{◌≡◌, IfErr, IfOk};
 
 use std::snapshot::Snapshot;
@@ -74,7 +74,7 @@ pub(crate) fn start_if<
 }
 
 /// Waits until the thread that does some work has ended. If none was started, this does the work.
-pub(crate) fn ended<R: Threads, P: Promise<T> + Drop, F: FnOnce() -> T, T>(
+pub(crate) fn join_or_do<R: Threads, P: Promise<T> + Drop, F: FnOnce() -> T, T>(
     rt: &R,
     started: Started<T, P, F>,
 ) -> T

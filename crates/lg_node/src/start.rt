@@ -5,8 +5,11 @@
 //!
 //! Defined in: `specs/Meaning/Starts.antt`, `specs/Meaning/Nodes.antt`, `lg_loops/specs/Meaning/NodeLinks.antt`.
 //! Tested in: `lg_node_tests/src/node/asking.rt`, `cases/nodes`.
-ghost use Rattle.std.specs.Prelude.{◌≡◌, false, IfErr, IfOk, IfSome, OnErr, is_some};
+ghost use Rattle.std.specs.Prelude.{◌≡◌, ◌≤◌, ◌⊎◌, ◌∷◌, [], false, length, All, IfErr, IfOk, IfSome, OnErr, is_some};
+ghost use Rattle.std.specs.Vec.{vec_capacity};
 ghost use Rattle.lg_timing.specs.Meaning.Config.{IsChecked};
+ghost use Rattle.lg_detector.specs.declared.event.Event.TheVariants.{Open};
+ghost use Rattle.lg_agent.specs.declared.refusal.Refusal.TheVariants.{NoMemory, NoPlace};
 ghost use Rattle.lg_http.specs.Meaning.Slots.{AreFree, slots_of};
 ghost use Rattle.lg_node.specs.Meaning.Nodes.{IsEarly, IsRun, TellsServed};
 ghost use Rattle.lg_node.specs.Meaning.Starts.{stall_of, turn_wait};
@@ -16,7 +19,7 @@ use crate::closing::{close, leave};
 use crate::node::{NodeEnd, NodeFault, Settings};
 use crate::serving::StatusServer;
 use crate::threads::join_threads;
-use lg_agent::{Agent, AgentName, Refusal};
+use lg_agent::{Agent, AgentName, Refusal, Spent};
 use lg_clock::{Clock, SteadyClock};
 use lg_counters::Counters;
 use lg_http::Signal;
@@ -80,24 +83,20 @@ where
     ensures told { IfOk result (λ e. TellsServed e.served (F.reported faults.old) (F.reported faults.new)) }
     ensures untold { OnErr result (faults.new ≡ faults.old) }
 {
-    let (alloc, config) = (setup.alloc, setup.config);
     let stall = stall_of(setup.settings);
     let Ok(clock) = SteadyClock::new(rt, stall) else {
         return Err(NodeFault::Clock);
     };
-    let Ok(room) = Vec::with_capacity(alloc, PLACES) else {
-        return Err(NodeFault::Refused(Refusal::NoMemory));
-    };
     let start = clock.now();
-    let mut agent = match Agent::<A>::open(rt, alloc, book, start, config.copy(), PLACES) {
-        Ok(agent) => agent,
+    let (mut agent, room) = match open_agent::<A, R>(rt, setup, book, start) {
+        Ok(opened) => opened,
         Err(refusal) => return Err(NodeFault::Refused(refusal)),
     };
-    let counters = Counters::new(config.name, start);
+    let counters = Counters::new(setup.config.name, start);
     let (page_heard, changes) = (AtomicBool::new(false), ChangeSignal::new());
     let shared = Shared {
         rt,
-        alloc,
+        alloc: setup.alloc,
         clock: &clock,
         stop: setup.stop,
         page_heard: &page_heard,
@@ -106,14 +105,11 @@ where
         signal: setup.signal,
         bound: MAX_TURNS,
         endless: true,
-        wait_ms: wait_of(config, stall),
+        wait_ms: wait_of(setup.config, stall),
     };
     let ready = match begin(&shared, &mut agent, setup, status) {
         Ok(ready) => ready,
-        Err(refusal) => {
-            agent.abandon(rt);
-            return Err(NodeFault::Refused(refusal));
-        }
+        Err(refusal) => return Err(give_up(rt, agent, refusal)),
     };
     let unsent = ready.unsent;
     let (looked, (both, (writer, faults))) = join_threads(
@@ -125,8 +121,40 @@ where
     );
     take_back(writer);
     take_back(faults);
-    let left = leave(alloc, looked, both, unsent);
+    let left = leave(setup.alloc, looked, both, unsent);
     Ok(close(rt, agent, left, clock.stood_still(), room))
+}
+
+/// An agent that is opened at a moment with the passes of a node, and a list with enough capacity for what these leave.
+/// The error is that memory was refused, or that there was no reader for a pass.
+fn open_agent<A: AgentName, R: Wait>(
+    rt: &R,
+    setup: &Setup<'_, '_>,
+    book: UnnamedBook,
+    start: Moment,
+) -> Result<(Agent<A>, Vec<Spent<A>>), Refusal>
+    requires book { book.seen.book ≡ A.book }
+    requires places { A.places ≡ PLACES }
+    requires config { IsChecked setup.now.config.now }
+    ensures name { IfOk result (λ o. o.0.name ≡ setup.now.config.now.name) }
+    ensures told { IfOk result (λ o. (length o.0.told ≡ PLACES)
+        × All (λ seen. seen ≡ Open start setup.now.config.now ∷ []) o.0.told) }
+    ensures room { IfOk result (λ o. (o.1.items ≡ []) × (PLACES ≤ vec_capacity o.1)) }
+    ensures refused { IfErr result (λ e. (e ≡ NoMemory) ⊎ (e ≡ NoPlace)) }
+{
+    let Ok(room) = Vec::with_capacity(setup.alloc, PLACES) else {
+        return Err(Refusal::NoMemory);
+    };
+    let agent = Agent::<A>::open(rt, setup.alloc, book, start, setup.config.copy(), PLACES)?;
+    Ok((agent, room))
+}
+
+/// Gives up an agent, since something was refused. Gives the fault of its node.
+fn give_up<A: AgentName, R: Wait>(rt: &R, agent: Agent<A>, refusal: Refusal) -> NodeFault
+    ensures { result ≡ NodeFault.Refused refusal }
+{
+    agent.abandon(rt);
+    NodeFault::Refused(refusal)
 }
 
 /// Does nothing. By this use a returned reference stays tied to the parameter that lent it.

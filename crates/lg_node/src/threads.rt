@@ -11,8 +11,8 @@
 //! All are of one scope: [`threads_in`] starts and joins them. What a thread does is told in one place: `Watching`
 //! (`following.rt`), `Serving` (`serving.rt`), [`receive_loop`] and [`tick_loop`]. The program has two more threads,
 //! which nobody joins. One writes what a followed node tells (`lg_cli/src/output.rt`), and one reads the input whose
-//! end is to end the node (`lg_cli/src/node.rt`). A loop that ends sets the stop flag, at which the other loop ends. When
-//! both have ended, the watcher is woken, which sees the flag, and the server is told to stop.
+//! end is to end the node (`lg_cli/src/node.rt`). A loop that ends sets the stop flag, at which the other loop ends.
+//! When both have ended, the watcher is woken, which sees the flag, and the server is told to stop.
 //!
 //! Defined in: `specs/Meaning/Nodes.antt`, `lg_loops/specs/Meaning/Turns.antt`, `lg_loops/specs/Meaning/Pulling.antt`.
 //! Tested in: `lg_node_tests/src/node/both.rt`, `refused_memory.rt`, `cases/nodes`, `cases/groups`, `cases/status`.
@@ -25,7 +25,7 @@ ghost use Rattle.lg_loops.specs.Meaning.Words.{DrawsEight};
 
 use crate::following::Watching;
 use crate::node::Settings;
-use crate::parts::{Does, Work, ended, start_if};
+use crate::parts::{Does, Work, join_or_do, start_if};
 use crate::receiving::{Receives, Start};
 use crate::serving::{Serving, StatusServer, signal_of};
 use left_right::Absorb;
@@ -125,6 +125,15 @@ where
     pub served: Option<Served>,
 }
 
+/// The same end, but of a loop that was refused: no thread could be started for it, since memory was refused.
+fn without_thread<L, A: AgentName>(ended: Ended<L, A>) -> Ended<L, A>
+    ensures { result ≡ record ended { end = record ended.end { why = Why.Refused Refusal.NoMemory } } }
+{
+    let mut ended = ended;
+    ended.end.why = Why::Refused(Refusal::NoMemory);
+    ended
+}
+
 /// Tells those who look that the loops have ended.
 fn tell_ended<R: Wait, C>(shared: &Shared<'_, R, C>, signal: Option<&Signal>) {
     shared.changes.set(shared.rt);
@@ -169,7 +178,6 @@ where
     ensures served { X.gives serving result.1.1 }
 {
     let (receiver, ticker, dice, plan) = (sides.receiver, sides.ticker, sides.dice, sides.plan);
-    let promise: Receives<S> = Receives::new();
     thread::scope(
         thread::scope_env(),
         shared.rt,
@@ -189,28 +197,26 @@ where
             ensures watched { V.gives watching result.1.0 }
             ensures served { X.gives serving result.1.1 }
         {
-            let (watches, is_followed) = (Does::of(&watching), watching.is_wanted());
             let watching = start_if(
                 scope,
-                is_followed,
-                watches,
+                watching.is_wanted(),
+                Does::of(&watching),
                 move || -> T
                     requires { V.needs watching }
                     ensures { V.gives watching result }
                 { watching.work() },
             );
-            let (serves, is_served) = (Does::of(&serving), serving.is_wanted());
             let serving = start_if(
                 scope,
-                is_served,
-                serves,
+                serving.is_wanted(),
+                Does::of(&serving),
                 move || -> U
                     requires { X.needs serving }
                     ensures { X.gives serving result }
                 { serving.work() },
             );
-            let spawned = scope.spawn_with(
-                promise,
+            let receiving = scope.spawn_with(
+                Receives::<S>::new(),
                 move || -> Ended<L, A>
                     requires { shared.now.bound ≤ MAX_TURNS }
                     ensures { Lasted (receives shared.entry.now.wait_ms) L.tells shared.entry.now.bound
@@ -219,27 +225,20 @@ where
                         (line (L.log result.link) (L.failed result.link)) receiver.entry.pass result.spent result.end }
                 { receive_loop(shared, receiver) },
             );
-            let child = match spawned {
-                Ok(child) => child,
+            let both = match receiving {
+                Ok(child) => {
+                    let ticked = tick_loop(shared, ticker, dice, &plan);
+                    (child.join(shared.rt), ticked)
+                }
                 Err(refused) => {
                     shared.stop.store(true, SeqCst);
-                    let mut received = (refused.value)();
-                    received.end.why = Why::Refused(Refusal::NoMemory);
-                    tell_ended(shared, signal);
-                    let both = (received, ticker.unstarted());
-                    return (
-                        both,
-                        (ended(shared.rt, watching), ended(shared.rt, serving)),
-                    );
+                    (without_thread((refused.value)()), ticker.unstarted())
                 }
             };
-            let ticked = tick_loop(shared, ticker, dice, &plan);
-            let both = (child.join(shared.rt), ticked);
             tell_ended(shared, signal);
-            (
-                both,
-                (ended(shared.rt, watching), ended(shared.rt, serving)),
-            )
+            let watched = join_or_do(shared.rt, watching);
+            let served = join_or_do(shared.rt, serving);
+            (both, (watched, served))
         },
     )
 }

@@ -10,6 +10,7 @@ mod keyed;
 mod links;
 mod loops;
 mod machine;
+mod meeting;
 mod playing;
 mod receiving;
 mod refused_memory;

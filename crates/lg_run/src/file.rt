@@ -25,8 +25,9 @@ pub enum NoBytes {
     Read(ErrorKind),
 }
 
-/// The bytes of a file, at most one more than a configuration may have. Memory is allocated for them.
-pub(crate) fn file_bytes<R: Files>(rt: &R, alloc: Global, path: &str) -> Result<Vec<u8>, NoBytes> {
+/// The bytes of a configuration file: at most 65,537, one more than a configuration may have. Memory is allocated for
+/// them. The error says why there are none. No contract can say what a file holds.
+pub fn file_bytes<R: Files>(rt: &R, alloc: Global, path: &str) -> Result<Vec<u8>, NoBytes> {
     let mut bytes = Vec::new(alloc);
     match put_file(rt, path, &mut bytes) {
         Ok(()) => Ok(bytes),
@@ -62,12 +63,11 @@ fn tell_unread<F: FaultStream>(alloc: Global, path: &str, kind: ErrorKind, fault
 }
 
 /// Reports why a file gives no bytes, and gives the status.
-pub(crate) fn tell_no_bytes<F: FaultStream>(
-    alloc: Global,
-    path: &str,
-    none: NoBytes,
-    faults: &mut F,
-) -> u8
+///
+/// A file that can't be read is told by [`Told::Read`], and a second line names it, and says why. If memory for the
+/// second line is refused, only the first is reported. Memory that was refused for the bytes is told by
+/// [`Told::Memory`]. A line that `faults` doesn't take is dropped.
+pub fn tell_no_bytes<F: FaultStream>(alloc: Global, path: &str, none: NoBytes, faults: &mut F) -> u8
     ensures { TellsNoBytes (F.reported faults.old) (F.reported faults.new) path.now none result }
 {
     match none {

@@ -1,17 +1,15 @@
-//! Runs a node from its configuration file: reads the file, checks what it means, runs the node, writes its members,
-//! and tells how it ended. The functions stand in this order.
+//! Runs a node from the bytes of its configuration file: checks what they mean, runs the node, writes its members, and
+//! tells how it ended. The functions stand in this order.
 //!
 //! Defined in: `specs/Meaning/Running.antt`, `specs/Meaning/Telling.antt`, `lg_text/specs/Meaning/Running.antt`.
 //! Tested in: `cases/node.case`, `lg_command_tests/src/launch/ends.rt`.
 ghost use Rattle.std.specs.Prelude.{◌≡◌, ◌⊎◌, ℕ, List, [], Err, OnErr, OnOk, string_bytes};
 ghost use Rattle.std.specs.Option.{option_map};
-ghost use Rattle.lg_run.specs.Meaning.Running.{node_settings, table_wished, Announces, IsSecond, RunsBytes};
-ghost use Rattle.lg_run.specs.Meaning.Running.{RunsFile, Writes};
+ghost use Rattle.lg_run.specs.Meaning.Running.{node_settings, table_wished, Announces, IsSecond, RunsBytes, Writes};
 ghost use Rattle.lg_run.specs.Meaning.Reporting.{ReportsBoth};
 ghost use Rattle.lg_run.specs.Meaning.Telling.{line_of, status_told};
 ghost use Rattle.lg_run.specs.Meaning.Words.{link_reason, start_line};
 
-use crate::file::{file_bytes, tell_no_bytes};
 use crate::key_file::{keys_at, tell_no_keys};
 use crate::reporting::{tell, tell_both, tell_fault};
 use crate::telling::table_of;
@@ -32,32 +30,6 @@ use std::rt;
 use std::rt::Files;
 use std::sync::Wait;
 use std::thread::Threads;
-
-/// Runs the node of the configuration file that the wishes name, as [`run_bytes`] does from its bytes.
-///
-/// At most 65,537 bytes of the file are read. A file that can't be read is told by [`Told::Read`], and a second line
-/// names it, and says why. Memory that is refused for its bytes is told by [`Told::Memory`]. In both cases nothing is
-/// written. No contract can say what a file holds.
-pub fn run_file<R, W, F>(
-    rt: &R,
-    alloc: Global,
-    wishes: &Wishes<'_>,
-    writer: &mut W,
-    faults: &mut F,
-) -> u8
-where
-    R: Wait + Threads + Net + rt::Clock + Files + RandomSource + Sync,
-    W: Write + Send,
-    F: FaultStream + Send,
-    ensures { RunsFile writer.old writer.new (W.contents writer.old) (W.contents writer.new)
-        (F.reported faults.old) (F.reported faults.new) wishes.now.file.now wishes.now.until wishes.now.follow
-        result }
-{
-    match file_bytes(rt, alloc, wishes.file) {
-        Ok(bytes) => run_bytes(rt, alloc, &bytes, wishes, writer, faults),
-        Err(none) => tell_no_bytes(alloc, wishes.file, none, faults),
-    }
-}
 
 /// Runs the node that the bytes of a configuration file mean, with the keys of the file that it names, if it names one,
 /// until its end is wished or the stop flag is set. Writes the members that it knows to `writer`, and gives the exit

@@ -11,7 +11,7 @@ use std::sync::atomic::AtomicBool;
 /// What a node is asked for besides its configuration, and what stops it (this project's choice).
 #[derive(Clone, Copy, Debug)]
 pub struct Wishes<'a> {
-    /// The path of its configuration file.
+    /// The path of its configuration file, as lines name it. The bytes of the file are handed over apart.
     pub file: &'a str,
     /// The moment at which it ends, in milliseconds from its start. If there is none, time doesn't end it.
     pub until: Option<Moment>,

@@ -4,3 +4,4 @@ pub mod AdvanceLaws
 pub mod ChangeLaws
 pub mod UpdateLaws
 pub mod DeadlineLaws
+pub mod PublishLaws

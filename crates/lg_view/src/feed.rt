@@ -121,9 +121,7 @@ impl<P: PairName> Feed<P> {
         };
         self.front = added.front.copy();
         put(rt, &mut self.writer, added);
-        replace_with(&mut self.writer, rt, |writer, rt| {
-            (publish_all(rt, writer), ())
-        })
+        publish_put(rt, &mut self.writer);
     }
 
     /// Brings a reader up to date with what is published. It has then seen these events, which begin with what it had
@@ -173,11 +171,20 @@ fn put<P: PairName, R: Wait>(rt: &R, writer: &mut FeedWriter<P>, added: Added<P>
     unreachable!()
 }
 
-/// Publishes all that was put.
-fn publish_all<P: PairName, R: Wait>(rt: &R, writer: FeedWriter<P>) -> FeedWriter<P>
-    ensures value { result.desk.shown.value
-        ≡ fold taken_events writer.desk.shown.value (drop writer.behind writer.log.items) }
-    ensures none { drop result.behind result.log.items ≡ [] }
+/// Publishes all that was put, in place.
+fn publish_put<P: PairName, R: Wait>(rt: &R, writer: &mut FeedWriter<P>)
+    ensures value { writer.new.desk.shown.value
+        ≡ fold taken_events writer.old.desk.shown.value (drop writer.old.behind writer.old.log.items) }
+    ensures none { drop writer.new.behind writer.new.log.items ≡ [] }
 {
-    writer.publish_as::<Unruled, R>(rt).0
+    replace_with(writer, rt, publish_all);
+}
+
+/// Publishes all that was put.
+fn publish_all<P: PairName, R: Wait>(writer: FeedWriter<P>, rt: &R) -> (FeedWriter<P>, ())
+    ensures value { result.0.desk.shown.value
+        ≡ fold taken_events writer.desk.shown.value (drop writer.behind writer.log.items) }
+    ensures none { drop result.0.behind result.0.log.items ≡ [] }
+{
+    (writer.publish_as::<Unruled, R>(rt).0, ())
 }

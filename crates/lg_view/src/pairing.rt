@@ -67,8 +67,12 @@ fn blank_writer<P: PairName>(
     requires places { (0 < places) × (places < 2 ^ 32) }
     ensures { IfSome result (λ w. (w.desk.shown.value ≡ []) × (drop w.behind w.log.items ≡ [])) }
 {
-    let first = Published::blank(alloc, front.copy()).ok()?;
-    let second = Published::blank(alloc, front.copy()).ok()?;
+    let Ok(first) = Published::blank(alloc, front.copy()) else {
+        return None;
+    };
+    let Ok(second) = Published::blank(alloc, front.copy()) else {
+        return None;
+    };
     Writer::new(alloc, first, second, places).ok()
 }
 

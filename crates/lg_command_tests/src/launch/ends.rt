@@ -1,6 +1,6 @@
 //! Runs of nodes and of files, over writers that fail.
 use crate::ports::{free_port, with_port};
-use lg_run::{Wishes, run_bytes, run_file};
+use lg_run::{Wishes, file_bytes, run_bytes, tell_no_bytes};
 use lg_testing::{Room, at};
 use std::alloc::{AllocError, Global};
 use std::net::Net;
@@ -81,7 +81,10 @@ where
             let bytes = with_port(alloc, text, port)?;
             run_bytes(rt, alloc, &bytes, &wishes, writer_of, faults_of)
         }
-        Path(_) => run_file(rt, alloc, &wishes, writer_of, faults_of),
+        Path(path) => match file_bytes(rt, alloc, path) {
+            Ok(bytes) => run_bytes(rt, alloc, &bytes, &wishes, writer_of, faults_of),
+            Err(none) => tell_no_bytes(alloc, path, none, faults_of),
+        },
     };
     Ok(Outcome {
         status,

@@ -85,7 +85,6 @@ impl Peer {
     }
 
     /// A step of reading a request.
-    #[tactic(auto, using(crate::proofs::ChainLaws::adds_nothing))]
     pub(super) fn read<S: Site>(&mut self, desk: &mut Desk<S>, turn: &Turn) -> Step
         requires phase { self.old.phase ≡ Phase.Reading }
         requires timely { turn.now.at < self.old.until }

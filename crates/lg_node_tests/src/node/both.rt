@@ -1,207 +1,113 @@
-//! Both loops at once, in two threads that wait for each other, so that neither can end by itself. The ticking loop's
-//! first packet waits until the other loop receives. That receiving waits until the packet is handed over. Each waits
-//! ten seconds at most.
-ghost use Rattle.std.specs.Prelude.{◌≡◌, ◌+◌, MatchBool};
+//! All threads of a node at once: both loops, which wait for each other (`meeting.rt`), and a watcher if it is followed.
+ghost use Rattle.std.specs.Prelude.{◌≡◌};
 
-use super::links::{PING_7, put};
 use super::loops::{Noted, WAIT_MS, ticks_until};
+use super::meeting::{Meeting, MeetingLink, StandingClock};
 use super::playing::{Play, Shown, told};
 use left_right::Absorb;
 use lg_agent::{AgentName, Pass, Spent};
 use lg_agent_testing::{Case, Ending, Left, Outcome};
-use lg_clock::Clock;
 use lg_detector::Event;
 use lg_node::{
-    Both, ChangeSignal, Counters, Link, LinkFault, Looked, Lookers, LoopEnd, MAX_DATAGRAM, PcgDice,
-    Settings, Shared, Side, Sides, StatusServer, Why, join_threads,
+    Both, ChangeSignal, Counters, Looked, Lookers, LoopEnd, PcgDice, Settings, Shared, Side, Sides,
+    StatusServer, Watched, Why, join_threads,
 };
-use lg_rules::Addr;
 use lg_testing::{Room, at, letter, local};
-use lg_timing::{Config, MAX_MOMENT, Moment};
+use lg_timing::{Config, MAX_MOMENT};
 use lg_view::{Published, Update};
 use std::alloc::Global;
+use std::rt;
 use std::sync::Wait;
 use std::sync::atomic::AtomicBool;
-use std::sync::atomic::Ordering::SeqCst;
 use std::thread::Threads;
-use std::time::Duration;
-use std::{rt, thread};
-
-/// How many milliseconds one loop waits for the other at most.
-const PATIENCE_MS: u64 = 10_000;
 
 /// How many turns a loop may make. A turn that has nothing to do lasts a millisecond or more.
 const BOUND: u64 = 20_000;
 
-/// What the loops wait for.
-#[derive(Drop)]
-struct Meeting {
-    /// A packet was handed over.
-    sent: AtomicBool,
-    /// After that, a datagram was waited for.
-    received: AtomicBool,
-    /// The loops are to stop.
-    stop: AtomicBool,
-}
-
 /// Which call of the receiving loop's link fails, and which of the ticking one's, counted from 1. With 0 none does.
-pub type FailsAt = [u64; 2];
+type FailsAt = [u64; 2];
 
-/// A link that waits for the other loop.
-#[derive(Drop)]
-struct MeetingLink<'a, R> {
-    rt: &'a R,
-    meeting: &'a Meeting,
-    /// Which call fails, counted from 1, or 0 if none does.
-    fails_at: u64,
-    /// How many calls were made.
-    made: u64,
-    /// How many of them waited for a datagram.
-    received: u64,
-    failures: u64,
+/// How both loops are run.
+#[derive(Clone, Copy)]
+pub struct BothRun {
+    fails_at: FailsAt,
+    /// Whether a watcher tells what the node learns.
+    follow: bool,
 }
 
-/// Waits until a flag is set, or patience ends. Returns whether it is set.
-fn is_met<R: rt::Clock>(rt: &R, flag: &AtomicBool) -> bool {
-    for _ in 0..PATIENCE_MS {
-        if flag.load(SeqCst) {
-            return true;
-        }
-        thread::sleep(rt, Duration::from_millis(1));
-    }
-    false
-}
-
-impl<'a, R> MeetingLink<'a, R> {
-    /// A link of one loop.
-    fn new(rt: &'a R, meeting: &'a Meeting, fails_at: u64) -> MeetingLink<'a, R> {
-        MeetingLink {
-            rt,
-            meeting,
-            fails_at,
-            made: 0,
-            received: 0,
-            failures: 0,
+impl BothRun {
+    /// No link fails.
+    pub fn sound(follow: bool) -> BothRun {
+        BothRun {
+            fails_at: [0, 0],
+            follow,
         }
     }
-
-    /// Counts a call that met the other loop or didn't. Returns whether it fails; a failure is counted too.
-    fn fails(&mut self, met: bool) -> bool
-        ensures { MatchBool result (self.new.failures ≡ self.old.failures + 1)
-            (self.new.failures ≡ self.old.failures) }
-    {
-        self.made = self.made.saturating_add(1);
-        let fails = !met || self.made == self.fails_at;
-        if !fails || self.failures == u64::MAX {
-            return false;
-        }
-        self.failures += 1;
-        true
-    }
-
-    /// Which receiving this is, counted from 1.
-    fn next(&mut self) -> u64
-        ensures { self.new.failures ≡ self.old.failures }
-    {
-        self.received = self.received.saturating_add(1);
-        self.received
-    }
 }
 
-impl<'a, R: rt::Clock> MeetingLink<'a, R> {
-    /// Waits in the first receiving until a packet was handed over, and says that a datagram is waited for. Returns
-    /// whether one was handed over.
-    fn meet(&self) -> bool {
-        let met = is_met(self.rt, &self.meeting.sent);
-        self.meeting.received.store(met, SeqCst);
-        met
-    }
-}
-
-impl<'a, R: rt::Clock> Link for MeetingLink<'a, R> {
-    ghost use Rattle.std.specs.Prelude.{false, []};
-
-    ghost tells = { false };
-
-    ghost log = { λ l. [] };
-
-    ghost failed = { λ l. l.failures };
-
-    /// Fails if the other loop doesn't receive.
-    fn send(&mut self, _to: Addr, _bytes: &[u8]) -> Result<(), LinkFault> {
-        self.meeting.sent.store(true, SeqCst);
-        let met = is_met(self.rt, &self.meeting.received);
-        if self.fails(met) {
-            Err(LinkFault)
-        } else {
-            Ok(())
-        }
-    }
-
-    /// The first one fails if no packet was handed over. At the second the loops are told to stop, unless it fails.
-    fn receive(
-        &mut self,
-        buffer: &mut [u8; MAX_DATAGRAM],
-        _limit_ms: u64,
-    ) -> Result<Option<(Addr, usize)>, LinkFault> {
-        let is_first = self.next() == 1;
-        let met = !is_first || self.meet();
-        if self.fails(met) {
-            return Err(LinkFault);
-        }
-        if is_first {
-            return Ok(Some((local(7001), put(buffer, PING_7))));
-        }
-        self.meeting.stop.store(true, SeqCst);
-        Ok(None)
-    }
-
-    fn failures(&self) -> u64 {
-        self.failures
-    }
-}
-
-/// A clock at which it is always 0. Its pauses last a millisecond.
-#[derive(Drop)]
-struct StandingClock<'a, R> {
-    rt: &'a R,
-}
-
-impl<'a, R: rt::Clock> Clock for StandingClock<'a, R> {
-    fn now(&self) -> Moment {
-        at(0)
-    }
-
-    fn pause(&self, _ms: u64) {
-        thread::sleep(self.rt, Duration::from_millis(1));
-    }
-}
-
-/// How both loops ended, and how often their links failed.
+/// How both loops ended, how often their links failed, and what a watcher told.
 #[derive(Clone, Copy)]
 pub struct BothSeen {
     pub receiving: LoopEnd,
     pub ticking: LoopEnd,
     pub receiving_failures: u64,
     pub ticking_failures: u64,
+    /// How the watcher ended, if there was one.
+    pub watched: Option<Watched>,
+    pub text: Text,
 }
 
-/// What the loops wait for, as they begin.
-fn begun() -> Meeting {
-    Meeting {
-        sent: AtomicBool::new(false),
-        received: AtomicBool::new(false),
-        stop: AtomicBool::new(false),
+/// What a watcher has told.
+#[derive(Clone, Copy, Debug, PartialEq, Eq)]
+pub enum Text {
+    /// Nothing.
+    Empty,
+    /// Its last line alone.
+    End,
+    /// The records of b and c, which are known from the start, and its last line.
+    Known,
+    /// The same, and that of d before the last line.
+    Learned,
+    /// Another text.
+    Other,
+}
+
+/// The texts of a watcher but the empty one.
+const TEXTS: [(Text, &[u8]); 3] = [
+    (Text::End, b"0 stood-still 0\n"),
+    (
+        Text::Known,
+        b"0 record b alive 0 127.0.0.1:7000\n0 record c alive 0 127.0.0.1:7003\n0 stood-still 0\n",
+    ),
+    (
+        Text::Learned,
+        b"0 record b alive 0 127.0.0.1:7000\n0 record c alive 0 127.0.0.1:7003\n\
+            0 record d alive 0 127.0.0.1:7004\n0 stood-still 0\n",
+    ),
+];
+
+impl Text {
+    /// What was written.
+    fn of(writer: &Room) -> Text {
+        if writer.has(b"") {
+            return Text::Empty;
+        }
+        for (text, bytes) in TEXTS {
+            if writer.has(bytes) {
+                return text;
+            }
+        }
+        Text::Other
     }
 }
 
-/// The settings of a node that nobody follows or asks.
-fn settings() -> Settings {
+/// The settings of a node that nobody asks.
+fn settings(follow: bool) -> Settings {
     Settings {
         dice: 1,
         pull_ms: 0,
         stall_ms: 0,
-        follow: false,
+        follow,
         status: None,
         status_open: false,
         keys: None,
@@ -261,21 +167,24 @@ fn shared<'a, R, C>(
     }
 }
 
-/// Runs the threads of a node that nobody follows or asks, until the last moment. One clock always says 0.
+/// What the threads of a node leave, and what its watcher told.
+type Ran<'p, 'm, R, A> = (Looked<'p, A>, Both<MeetingLink<'m, R>, A>, Text);
+
+/// Runs the threads of a node that nobody asks, until the last moment. One clock always says 0.
 fn run_threads<'p, 'm, A, R>(
     rt: &'m R,
     alloc: Global,
     meeting: &'m Meeting,
     passes: Four<'p, A>,
-    fails_at: FailsAt,
-) -> (Looked<'p, A>, Both<MeetingLink<'m, R>, A>)
+    run: BothRun,
+) -> Ran<'p, 'm, R, A>
 where
     A: AgentName + Send + Sync,
     R: Threads + Wait + rt::Clock + Sync,
 {
     let name = letter(b'b');
     let config = Config::new(name, local(7102));
-    let settings = settings();
+    let settings = settings(run.follow);
     let clock = StandingClock { rt };
     let noted = Noted {
         page_heard: AtomicBool::new(false),
@@ -290,8 +199,8 @@ where
         status,
     } = passes;
     let sides = Sides::of(
-        Side::new(receiver, MeetingLink::new(rt, meeting, fails_at[0])),
-        Side::new(ticker, MeetingLink::new(rt, meeting, fails_at[1])),
+        Side::new(receiver, MeetingLink::new(rt, meeting, run.fails_at[0])),
+        Side::new(ticker, MeetingLink::new(rt, meeting, run.fails_at[1])),
         PcgDice::new(0),
         ticks_until(at(MAX_MOMENT)),
     );
@@ -306,7 +215,7 @@ where
     let mut writer = Room::failing(0);
     let mut faults = Room::failing(0);
     let (looked, (both, _)) = join_threads(&shared, sides, lookers, &mut writer, &mut faults);
-    (looked, both)
+    (looked, both, Text::of(&writer))
 }
 
 /// Runs both loops of a node with four passes.
@@ -314,7 +223,7 @@ pub fn run_both<A, R>(
     rt: &R,
     alloc: Global,
     passes: Vec<Pass<'_, A>>,
-    fails_at: FailsAt,
+    run: BothRun,
     spents: Vec<Spent<A>>,
 ) -> Left<A, Shown>
 where
@@ -324,13 +233,15 @@ where
     let Some(passes) = taken(passes) else {
         return Left::nothing(spents);
     };
-    let meeting = begun();
-    let (looked, (received, ticked)) = run_threads(rt, alloc, &meeting, passes, fails_at);
+    let meeting = Meeting::new();
+    let (looked, (received, ticked), text) = run_threads(rt, alloc, &meeting, passes, run);
     let seen = BothSeen {
         receiving: received.end,
         ticking: ticked.end,
         receiving_failures: received.link.failures,
         ticking_failures: ticked.link.failures,
+        watched: looked.watched,
+        text,
     };
     let mut spents = spents;
     let _refused = spents.push(looked.watcher.finish()).is_err();
@@ -339,8 +250,8 @@ where
 }
 
 /// An agent that knows c, and runs both loops.
-pub fn both_loops(fails_at: FailsAt) -> Case<Play> {
-    let mut case = Case::new(4, Play::Both { fails_at });
+pub fn both_loops(run: BothRun) -> Case<Play> {
+    let mut case = Case::new(4, Play::Both(run));
     case.others = 1;
     case
 }
@@ -383,20 +294,41 @@ impl BothSeen {
             && self.ticking.unsent == lost
             && self.ticking_failures == lost
     }
+
+    /// What a watcher tells that tells all. A receiving loop that made two turns has heard the Ping, which tells of d.
+    fn whole_text(&self) -> Text {
+        if self.receiving.turns == 2 {
+            Text::Learned
+        } else {
+            Text::Known
+        }
+    }
+
+    /// Whether a watcher has told all, if there was to be one, and otherwise nothing was told.
+    fn has_told(&self, follow: bool) -> bool {
+        match self.watched {
+            Some(watched) => follow && watched == Watched::Told && self.text == self.whole_text(),
+            None => !follow && self.text == Text::Empty,
+        }
+    }
 }
 
 /// The Ping of the ticking loop is handed over while the other loop receives. The receiving loop answers a Ping, and
 /// is told to stop. Each call of their links fails in turn. A packet that isn't sent ends no loop, and its event stays
-/// in the history. If a receiving fails, the ticking loop, which has no other reason to end, is stopped.
+/// in the history. If a receiving fails, the ticking loop, which has no other reason to end, is stopped. Each row runs
+/// once alone, and once with a watcher, which has no reason to end either. It has told what the loops heard.
 #[test]
 fn both_run_at_once(rt: HostRuntime) {
     for row in ROWS {
         let (name, fails_at, .., entries) = *row;
-        let outcome = told(&rt, rt.alloc(), both_loops(fails_at)).ok();
-        let seen = outcome.as_ref().and_then(seen_in);
-        let met = seen.is_some_and(|(both, ending)| {
-            both.is(row) && ending == Ending::closed(None, entries)
-        });
-        assert!(rt; met, "{name}");
+        for follow in [false, true] {
+            let run = BothRun { fails_at, follow };
+            let outcome = told(&rt, rt.alloc(), both_loops(run)).ok();
+            let seen = outcome.as_ref().and_then(seen_in);
+            let met = seen.is_some_and(|(both, ending)| {
+                both.is(row) && both.has_told(follow) && ending == Ending::closed(None, entries)
+            });
+            assert!(rt; met, "{name}, {follow}");
+        }
     }
 }

@@ -2,7 +2,7 @@
 ghost use Rattle.std.specs.Prelude.{◌≡◌, ◌<◌, ◌≤◌};
 
 use super::alone::{LoopSeen, Run, run_alone};
-use super::both::{BothSeen, FailsAt, run_both};
+use super::both::{BothRun, BothSeen, run_both};
 use super::finding::{Found, Search, run_search};
 use super::keyed::{KeyedSeen, run_keyed};
 use super::rotating::{StreamSeen, run_stream};
@@ -20,8 +20,8 @@ use std::thread::Threads;
 pub enum Play {
     /// The last pass runs one loop of a node.
     Loop(Run),
-    /// Two passes run both loops of a node. A call of each link may fail.
-    Both { fails_at: FailsAt },
+    /// Four passes run both loops of a node, and a watcher if it is followed. A call of each link may fail.
+    Both(BothRun),
     /// One loop of a node after the other: many datagrams, and then many ticks.
     Stream,
     /// The last pass runs a receiving loop over a keyed link.
@@ -57,7 +57,7 @@ where
     };
     match play {
         Play::Loop(run) => run_alone(rt, alloc, passes, run, spents),
-        Play::Both { fails_at } => run_both(rt, alloc, passes, fails_at, spents),
+        Play::Both(both) => run_both(rt, alloc, passes, both, spents),
         Play::Stream => run_stream(rt, alloc, passes, spents),
         Play::Keyed => run_keyed(rt, alloc, passes, spents),
         Play::Find(search) => run_search(rt, alloc, passes, search, spents),

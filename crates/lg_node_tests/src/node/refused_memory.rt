@@ -1,12 +1,12 @@
-//! Memory that is refused once. A loop whose call meets that ends with it, and nothing is lost. If memory for a
-//! thread is refused, no loop makes a turn.
+//! Memory that is refused once. A loop whose call meets that ends with it, and nothing is lost. If memory for the thread
+//! of the receiving loop is refused, no loop makes a turn. A watcher without a thread watches when the loops have ended.
 use super::alone::Run;
-use super::both::{BothSeen, both_loops, seen_in};
+use super::both::{BothRun, BothSeen, Text, both_loops, seen_in};
 use super::links::{Call, Coming, Script};
 use super::playing::{Shown, told_at_last};
 use lg_agent::Refusal;
 use lg_agent_testing::{Ending, Outcome};
-use lg_node::{LoopEnd, Why};
+use lg_node::{LoopEnd, Watched, Why};
 
 /// How many packets were handed over.
 fn handed(calls: &[Call]) -> usize {
@@ -133,10 +133,32 @@ fn is_still(seen: (BothSeen, Ending)) -> bool {
     both.ticking != still || had_none && ending.entries == Some(1)
 }
 
+/// Whether a watcher has told all that it had to, or says that it was refused memory. That it tries again when a look
+/// was refused is shown by `watching.rt`.
+fn told_or_refused(both: &BothSeen) -> bool {
+    match both.watched {
+        Some(Watched::Told) => matches!(both.text, Text::Known | Text::Learned),
+        Some(Watched::Refused(Refusal::NoMemory)) => {
+            matches!(both.text, Text::End | Text::Known | Text::Learned)
+        }
+        _ => false,
+    }
+}
+
 /// Both loops. Memory may be refused to the thread of the receiving loop; then the ticking loop makes no turn either.
 #[test]
 fn a_thread(rt: HostRuntime) {
-    let outcome = told_at_last(&rt, rt.alloc(), both_loops([0, 0]));
+    let outcome = told_at_last(&rt, rt.alloc(), both_loops(BothRun::sound(false)));
     let seen = outcome.as_ref().ok().and_then(seen_in);
     assert!(rt; seen.is_some_and(is_still));
+}
+
+/// Both loops and a watcher. If memory is refused to the watcher's thread, it watches when the loops have ended.
+#[test]
+fn a_watcher(rt: HostRuntime) {
+    let outcome = told_at_last(&rt, rt.alloc(), both_loops(BothRun::sound(true)));
+    let seen = outcome.as_ref().ok().and_then(seen_in);
+    assert!(rt;
+        seen.is_some_and(|(both, ending)| is_still((both, ending)) && told_or_refused(&both))
+    );
 }

@@ -1,6 +1,6 @@
-use Rattle.std.proofs.Common.{ℕ, Option, inl, refl, subst}
+use Rattle.std.proofs.Common.{ℕ, Option, inl, inr, refl, subst}
 use Rattle.lg_run.specs.declared.file.NoBytes.TheVariants.{Memory}
-use Rattle.lg_run.specs.Meaning.Running.{RunsFile}
+use Rattle.lg_run.specs.Meaning.Running.{RunsBytes}
 use Rattle.lg_cli.specs.Meaning.Running.{streams}
 use Rattle.lg_cli.proofs.LineLaws.{left-line, same-streams, taken-runs}
 use Rattle.lg_cli.proofs.program.run_words.Goals as goal
@@ -124,6 +124,22 @@ returns-in-Ask g c =
       unread = refl {a = reader};
     })
 
+pub returns-in-Err-file_bytes : goal.returns-in-Err-file_bytes
+returns-in-Err-file_bytes g c =
+    let remaining = g.R.Read.remaining in
+    let contents = g.W.Write.contents in
+    let reported = g.F.FaultStream.reported in
+    let reader = c.args.reader.now in
+    let took = c.in-Ok.ensures in
+    let ran = c.tell_no_bytes in
+    let after = streams reader (remaining reader) c.take_words.new.writer (contents c.take_words.new.writer) (reported ran.new.faults) in
+    let same = same-streams contents reported reader (remaining reader) took.unwritten took.unreported in
+    taken-runs after took.taken took.asked same c.in-Node.is
+    (record {
+      launched = inl (refl, (c.in-Err-file_bytes.none, ran.ensures));
+      unread = refl {a = reader};
+    })
+
 pub returns-in_default : goal.returns-in_default
 returns-in_default g c =
     let remaining = g.R.Read.remaining in
@@ -147,14 +163,18 @@ returns-in-Ok-stop_flag g c =
     let reported = g.F.FaultStream.reported in
     let reader = c.args.reader.now in
     let took = c.in-Ok.ensures in
-    let ran = c.run_file in
+    let ran = c.run_bytes in
+    let bytes = c.deref-in-Node.result.now in
     let after = streams reader (remaining reader) ran.new.writer (contents ran.new.writer) (reported ran.new.faults) in
     let same = same-streams contents reported reader (remaining reader) took.unwritten took.unreported in
     taken-runs after took.taken took.asked same c.in-Node.is
     (record {
-      launched = subst (λ (until : Option ℕ). RunsFile c.take_words.new.writer ran.new.writer
-          (contents c.take_words.new.writer) (contents ran.new.writer)
-          (reported c.take_words.new.faults) (reported ran.new.faults)
-          c.in-Node.file.now until c.in-Node.follow ran.result) c.end_after.ensures ran.ensures;
+      launched = inr (
+        bytes,
+        subst (λ (until : Option ℕ). RunsBytes c.take_words.new.writer ran.new.writer
+            (contents c.take_words.new.writer) (contents ran.new.writer)
+            (reported c.take_words.new.faults) (reported ran.new.faults)
+            bytes c.in-Node.file.now until c.in-Node.follow ran.result) c.end_after.ensures ran.ensures,
+      );
       unread = refl {a = reader};
     })

@@ -5,8 +5,8 @@ use Rattle.lg_node.proofs.start.open_and_serve.Goals as goal
 
 pub returns-clause-ran : goal.returns-clause-ran
 returns-clause-ran g c =
-    let config = c.copy.ensures in
-    let begun = c.in-Ok-begin.ensures.begun c.now-start.result (rw config at c.in-Ok-open.ensures.name) (rw config at c.in-Ok-open.ensures.told.1) in
+    let opened = c.in-Ok-open_agent.ensures in
+    let begun = c.in-Ok-begin.ensures.begun c.now-start.result opened.name opened.told.1 in
     let ready = c.in-Ok-begin.ready in
     let told = c.in-Ok-begin.ensures.told in
     let left = c.leave-left in
@@ -45,5 +45,5 @@ returns-clause-ran g c =
 
 pub returns-in-Err-begin-clause-refused : goal.returns-in-Err-begin-clause-refused
 returns-in-Err-begin-clause-refused g c =
-    let config = c.copy.ensures in
-    c.in-Err-begin.ensures.refused c.now-start.result (rw config at c.in-Ok-open.ensures.name) (rw config at c.in-Ok-open.ensures.told.1)
+    let opened = c.in-Ok-open_agent.ensures in
+    rw c.give_up.ensures (c.in-Err-begin.ensures.refused c.now-start.result opened.name opened.told.1)

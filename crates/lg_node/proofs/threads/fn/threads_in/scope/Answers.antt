@@ -2,29 +2,33 @@ use Rattle.std.proofs.Common.{◌∙◌, ap, inl, inr, refl, subst}
 use Rattle.lg_loops.specs.Meaning.Turns.{line}
 use Rattle.lg_loops.specs.Meaning.Words.{DrawsEight}
 use Rattle.lg_loops.proofs.StretchLaws.{ticks_unstarted}
+use Rattle.lg_node.proofs.threads.fn.threads_in.scope.Goals.{in-Ok, in-Err}
 use Rattle.lg_node.proofs.threads.fn.threads_in.scope.Goals as goal
 
-pub returns-in-Err : goal.returns-in-Err
-returns-in-Err g c = record {
-  received = inr (
-    record {
-      was = c.spawn_with-received.result.end.why;
-      ran = rw (← c.requires.bound.1, ← c.requires.bound.2, ← c.requires.bound.3, ← c.requires.start.1, ← c.requires.start.0) (rw c.in-Err.ensures.err at c.spawn_with-received.ensures);
-      why = refl;
-    },
-    c.unstarted.ensures.end,
-  );
-  ticked =
-      rw (c.unstarted.ensures.link, c.unstarted.ensures.spent, c.unstarted.ensures.end) (ticks_unstarted DrawsEight c.captures.dice c.captures.plan g.L.Link.tells c.captures.shared.now.bound c.captures.shared.now.endless
-      (line (g.L.Link.log c.captures.ticker.link) (g.L.Link.failed c.captures.ticker.link)) c.captures.ticker.pass);
-  watched = subst (λ w. g.V.Work.gives w c.ended.result) (ap (λ p. p.work.value) c.start_if-watching.ensures.promised ∙ c.of-watches.ensures) c.ended.ensures;
-  served = subst (λ w. g.X.Work.gives w c.ended-in-Err.result) (ap (λ p. p.work.value) c.start_if-serving.ensures.promised ∙ c.of-serves.ensures) c.ended-in-Err.ensures;
-}
-
 pub returns : goal.returns
-returns g c = record {
-  received = inl c.join.ensures;
-  ticked = c.tick_loop-ticked.ensures;
-  watched = subst (λ w. g.V.Work.gives w c.ended-2.result) (ap (λ p. p.work.value) c.start_if-watching.ensures.promised ∙ c.of-watches.ensures) c.ended-2.ensures;
-  served = subst (λ w. g.X.Work.gives w c.ended-3.result) (ap (λ p. p.work.value) c.start_if-serving.ensures.promised ∙ c.of-serves.ensures) c.ended-3.ensures;
-}
+returns g c =
+    let watched = subst (λ w. g.V.Work.gives w c.join_or_do-watched.result) (ap (λ p. p.work.value) c.start_if-watching.ensures.promised ∙ c.of.ensures) c.join_or_do-watched.ensures in
+    let served = subst (λ w. g.X.Work.gives w c.join_or_do-served.result) (ap (λ p. p.work.value) c.start_if-serving.ensures.promised ∙ c.of-2.ensures) c.join_or_do-served.ensures in
+    elim c.match-receiving.branch [
+      | in-Ok w ↦ record {
+        received = rw w.both-is (inl w.join.ensures);
+        ticked = rw w.both-is w.tick_loop-ticked.ensures;
+        watched = watched;
+        served = served;
+      }
+      | in-Err w ↦ record {
+        received = rw (w.both-is, w.without_thread.ensures) (inr (
+          record {
+            was = w.spawn_with.result.end.why;
+            ran = rw (← c.requires.bound.1, ← c.requires.bound.2, ← c.requires.bound.3, ← c.requires.start.1, ← c.requires.start.0) (rw w.in-Err.ensures.err at w.spawn_with.ensures);
+            why = refl;
+          },
+          w.unstarted.ensures.end,
+        ));
+        ticked =
+            rw (w.both-is, w.unstarted.ensures.link, w.unstarted.ensures.spent, w.unstarted.ensures.end) (ticks_unstarted DrawsEight c.captures.dice c.captures.plan g.L.Link.tells c.captures.shared.now.bound c.captures.shared.now.endless
+            (line (g.L.Link.log c.captures.ticker.link) (g.L.Link.failed c.captures.ticker.link)) c.captures.ticker.pass);
+        watched = watched;
+        served = served;
+      }
+    ]
