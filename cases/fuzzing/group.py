@@ -224,8 +224,10 @@ class Group:
 
     def agrees(self):
         """Whether all that live say the same of all: each living one is alive at its own incarnation and address, and
-        each other one has failed at the same one."""
+        each other one has failed at the same one. If nobody lives, nobody differs."""
         views = [{it.member: it for it in self.member(name).view()} for name in self.alive]
+        if not views:
+            return True
         if any(view.keys() != views[0].keys() for view in views) or not self.alive_names() <= views[0].keys():
             return False
         for name in views[0]:
