@@ -1,4 +1,5 @@
-//! All threads of a node at once: both loops, which wait for each other (`meeting.rt`), and a watcher if it is followed.
+//! All threads of a node at once: both loops, which wait for each other (`meeting.rt`), and a watcher if the node is
+//! followed.
 ghost use Rattle.std.specs.Prelude.{◌≡◌};
 
 use super::loops::{Noted, WAIT_MS, ticks_until};

@@ -1,5 +1,6 @@
-//! Memory that is refused once. A loop whose call meets that ends with it, and nothing is lost. If memory for the thread
-//! of the receiving loop is refused, no loop makes a turn. A watcher without a thread watches when the loops have ended.
+//! Memory that is refused once. A loop whose call meets that ends with it, and nothing is lost. If memory for the
+//! thread of the receiving loop is refused, no loop makes a turn. A watcher without a thread watches when the loops
+//! have ended.
 use super::alone::Run;
 use super::both::{BothRun, BothSeen, Text, both_loops, seen_in};
 use super::links::{Call, Coming, Script};
