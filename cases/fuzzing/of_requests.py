@@ -25,9 +25,9 @@ METHODS = ["GET", "GET", "GET", "GET", "HEAD", "HEAD", "POST", "PUT", "DELETE", 
 PATHS = ["/", "//", "/v1", "/v1/", "/v1/members", "/v1/members/", "/v1/members/", "/v1/health", "/v1/changes",
          "/v1/config", "/v1/config/", "/metrics", "/favicon.ico"]
 MEMBERS = ["b", "a", "c", "d", "e", "nobody", "a+b", "%62", "n" * 32, "n" * 33, "b/", ""]
-ALL_QUERIES = ["", "status=alive", "status=suspect", "status=failed", "status=dead", "status=", "after=0",
-           "after=0&wait_ms=1", "wait_ms=5", "wait_ms=30001", "wait_ms=1&after=0", "after=1&after=1", "after=x",
-           "after=", "=", "&", "after=0&", "after=0&wait_ms=1&after=0", "now", "after=0000000000000000",
+ALL_QUERIES = ["", "status=alive", "status=suspect", "status=failed", "status=left", "status=dead", "status=",
+           "after=0", "after=0&wait_ms=1", "wait_ms=5", "wait_ms=30001", "wait_ms=1&after=0", "after=1&after=1",
+           "after=x", "after=", "=", "&", "after=0&", "after=0&wait_ms=1&after=0", "now", "after=0000000000000000",
            "after=" + "0" * 17, "a=1", "wait_ms=00001"]
 # For the paths that take a query these are the usual ones.
 QUERIES = {"/v1/members": [it for it in ALL_QUERIES if it.startswith("status")],

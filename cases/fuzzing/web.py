@@ -13,7 +13,7 @@ PLAIN = ("/", "/v1/health", "/v1/config", "/metrics")
 ONE_MEMBER = "/v1/members/"
 JSON = "application/json"
 MEDIA = {"/": "text/html; charset=utf-8", "/metrics": "text/plain; version=0.0.4; charset=utf-8"}
-MEMBERS_QUERIES = ("", *(f"status={it}" for it in STATUS_WORDS.values()))
+MEMBERS_QUERIES = ("", *(f"status={it}" for it in (*STATUS_WORDS.values(), "left")))
 SERVED = ("GET", "HEAD")
 # The name of a host that a server on a loopback address answers to, beside addresses.
 OWN_NAME = "localhost"

@@ -1,11 +1,10 @@
 //! Writes the configuration as JSON.
 //!
 //! Defined in: `specs/Meaning/Bodies.antt`, `lg_timing/specs/Meaning/Keys.antt`;
-//! `lg_lines/specs/Meaning/Records.antt`.
+//! `lg_text/specs/Meaning/Addresses.antt`.
 //! Tested in: `lg_answers_tests/src/answer.rt`.
 ghost use Rattle.std.specs.Prelude.{◌≡◌, ◌++◌, IfOk, OnOk, codes, string_bytes};
 ghost use Rattle.std.specs.List.{flat_map};
-ghost use Rattle.lg_lines.specs.Meaning.Records.{addr_text};
 ghost use Rattle.lg_timing.specs.Meaning.Keys.{keys};
 ghost use Rattle.lg_answers.specs.Meaning.Bodies.{config_body, config_front, key_field, number_field, own_field};
 ghost use Rattle.lg_answers.specs.Meaning.Bodies.{open_field, seed_json, status_field, status_value};
@@ -16,6 +15,7 @@ use crate::members::put_address;
 use crate::snapshot::{NodeNumber, ShownConfig};
 use lg_check::text_of_name;
 use lg_rules::{Addr, Name};
+use lg_text::put_addr;
 use lg_timing::{Config, KEYS, Key, Seed};
 use std::alloc::{AllocError, Global};
 
@@ -64,15 +64,6 @@ fn put_owns(numbers: &[NodeNumber], text: &mut String) -> Result<(), AllocError>
     Ok(())
 }
 
-/// Appends the text A.B.C.D:PORT of an address.
-fn put_addr_text(addr: &Addr, text: &mut String) -> Result<(), AllocError>
-    ensures { OnOk result (string_bytes text.new ≡ string_bytes text.old ++ addr_text addr.now) }
-{
-    let [a, b, c, d] = addr.octets;
-    let port = addr.port;
-    write!(text, "{a}.{b}.{c}.{d}:{port}")
-}
-
 /// Appends where the node answers over HTTP, or `null`.
 fn put_status(status: Option<Addr>, text: &mut String) -> Result<(), AllocError>
     ensures { OnOk result (string_bytes text.new ≡ string_bytes text.old ++ status_value status) }
@@ -80,7 +71,7 @@ fn put_status(status: Option<Addr>, text: &mut String) -> Result<(), AllocError>
     match status {
         Some(addr) => {
             text.push_str("\"")?;
-            put_addr_text(&addr, text)?;
+            put_addr(&addr, text)?;
             text.push_str("\"")
         }
         None => text.push_str("null"),

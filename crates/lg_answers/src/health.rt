@@ -3,13 +3,12 @@
 //! Defined in: `specs/Meaning/Bodies.antt`.
 //! Tested in: `lg_answers_tests/src/answer.rt`.
 ghost use Rattle.std.specs.Prelude.{◌≡◌, ◌++◌, IfOk, OnOk, length, string_bytes};
-ghost use Rattle.lg_rules.specs.Meaning.Table.{is_failed};
 ghost use Rattle.lg_answers.specs.Meaning.Bodies.{error_body, health_body, health_counts, health_front, health_times};
 ghost use Rattle.lg_answers.specs.Meaning.Bodies.{live_among, truth_text};
 
 use crate::snapshot::Snapshot;
 use lg_check::text_of_name;
-use lg_rules::{Record, Status};
+use lg_rules::Record;
 use std::alloc::{AllocError, Global};
 
 /// The word for a truth in JSON.
@@ -26,18 +25,14 @@ pub(crate) fn put_truth(truth: bool, text: &mut String) -> Result<(), AllocError
     text.push_str(truth_word(truth))
 }
 
-/// Whether a member has failed.
-fn has_failed(member: &Record) -> bool
-    ensures { result ≡ is_failed member.now.status }
-{
-    matches!(member.status, Status::Failed)
-}
-
-/// How many of some members haven't failed.
+/// How many of some members aren't gone: neither Failed nor Left.
 pub(crate) fn live_among(members: &[Record]) -> usize
     ensures { result ≡ live_among members.now }
 {
-    members.iter().filter(|member| !has_failed(member)).count()
+    members
+        .iter()
+        .filter(|member| !member.status.is_gone())
+        .count()
 }
 
 /// Appends the name, the score and the incarnation.

@@ -7,7 +7,7 @@
 //! Tested in: `lg_answers_tests/src/answer.rt`.
 ghost use Rattle.std.specs.Prelude.{◌≡◌, ◌++◌, IfOk, OnOk, codes, decimal, string_bytes};
 ghost use Rattle.std.specs.List.{flat_map};
-ghost use Rattle.lg_lines.specs.Meaning.Records.{dotted, status_text};
+ghost use Rattle.lg_lines.specs.Meaning.Records.{status_text};
 ghost use Rattle.lg_answers.specs.Meaning.Members.{behind_address, behind_comma, comma_separated, member_body};
 ghost use Rattle.lg_answers.specs.Meaning.Members.{member_fields, member_json, members_asked, members_body};
 ghost use Rattle.lg_answers.specs.Meaning.Members.{members_front_of, moment_front};
@@ -18,10 +18,11 @@ use crate::snapshot::Snapshot;
 use itoa::Buffer;
 use lg_check::text_of_name;
 use lg_rules::{Addr, Record, Status};
+use lg_text::put_ip;
 use std::alloc::{AllocError, Global};
 
 /// The most bytes of a member with its comma.
-const MEMBER_BYTES: usize = 174;
+const MEMBER_BYTES: usize = 198;
 
 /// The most bytes of what stands around the members.
 const AROUND_BYTES: usize = 128;
@@ -34,10 +35,11 @@ pub(crate) fn status_word(status: &Status) -> &'static str
         Status::Alive => "alive",
         Status::Suspect(_) => "suspect",
         Status::Failed => "failed",
+        Status::Left => "left",
     }
 }
 
-/// Appends a number in decimal. A table has six for each member, and `write!` takes longer for them.
+/// Appends a number in decimal. A table has two for each member, and `write!` takes longer for them.
 fn put_number(number: u64, text: &mut String) -> Result<(), AllocError>
     ensures { OnOk result (string_bytes text.new ≡ string_bytes text.old ++ decimal number) }
 {
@@ -69,6 +71,7 @@ fn standing_words(status: &Status) -> &'static str
         Status::Alive => "\",\"status\":\"alive\",\"incarnation\":",
         Status::Suspect(_) => "\",\"status\":\"suspect\",\"incarnation\":",
         Status::Failed => "\",\"status\":\"failed\",\"incarnation\":",
+        Status::Left => "\",\"status\":\"left\",\"incarnation\":",
     }
 }
 
@@ -82,24 +85,13 @@ fn put_standing(words: &str, member: &Record, text: &mut String) -> Result<(), A
     put_numbered(standing_words(&member.status), incarnation, text)
 }
 
-/// Appends the octets of an address, with points between them.
-fn put_dotted(octets: &[u8; 4], text: &mut String) -> Result<(), AllocError>
-    ensures { OnOk result (string_bytes text.new ≡ string_bytes text.old ++ dotted octets.now) }
-{
-    let [a, b, c, d] = *octets;
-    put_number(u64::from(a), text)?;
-    put_numbered(".", u64::from(b), text)?;
-    put_numbered(".", u64::from(c), text)?;
-    put_numbered(".", u64::from(d), text)
-}
-
 /// Appends words, and an address and a port behind them.
 pub(crate) fn put_address(words: &str, addr: &Addr, text: &mut String) -> Result<(), AllocError>
     ensures { OnOk result (string_bytes text.new
         ≡ string_bytes text.old ++ (words.now ++ behind_address addr.now)) }
 {
     text.push_str(words)?;
-    put_dotted(&addr.octets, text)?;
+    put_ip(&addr.ip, text)?;
     put_numbered("\",\"port\":", u64::from(addr.port), text)
 }
 
@@ -112,7 +104,7 @@ fn put_accuser(status: &Status, text: &mut String) -> Result<(), AllocError>
             put_text(",\"accuser\":\"", text_of_name(accuser), text)?;
             text.push_str("\"}")
         }
-        Status::Alive | Status::Failed => text.push_str(",\"accuser\":null}"),
+        Status::Alive | Status::Failed | Status::Left => text.push_str(",\"accuser\":null}"),
     }
 }
 
@@ -210,7 +202,7 @@ fn put_members_front(name: &str, text: &mut String) -> Result<(), AllocError>
 }
 
 /// The body of the members of a look: all, or those of one status, in the order of names. Memory is allocated for the
-/// text, once, 174 bytes for each record, and for a copy of the records if a status is asked for.
+/// text, once, 198 bytes for each record, and for a copy of the records if a status is asked for.
 #[tactic(auto, unfolding(crate::specs::Meaning::Members::members_body))]
 pub(crate) fn members_body(
     alloc: Global,

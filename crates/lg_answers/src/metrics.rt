@@ -76,6 +76,7 @@ fn kind_word(kind: StatusKind) -> &'static str
         StatusKind::Alive => "alive",
         StatusKind::Suspect => "suspect",
         StatusKind::Failed => "failed",
+        StatusKind::Left => "left",
     }
 }
 

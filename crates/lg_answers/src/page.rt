@@ -17,6 +17,7 @@ use crate::members::status_word;
 use crate::snapshot::Snapshot;
 use lg_check::text_of_name;
 use lg_rules::{Addr, Record, Status};
+use lg_text::put_addr;
 use std::alloc::{AllocError, Global};
 
 /// What stands before the member's name.
@@ -33,6 +34,7 @@ const PAGE_FRONT: &str = "\
     th, td { border-bottom: 1px solid #ccc; overflow-wrap: anywhere; padding: .3em; text-align: left }\n\
     .suspect { color: #850 }\n\
     .failed { color: #b00 }\n\
+    .left { color: #666 }\n\
     </style>\n\
     </head>\n\
     <body>\n";
@@ -56,7 +58,8 @@ const PAGE_END: &str = "\
     const health = document.getElementById('health')\n\
     let version = Number(members.dataset.version)\n\
     let lost = false\n\
-    const place = (m) => m.address + ':' + m.port\n\
+    const host = (m) => m.address.includes(':') ? '[' + m.address + ']' : m.address\n\
+    const place = (m) => host(m) + ':' + m.port\n\
     function cells(m) {\n\
     \x20 return [m.name, m.status, m.incarnation, place(m), m.accuser ?? '']\n\
     }\n\
@@ -247,9 +250,8 @@ fn put_row_front(member: &Record, text: &mut String) -> Result<(), AllocError>
 fn put_row_address(addr: &Addr, text: &mut String) -> Result<(), AllocError>
     ensures { OnOk result (string_bytes text.new ≡ string_bytes text.old ++ row_address addr.now) }
 {
-    let [a, b, c, d] = addr.octets;
-    let port = addr.port;
-    write!(text, "{a}.{b}.{c}.{d}:{port}<td>")
+    put_addr(addr, text)?;
+    text.push_str("<td>")
 }
 
 /// Appends the accuser of a row, if the member is suspected.
@@ -258,7 +260,7 @@ fn put_row_accuser(status: &Status, text: &mut String) -> Result<(), AllocError>
 {
     match status {
         Status::Suspect(accuser) => text.push_str(text_of_name(accuser)),
-        Status::Alive | Status::Failed => Ok(()),
+        Status::Alive | Status::Failed | Status::Left => Ok(()),
     }
 }
 
@@ -283,7 +285,7 @@ fn put_rows(members: &[Record], text: &mut String) -> Result<(), AllocError>
     Ok(())
 }
 
-/// The body of the page. Memory is allocated for the text, of some 3,100 bytes and 148 at most for each member.
+/// The body of the page. Memory is allocated for the text, of some 3,200 bytes and 174 at most for each member.
 #[tactic(auto, unfolding(crate::specs::Meaning::Page::page_body))]
 pub(crate) fn page_body(alloc: Global, snapshot: &Snapshot) -> Result<String, AllocError>
     ensures { IfOk result (λ body. string_bytes body ≡ page_body snapshot.now) }

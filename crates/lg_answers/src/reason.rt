@@ -20,8 +20,8 @@ pub enum RouteFault {
     /// The path takes no query, and there is one.
     #[error("this path takes no query")]
     NoQuery,
-    /// The query of `/v1/members` isn't `status=` with one of the three statuses.
-    #[error("the query has to be status=alive, status=suspect or status=failed")]
+    /// The query of `/v1/members` isn't `status=` with one of the four statuses.
+    #[error("the query has to be status=alive, status=suspect, status=failed or status=left")]
     BadStatus,
     /// The query of `/v1/changes` isn't made of `after=V` and `wait_ms=W`, each at most once.
     #[error("the query has to be after=V&wait_ms=W, with V of 1 to 16 digits and W 0 to 30000")]
@@ -51,7 +51,7 @@ impl RouteFault {
             RouteFault::NoName => "a name has to be 1 to 32 bytes of A-Z a-z 0-9 . _ -",
             RouteFault::NoQuery => "this path takes no query",
             RouteFault::BadStatus => {
-                "the query has to be status=alive, status=suspect or status=failed"
+                "the query has to be status=alive, status=suspect, status=failed or status=left"
             }
             RouteFault::BadChanges => {
                 "the query has to be after=V&wait_ms=W, with V of 1 to 16 digits and W 0 to 30000"

@@ -23,13 +23,16 @@ pub enum StatusKind {
     Suspect,
     /// Failed.
     Failed,
+    /// Left.
+    Left,
 }
 
 /// All of them.
-pub(crate) const STATUS_KINDS: [StatusKind; 3] = [
+pub(crate) const STATUS_KINDS: [StatusKind; 4] = [
     StatusKind::Alive,
     StatusKind::Suspect,
     StatusKind::Failed,
+    StatusKind::Left,
 ];
 
 /// What is asked for.
@@ -60,6 +63,7 @@ impl StatusKind {
             StatusKind::Alive => "status=alive",
             StatusKind::Suspect => "status=suspect",
             StatusKind::Failed => "status=failed",
+            StatusKind::Left => "status=left",
         }
     }
 
@@ -78,6 +82,7 @@ impl StatusKind {
             StatusKind::Alive => matches!(status, Status::Alive),
             StatusKind::Suspect => matches!(status, Status::Suspect(_)),
             StatusKind::Failed => matches!(status, Status::Failed),
+            StatusKind::Left => matches!(status, Status::Left),
         }
     }
 }
@@ -163,7 +168,7 @@ fn path_route(path: &[u8], query: &[u8]) -> Result<Route, RouteFault>
 /// | Path | Query |
 /// |---|---|
 /// | `/`, `/v1/health`, `/v1/config`, `/metrics` | none |
-/// | `/v1/members` | none, or `status=alive`, `status=suspect` or `status=failed` |
+/// | `/v1/members` | none, or `status=alive`, `status=suspect`, `status=failed` or `status=left` |
 /// | `/v1/members/NAME` | none; NAME is a name of 1 to 32 bytes of `A-Z a-z 0-9 . _ -` |
 /// | `/v1/changes` | none, or `after=V` and `wait_ms=W`, each at most once and in any order, with an `&` between them |
 ///

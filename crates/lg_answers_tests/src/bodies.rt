@@ -45,6 +45,8 @@ const FAILED: &str = "{\"version\":41,\"moment_ms\":5120,\"name\":\"b\",\"member
     {\"name\":\"c\",\"status\":\"failed\",\"incarnation\":2,\
     \"address\":\"127.0.0.1\",\"port\":7103,\"accuser\":null}]}";
 
+const NOBODY: &str = "{\"version\":41,\"moment_ms\":5120,\"name\":\"b\",\"members\":[]}";
+
 const ONE: &str = "{\"version\":41,\
     \"name\":\"a\",\"status\":\"suspect\",\"incarnation\":0,\
     \"address\":\"127.0.0.1\",\"port\":7101,\"accuser\":\"c\"}";
@@ -97,7 +99,7 @@ const CONFIG: &str =
     {\"name\":\"a\",\"address\":\"127.0.0.1\",\"port\":7101},\
     {\"name\":\"d\",\"address\":\"127.0.0.1\",\"port\":7104}]}";
 
-const CLOSED_CONFIG: &str =
+const OUSTED_CONFIG: &str =
     "{\"name\":\"b\",\"address\":\"127.0.0.1\",\"port\":7102,\"interval_ms\":2000,\"timeout_ms\":500,\
     \"indirect\":3,\"max_score\":8,\"alpha\":5,\"beta\":6,\"confirmations\":3,\"lambda\":4,\"nack_thousandths\":800,\
     \"history_limit\":20000,\"wire\":1,\"dice\":1,\"pull_ms\":30000,\"stall_ms\":100,\
@@ -111,6 +113,7 @@ const METRICS: &[&str] = &[
     "lg_members{status=\"alive\"} 1",
     "lg_members{status=\"suspect\"} 1",
     "lg_members{status=\"failed\"} 1",
+    "lg_members{status=\"left\"} 0",
     "# TYPE lg_health_score gauge",
     "lg_health_score 2",
     "lg_incarnation 4",
@@ -172,6 +175,7 @@ pub const ROWS: &[Row] = &[
         Whole(SUSPECT),
     ),
     (Usual, "/v1/members?status=failed", 200, JSON, Whole(FAILED)),
+    (Usual, "/v1/members?status=left", 200, JSON, Whole(NOBODY)),
     (Usual, "/v1/members/a", 200, JSON, Whole(ONE)),
     (
         Usual,
@@ -194,7 +198,7 @@ pub const ROWS: &[Row] = &[
     (Busy, "/v1/changes?after=6", 200, JSON, Whole(MISSED)),
     (Busy, "/v1/changes?after=7", 200, JSON, Whole(THREE)),
     (Usual, "/v1/config", 200, JSON, Whole(CONFIG)),
-    (Ousted, "/v1/config", 200, JSON, Whole(CLOSED_CONFIG)),
+    (Ousted, "/v1/config", 200, JSON, Whole(OUSTED_CONFIG)),
     (Usual, "/metrics", 200, TEXT, Lines(METRICS)),
     (Ousted, "/metrics", 200, TEXT, Lines(OUSTED_METRICS)),
     (Usual, "/", 200, HTML, Lines(PAGE)),

@@ -2,7 +2,7 @@
 use crate::target::parts_of;
 use Route::{Changes, Config, Health, Member, Members, Metrics, Page};
 use RouteFault::{BadChanges, BadStatus, NoName, NoQuery, UnknownPath};
-use lg_answers::StatusKind::{Alive, Failed, Suspect};
+use lg_answers::StatusKind::{Alive, Failed, Left, Suspect};
 use lg_answers::{MAX_WAIT_MS, Route, RouteFault, route_of, wait_of};
 use lg_http::Wait;
 use lg_testing::name;
@@ -27,6 +27,7 @@ fn routes(rt: HostRuntime) {
         ("/v1/members?status=alive", Members(Some(Alive))),
         ("/v1/members?status=suspect", Members(Some(Suspect))),
         ("/v1/members?status=failed", Members(Some(Failed))),
+        ("/v1/members?status=left", Members(Some(Left))),
         ("/v1/members/b", member(b"b")),
         ("/v1/members/B-2.example_x", member(b"B-2.example_x")),
         (
@@ -127,7 +128,7 @@ fn words(rt: HostRuntime) {
         (
             BadStatus,
             400,
-            "the query has to be status=alive, status=suspect or status=failed",
+            "the query has to be status=alive, status=suspect, status=failed or status=left",
         ),
         (
             BadChanges,

@@ -9,7 +9,7 @@ ghost use Rattle.lg_check.specs.Meaning.Checks.{key_file_line, member_line, numb
 ghost use Rattle.lg_check.specs.Meaning.Checks.{start_lines, status_open_line, times_line};
 
 use crate::spelling::{
-    octets_text, path_spelled, seeds_spelled, status_spelled, text_of_name, truth_spelled,
+    ip_text, path_spelled, seeds_spelled, status_spelled, text_of_name, truth_spelled,
 };
 use lg_config::{DEFAULT_ADDRESS, DEFAULT_DICE, DEFAULT_PORT, FilePath, NodeConfig, NodeKey};
 use lg_rules::Addr;
@@ -48,9 +48,9 @@ pub(crate) fn put_address(
     ensures { OnOk result (string_bytes text.new ≡ string_bytes text.old ++ address_lines config.now) }
 {
     put_key("name", text_of_name(&config.name), false, text)?;
-    let octets = octets_text(alloc, config.addr.octets)?;
-    let is_default = octets.as_str() == DEFAULT_ADDRESS;
-    put_key("address", octets.as_str(), is_default, text)
+    let address = ip_text(alloc, &config.addr.ip)?;
+    let is_default = address.as_str() == DEFAULT_ADDRESS;
+    put_key("address", address.as_str(), is_default, text)
 }
 
 /// Appends the lines of the port, the dice and the seeds to a text.

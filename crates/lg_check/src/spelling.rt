@@ -1,15 +1,16 @@
 //! Spells names, addresses, seeds, paths and truth values.
 //!
-//! Defined in: `specs/Meaning/Spelling.antt`, `lg_lines/specs/Meaning/Records.antt`.
+//! Defined in: `specs/Meaning/Spelling.antt`, `lg_text/specs/Meaning/Addresses.antt`.
 //! Tested in: `cases/check.case`.
 ghost use Rattle.std.specs.Prelude.{◌≡◌, ◌++◌, IfOk, OnOk, string_bytes};
 ghost use Rattle.std.specs.List.{flat_map};
-ghost use Rattle.lg_lines.specs.Meaning.Records.{addr_text, dotted};
+ghost use Rattle.lg_text.specs.Meaning.Addresses.{addr_text, ip_text};
 ghost use Rattle.lg_check.specs.Meaning.Spelling.{next_seed, seed_spelled, seeds_spelled, status_spelled};
 ghost use Rattle.lg_check.specs.Meaning.Spelling.{path_spelled, truth_spelled};
 
 use lg_config::FilePath;
-use lg_rules::{Addr, Name};
+use lg_rules::{Addr, Ip, Name};
+use lg_text::{put_addr, put_ip};
 use lg_timing::Seed;
 use std::alloc::{AllocError, Global};
 use std::str;
@@ -24,24 +25,26 @@ pub fn text_of_name(name: &Name) -> &str
     }
 }
 
-/// The text A.B.C.D of the four numbers of an address. Allocates the text; the only error is that memory was refused.
-pub(crate) fn octets_text(alloc: Global, octets: [u8; 4]) -> Result<String, AllocError>
-    ensures { IfOk result (λ text. string_bytes text ≡ dotted octets) }
+/// The text of an IP address. Allocates the text; the only error is that memory was refused.
+pub(crate) fn ip_text(alloc: Global, ip: &Ip) -> Result<String, AllocError>
+    ensures { IfOk result (λ text. string_bytes text ≡ ip_text ip.now) }
 {
-    let [a, b, c, d] = octets;
-    format!(in alloc; "{a}.{b}.{c}.{d}")
+    let mut text = String::new(alloc);
+    put_ip(ip, &mut text)?;
+    Ok(text)
 }
 
-/// The text A.B.C.D:PORT of an address. Allocates the text; the only error is that memory was refused.
+/// The text of an address with its port: A.B.C.D:PORT, or for IPv6 the address in brackets before :PORT. Allocates the
+/// text; the only error is that memory was refused.
 pub fn addr_text(alloc: Global, addr: Addr) -> Result<String, AllocError>
     ensures { IfOk result (λ text. string_bytes text ≡ addr_text addr) }
 {
-    let octets = octets_text(alloc, addr.octets)?;
-    let port = addr.port;
-    format!(in alloc; "{octets}:{port}")
+    let mut text = String::new(alloc);
+    put_addr(&addr, &mut text)?;
+    Ok(text)
 }
 
-/// The text NAME@A.B.C.D:PORT of a seed.
+/// The text NAME@ADDRESS:PORT of a seed.
 fn seed_spelled(alloc: Global, seed: &Seed) -> Result<String, AllocError>
     ensures { IfOk result (λ text. string_bytes text ≡ seed_spelled seed.now) }
 {
@@ -75,8 +78,8 @@ pub(crate) fn seeds_spelled(alloc: Global, seeds: &[Seed]) -> Result<String, All
     }
 }
 
-/// The text A.B.C.D:PORT of where a status server listens, or a word for no server. Allocates the text; the only error
-/// is that memory was refused.
+/// The text of the address with its port at which a status server listens, or a word for no server. Allocates the text;
+/// the only error is that memory was refused.
 pub(crate) fn status_spelled(alloc: Global, status: Option<Addr>) -> Result<String, AllocError>
     ensures { IfOk result (λ text. string_bytes text ≡ status_spelled status) }
 {

@@ -13,19 +13,18 @@ ghost use Rattle.lg_client.specs.Support.Reading.{IsReadAs, PutsRow};
 use crate::fault::AskFault;
 use crate::fields::{name_at, natural_at, rows_at, text_at};
 use lg_rules::{Addr, Claim, Incarnation, Record, Status};
-use lg_text::{octets_in, port_among};
+use lg_text::{ip_in, port_among};
 use serde_json::Value;
 use std::alloc::Global;
 
-/// The address and the port of a member.
+/// The address of a member, of IPv4 or IPv6, and its port.
 #[tactic(auto, unfolding(crate::specs::Meaning::Members::addr_said))]
 fn addr_in(member: &Value) -> Option<Addr>
     ensures { result ≡ addr_said (view member.now) }
 {
-    let text = text_at(member, "address")?;
-    let octets = octets_in(text.as_bytes())?;
+    let ip = ip_in(text_at(member, "address")?)?;
     let port = port_among(natural_at(member, "port")?)?;
-    Some(Addr { octets, port })
+    Some(Addr { ip, port })
 }
 
 /// A status, if the member has no accuser.
@@ -58,6 +57,8 @@ fn standing_in(word: &[u8], member: &Value) -> Option<Status>
         suspicion_in(member)
     } else if word == b"failed".as_slice() {
         plain_status(Status::Failed, member)
+    } else if word == b"left".as_slice() {
+        plain_status(Status::Left, member)
     } else {
         None
     }

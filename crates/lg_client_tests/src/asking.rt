@@ -3,7 +3,7 @@
 use crate::answers::{FINE, Head, UNAVAILABLE, answer};
 use crate::bodies::{
     ALIVE, ALIVE_TEXT, ALL, ALL_TEXT, EDGES, EDGES_TEXT, FAILED, FAILED_TEXT, HEALTH, HEALTH_TEXT,
-    ILL, ILL_TEXT, NONE, OTHERWISE, OUSTED, OUSTED_TEXT, SUSPECT, SUSPECT_TEXT,
+    ILL, ILL_TEXT, LEFT, LEFT_TEXT, NONE, OTHERWISE, OUSTED, OUSTED_TEXT, SUSPECT, SUSPECT_TEXT,
 };
 use crate::playing::{Asking, Command, Seen, played};
 use crate::server::Reply;
@@ -19,6 +19,7 @@ const ROWS: &[Row] = &[
     (Command::Members, FINE, SUSPECT, SUSPECT_TEXT, 0),
     (Command::Members, FINE, ALIVE, ALIVE_TEXT, 0),
     (Command::Members, FINE, FAILED, FAILED_TEXT, 0),
+    (Command::Members, FINE, LEFT, LEFT_TEXT, 0),
     (Command::Members, FINE, ALL, ALL_TEXT, 0),
     (Command::Members, FINE, NONE, "", 0),
     (Command::Members, FINE, EDGES, EDGES_TEXT, 0),

@@ -21,7 +21,14 @@ pub(crate) const FAILED: &str =
 
 pub(crate) const FAILED_TEXT: &str = "record c failed 2 127.0.0.1:7103\n";
 
-/// A member of each status.
+/// A member that left, and is reached over IPv6.
+pub(crate) const LEFT: &str =
+    "{\"version\":41,\"moment_ms\":5120,\"name\":\"b\",\"members\":[{\"name\":\"d\",\"status\":\"left\",\
+    \"incarnation\":3,\"address\":\"2001:db8::1\",\"port\":7104,\"accuser\":null}]}";
+
+pub(crate) const LEFT_TEXT: &str = "record d left 3 [2001:db8::1]:7104\n";
+
+/// A member of each status but Left.
 pub(crate) const ALL: &str = "{\"version\":41,\"moment_ms\":5120,\"name\":\"b\",\"members\":[\
     {\"name\":\"a\",\"status\":\"suspect\",\"incarnation\":0,\
     \"address\":\"127.0.0.1\",\"port\":7101,\"accuser\":\"c\"},\

@@ -80,14 +80,14 @@ fn is_of(node: &NodeConfig, row: &Row) -> bool {
         config.wire,
     ];
     config.name == name(b"b")
-        && (config.addr.octets, config.addr.port, node.dice) == (row.octets, row.port, row.dice)
+        && (config.addr, node.dice) == (Addr::v4(row.octets, row.port), row.dice)
         && numbers == row.numbers
         && [node.pull_ms, node.stall_ms] == row.own
         && (node.status, node.status_open) == row.status
         && node.key_file.as_ref().map(|path| path.as_str()) == row.key_file
         && config.seeds.len() == row.seeds.len()
         && config.seeds.iter().zip(row.seeds).all(|(seed, known)| {
-            seed.name == name(known.0) && (seed.addr.octets, seed.addr.port) == (known.1, known.2)
+            seed.name == name(known.0) && seed.addr == Addr::v4(known.1, known.2)
         })
 }
 
@@ -121,7 +121,7 @@ fn each_value(rt: HostRuntime) {
             own: [3_600_000, 0],
             numbers: [200, 50, 0, 1, 2, 3, 4, 5, 6, 7, 2],
             seeds: &[(b"c", [127, 0, 0, 1], 7002), (b"a", [1, 2, 3, 4], 5)],
-            status: (Some(Addr::new([10, 1, 2, 3], 8946)), true),
+            status: (Some(Addr::v4([10, 1, 2, 3], 8946)), true),
             key_file: Some("/etc/lg/group.key"),
         },
         Row {
@@ -131,7 +131,7 @@ fn each_value(rt: HostRuntime) {
         },
         Row {
             text: "name = \"b\"\nstatus = \"127.255.255.255:65535\"",
-            status: (Some(Addr::new([127, 255, 255, 255], 65_535)), false),
+            status: (Some(Addr::v4([127, 255, 255, 255], 65_535)), false),
             ..alone
         },
         Row {

@@ -2,6 +2,8 @@
 #![tactic(auto)]
 
 #[cfg(test)]
+mod addresses;
+#[cfg(test)]
 mod config;
 #[cfg(test)]
 mod launch;

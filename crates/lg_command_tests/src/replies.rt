@@ -64,9 +64,15 @@ fn at_the_ends() -> Reply {
         record(b'c', 7003, Status::Failed, 12),
         Claim {
             name: longest,
-            addr: Addr::new([255, 0, 10, 255], 65535),
+            addr: Addr::v4([255, 0, 10, 255], 65535),
             status: Status::Suspect(longest),
             incarnation: incarnation(MAX_INCARNATION),
+        },
+        Claim {
+            name: letter(b'd'),
+            addr: Addr::v6([0xfd, 0, 0, 0, 0, 0, 0, 0, 0, 0, 0, 0, 0, 0, 0, 7], 7004),
+            status: Status::Left,
+            incarnation: incarnation(3),
         },
         Claim {
             name: Name::default(),
@@ -132,6 +138,7 @@ fn writes_replies(rt: HostRuntime) {
                 record c failed 12 127.0.0.1:7003\n\
                 record ABCDEFGHIJKLMNOPQRSTUVWXYZ-._019 suspect 1000000000 255.0.10.255:65535 \
                 by ABCDEFGHIJKLMNOPQRSTUVWXYZ-._019\n\
+                record d left 3 [fd00::7]:7004\n\
                 record a alive 0 0.0.0.0:0\n\
                 next 9500\n",
         },

@@ -72,7 +72,7 @@ fn addr_at(table: &Table) -> Option<Addr>
 {
     let octets = octets_at(table)?;
     let port = port_at(table)?;
-    Some(Addr { octets, port })
+    Some(Addr::v4(octets, port))
 }
 
 /// The number that the dice start from. None if it is negative.

@@ -4,7 +4,7 @@
 //! Tested in: `cases/config_status.case`, `lg_command_tests/src/config.rt`.
 ghost use Rattle.std.specs.Prelude.{◌≡◌};
 ghost use Rattle.toml.specs.View.{table_view, view};
-ghost use Rattle.lg_config.specs.Meaning.Status.{address_of_value, is_loopback, may_listen};
+ghost use Rattle.lg_config.specs.Meaning.Status.{address_of_value, may_listen};
 ghost use Rattle.lg_config.specs.Meaning.Status.{open_in, status_addr_in, with_status};
 
 use crate::fault::FileFault;
@@ -45,20 +45,12 @@ fn open_at(table: &Table) -> Result<bool, FileFault>
     }
 }
 
-/// Whether an address is loopback: one of 127.0.0.0/8, which no other machine reaches (RFC 1122, section 3.2.1.3).
-fn is_loopback(addr: Addr) -> bool
-    ensures { result ≡ is_loopback addr }
-{
-    let [first, ..] = addr.octets;
-    first == 127
-}
-
 /// Whether a server may listen there, by whether it may listen at an address that isn't loopback.
 fn may_listen(status: Option<Addr>, is_open: bool) -> bool
     ensures { result ≡ may_listen status is_open }
 {
     match status {
-        Some(addr) => is_open || is_loopback(addr),
+        Some(addr) => is_open || addr.ip.is_loopback(),
         None => true,
     }
 }

@@ -19,7 +19,7 @@ pub(crate) fn address_in(text: &[u8]) -> Option<Addr>
     let (octets, port) = cut_at(text, b':');
     let octets = octets_in(octets)?;
     let port = port_in(port?)?;
-    Some(Addr { octets, port })
+    Some(Addr::v4(octets, port))
 }
 
 /// The seed that a text spells: NAME@A.B.C.D:PORT.

@@ -54,7 +54,7 @@ record HasRow (m : List ℕ) (rows : List Claim) : Type 0 where
   pub is : found m rows ≡ Some row
   pub named : row.name ≡ m
 
--- Another that hasn't failed has one in the table,
+-- Another that isn't gone has one in the table,
 row_in_table : (g : GroupLog) (m : List ℕ) → is_among name_cmp m (group.live_others g) ≡ true → HasRow m (group.table g)
 row_in_table g m among =
     let live = sym (among-live m (group.table g) (rises-table (group.me g) (group.said g))) ∙ among in

@@ -1,4 +1,4 @@
--- The order of probing: its names are the others that haven't failed, and those chosen in the current cycle.
+-- The order of probing: its names are the others that aren't gone, and those chosen in the current cycle.
 use Rattle.std.proofs.Common.{◌≡◌, ℕ, ◌≤◌, Bool, true, false, cond, ◌||◌, List, [], ◌∷◌, ◌++◌, length, Option, Some, None, inl, inr, refl, sym, ◌∙◌, ap, subst, arith}
 use Rattle.std.specs.Option.{option_to_list}
 use Rattle.std.proofs.lemmas.Bool.{cases_Bool}

@@ -1,4 +1,4 @@
--- While the others that haven't failed stay the same, so many rounds in a row choose each of them.
+-- While the others that aren't gone stay the same, so many rounds in a row choose each of them.
 use Rattle.std.proofs.Common.{◌≡◌, ℕ, ◌≤◌, Bool, true, false, cond, List, [], ◌∷◌, ◌++◌, length, Option, Some, None, refl, sym, ◌∙◌, ap, append_assoc, length-append, arith}
 use Rattle.std.specs.Option.{option_to_list}
 use Rattle.std.proofs.lemmas.Bool.{false≢true}

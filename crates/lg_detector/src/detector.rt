@@ -74,7 +74,7 @@ struct Parts {
     score: Score,
     /// The timers that are set: those of the round, one for each suspicion, and at most two for each relay.
     timers: Timers,
-    /// Whom rounds choose: the other members that haven't failed, and which of them were chosen in the current cycle.
+    /// Whom rounds choose: the other members that aren't gone, and which of them were chosen in the current cycle.
     order: Order,
     /// The next sequence number, for a probe or a relay.
     number: u32,
@@ -284,8 +284,8 @@ pub fn accepted_lists()
         → is_accepted (Opening now opening ∷ []) ≡ true }
 {}
 
-/// Whom a stretch of rounds chooses (SWIM, section 4.3). Suppose that throughout the stretch the others that haven't
-/// failed are the same p names. This member isn't one of them. Then 2p - 1 rounds of the stretch in a row, if each
+/// Whom a stretch of rounds chooses (SWIM, section 4.3). Suppose that throughout the stretch the others that aren't
+/// gone are the same p names. This member isn't one of them. Then 2p - 1 rounds of the stretch in a row, if each
 /// chooses a target, choose each of these names. If there are no such names, nobody is chosen.
 pub fn windows_have_each()
     ensures each { (log stretch : Log) (name : List ℕ) → AreOthers (others log) stretch log

@@ -67,7 +67,7 @@ pub enum Answer {
         score: u64,
         /// This member's incarnation.
         number: Incarnation,
-        /// How many members haven't failed, this one included: 1 to [`MAX_MEMBERS`](crate::MAX_MEMBERS).
+        /// How many members aren't gone, this one included: 1 to [`MAX_MEMBERS`](crate::MAX_MEMBERS).
         members: u64,
     },
 }

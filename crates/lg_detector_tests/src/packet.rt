@@ -3,15 +3,15 @@
 mod judge;
 
 use crate::detector::{Says, packet_of};
-use crate::says::Member;
-use crate::says::Said::{self, Alive, AliveAt, Suspect};
+use crate::says::Said::{self, Alive, AliveAt, Failed, Left, Suspect};
+use crate::says::{Member, claim_of};
 use arrayvec::ArrayVec;
 use judge::judge;
 use lg_packet::{
     Body, Fault, MAX_PACKET, Packet, Version, begun_spelling, decode, encode, first_bad_byte,
     one_reading, one_spelling,
 };
-use lg_rules::Addr;
+use lg_rules::{Addr, Claim};
 
 /// A Ping from `a` for `b`, numbered 7.
 const PING: &[u8] = b"SL\x01\x01\x01a\x00\x00\x00\x07\x01b\x00";
@@ -275,7 +275,7 @@ fn longest() -> Packet {
         body: Body::PingReq {
             number: u32::MAX,
             target: sender,
-            addr: Addr::new([255; 4], u16::MAX),
+            addr: Addr::v4([255; 4], u16::MAX),
         },
         claims,
     }
@@ -354,6 +354,52 @@ fn writes_and_reads_packets(rt: HostRuntime) {
     }
     let second = in_version(Version::Two, &packet_of("a", &Says::Ping(1, "b"), &[]));
     assert!(rt; is_one(SECOND, &second) && is_one(FIRST_ACK, &Packet::default()));
+}
+
+/// A Page of a version with some claims.
+fn page_of(version: Version, claims: &[Claim]) -> Packet {
+    let mut page = in_version(version, &packet_of("a", &Says::Page, &[]));
+    for claim in claims {
+        // Built anew from its parts, since the checker doesn't follow a whole claim into a generic call.
+        let Claim {
+            name,
+            addr,
+            status,
+            incarnation,
+        } = *claim;
+        if !page.claims.is_full() {
+            page.claims.push(Claim {
+                name,
+                addr,
+                status,
+                incarnation,
+            });
+        }
+    }
+    page
+}
+
+/// The claim that `d` is alive at an address.
+fn far_at(addr: Addr) -> Claim {
+    let mut far = claim_of(&Alive("d", 4));
+    far.addr = addr;
+    far
+}
+
+/// Versions one and two tell Left as Failed, and an IPv6 address as 0.0.0.0.
+#[test]
+fn tells_what_it_can(rt: HostRuntime) {
+    for (version, _) in VERSIONS {
+        let said = page_of(
+            *version,
+            &[claim_of(&Left("c", 3)), far_at(Addr::v6([0xfd; 16], 7004))],
+        );
+        let told = page_of(
+            *version,
+            &[claim_of(&Failed("c", 3)), far_at(Addr::v4([0; 4], 7004))],
+        );
+        assert!(rt; is_read_as(&bytes_of(&said), &told), "{version:?}");
+    }
 }
 
 /// Some bytes and one more, for which a packet has no room.

@@ -1,9 +1,9 @@
 //! Names, claims, which claim overrides which, the table of members, and a member's own incarnation.
-use crate::says::Said::{self, Alive, Failed, Suspect};
+use crate::says::Said::{self, Alive, Failed, Left, Suspect};
 use crate::says::{claim_of, moved};
 use lg_rules::{
-    Claim, Heard, Incarnation, Keyed, MAX_OTHERS, Members, Name, NameFault, Own, OwnHeard, Slot,
-    Status, beats, index_of, is_name_byte,
+    Claim, Heard, Incarnation, Ip, Keyed, MAX_OTHERS, Members, Name, NameFault, Own, OwnHeard,
+    Slot, Status, beats, index_of, is_name_byte,
 };
 use lg_testing::{alive, claim, failed, letter, local, name, numbered, suspect};
 
@@ -49,13 +49,13 @@ fn facts_of_names() -> [bool; 6] {
     ]
 }
 
-/// The parts of the claim that `a` suspects `c` at 4: the member, the bytes of its address, its port, its status, its
+/// The parts of the claim that `a` suspects `c` at 4: the member, its IP address, its port, its status, its
 /// incarnation, its accuser, and the key of its row.
 fn facts_of_a_claim() -> [bool; 7] {
     let heard = suspect(b'c', 4, b'a');
     [
         heard.name() == letter(b'c'),
-        heard.addr().octets() == [127, 0, 0, 1],
+        heard.addr().ip() == Ip::V4([127, 0, 0, 1]),
         heard.addr().port() == 7000,
         heard.status() == Status::Suspect(letter(b'a')),
         heard.incarnation().number() == 4,
@@ -122,6 +122,16 @@ const CLAIMS: &[(Said, Said, bool, Heard)] = &[
     (Failed("c", 4), Alive("c", 5), true, Heard::Overrode),
     (Failed("c", 4), Suspect("c", 5, "d"), true, Heard::Overrode),
     (Failed("c", 4), Failed("c", 5), true, Heard::Overrode),
+    (Alive("c", 4), Left("c", 3), false, Heard::Ignored),
+    (Alive("c", 4), Left("c", 4), true, Heard::Overrode),
+    (SUSPECTED, Left("c", 4), true, Heard::Overrode),
+    (Failed("c", 4), Left("c", 4), true, Heard::Overrode),
+    (Left("c", 4), Left("c", 4), false, Heard::Same),
+    (Left("c", 4), Alive("c", 4), false, Heard::Ignored),
+    (Left("c", 4), Suspect("c", 4, "d"), false, Heard::Ignored),
+    (Left("c", 4), Failed("c", 4), false, Heard::Ignored),
+    (Left("c", 4), Alive("c", 5), true, Heard::Overrode),
+    (Left("c", 4), Failed("c", 5), true, Heard::Overrode),
 ];
 
 #[test]
@@ -149,7 +159,7 @@ fn leaves(
     found == Some(hearing) && records == [Some(*stands), None] && members.live() == live
 }
 
-/// Claims about `c` at a port, what hearing them does, and how many haven't failed then.
+/// Claims about `c` at a port, what hearing them does, and how many aren't gone then.
 const ADDRESSES: &[(Said, u16, Heard, usize)] = &[
     (Alive("c", 2), 7000, Heard::Overrode, 2),
     (Alive("c", 2), 7001, Heard::Same, 2),
@@ -287,6 +297,8 @@ const OF_ITSELF: &[(Said, OwnHeard, u32, bool)] = &[
     (Suspect("b", 3, "a"), OwnHeard::Ignored, 4, false),
     (Failed("b", 3), OwnHeard::Ignored, 4, false),
     (Failed("b", 4), OwnHeard::Raised, 5, false),
+    (Left("b", 4), OwnHeard::Ignored, 5, false),
+    (Left("b", 5), OwnHeard::Raised, 6, false),
     (Failed("b", 7), OwnHeard::Raised, 8, false),
     (Failed("b", GREATEST), OwnHeard::Ousted, 8, true),
     (Suspect("b", GREATEST, "a"), OwnHeard::Ousted, 8, true),

@@ -15,6 +15,8 @@ pub(crate) enum Said {
     Suspect(Member, u32, Member),
     /// A member has failed, at an incarnation.
     Failed(Member, u32),
+    /// A member leaves, at an incarnation.
+    Left(Member, u32),
     /// A member is alive at incarnation 0, at a port.
     AliveAt(Member, u16),
     /// A member is suspected, at an incarnation, by another, at a port.
@@ -68,6 +70,7 @@ pub(crate) fn claim_of(said: &Said) -> Claim {
         Said::Alive(member, number) => at_home(member, Status::Alive, number),
         Said::Suspect(member, number, accuser) => suspected(member, number, named(accuser)),
         Said::Failed(member, number) => at_home(member, Status::Failed, number),
+        Said::Left(member, number) => at_home(member, Status::Left, number),
         Said::AliveAt(member, port) => moved(at_home(member, Status::Alive, 0), port),
         Said::SuspectAt(member, number, accuser, port) => {
             moved(suspected(member, number, named(accuser)), port)

@@ -14,8 +14,8 @@ const PING: &[u8; 26] =
 fn main(rt: HostRuntime) -> io::Result<()> {
     let now = Moment::default();
     let name = Name::new(b"b").unwrap_or_default();
-    let config = Config::new(name, Addr::new([127, 0, 0, 1], 7000));
-    let source = Addr::new([127, 0, 0, 1], 9000);
+    let config = Config::new(name, Addr::v4([127, 0, 0, 1], 7000));
+    let source = Addr::v4([127, 0, 0, 1], 9000);
     let Ok(packet) = decode(PING) else {
         return println!(rt; "no packet");
     };

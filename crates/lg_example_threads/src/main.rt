@@ -22,7 +22,7 @@ const PING: [u8; 26] = [
 /// The thread that makes the calls. In a service it has the socket and the clock.
 fn serve<A: AgentName, R: Wait>(rt: &R, alloc: Global, pass: Pass<'_, A>) -> Spent<A> {
     let mut pass = pass;
-    let source = Addr::new([127, 0, 0, 1], 9000);
+    let source = Addr::v4([127, 0, 0, 1], 9000);
     let heard = pass.datagram(rt, alloc, Moment::default(), source, &PING);
     // The packets of the reply are to be sent: here the Ack of the Ping.
     let _answered = heard.is_ok_and(|receipt| receipt.reply.sends.len() == 1);
@@ -56,7 +56,7 @@ fn share<A: AgentName + Send + Sync, R: Threads + Wait + Sync>(
     requires places { (places ≡ A.places) × (places ≡ 2) }
 {
     let name = Name::new(b"b").unwrap_or_default();
-    let config = Config::new(name, Addr::new([127, 0, 0, 1], 7000));
+    let config = Config::new(name, Addr::v4([127, 0, 0, 1], 7000));
     let mut agent = Agent::<A>::open(rt, alloc, book, Moment::default(), config, places).ok()?;
     let mut spents = Vec::new(alloc);
     let mut known = false;

@@ -39,7 +39,7 @@ fn finish<C: Clock, W: Write>(clock: &C, writer: &mut W, turned: Watched) -> Wat
 /// that came and went between two looks.
 ///
 /// It begins with a line for each member, its own included, in the order of names:
-/// `MS record NAME STATUS INCARNATION A.B.C.D:PORT`, as [`put_table`](lg_lines::put_table) writes a record. Then it
+/// `MS record NAME STATUS INCARNATION ADDRESS:PORT`, as [`put_table`](lg_lines::put_table) writes a record. Then it
 /// looks whenever there is news, and writes such a line for each change since the look before. MS of a change is the
 /// greatest moment handed in by then, in milliseconds, and MS of a member the greatest that the look found. If more
 /// than 1,024 changes came between two looks, they aren't all kept ([`MAX_CHANGES`](lg_changes::MAX_CHANGES)). It

@@ -114,8 +114,8 @@ impl Queue {
         self.fewest = 0;
     }
 
-    /// Replaces what `claims` holds by the claims of the next packet. `live` is the number of members that haven't
-    /// failed, this member included. It may be any number.
+    /// Replaces what `claims` holds by the claims of the next packet. `live` is the number of members that aren't
+    /// gone, this member included. It may be any number.
     ///
     /// The packet takes the claims that were sent fewer times than the retransmit limit: the first six, by their
     /// sends and then by their names. Each of them counts as sent once more. If `to` is the record of the member that

@@ -1,7 +1,8 @@
 -- The texts of an address and of a record, by their parts.
 use Rattle.std.proofs.Common.{◌≡◌, ℕ, List, [], ◌∷◌, ◌++◌, length, get_or, decimal, arith, append_assoc, append-nil}
 use Rattle.lg_rules.specs.declared.claim.Claim.{Claim}
-use Rattle.lg_lines.specs.Meaning.Records.{accuser_text, addr_text, dotted, record_text, status_text}
+use Rattle.lg_text.specs.Meaning.Addresses.{addr_text, dotted}
+use Rattle.lg_lines.specs.Meaning.Records.{accuser_text, record_text, status_text}
 
 -- four texts with dots between them and a fifth behind a colon
 joined : (text a b c d port : List ℕ) → text ++ a ++ (46 ∷ b) ++ (46 ∷ c) ++ (46 ∷ d) ++ (58 ∷ port)

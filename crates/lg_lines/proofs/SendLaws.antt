@@ -2,7 +2,7 @@
 use Rattle.std.proofs.Common.{◌≡◌, ℕ, ◌+◌, ◌<◌, List, [], ◌∷◌, ◌++◌, length, take, get_or, codes, decimal, sym, ap, ◌∙◌, arith, append-nil, append_assoc, length-take-le}
 use Rattle.std.proofs.lemmas.List.{take_more}
 use Rattle.lg_detector.specs.declared.reply.Outgoing.{Outgoing}
-use Rattle.lg_lines.specs.Meaning.Records.{addr_text}
+use Rattle.lg_text.specs.Meaning.Addresses.{addr_text}
 use Rattle.lg_lines.specs.Meaning.Replies.{packet_text, send_line, sends_text}
 
 -- one packet more: its number is behind those of the packets before it

@@ -202,15 +202,16 @@ fn put_lines(
 ///
 /// - for a tick `fired KIND` or `fired KIND ID`, which is the timer that fired, or `idle` if none did;
 /// - `answer none`, `answer RECORD` or `answer score S number I members N`, if the event was a question;
-/// - `send K A.B.C.D:PORT HEX` for each packet sent, in order, with the packet in lower-case hex. The numbers K count
-///   on from `first`. There are at most [`MAX_SENDS`], and their numbers must fit in 64 bits;
+/// - `send K ADDRESS:PORT HEX` for each packet sent, in order, with the packet in lower-case hex. ADDRESS is `A.B.C.D`,
+///   or an IPv6 address in brackets. The numbers K count on from `first`. There are at most [`MAX_SENDS`], and their
+///   numbers must fit in 64 bits;
 /// - `record RECORD` for each record that changed, as [`put_table`](crate::put_table) writes it;
 /// - `ousted` if the flag is set;
 /// - `next MOMENT`, always.
 ///
 /// `row` is a scratch buffer; what it holds before or after doesn't matter. Memory is allocated only if the text has
-/// to grow. The only error is that memory was refused. The text then holds what it held before, though it may have
-/// room for more.
+/// to grow, and for the text of an IPv6 address. The only error is that memory was refused. The text then holds what it
+/// held before, though it may have room for more.
 pub fn put_reply(
     event: &Event,
     first: u64,

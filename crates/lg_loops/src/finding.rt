@@ -9,7 +9,7 @@ ghost use Rattle.lg_agent.specs.Meaning.Values.{PassValue};
 ghost use Rattle.lg_agent.specs.Meaning.Calls.{IsLook};
 ghost use Rattle.lg_loops.specs.declared.plan.Plan.{Plan as Planned};
 ghost use Rattle.lg_loops.specs.declared.agenda.Duty.TheVariants as duty;
-ghost use Rattle.lg_loops.specs.Meaning.Pulling.{others_of, has_failed, IsChosen};
+ghost use Rattle.lg_loops.specs.Meaning.Pulling.{others_of, has_gone, IsChosen};
 ghost use Rattle.lg_loops.specs.Meaning.Turns.{line, words_in, SeesNoneDue, Threw};
 ghost use Rattle.lg_loops.specs.Support.Acted.{Acted, IsDuty};
 
@@ -22,13 +22,13 @@ use crate::shared::{Shared, Side, Ticker};
 use crate::turned::Turned;
 use lg_agent::{AgentName, Pass};
 use lg_detector::Reply;
-use lg_rules::{Addr, Name, Record, Status};
+use lg_rules::{Addr, Name, Record};
 use lg_timing::{MAX_SEEDS, Moment};
 use std::alloc::Global;
 use std::sync::Wait;
 use std::sync::atomic::Ordering::SeqCst;
 
-/// The records of the other members, failed ones too, or none if the look was refused.
+/// The records of the other members, those of members that are gone too, or none if the look was refused.
 fn others<A: AgentName>(pass: &mut Pass<'_, A>, alloc: Global, own: &Name) -> Option<Vec<Record>>
     ensures { MatchOption result (pass.new ≡ pass.old)
         (λ records. (records.items ≡ others_of own.now (view_after pass.new.seen)) × IsLook pass.old pass.new) }
@@ -41,14 +41,11 @@ fn others<A: AgentName>(pass: &mut Pass<'_, A>, alloc: Global, own: &Name) -> Op
     Some(records)
 }
 
-/// Whether the seeds are to be asked: if no Page was heard, or if each of the other members has failed.
+/// Whether the seeds are to be asked: if no Page was heard, or if each of the other members is gone.
 fn wants_seeds(others: &[Record], page_heard: bool) -> bool
-    ensures { list_all has_failed others.now ≡ true → result ≡ true }
+    ensures { list_all has_gone others.now ≡ true → result ≡ true }
 {
-    !page_heard
-        || others
-            .iter()
-            .all(|record| matches!(record.status, Status::Failed))
+    !page_heard || others.iter().all(|record| record.status.is_gone())
 }
 
 /// The address of the member that random words choose.
@@ -83,7 +80,7 @@ pub(crate) fn ask_seed<A: AgentName, R: Wait, L: Link, C>(
 }
 
 /// Looks whether the seeds are to be asked: they are if no Page was heard so far, or if no other member is known that
-/// hasn't failed. A look that is refused is put off to the next time.
+/// isn't gone. A look that is refused is put off to the next time.
 pub(crate) fn look<A: AgentName, R, L: Link, C>(
     shared: &Shared<'_, R, C>,
     side: &mut Side<'_, L, A>,

@@ -15,7 +15,7 @@ use lg_timing::{Config, MAX_SEEDS, Moment, Seed};
 pub struct Plan {
     /// This member's name. It isn't asked.
     pub name: Name,
-    /// The seeds, which are asked until a Page is heard, and again while no other member is known that hasn't failed.
+    /// The seeds, which are asked until a Page is heard, and again while no other member is known that isn't gone.
     pub seeds: ArrayVec<Seed, MAX_SEEDS>,
     /// How long it is from one Pull for a member that random words choose to the next, in milliseconds. With 0 there
     /// is none.

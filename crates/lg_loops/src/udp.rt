@@ -8,7 +8,7 @@ use crate::link::{Link, LinkFault, MAX_DATAGRAM};
 use lg_rules::Addr;
 use std::io;
 use std::io::ErrorKind;
-use std::net::{Ipv4Addr, SocketAddr, UdpSocket};
+use std::net::{IpAddr, SocketAddr, UdpSocket};
 use std::time::Duration;
 
 /// A link over a socket that others may use too. Contracts see how often it failed, and nothing of the bytes.
@@ -60,6 +60,14 @@ impl<'a> UdpLink<'a> {
     }
 }
 
+/// The address from which a datagram came.
+fn source_of(from: SocketAddr) -> Addr {
+    match from.ip() {
+        IpAddr::V4(ip) => Addr::v4(ip.octets(), from.port()),
+        IpAddr::V6(ip) => Addr::v6(ip.octets(), from.port()),
+    }
+}
+
 /// Whether no datagram came in time, or a signal came.
 fn is_nothing(kind: ErrorKind) -> bool {
     matches!(kind, ErrorKind::WouldBlock | ErrorKind::Interrupted)
@@ -75,14 +83,13 @@ impl<'a> Link for UdpLink<'a> {
     ghost failed = { λ l. l.failures };
 
     fn send(&mut self, to: Addr, bytes: &[u8]) -> Result<(), LinkFault> {
-        let address = (Ipv4Addr::from_octets(to.octets), to.port);
-        if self.socket.send_to(bytes, address).is_err() && self.count() {
+        if self.socket.send_to(bytes, SocketAddr::from(to)).is_err() && self.count() {
             return Err(LinkFault);
         }
         Ok(())
     }
 
-    /// A datagram from an address that isn't of IPv4 is taken as none, and so is a signal.
+    /// A signal is taken as no datagram.
     fn receive(
         &mut self,
         buffer: &mut [u8; MAX_DATAGRAM],
@@ -93,11 +100,7 @@ impl<'a> Link for UdpLink<'a> {
             Err(fault) => Err(fault),
         };
         match received {
-            Ok((length, SocketAddr::V4(from))) => {
-                let source = Addr::new(from.ip().octets(), from.port());
-                Ok(Some((source, length)))
-            }
-            Ok((_, SocketAddr::V6(_))) => Ok(None),
+            Ok((length, from)) => Ok(Some((source_of(from), length))),
             Err(fault) if is_nothing(fault.kind()) || !self.count() => Ok(None),
             Err(_) => Err(LinkFault),
         }

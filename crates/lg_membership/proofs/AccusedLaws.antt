@@ -4,7 +4,7 @@ use Rattle.std.specs.List.{list_any}
 use Rattle.std.proofs.lemmas.Bool.{cases_Bool, eq-eqb, eqb-true, not-true}
 use Rattle.lg_rules.specs.declared.claim.Claim.{Claim}
 use Rattle.lg_rules.specs.declared.claim.Status.{Status}
-use Rattle.lg_rules.specs.declared.claim.Status.TheVariants.{Alive, Suspect, Failed}
+use Rattle.lg_rules.specs.declared.claim.Status.TheVariants.{Alive, Suspect, Failed, Left}
 use Rattle.lg_rules.specs.Meaning.Beats.{overrides, beats_of}
 use Rattle.lg_rules.specs.Meaning.Past.{or_else, earliest, is_unbeaten}
 use Rattle.lg_rules.specs.Meaning.Rows.{name_cmp, is_same}
@@ -102,11 +102,14 @@ record_accused past m r e suspect =
 alike : (s t u : Status) (i j : ℕ) → is_suspect s ≡ true → is_suspect t ≡ true → overrides s i u j ≡ overrides t i u j
 alike Alive t u i j p q = absurd cc
 alike Failed t u i j p q = absurd cc
+alike Left t u i j p q = absurd cc
 alike (Suspect a) Alive u i j p q = absurd cc
 alike (Suspect a) Failed u i j p q = absurd cc
+alike (Suspect a) Left u i j p q = absurd cc
 alike (Suspect a) (Suspect b) Alive i j p q = refl
 alike (Suspect a) (Suspect b) (Suspect d) i j p q = refl
 alike (Suspect a) (Suspect b) Failed i j p q = refl
+alike (Suspect a) (Suspect b) Left i j p q = refl
 
 both_hold : (a b : Bool) → (a && b) ≡ true → (a ≡ true) × (b ≡ true)
 both_hold true b e = (refl, e)

@@ -1,10 +1,10 @@
--- What applying a claim says of the record and the suspicion of the claim's member, and of those that haven't failed.
+-- What applying a claim says of the record and the suspicion of the claim's member, and of those that aren't gone.
 use Rattle.std.proofs.Common.{◌≡◌, ◌≢◌, ℕ, true, cond, List, ◌∷◌, Option, Some, None, inl, inr, refl, sym, ◌∙◌, ap, subst}
 use Rattle.std.proofs.lemmas.Bool.{cases_Bool, false≢true}
 use Rattle.std.specs.Prelude.{⊤, option_map, is_some}
 use Rattle.lg_rules.specs.declared.claim.Claim.{Claim}
 use Rattle.lg_rules.specs.declared.claim.Status.{Status}
-use Rattle.lg_rules.specs.declared.claim.Status.TheVariants.{Alive, Suspect, Failed}
+use Rattle.lg_rules.specs.declared.claim.Status.TheVariants.{Alive, Suspect, Failed, Left}
 use Rattle.lg_rules.specs.declared.members.Heard.{Heard}
 use Rattle.lg_rules.specs.declared.members.Heard.TheVariants.{Overrode, Accused, Same, Ignored, NoRoom}
 use Rattle.lg_rules.specs.Meaning.Claim.{accuser_of, name_of}
@@ -109,6 +109,7 @@ about-overriding : (o : Option Config) (now n : ℕ) (m : List ℕ) (rows : List
 about-overriding o now n m rows Alive = about-ended m rows (row_at name_cmp suspected_name m rows) refl
 about-overriding o now n m rows (Suspect accuser) = about-raised o now n m accuser rows
 about-overriding o now n m rows Failed = about-ended m rows (row_at name_cmp suspected_name m rows) refl
+about-overriding o now n m rows Left = about-ended m rows (row_at name_cmp suspected_name m rows) refl
 
 about-accused : (m : List ℕ) (rows : List SuspectedValue) (accuser : Option (List ℕ)) (o : Option SuspectedValue) → row_at name_cmp suspected_name m rows ≡ o
     → IsAbout m rows (accusing accuser o)
@@ -171,7 +172,7 @@ applied-log now origin c log = elim (cases_key names_order c.name (me log)) [
       })
 ]
 
--- Which others haven't failed once a claim is said, by what applying it says: those before where its member stays, those
+-- Which others aren't gone once a claim is said, by what applying it says: those before where its member stays, those
 -- and it where it joins, and those without it where it leaves.
 pub live-applied : (now : ℕ) (origin : Origin) (c : Claim) (log : GroupLog) (applied : Applied) → IsApplied now origin c log applied
     → live_others (Said now origin c ∷ log) ≡ live_after applied.presence c.name (live_others log)

@@ -3,7 +3,7 @@ use Rattle.std.proofs.Common.{◌≡◌, ℕ, Bool, true, false, ◌&&◌, ◌||
 use Rattle.std.proofs.lemmas.Bool.{cases_Bool}
 use Rattle.lg_rules.specs.declared.claim.Claim.{Claim}
 use Rattle.lg_rules.specs.declared.claim.Status.{Status}
-use Rattle.lg_rules.specs.declared.claim.Status.TheVariants.{Alive, Suspect, Failed}
+use Rattle.lg_rules.specs.declared.claim.Status.TheVariants.{Alive, Suspect, Failed, Left}
 use Rattle.lg_rules.specs.declared.members.Heard.{Heard}
 use Rattle.lg_rules.specs.declared.members.Heard.TheVariants.{Overrode, Accused, Same, Ignored, NoRoom}
 use Rattle.lg_rules.specs.Meaning.Claim.{accuser_of, name_of}
@@ -24,12 +24,19 @@ standing_overrides_none : (s t : Status) → is_override (standing_status s t) �
 standing_overrides_none Alive Alive = refl
 standing_overrides_none Alive (Suspect b) = refl
 standing_overrides_none Alive Failed = refl
+standing_overrides_none Alive Left = refl
 standing_overrides_none (Suspect a) Alive = refl
 standing_overrides_none (Suspect a) (Suspect b) = refl
 standing_overrides_none (Suspect a) Failed = refl
+standing_overrides_none (Suspect a) Left = refl
 standing_overrides_none Failed Alive = refl
 standing_overrides_none Failed (Suspect b) = refl
 standing_overrides_none Failed Failed = refl
+standing_overrides_none Failed Left = refl
+standing_overrides_none Left Alive = refl
+standing_overrides_none Left (Suspect b) = refl
+standing_overrides_none Left Failed = refl
+standing_overrides_none Left Left = refl
 
 either_standing : (b : Bool) (s t : Status) → is_override (cond b (standing_status s t) Ignored) ≡ false
 either_standing true s t = standing_overrides_none s t
@@ -87,6 +94,7 @@ overriding_about : (opened : Option Config) (now n : ℕ) (m : List ℕ) (row : 
 overriding_about opened now n m row Alive = ended_about m row
 overriding_about opened now n m row (Suspect a) = raised_about opened now n m a
 overriding_about opened now n m row Failed = ended_about m row
+overriding_about opened now n m row Left = ended_about m row
 
 either_about : (b : Bool) (m : List ℕ) (row : SuspectedValue) → row.name ≡ m → IsAbout m (cond b (Putting row) Nothing)
 either_about true m row named = named

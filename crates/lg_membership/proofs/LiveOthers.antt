@@ -1,4 +1,4 @@
--- The others that haven't failed, once a claim is said.
+-- The others that aren't gone, once a claim is said.
 use Rattle.std.proofs.Common.{◌≡◌, ◌≢◌, ℕ, ◌+◌, ◌≤◌, Bool, true, false, not, ◌||◌, ◌&&◌, cond, List, [], ◌∷◌, length, map, Option, Some, None, inl, inr, refl, sym, ◌∙◌, ap, subst, arith}
 use Rattle.std.specs.Prelude.{filter}
 use Rattle.std.specs.Cmp.{nat_cmp_is}
@@ -8,10 +8,10 @@ use Rattle.std.proofs.lemmas.List.{length-map}
 use Rattle.std.proofs.lemmas.List.Sums.{length-filter, count_by-le-length}
 use Rattle.lg_rules.specs.declared.claim.Claim.{Claim}
 use Rattle.lg_rules.specs.declared.claim.Status.{Status}
-use Rattle.lg_rules.specs.declared.claim.Status.TheVariants.{Alive, Suspect, Failed}
-use Rattle.lg_rules.specs.Meaning.Claim.{name_of}
+use Rattle.lg_rules.specs.declared.claim.Status.TheVariants.{Alive, Suspect, Failed, Left}
+use Rattle.lg_rules.specs.Meaning.Claim.{is_gone, name_of}
 use Rattle.lg_rules.specs.Meaning.Rows.{name_cmp, by_order, is_same, is_among, put_key, put_row, row_at, without_row, AreAbove, Rises}
-use Rattle.lg_rules.specs.Meaning.Table.{is_failed, live_in, record_of, roster, takes, heard}
+use Rattle.lg_rules.specs.Meaning.Table.{live_in, record_of, roster, takes, heard}
 use Rattle.lg_rules.specs.Support.Members.{live_weight}
 use Rattle.lg_rules.proofs.Cases.{Missing, Holding, held, Below, Tied, Above, compared}
 use Rattle.lg_rules.proofs.KeyOrder.{names_order, same_key, other_key, cases_key, less_apart, turned}
@@ -29,9 +29,9 @@ use Rattle.lg_membership.specs.Meaning.Applied.{is_live, presence_of}
 use Rattle.lg_membership.specs.Support.Changes.{presence_heard, presence_by, live_after}
 use Rattle.lg_membership.specs.Support.State.{GroupState, group_state_of, open_group, live_others_in}
 
--- A member is among them exactly where it has a record that isn't Failed.
+-- A member is among them exactly where it has a record that isn't gone.
 abbrev lives : Claim → Bool
-lives r = not (is_failed r.status)
+lives r = not (is_gone r.status)
 
 abbrev has_live : Option Claim → Bool
 has_live None = false
@@ -127,15 +127,16 @@ heard-live : (rows : List Claim) (c : Claim) → Rises name_cmp (map name_of row
 heard-live rows c rise k d =
     among-live k (heard rows c) (rises-heard rows c rise) ∙ ap has_live (heard-others rows c k d) ∙ sym (among-live k rows rise)
 
--- What becomes of its member is told by how many haven't failed before and then.
+-- What becomes of its member is told by how many aren't gone before and then.
 abbrev counts : Bool → ℕ
 counts true = 1
 counts false = 0
 
-weight-is : (s : Status) → live_weight s ≡ counts (not (is_failed s))
+weight-is : (s : Status) → live_weight s ≡ counts (not (is_gone s))
 weight-is Alive = refl
 weight-is (Suspect a) = refl
 weight-is Failed = refl
+weight-is Left = refl
 
 by_counts : (b a : Bool) (before after : ℕ) → after + counts b ≡ counts a + before → presence_by before after ≡ presence_of b a
 by_counts true true before after e = ap (λ o. by_order o Leaves Remains Joins) (sym (nat_cmp_is after before Equal (omega arith)))
@@ -170,7 +171,7 @@ presence-counted rows c rise =
     by_counts (has_live (row_at name_cmp name_of c.name rows)) (has_live (row_at name_cmp name_of c.name (heard rows c))) (live_in rows) (live_in (heard rows c)) (counted rows c)
     ∙ (λ i. presence_of (sym was i) (sym is i))
 
--- How many haven't failed, oneself included, is one more than the others that haven't.
+-- How many aren't gone, oneself included, is one more than the others that haven't.
 pub live-others : (log : GroupLog) → live log ≡ length (live_others log) + 1
 live-others log = omega (arith, length-map (filter lives (table log)) name_of, length-filter lives (table log))
 

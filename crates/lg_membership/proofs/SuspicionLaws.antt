@@ -4,7 +4,7 @@ use Rattle.std.specs.List.{filter_map}
 use Rattle.std.proofs.lemmas.Bool.{cases_Bool, eqb-true}
 use Rattle.lg_rules.specs.declared.claim.Claim.{Claim}
 use Rattle.lg_rules.specs.declared.claim.Status.{Status}
-use Rattle.lg_rules.specs.declared.claim.Status.TheVariants.{Alive, Suspect, Failed}
+use Rattle.lg_rules.specs.declared.claim.Status.TheVariants.{Alive, Suspect, Failed, Left}
 use Rattle.lg_rules.specs.declared.members.Heard.{Heard}
 use Rattle.lg_rules.specs.declared.members.Heard.TheVariants.{Overrode, Accused, Same, Ignored, NoRoom}
 use Rattle.lg_rules.specs.Meaning.Claim.{accuser_of}
@@ -119,6 +119,7 @@ none_overridden : (now n : ℕ) (m : List ℕ) (s : Status) → suspicions_after
 none_overridden now n m Alive = refl
 none_overridden now n m (Suspect a) = refl
 none_overridden now n m Failed = refl
+none_overridden now n m Left = refl
 
 none_accused : (a : Option (List ℕ)) → suspicions_after (accusing a None) [] ≡ []
 none_accused None = refl
@@ -146,11 +147,13 @@ data Kind (s : Status) : Type 0 where
   IsAlive : s ≡ Alive → Kind s
   IsSuspect : (accuser : List ℕ) → s ≡ Suspect accuser → Kind s
   IsFailed : s ≡ Failed → Kind s
+  IsLeft : s ≡ Left → Kind s
 
 kind_of : (s : Status) → Kind s
 kind_of Alive = IsAlive refl
 kind_of (Suspect a) = IsSuspect a refl
 kind_of Failed = IsFailed refl
+kind_of Left = IsLeft refl
 
 -- a claim that is taken
 overrode : (log : GroupLog) (c : Claim) → takes (table log) c ≡ true → hearing_of (table log) c ≡ Overrode
@@ -187,6 +190,9 @@ changed-taken now origin log c opening opened other t =
       | IsFailed is ↦ (
           ap (λ ch. suspicions_after ch rows) (by_status ∙ ap (overriding (Some opening) now n c.name row) is)
           ∙ left ∙ rows_end now origin log c (suspected-ended later c.name c t.stands (ap is_suspect is)) t.names)
+      | IsLeft is ↦ (
+          ap (λ ch. suspicions_after ch rows) (by_status ∙ ap (overriding (Some opening) now n c.name row) is)
+          ∙ left ∙ rows_end now origin log c (suspected-ended later c.name c t.stands (ap is_suspect is)) t.names)
     ]
 
 -- a claim that isn't, about a member with this record
@@ -215,16 +221,25 @@ unbeaten_as c r = elim (cases_Bool (eqb c.incarnation r.incarnation)) [
       | IsAlive rs ↦ Says (rw (t, cs, rs) refl) (λ e. rw cs refl)
       | IsSuspect b rs ↦ Says (rw (t, cs, rs) refl) (λ e. rw cs refl)
       | IsFailed rs ↦ Says (rw (t, cs, rs) refl) (λ e. rw cs refl)
+      | IsLeft rs ↦ Says (rw (t, cs, rs) refl) (λ e. rw cs refl)
     ]
     | IsSuspect a cs ↦ elim (kind_of r.status) [
       | IsAlive rs ↦ Says (rw (t, cs, rs) refl) (λ e. (let bad : false ≡ true = sym (ap is_suspect rs) ∙ e in absurd cc))
       | IsSuspect b rs ↦ Accuses a cs (ap is_suspect rs) (eqb-true c.incarnation r.incarnation t) (rw (t, cs, rs) refl)
       | IsFailed rs ↦ Says (rw (t, cs, rs) refl) (λ e. (let bad : false ≡ true = sym (ap is_suspect rs) ∙ e in absurd cc))
+      | IsLeft rs ↦ Says (rw (t, cs, rs) refl) (λ e. (let bad : false ≡ true = sym (ap is_suspect rs) ∙ e in absurd cc))
     ]
     | IsFailed cs ↦ elim (kind_of r.status) [
       | IsAlive rs ↦ Says (rw (t, cs, rs) refl) (λ e. rw cs refl)
       | IsSuspect b rs ↦ Says (rw (t, cs, rs) refl) (λ e. rw cs refl)
       | IsFailed rs ↦ Says (rw (t, cs, rs) refl) (λ e. rw cs refl)
+      | IsLeft rs ↦ Says (rw (t, cs, rs) refl) (λ e. rw cs refl)
+    ]
+    | IsLeft cs ↦ elim (kind_of r.status) [
+      | IsAlive rs ↦ Says (rw (t, cs, rs) refl) (λ e. rw cs refl)
+      | IsSuspect b rs ↦ Says (rw (t, cs, rs) refl) (λ e. rw cs refl)
+      | IsFailed rs ↦ Says (rw (t, cs, rs) refl) (λ e. rw cs refl)
+      | IsLeft rs ↦ Says (rw (t, cs, rs) refl) (λ e. rw cs refl)
     ]
   ]
   | inr f ↦ Says (rw f refl) (λ e. rw f (never (is_suspect c.status)))

@@ -15,7 +15,7 @@ pub enum Deadline {
     Stands(u64),
 }
 
-/// Whether a member joins those that haven't failed, or leaves them, when a claim about the member is applied.
+/// Whether a member joins those that aren't gone, or leaves them, when a claim about the member is applied.
 #[derive(Clone, Copy, Debug, PartialEq, Eq)]
 pub enum Presence {
     /// As before: it is still among them, or it still isn't.
@@ -36,7 +36,7 @@ pub struct Applied {
     pub refuted: bool,
     /// What becomes of the deadline of the suspicion of the claim's member.
     pub deadline: Deadline,
-    /// Whether the claim's member, if it is another, joins the members that haven't failed, or leaves them. If it is
+    /// Whether the claim's member, if it is another, joins the members that aren't gone, or leaves them. If it is
     /// this member itself, this is always [`Presence::Stays`].
     pub presence: Presence,
 }

@@ -172,7 +172,7 @@ fn target_record<'a>(members: &'a Members, target: Option<&Name>) -> Option<&'a 
     target.and_then(|name| members.get(name))
 }
 
-/// Whether a claim's member joined those that haven't failed, or left them, by how many there were before the claim
+/// Whether a claim's member joined those that aren't gone, or left them, by how many there were before the claim
 /// and how many there are after it.
 fn presence_by(before: usize, after: usize) -> Presence
     ensures { result ≡ presence_by before after }
@@ -192,7 +192,7 @@ impl Membership {
         let name = Name::default();
         Membership {
             config: None,
-            own: Own::new(name, Addr::new([0; 4], 0)),
+            own: Own::new(name, Addr::v4([0; 4], 0)),
             members: Members::new(&name),
             suspicions: Suspicions::new(),
             queue: Queue::new(1),
@@ -243,7 +243,7 @@ impl Membership {
         ensures log { (log : GroupLog) → self.old ≡ group_state_of log
             → self.new ≡ group_state_of (Said now origin claim.now ∷ log) }
         // The result says what the claim changes of its member's record and suspicion, and of the members that
-        // haven't failed.
+        // aren't gone.
         ensures meaning { (log : GroupLog) → self.old ≡ group_state_of log → IsApplied now origin claim.now log result }
     {
         if is_same_name(&claim.name, &self.own.name()) {

@@ -114,7 +114,7 @@ fn override_row(
 {
     match claim.status {
         Status::Suspect(accuser) => raise(suspicions, config, now, members, &claim.name, &accuser),
-        Status::Alive | Status::Failed => end(suspicions, &claim.name),
+        Status::Alive | Status::Failed | Status::Left => end(suspicions, &claim.name),
     }
 }
 
@@ -166,7 +166,7 @@ fn accuse(suspicions: &mut Suspicions, members: &Members, claim: &Claim) -> Dead
 {
     match claim.status {
         Status::Suspect(accuser) => join(suspicions, members, &claim.name, &accuser),
-        Status::Alive | Status::Failed => Deadline::Stays,
+        Status::Alive | Status::Failed | Status::Left => Deadline::Stays,
     }
 }
 

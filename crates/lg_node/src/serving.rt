@@ -68,7 +68,7 @@ fn hosts_of(addr: Option<Addr>) -> Hosts
     ensures { result ≡ hosts_of addr }
 {
     match addr {
-        Some(addr) if addr.octets[0] == 127 => Hosts::Local,
+        Some(addr) if addr.ip.is_loopback() => Hosts::Local,
         _ => Hosts::Any,
     }
 }

@@ -13,7 +13,7 @@ use lg_rules::Addr;
 use lg_status_server::bind;
 use lg_timing::Config;
 use std::alloc::Global;
-use std::net::{Ipv4Addr, Net, UdpSocket};
+use std::net::{Net, SocketAddr, UdpSocket};
 use std::random::RandomSource;
 
 /// The sockets of a node: one for datagrams, and that of the status server if there is one.
@@ -28,8 +28,7 @@ pub(crate) struct Sockets {
 fn bind_socket<R: Net>(rt: &R, addr: Addr) -> Result<UdpSocket, NodeFault>
     ensures { (config : Opened) → IfErr result (IsEarly config) }
 {
-    let address = (Ipv4Addr::from_octets(addr.octets), addr.port);
-    match UdpSocket::bind(rt, address) {
+    match UdpSocket::bind(rt, SocketAddr::from(addr)) {
         Ok(socket) => Ok(socket),
         Err(fault) => Err(NodeFault::Socket(fault.kind())),
     }

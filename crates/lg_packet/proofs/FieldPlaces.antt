@@ -6,6 +6,7 @@ use Rattle.std.proofs.lemmas.Bool.{le-ltb, lt-ltb, ltb-true, ltb-false, le-leb, 
 use Rattle.std.proofs.Math.Dec.{leb-suc-suc}
 use Rattle.lg_rules.specs.Meaning.Name.{is_name_byte}
 use Rattle.lg_rules.specs.declared.addr.Addr.{Addr}
+use Rattle.lg_rules.specs.declared.addr.Ip.TheVariants.{V4}
 use Rattle.lg_packet.specs.declared.fault.Fault.{Fault}
 use Rattle.lg_packet.specs.declared.fault.Fault.TheVariants as faults
 use Rattle.lg_packet.specs.declared.kind.Kind.{Kind}
@@ -162,9 +163,9 @@ unfolding addr_at
 addr_fault parts bytes =
     let on = λ (x : Addr × List ℕ). fault_from x.1 parts in
     octets_fault (NumberByte ∷ NumberByte ∷ parts) bytes
-    ∙ fault_then (octets_at bytes) (λ octets. number_at w16 octets.1 >>= λ port. Ok (record { octets = octets.0; port = port.0 }, port.1)) (λ (x : List ℕ × List ℕ). fault_from x.1 (NumberByte ∷ NumberByte ∷ parts)) on (λ octets.
+    ∙ fault_then (octets_at bytes) (λ octets. number_at w16 octets.1 >>= λ port. Ok (record { ip = V4 octets.0; port = port.0 }, port.1)) (λ (x : List ℕ × List ℕ). fault_from x.1 (NumberByte ∷ NumberByte ∷ parts)) on (λ octets.
     port_fault parts octets.1
-    ∙ fault_then (number_at w16 octets.1) (λ port. Ok (record { octets = octets.0; port = port.0 }, port.1)) (λ (x : ℕ × List ℕ). fault_from x.1 parts) on (λ port. refl))
+    ∙ fault_then (number_at w16 octets.1) (λ port. Ok (record { ip = V4 octets.0; port = port.0 }, port.1)) (λ (x : ℕ × List ℕ). fault_from x.1 parts) on (λ port. refl))
 
 -- a test from one side and from the other
 pub at_most : (n m : ℕ) (good bad : Fault) → cond (leb n m) good bad ≡ cond (ltb m n) bad good

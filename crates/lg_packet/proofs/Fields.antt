@@ -7,6 +7,8 @@ use Rattle.std.proofs.lemmas.List.{take_at, drop_at}
 use Rattle.std.proofs.lemmas.Nat.{be_bytes_2, be_bytes_4, from_be_bytes-to_be_bytes_2, from_be_bytes-to_be_bytes_4}
 use Rattle.lg_rules.proofs.NameLemmas.{is_named}
 use Rattle.lg_rules.specs.declared.addr.Addr.{Addr}
+use Rattle.lg_rules.specs.declared.addr.Ip.{Ip}
+use Rattle.lg_rules.specs.declared.addr.Ip.TheVariants.{V4, V6}
 use Rattle.lg_packet.specs.declared.fault.Fault.{Fault}
 use Rattle.lg_packet.specs.declared.fault.Fault.TheVariants as faults
 use Rattle.lg_packet.specs.declared.kind.Kind.{Kind}
@@ -15,7 +17,7 @@ use Rattle.lg_packet.specs.declared.packet.Body.{Body}
 use Rattle.lg_packet.specs.declared.packet.Body.TheVariants.{Ping, PingReq, Ack, Nack, Pull, Page}
 use Rattle.lg_packet.specs.declared.packet.Version.{Version}
 use Rattle.lg_packet.specs.declared.packet.Version.TheVariants as versions
-use Rattle.lg_packet.specs.Meaning.Spelling.{kind_of, byte_of_version, byte_of_kind, spelled_number, spelled_name, spelled_addr, spelled_after, spelled_head, spelled_body, IsAddr, IsAfter, IsBody}
+use Rattle.lg_packet.specs.Meaning.Spelling.{kind_of, byte_of_version, byte_of_kind, spelled_number, spelled_name, spelled_addr, spelled_after, spelled_head, spelled_body, AreOctets, IsIp, IsAddr, IsAfter, IsBody}
 use Rattle.lg_packet.specs.Meaning.Reading.{◌>>=◌, magic_at, version_before, version_at, kind_before, kind_at, number_at, name_at, octets_at, addr_at, some_name_at, after_at, head_at, body_at, count_at}
 use Rattle.lg_packet.proofs.Outcomes.{step_ok, passed, passed_by, same_ok}
 use Rattle.lg_packet.proofs.NameFields.{name_read, name_again}
@@ -147,11 +149,6 @@ octets_there a b c d rest =
     let enough : ltb (length (a ∷ b ∷ c ∷ d ∷ rest)) 4 ≡ false = le-ltb (length (a ∷ b ∷ c ∷ d ∷ rest)) 4 (omega arith) in
     rw enough refl
 
--- four bytes that were read
-pub record AreOctets (octets : List ℕ) : Type 0 where
-  pub four : length octets ≡ 4
-  pub bytes : AllByRecursion (λ b. b < 256) octets
-
 octets_read : (bytes : List ℕ) (x : List ℕ × List ℕ) → AreBytes bytes → octets_at bytes ≡ Ok x → (bytes ≡ x.0 ++ x.1) × AreOctets x.0
 octets_read [] x fit e = absurd cc
 octets_read (a ∷ []) x fit e = absurd cc
@@ -191,19 +188,23 @@ port_again n rest fit = port_there (byte_at 1 n) (byte_at 0 n) rest ∙ rw (from
 pub addr_read : (bytes : List ℕ) (x : Addr × List ℕ) → AreBytes bytes → addr_at bytes ≡ Ok x → (bytes ≡ spelled_addr x.0 ++ x.1) × IsAddr x.0
 unfolding addr_at
 addr_read bytes x fit e =
-    let a = step_ok (octets_at bytes) (λ octets. number_at w16 octets.1 >>= λ port. Ok (record { octets = octets.0; port = port.0 }, port.1)) x e in
-    let b = step_ok (number_at w16 a.0.1) (λ port. Ok (record { octets = a.0.0; port = port.0 }, port.1)) x a.2 in
+    let a = step_ok (octets_at bytes) (λ octets. number_at w16 octets.1 >>= λ port. Ok (record { ip = V4 octets.0; port = port.0 }, port.1)) x e in
+    let b = step_ok (number_at w16 a.0.1) (λ port. Ok (record { ip = V4 a.0.0; port = port.0 }, port.1)) x a.2 in
     let octets = octets_read bytes a.0 fit a.1 in
     let port = port_read a.0.1 b.0 (behind a.0.0 a.0.1 (subst AreBytes octets.0 fit)) b.1 in
-    let made : Addr = record { octets = a.0.0; port = b.0.0 } in
+    let made : Addr = record { ip = V4 a.0.0; port = b.0.0 } in
     let whole : bytes ≡ spelled_addr made ++ b.0.1 = octets.0 ∙ ap (λ (t : List ℕ). a.0.0 ++ t) port.0 ∙ sym (append_assoc a.0.0 (to_be_bytes w16 b.0.0) b.0.1) in
-    subst (λ (y : Addr × List ℕ). (bytes ≡ spelled_addr y.0 ++ y.1) × IsAddr y.0) (same_ok (made, b.0.1) x b.2) (whole, record { four = octets.1.four; octets = octets.1.bytes; port = port.1 })
+    subst (λ (y : Addr × List ℕ). (bytes ≡ spelled_addr y.0 ++ y.1) × IsAddr y.0) (same_ok (made, b.0.1) x b.2) (whole, record { ip = octets.1; port = port.1 })
 
 pub addr_again : (addr : Addr) (rest : List ℕ) → IsAddr addr → addr_at (spelled_addr addr ++ rest) ≡ Ok (addr, rest)
 unfolding addr_at
-addr_again addr rest fit =
-    ap addr_at (append_assoc addr.octets (to_be_bytes w16 addr.port) rest)
-    ∙ rw (octets_again addr.octets (to_be_bytes w16 addr.port ++ rest) fit.four, port_again addr.port rest fit.port) refl
+addr_again addr rest fit = by_family addr.ip addr.port fit.ip fit.port
+  where
+    by_family : (ip : Ip) (port : ℕ) → IsIp ip → port < 2 ^ 16 → addr_at (spelled_addr (record { ip = ip; port = port }) ++ rest) ≡ Ok (record { ip = ip; port = port }, rest)
+    by_family (V4 octets) port ip few =
+        ap addr_at (append_assoc octets (to_be_bytes w16 port) rest)
+        ∙ rw (octets_again octets (to_be_bytes w16 port ++ rest) ip.four, port_again port rest few) refl
+    by_family (V6 octets) port ip few = absurd ip
 
 -- ---- the name of a Pull
 

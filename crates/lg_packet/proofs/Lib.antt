@@ -14,3 +14,4 @@ pub mod Standing
 pub mod Completing
 pub mod NeverTrailing
 pub mod Beginning
+pub mod Spellable

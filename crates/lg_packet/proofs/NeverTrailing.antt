@@ -2,6 +2,7 @@
 use Rattle.std.proofs.Common.{ℕ, zero, suc, Bool, true, false, cond, eqb, ltb, List, [], ◌∷◌, length, take, drop, Option, Some, None, Result, Ok, Err}
 use Rattle.std.specs.List.{list_all}
 use Rattle.std.specs.Int.{Width, w16, w32, byte_len, from_be_bytes}
+use Rattle.lg_rules.specs.declared.addr.Ip.TheVariants.{V4}
 use Rattle.lg_rules.specs.Meaning.Name.{is_name_byte}
 use Rattle.lg_rules.specs.declared.claim.Status.TheVariants.{Suspect}
 use Rattle.lg_packet.specs.declared.fault.Fault.{Fault}
@@ -72,8 +73,8 @@ octets_goes bytes = test_goes (ltb (length bytes) 4) (Err faults.Short) (Ok (tak
 addr_goes : (bytes : List ℕ) → NotTrailing (addr_at bytes)
 unfolding addr_at
 addr_goes bytes =
-    step_goes (octets_at bytes) (λ octets. number_at w16 octets.1 >>= λ port. Ok (record { octets = octets.0; port = port.0 }, port.1)) (octets_goes bytes) (λ octets.
-    step_goes (number_at w16 octets.1) (λ port. Ok (record { octets = octets.0; port = port.0 }, port.1)) (number_goes w16 octets.1) (λ port. tt))
+    step_goes (octets_at bytes) (λ octets. number_at w16 octets.1 >>= λ port. Ok (record { ip = V4 octets.0; port = port.0 }, port.1)) (octets_goes bytes) (λ octets.
+    step_goes (number_at w16 octets.1) (λ port. Ok (record { ip = V4 octets.0; port = port.0 }, port.1)) (number_goes w16 octets.1) (λ port. tt))
 
 some_name_goes : (bytes : List ℕ) → NotTrailing (some_name_at bytes)
 unfolding some_name_at

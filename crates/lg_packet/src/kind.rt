@@ -96,13 +96,13 @@ pub(crate) fn claim_kind_of_byte(byte: u8) -> Option<ClaimKind>
     }
 }
 
-/// The kind of a claim with this status.
+/// The kind of a claim with this status. Left has no spelling of its own, and is told as Failed.
 pub(crate) fn claim_kind_of(status: &Status) -> ClaimKind
     ensures { result ≡ claim_kind_of status.now }
 {
     match status {
         Status::Alive => ClaimKind::Alive,
         Status::Suspect(_) => ClaimKind::Suspect,
-        Status::Failed => ClaimKind::Failed,
+        Status::Failed | Status::Left => ClaimKind::Failed,
     }
 }

@@ -150,7 +150,7 @@ impl Reader<'_> {
     {
         let octets = self.octets()?;
         let port = self.port()?;
-        Ok(Addr { octets, port })
+        Ok(Addr::v4(octets, port))
     }
 
     /// Reads the name of a Pull that has one.

@@ -1,17 +1,18 @@
 -- Which records of the view differ once claims are heard: those of the names that they changed.
 use Rattle.std.proofs.Common.{◌≡◌, ◌≢◌, ℕ, ◌≤◌, true, false, ◌&&◌, not, cond, List, [], ◌∷◌, length, Option, Some, None, inl, inr, refl, sym, ◌∙◌, ap, subst, arith, eqb}
-use Rattle.std.specs.Prelude.{filter, nat_eq}
-use Rattle.std.specs.Cmp.Lexicographic.{pointwise}
+use Rattle.std.specs.Prelude.{filter}
 use Rattle.std.proofs.lemmas.Bool.{cases_Bool, eq-eqb, eqb-true, false≢true, and_parts}
 use Rattle.std.proofs.lemmas.Slice.Eq.{bytes_eq-Decides}
 use Rattle.lg_rules.specs.declared.addr.Addr.{Addr}
+use Rattle.lg_rules.specs.declared.addr.Ip.{Ip}
+use Rattle.lg_rules.specs.declared.addr.Ip.TheVariants.{V4, V6}
 use Rattle.lg_rules.specs.declared.claim.Claim.{Claim}
 use Rattle.lg_rules.specs.declared.claim.Status.{Status}
-use Rattle.lg_rules.specs.declared.claim.Status.TheVariants.{Alive, Suspect, Failed}
+use Rattle.lg_rules.specs.declared.claim.Status.TheVariants.{Alive, Suspect, Failed, Left}
 use Rattle.lg_rules.specs.Meaning.Beats.{beats_of}
 use Rattle.lg_rules.specs.Meaning.Claim.{name_of}
 use Rattle.lg_rules.specs.Meaning.Rows.{name_cmp, is_same, row_at}
-use Rattle.lg_rules.specs.Meaning.View.{is_same_status, is_same_addr, is_same_claim, is_row, changed}
+use Rattle.lg_rules.specs.Meaning.View.{is_same_status, is_same_ip, is_same_addr, is_same_claim, is_row, changed}
 use Rattle.lg_rules.specs.Support.Standing.{Standing, standing_of, standing_view, hear_claim, standing_after}
 use Rattle.lg_rules.specs.Support.Standing.{changes_record, changed_names}
 use Rattle.lg_rules.proofs.Cases.{held_once}
@@ -103,20 +104,31 @@ same_status : (s t : Status) → is_same_status s t ≡ true → s ≡ t
 same_status Alive Alive e = refl
 same_status (Suspect a) (Suspect b) e = ap Suspect (key_is names_order a b e)
 same_status Failed Failed e = refl
+same_status Left Left e = refl
 same_status _ _ e = absurd (false≢true e)
 
 status_itself : (s : Status) → is_same_status s s ≡ true
 status_itself Alive = refl
 status_itself (Suspect a) = same_key names_order a a refl
 status_itself Failed = refl
+status_itself Left = refl
+
+same_ip : (a b : Ip) → is_same_ip a b ≡ true → a ≡ b
+same_ip (V4 a) (V4 b) e = ap V4 ((bytes_eq-Decides a b).0 e)
+same_ip (V6 a) (V6 b) e = ap V6 ((bytes_eq-Decides a b).0 e)
+same_ip _ _ e = absurd (false≢true e)
+
+ip_itself : (a : Ip) → is_same_ip a a ≡ true
+ip_itself (V4 a) = (bytes_eq-Decides a a).1 refl
+ip_itself (V6 a) = (bytes_eq-Decides a a).1 refl
 
 same_addr : (a b : Addr) → is_same_addr a b ≡ true → a ≡ b
 same_addr a b e =
-    let h = and_parts (pointwise nat_eq a.octets b.octets) (eqb a.port b.port) e in
-    λ i. record { octets = (bytes_eq-Decides a.octets b.octets).0 h.0 i; port = eqb-true a.port b.port h.1 i }
+    let h = and_parts (is_same_ip a.ip b.ip) (eqb a.port b.port) e in
+    λ i. record { ip = same_ip a.ip b.ip h.0 i; port = eqb-true a.port b.port h.1 i }
 
 addr_itself : (a : Addr) → is_same_addr a a ≡ true
-addr_itself a = rw ((bytes_eq-Decides a.octets a.octets).1 refl, eq-eqb a.port a.port refl)
+addr_itself a = rw (ip_itself a.ip, eq-eqb a.port a.port refl)
 
 pub same_claim : (c d : Claim) → is_same_claim c d ≡ true → c ≡ d
 same_claim c d e =

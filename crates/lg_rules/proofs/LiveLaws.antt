@@ -1,14 +1,14 @@
--- How many members haven't failed, once a record is put.
+-- How many members aren't gone, once a record is put.
 use Rattle.std.proofs.Common.{◌≡◌, ℕ, ◌+◌, not, cond, List, [], ◌∷◌, Some, None, refl, ap, arith}
 use Rattle.std.specs.List.{sum_by}
 use Rattle.std.specs.declared.cmp.Ordering.{Ordering}
 use Rattle.std.proofs.lemmas.List.Sums.{sum_by-cons}
 use Rattle.lg_rules.specs.declared.claim.Claim.{Claim}
 use Rattle.lg_rules.specs.declared.claim.Status.{Status}
-use Rattle.lg_rules.specs.declared.claim.Status.TheVariants.{Alive, Suspect, Failed}
-use Rattle.lg_rules.specs.Meaning.Claim.{name_of}
+use Rattle.lg_rules.specs.declared.claim.Status.TheVariants.{Alive, Suspect, Failed, Left}
+use Rattle.lg_rules.specs.Meaning.Claim.{is_gone, name_of}
 use Rattle.lg_rules.specs.Meaning.Rows.{name_cmp, put_row, row_at}
-use Rattle.lg_rules.specs.Meaning.Table.{is_failed, live_in}
+use Rattle.lg_rules.specs.Meaning.Table.{live_in}
 use Rattle.lg_rules.specs.Support.Members.{live_weight}
 use Rattle.lg_rules.proofs.Cases.{Below, Tied, Above, compared, held_once}
 
@@ -31,13 +31,14 @@ module _ {K : Type 0} (cmp : K → K → Ordering) {R : Type 0} (key : R → K) 
     | Above g ↦ rw g (omega (arith, sum_by-cons f x (put_row cmp key r xs), sum_by-cons f x xs, sum-put_old r old xs (rw g at found)))
   ]
 
-weight-is : (s : Status) → live_weight s ≡ cond (not (is_failed s)) 1 0
+weight-is : (s : Status) → live_weight s ≡ cond (not (is_gone s)) 1 0
 weight-is Alive = refl
 weight-is (Suspect a) = refl
 weight-is Failed = refl
+weight-is Left = refl
 
 abbrev counts : Claim → ℕ
-counts r = cond (not (is_failed r.status)) 1 0
+counts r = cond (not (is_gone r.status)) 1 0
 
 pub live-put_new : (r : Claim) (rows : List Claim) → row_at name_cmp name_of r.name rows ≡ None → live_in (put_row name_cmp name_of r rows) ≡ live_weight r.status + live_in rows
 live-put_new r rows gap = omega (arith, sum-put_new name_cmp name_of counts r rows gap, weight-is r.status)

@@ -4,7 +4,7 @@ use Rattle.std.proofs.lemmas.Bool.{cases_Bool, ltb-true}
 use Rattle.lg_rules.specs.declared.addr.Addr.{Addr}
 use Rattle.lg_rules.specs.declared.claim.Claim.{Claim}
 use Rattle.lg_rules.specs.declared.claim.Status.{Status}
-use Rattle.lg_rules.specs.declared.claim.Status.TheVariants.{Alive, Suspect, Failed}
+use Rattle.lg_rules.specs.declared.claim.Status.TheVariants.{Alive, Suspect, Failed, Left}
 use Rattle.lg_rules.specs.declared.own.OwnHeard.{OwnHeard}
 use Rattle.lg_rules.specs.declared.own.OwnHeard.TheVariants.{Refuted, Raised, Ousted, Ignored}
 use Rattle.lg_rules.specs.Meaning.Rows.{name_cmp, is_same}
@@ -64,6 +64,7 @@ changed_within : (s : Status) (i : ℕ) (me : OwnValue) → me.number ≤ 100000
 changed_within Alive i me few = elim (cases_Bool (ltb me.number i)) [ inl t ↦ rw t (beyond_within Raised i me (λ j. refl) few) | inr f ↦ rw f few ]
 changed_within (Suspect a) i me few = elim (cases_Bool (leb me.number i)) [ inl t ↦ rw t (beyond_within Refuted i me (λ j. refl) few) | inr f ↦ rw f few ]
 changed_within Failed i me few = elim (cases_Bool (leb me.number i)) [ inl t ↦ rw t (beyond_within Raised i me (λ j. refl) few) | inr f ↦ rw f few ]
+changed_within Left i me few = elim (cases_Bool (leb me.number i)) [ inl t ↦ rw t (beyond_within Raised i me (λ j. refl) few) | inr f ↦ rw f few ]
 
 heard_within : (me : OwnValue) (c : Claim) → me.number ≤ 1000000000 → (own_heard me c).number ≤ 1000000000
 heard_within me c few = elim (cases_Bool (is_same name_cmp c.name me.name)) [ inl t ↦ rw t (changed_within c.status c.incarnation me few) | inr f ↦ rw f few ]

@@ -3,7 +3,7 @@ use Rattle.std.proofs.Common.{◌≡◌, ℕ, ◌<◌, true, false, refl, arith}
 use Rattle.std.proofs.lemmas.Bool.{lt-ltb}
 use Rattle.std.proofs.lemmas.Bool.Decides.{nat_tests}
 use Rattle.lg_rules.specs.declared.claim.Status.{Status}
-use Rattle.lg_rules.specs.declared.claim.Status.TheVariants.{Alive, Suspect, Failed}
+use Rattle.lg_rules.specs.declared.claim.Status.TheVariants.{Alive, Suspect, Failed, Left}
 use Rattle.lg_rules.specs.Meaning.Beats.{overrides, beats_of}
 use Rattle.lg_rules.proofs.PastLaws.{IsRanked}
 
@@ -15,6 +15,7 @@ not_itself : (s : Status) (i : ℕ) → overrides s i s i ≡ false
 not_itself Alive i = grind (arith, nat_tests)
 not_itself (Suspect a) i = grind (arith, nat_tests)
 not_itself Failed i = grind (arith, nat_tests)
+not_itself Left i = grind (arith, nat_tests)
 
 above : (s t u : Status) (i j k : ℕ) → overrides s i t j ≡ true → overrides u k t j ≡ false → overrides s i u k ≡ true
 above Alive Alive Alive i j k p q = grind (arith, nat_tests)

@@ -5,7 +5,7 @@ use Rattle.std.proofs.lemmas.Bool.{cases_Bool, ltb-true, leb-true, false≢true}
 use Rattle.lg_rules.specs.declared.addr.Addr.{Addr}
 use Rattle.lg_rules.specs.declared.claim.Claim.{Claim}
 use Rattle.lg_rules.specs.declared.claim.Status.{Status}
-use Rattle.lg_rules.specs.declared.claim.Status.TheVariants.{Alive, Suspect, Failed}
+use Rattle.lg_rules.specs.declared.claim.Status.TheVariants.{Alive, Suspect, Failed, Left}
 use Rattle.lg_rules.specs.declared.own.OwnHeard.{OwnHeard}
 use Rattle.lg_rules.specs.declared.own.OwnHeard.TheVariants.{Refuted, Raised, Ousted, Ignored}
 use Rattle.lg_rules.specs.Meaning.Beats.{beats_of}
@@ -119,6 +119,10 @@ rises (Suspect a) i me t = elim (cases_Bool (leb me.number i)) [
   | inr f ↦ absurd (false≢true (sym (ap is_rise (ap (λ b. cond b (beyond i Refuted) Ignored) f)) ∙ t))
 ]
 rises Failed i me t = elim (cases_Bool (leb me.number i)) [
+  | inl l ↦ rw l (beyond_rises Raised i me (λ j. refl) (leb-true me.number i l) (sym (ap is_rise (ap (λ b. cond b (beyond i Raised) Ignored) l)) ∙ t))
+  | inr f ↦ absurd (false≢true (sym (ap is_rise (ap (λ b. cond b (beyond i Raised) Ignored) f)) ∙ t))
+]
+rises Left i me t = elim (cases_Bool (leb me.number i)) [
   | inl l ↦ rw l (beyond_rises Raised i me (λ j. refl) (leb-true me.number i l) (sym (ap is_rise (ap (λ b. cond b (beyond i Raised) Ignored) l)) ∙ t))
   | inr f ↦ absurd (false≢true (sym (ap is_rise (ap (λ b. cond b (beyond i Raised) Ignored) f)) ∙ t))
 ]

@@ -1,4 +1,5 @@
 -- What is right: to believe the contracts, read these.
+pub mod Addr
 pub mod Beats
 pub mod Bounds
 pub mod Claim

@@ -3,7 +3,7 @@
 //! Defined in: `specs/Meaning/Claim.antt`.
 //! Tested in: `lg_detector_tests/src/rules.rt`.
 ghost use Rattle.std.specs.Prelude.{◌≡◌};
-ghost use Rattle.lg_rules.specs.Meaning.Claim.{accuser_of, name_of};
+ghost use Rattle.lg_rules.specs.Meaning.Claim.{accuser_of, is_gone, name_of};
 
 use crate::addr::Addr;
 use crate::incarnation::Incarnation;
@@ -27,6 +27,17 @@ pub enum Status {
     Suspect(Name),
     /// It was suspected until the suspicion ran out.
     Failed,
+    /// It said of itself that it leaves (this project's choice).
+    Left,
+}
+
+impl Status {
+    /// Whether it is that of a member that is gone: Failed or Left.
+    pub fn is_gone(&self) -> bool
+        ensures { result ≡ is_gone self.now }
+    {
+        matches!(self, Status::Failed | Status::Left)
+    }
 }
 
 /// What is said of a member: its status at an incarnation, and where it is reached. Claims are what members gossip.
@@ -80,7 +91,7 @@ impl Claim {
     {
         match self.status {
             Status::Suspect(accuser) => Some(accuser),
-            Status::Alive | Status::Failed => None,
+            Status::Alive | Status::Failed | Status::Left => None,
         }
     }
 }

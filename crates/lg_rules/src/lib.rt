@@ -13,7 +13,7 @@ mod random;
 mod rows;
 mod slots;
 
-pub use addr::Addr;
+pub use addr::{Addr, Ip};
 pub use claim::{Claim, MAX_CLAIMS, MAX_LAMBDA, Record, Status};
 pub use incarnation::{Incarnation, MAX_INCARNATION};
 pub use members::{Heard, MAX_MEMBERS, MAX_OTHERS, Members};

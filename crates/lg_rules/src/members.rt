@@ -11,7 +11,7 @@ ghost use Rattle.lg_rules.specs.Meaning.Rows.{name_cmp, put_row, row_at, Rises};
 ghost use Rattle.lg_rules.specs.Support.Members.{live_weight};
 ghost use Rattle.lg_rules.specs.Support.Places.{HasRow, LacksRow};
 ghost use Rattle.arrayvec.specs.ArrayVec.{array_vec_len};
-ghost use Rattle.lg_rules.specs.Meaning.Table.{heard, hearing_of, is_failed, known_of, live_in, standing_hearing};
+ghost use Rattle.lg_rules.specs.Meaning.Table.{heard, hearing_of, known_of, live_in, standing_hearing};
 ghost use Rattle.lg_rules.specs.Meaning.Table.{names_heard, slot_in};
 
 use crate::claim::{Claim, Record, Status};
@@ -58,7 +58,7 @@ pub struct Members {
     records: ArrayVec<Record, MAX_OTHERS>,
     // The slot of each record's name.
     slots: ArrayVec<Slot, MAX_OTHERS>,
-    // How many members haven't failed, this member included. The count is kept, since each suspicion that is raised
+    // How many members aren't gone, this member included. The count is kept, since each suspicion that is raised
     // needs it.
     live: usize,
 }
@@ -83,13 +83,6 @@ impl Model for Members {
     ghost invariant = { λ m. AreKept m.own m.records.items m.live m.slots.items m.indexes };
 }
 
-/// Whether a status is Failed.
-fn is_failed(status: Status) -> bool
-    ensures { result ≡ is_failed status }
-{
-    matches!(status, Status::Failed)
-}
-
 /// The record of the member with this name, if there is one.
 fn find_record<'a>(records: &'a [Record], name: &Name) -> Option<&'a Record>
     requires { Rises name_cmp (map name_of records.now) }
@@ -109,21 +102,22 @@ fn standing_hearing(claim: &Claim, current: &Record) -> Heard
         return Heard::Ignored;
     }
     match (claim.status, current.status) {
-        (Status::Alive, Status::Alive) | (Status::Failed, Status::Failed) => Heard::Same,
+        (Status::Alive, Status::Alive)
+        | (Status::Failed, Status::Failed)
+        | (Status::Left, Status::Left) => Heard::Same,
         (Status::Suspect(_), Status::Suspect(_)) => Heard::Accused,
         _ => Heard::Ignored,
     }
 }
 
-/// What a record adds to the number of members that haven't failed.
+/// What a record adds to the number of members that aren't gone.
 fn weight(status: Status) -> usize
     ensures { result ≡ live_weight status }
 {
-    if is_failed(status) { 0 } else { 1 }
+    if status.is_gone() { 0 } else { 1 }
 }
 
-/// Replaces the record at an index by a claim that overrides it, and updates the number of members that haven't
-/// failed.
+/// Replaces the record at an index by a claim that overrides it, and updates the number of members that aren't gone.
 fn replace(records: &mut ArrayVec<Record, MAX_OTHERS>, live: &mut usize, at: usize, claim: &Claim)
     requires has { HasRow name_cmp name_of claim.now.name records.old.items at }
     requires counted { live.old ≡ live_in records.old.items }
@@ -135,7 +129,7 @@ fn replace(records: &mut ArrayVec<Record, MAX_OTHERS>, live: &mut usize, at: usi
     records[at] = *claim;
 }
 
-/// Inserts a claim about an unknown member at its index, and updates the number of members that haven't failed.
+/// Inserts a claim about an unknown member at its index, and updates the number of members that aren't gone.
 fn add(records: &mut ArrayVec<Record, MAX_OTHERS>, live: &mut usize, at: usize, claim: &Claim)
     requires lacks { LacksRow name_cmp name_of claim.now.name records.old.items at }
     requires room { array_vec_len records.old < MAX_OTHERS }
@@ -147,7 +141,7 @@ fn add(records: &mut ArrayVec<Record, MAX_OTHERS>, live: &mut usize, at: usize, 
     records.insert(at, *claim);
 }
 
-/// Hears a claim about a member whose record is at an index, and updates the number of members that haven't failed.
+/// Hears a claim about a member whose record is at an index, and updates the number of members that aren't gone.
 #[tactic(auto, unfolding(crate::specs::Meaning::Table::takes))]
 fn hear_known(
     records: &mut ArrayVec<Record, MAX_OTHERS>,
@@ -282,7 +276,7 @@ impl Members {
         }
     }
 
-    /// How many members haven't failed, this member included: 1 to 256.
+    /// How many members aren't gone, which is neither Failed nor Left, this member included: 1 to 256.
     pub fn live(&self) -> usize
         ensures count { result ≡ live_in self.now.table }
         ensures few { result ≤ MAX_MEMBERS }

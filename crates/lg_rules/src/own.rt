@@ -20,8 +20,8 @@ pub enum OwnHeard {
     /// The claim suspected this member at its incarnation or a greater one. It is refuted: this member's incarnation
     /// is now one more than the claim's.
     Refuted,
-    /// The claim said that this member is alive at a greater incarnation than its own, or that it failed at its
-    /// incarnation or a greater one. This member's incarnation is now one more than the claim's.
+    /// The claim said that this member is alive at a greater incarnation than its own, or that it failed or left at
+    /// its incarnation or a greater one. This member's incarnation is now one more than the claim's.
     Raised,
     /// The claim would refute or raise, but its incarnation is the greatest one, so that this member can't have a
     /// greater one. The flag `ousted` is set.
@@ -125,9 +125,9 @@ impl Own {
     /// | Claim | Effect |
     /// |---|---|
     /// | Suspect(i), n <= i < 1,000,000,000 | Refuted: n becomes i + 1 |
-    /// | Failed(i), n <= i < 1,000,000,000 | Raised: n becomes i + 1 |
+    /// | Failed(i) or Left(i), n <= i < 1,000,000,000 | Raised: n becomes i + 1 |
     /// | Alive(i), n < i < 1,000,000,000 | Raised: n becomes i + 1 |
-    /// | the same three, but i = 1,000,000,000 | Ousted: n stays |
+    /// | the same four, but i = 1,000,000,000 | Ousted: n stays |
     /// | any other, and any about another member | Ignored |
     pub fn hear(&mut self, claim: &Claim) -> OwnHeard
         ensures hearing { result ≡ own_hearing self.old claim.now }
@@ -155,8 +155,11 @@ impl Own {
         let hearing = match status {
             Status::Suspect(_) if incarnation.number() >= self.number.number() => OwnHeard::Refuted,
             Status::Failed if incarnation.number() >= self.number.number() => OwnHeard::Raised,
+            Status::Left if incarnation.number() >= self.number.number() => OwnHeard::Raised,
             Status::Alive if incarnation.number() > self.number.number() => OwnHeard::Raised,
-            Status::Alive | Status::Suspect(_) | Status::Failed => return OwnHeard::Ignored,
+            Status::Alive | Status::Suspect(_) | Status::Failed | Status::Left => {
+                return OwnHeard::Ignored;
+            }
         };
         match incarnation.successor() {
             Some(number) => {

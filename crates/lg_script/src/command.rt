@@ -56,7 +56,7 @@ pub enum Command {
         /// Whose record.
         other: Name,
     },
-    /// Asks a member for its health score, its incarnation and how many members haven't failed.
+    /// Asks a member for its health score, its incarnation and how many members aren't gone.
     Health {
         /// Which member.
         name: Name,

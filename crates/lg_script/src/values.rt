@@ -17,7 +17,7 @@ pub const LOCALHOST: [u8; 4] = [127, 0, 0, 1];
 pub fn local(port: u16) -> Addr
     ensures { result ≡ local port }
 {
-    Addr::new(LOCALHOST, port)
+    Addr::v4(LOCALHOST, port)
 }
 
 /// The moment that a word spells, 0 to 1,000,000,000,000,000.

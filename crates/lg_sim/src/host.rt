@@ -61,7 +61,7 @@ impl Member {
     pub fn is_at(&self, addr: &Addr) -> bool
         ensures { result ≡ is_at addr.now self.now }
     {
-        self.addr.octets == addr.octets && self.addr.port == addr.port
+        self.addr == *addr
     }
 }
 

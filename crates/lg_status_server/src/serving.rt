@@ -14,7 +14,7 @@ use lg_http::{Desk, Hosts, Listener, Server, ServerCounts, ServerEnd, Signal};
 use lg_rules::Addr;
 use std::alloc::Global;
 use std::io::ErrorKind;
-use std::net::{Ipv4Addr, Net, SocketAddr, SocketAddrV4};
+use std::net::{Net, SocketAddr};
 use std::random::RandomSource;
 
 /// How the status server of a node ended.
@@ -50,8 +50,7 @@ pub fn bind(
 ) -> Result<(Server, Signal), ErrorKind>
     ensures { IfOk result (λ made. AreFree (slots_of made.0)) }
 {
-    let address = SocketAddrV4::new(Ipv4Addr::from_octets(addr.octets), addr.port);
-    let listener = Listener::bind(rt, SocketAddr::V4(address))?;
+    let listener = Listener::bind(rt, SocketAddr::from(addr))?;
     match Server::new(rt, alloc, listener) {
         Ok(made) => Ok(made),
         Err(fault) => Err(fault.kind()),

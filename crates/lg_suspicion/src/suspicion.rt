@@ -142,8 +142,8 @@ impl Suspicion {
         }
     }
 
-    /// The suspicion of another member that `accuser` raises at the moment `now`. `live` is how many members haven't
-    /// failed, this member and the suspected one included: 1 to [`MAX_LIVE`].
+    /// The suspicion of another member that `accuser` raises at the moment `now`. `live` is how many members aren't
+    /// gone, this member and the suspected one included: 1 to [`MAX_LIVE`].
     pub fn raise(now: Moment, accuser: &Name, live: u64, config: &Config) -> Suspicion
         requires checked { IsChecked config.now }
         requires some { 1 ≤ live }

@@ -24,7 +24,7 @@ pub fn numbered(number: u32) -> Name {
 
 /// A port of 127.0.0.1.
 pub fn local(port: u16) -> Addr {
-    Addr::new([127, 0, 0, 1], port)
+    Addr::v4([127, 0, 0, 1], port)
 }
 
 /// A moment in milliseconds.

@@ -1,3 +1,4 @@
 pub mod CuttingLaws
+pub mod IpLaws
 pub mod LineLaws
 pub mod NumberLaws

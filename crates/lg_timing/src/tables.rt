@@ -7,7 +7,7 @@ ghost use Rattle.lg_timing.specs.Meaning.Tables.{IsLog, range_end, log10_of, rat
 
 use crate::config::MAX_CONFIRMATIONS;
 
-/// The most members that haven't failed, this member included: 256, the greatest size of a table (this project's
+/// The most members that aren't gone, this member included: 256, the greatest size of a table (this project's
 /// choice).
 pub const MAX_LIVE: u64 = 256;
 
@@ -21,7 +21,7 @@ const RATIOS: [[u64; 6]; 6] = [
     [0, 386, 613, 773, 898, 1000],
 ];
 
-/// The base-ten logarithm that counts for `live` members that haven't failed, 1 to [`MAX_LIVE`], in thousandths
+/// The base-ten logarithm that counts for `live` members that aren't gone, 1 to [`MAX_LIVE`], in thousandths
 /// rounded down. It is the logarithm of the greatest number in the range that `live` is in. The ranges end at 10, 16,
 /// 32, 64, 128 and 256 (this project's choice).
 #[tactic(auto, unfolding(crate::specs::Meaning::Tables::log10_of))]

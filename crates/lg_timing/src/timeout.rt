@@ -67,7 +67,7 @@ impl Default for SuspicionTimeout {
     }
 }
 
-/// How many confirmations count for a suspicion raised among `live` members that haven't failed: `confirmations` of
+/// How many confirmations count for a suspicion raised among `live` members that aren't gone: `confirmations` of
 /// the configuration, or 0 if `live` is less than that plus 2 (this project's choice).
 fn confirmations_among(live: u64, config: &Config) -> u64
     requires { IsChecked config.now }
@@ -81,7 +81,7 @@ fn confirmations_among(live: u64, config: &Config) -> u64
 }
 
 impl SuspicionTimeout {
-    /// The timeouts of a suspicion raised among `live` members that haven't failed, this member included: 1 to
+    /// The timeouts of a suspicion raised among `live` members that aren't gone, this member included: 1 to
     /// [`MAX_LIVE`].
     pub fn new(live: u64, config: &Config) -> SuspicionTimeout
         requires checked { IsChecked config.now }
@@ -135,7 +135,7 @@ impl SuspicionTimeout {
     }
 }
 
-/// The timeout of a suspicion raised among `live` members that haven't failed, after some confirmations, in
+/// The timeout of a suspicion raised among `live` members that aren't gone, after some confirmations, in
 /// milliseconds: 10 to [`MAX_SUSPICION_MS`]. `live` is 1 to [`MAX_LIVE`], and `confirmations` at most the number that
 /// counts among `live` members.
 pub fn suspicion_ms(live: u64, confirmations: u64, config: &Config) -> u64

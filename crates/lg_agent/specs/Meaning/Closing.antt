@@ -124,7 +124,7 @@ pub record IsWell (c : ClosedValue) : Type 0 where
   pub answered : Answered past c.history
 
 -- Whom rounds chose between a list of events and a longer one that it begins (SWIM, section 4.3). If the others that
--- haven't failed are the same p names throughout, any 2p - 1 choices in a row have each of them. If there are none,
+-- aren't gone are the same p names throughout, any 2p - 1 choices in a row have each of them. If there are none,
 -- nobody is chosen.
 pub record HasWindows (before whole : List Event) (names : List (List ℕ)) : Type 0 where
   pub each : (stretch : Log) (name : List ℕ) → log_of (reverse whole) ≡ stretch ++ log_of (reverse before)

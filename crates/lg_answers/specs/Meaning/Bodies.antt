@@ -2,10 +2,10 @@
 use Rattle.std.specs.Prelude.{ℕ, Bool, true, false, not, List, ◌++◌, codes, decimal, count_by, length}
 use Rattle.std.specs.Prelude.{Option, Some, None}
 use Rattle.std.specs.List.{flat_map}
-use Rattle.lg_lines.specs.Meaning.Records.{addr_text}
+use Rattle.lg_text.specs.Meaning.Addresses.{addr_text}
 use Rattle.lg_rules.specs.declared.addr.Addr.{Addr}
 use Rattle.lg_rules.specs.declared.claim.Claim.{Claim}
-use Rattle.lg_rules.specs.Meaning.Table.{is_failed}
+use Rattle.lg_rules.specs.Meaning.Claim.{is_gone}
 use Rattle.lg_timing.specs.declared.config.Config.{Config}
 use Rattle.lg_timing.specs.declared.config.Seed.{Seed}
 use Rattle.lg_timing.specs.declared.keys.Key.{Key}
@@ -23,9 +23,9 @@ abbrev pub truth_text : Bool → List ℕ
 truth_text true = codes "true"
 truth_text false = codes "false"
 
--- how many of these members haven't failed
+-- how many of these members aren't gone: neither Failed nor Left
 abbrev pub live_among : List Claim → ℕ
-live_among records = count_by (λ c. not (is_failed c.status)) records
+live_among records = count_by (λ c. not (is_gone c.status)) records
 
 -- {"name":"NAME","score":S,"incarnation":N,"live":L,"known":K,"ousted":O,"uptime_ms":U,"stood_still_ms":T}
 abbrev pub health_front : Snapshot → List ℕ
@@ -45,7 +45,7 @@ unfoldable pub health_body : Snapshot → List ℕ
 health_body s =
     health_front s ++ health_counts (live_among s.records.items) (length s.records.items) ++ health_times s
 
--- {"name":"NAME","address":"A.B.C.D","port":PORT, the numbers of the member and of the node's own,
+-- {"name":"NAME","address":"ADDRESS","port":PORT, the numbers of the member and of the node's own,
 -- "status":STATUS,"status_open":OPEN,"seeds":[..]}
 abbrev pub config_front : Config → List ℕ
 config_front c = codes "{\"name\":\"" ++ (c.name ++ codes "\",") ++ address_fields c.addr
@@ -60,7 +60,7 @@ key_field c key = number_field (key_name key) (number_of_key key c)
 abbrev pub own_field : NodeNumber → List ℕ
 own_field own = number_field own.key.now own.value
 
--- where the node answers over HTTP: "A.B.C.D:PORT", or null if it doesn't
+-- where the node answers over HTTP: "ADDRESS:PORT", or null if it doesn't
 abbrev pub status_value : Option Addr → List ℕ
 status_value None = codes "null"
 status_value (Some addr) = codes "\"" ++ addr_text addr ++ codes "\""
@@ -73,7 +73,7 @@ status_field status = codes ",\"status\":" ++ status_value status
 unfoldable pub open_field : Bool → List ℕ
 open_field is_open = codes ",\"status_open\":" ++ truth_text is_open
 
--- {"name":"NAME","address":"A.B.C.D","port":PORT}
+-- {"name":"NAME","address":"ADDRESS","port":PORT}
 unfoldable pub seed_json : Seed → List ℕ
 seed_json seed = codes "{\"name\":\"" ++ (seed.name ++ codes "\",") ++ address_fields seed.addr ++ codes "}"
 

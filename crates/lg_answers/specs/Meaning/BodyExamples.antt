@@ -1,10 +1,12 @@
--- Worked parts of bodies: b knows that a is suspected by c, and that c has failed.
-use Rattle.std.specs.Prelude.{⊤, ◌≡◌, ℕ, true, false, List, [], ◌∷◌, ◌++◌, Some, None, codes, refl}
+-- Worked parts of bodies: b knows that a is suspected by c, that c has failed, and that d left.
+use Rattle.std.specs.Prelude.{⊤, ◌≡◌, ℕ, true, false, List, [], ◌∷◌, ◌++◌, Some, None, codes, refl, replicate}
 use Rattle.std.specs.Fmt.{digits}
 use Rattle.lg_rules.specs.declared.addr.Addr.{Addr}
+use Rattle.lg_rules.specs.declared.addr.Ip.TheVariants.{V4, V6}
 use Rattle.lg_rules.specs.declared.claim.Claim.{Claim}
 use Rattle.lg_rules.specs.declared.claim.Status.{Status}
 use Rattle.lg_rules.specs.declared.claim.Status.TheVariants as status
+use Rattle.lg_text.specs.Meaning.AddressExamples.{on_addresses}
 use Rattle.lg_answers.specs.declared.route.StatusKind.TheVariants.{Alive}
 use Rattle.lg_answers.specs.Meaning.Bodies.{error_body, health_counts, live_among, number_field, open_field, seed_json}
 use Rattle.lg_answers.specs.Meaning.Bodies.{status_field}
@@ -22,7 +24,7 @@ unfolding digits address_fields drops_sample kind_line live_words member_body me
 by_writing = tt
 
 abbrev at : ℕ → Addr
-at port = record { octets = 127 ∷ 0 ∷ 0 ∷ 1 ∷ []; port = port }
+at port = record { ip = V4 (127 ∷ 0 ∷ 0 ∷ 1 ∷ []); port = port }
 
 abbrev claimed : List ℕ → ℕ → Status → ℕ → Claim
 claimed name port status i = record { name = name; addr = at port; status = status; incarnation = i }
@@ -35,6 +37,16 @@ b = claimed (codes "b") 7102 status.Alive 0
 
 abbrev c : Claim
 c = claimed (codes "c") 7103 status.Failed 2
+
+-- d left, and is reached over IPv6
+abbrev d : Claim
+d =
+    record {
+      name = codes "d";
+      addr = record { ip = V6 (0x20 ∷ 0x01 ∷ 0x0d ∷ 0xb8 ∷ replicate 11 0 ++ 1 ∷ []); port = 7104 };
+      status = status.Left;
+      incarnation = 3;
+    }
 
 -- ---- members
 
@@ -54,6 +66,11 @@ c_json =
     codes "\"name\":\"c\",\"status\":\"failed\",\"incarnation\":2,"
     ++ codes "\"address\":\"127.0.0.1\",\"port\":7103,\"accuser\":null}"
 
+abbrev d_json : List ℕ
+d_json =
+    codes "\"name\":\"d\",\"status\":\"left\",\"incarnation\":3,"
+    ++ codes "\"address\":\"2001:db8::1\",\"port\":7104,\"accuser\":null}"
+
 head : moment_front 41 5120 ++ members_front_of (codes "b")
     ≡ codes "{\"version\":41,\"moment_ms\":5120,\"name\":\"b\",\"members\":["
 unfolding by_writing
@@ -72,6 +89,10 @@ none_alive : comma_separated member_json (members_asked (Some Alive) (a ∷ c �
 unfolding by_writing
 none_alive = refl
 
+only_d : member_json d ≡ codes "{" ++ d_json
+unfolding by_writing on_addresses
+only_d = refl
+
 only_a : member_body 41 a ≡ codes "{\"version\":41," ++ a_json
 unfolding by_writing
 only_a = refl
@@ -82,7 +103,7 @@ a_fault : error_body (codes "there is nothing at this path") ≡ codes "{\"error
 unfolding by_writing
 a_fault = refl
 
-two_live : health_counts (live_among (a ∷ b ∷ c ∷ [])) 3 ≡ codes ",\"live\":2,\"known\":3"
+two_live : health_counts (live_among (a ∷ b ∷ c ∷ d ∷ [])) 4 ≡ codes ",\"live\":2,\"known\":4"
 unfolding by_writing
 two_live = refl
 
@@ -114,9 +135,10 @@ few_milliseconds : seconds_text 7 ≡ codes "0.007"
 unfolding by_writing
 few_milliseconds = refl
 
-by_status : members_lines (a ∷ b ∷ c ∷ [])
+by_status : members_lines (a ∷ b ∷ c ∷ d ∷ [])
     ≡ codes "# HELP lg_members Members known, this member included, by status.\n# TYPE lg_members gauge\n"
     ++ codes "lg_members{status=\"alive\"} 1\nlg_members{status=\"suspect\"} 1\nlg_members{status=\"failed\"} 1\n"
+    ++ codes "lg_members{status=\"left\"} 1\n"
 unfolding by_writing
 by_status = refl
 
@@ -129,6 +151,10 @@ by_fault = refl
 a_row : member_row a ≡ codes "<tr class='suspect'><td>a<td>suspect<td>0<td>127.0.0.1:7101<td>c</tr>\n"
 unfolding by_writing
 a_row = refl
+
+d_row : member_row d ≡ codes "<tr class='left'><td>d<td>left<td>3<td>[2001:db8::1]:7104<td></tr>\n"
+unfolding by_writing on_addresses
+d_row = refl
 
 a_summary : summary_text (a ∷ b ∷ c ∷ []) true ≡ codes "2 of 3 members live, ousted</p>\n"
 unfolding by_writing

@@ -2,6 +2,7 @@
 use Rattle.std.specs.Prelude.{⊤, ◌≡◌, ℕ, false, [], ◌∷◌, ◌++◌, codes, refl}
 use Rattle.std.specs.Fmt.{digits}
 use Rattle.lg_rules.specs.declared.addr.Addr.{Addr}
+use Rattle.lg_rules.specs.declared.addr.Ip.TheVariants.{V4}
 use Rattle.lg_rules.specs.declared.claim.Claim.{Claim}
 use Rattle.lg_rules.specs.declared.claim.Status.TheVariants as status
 use Rattle.lg_changes.specs.Meaning.Changes.{change_at}
@@ -14,7 +15,7 @@ unfolding digits address_fields change_json changes_json member_fields moment_fr
 by_changing = tt
 
 abbrev at : ℕ → Addr
-at port = record { octets = 127 ∷ 0 ∷ 0 ∷ 1 ∷ []; port = port }
+at port = record { ip = V4 (127 ∷ 0 ∷ 0 ∷ 1 ∷ []); port = port }
 
 abbrev suspected : Claim
 suspected = record { name = codes "a"; addr = at 7101; status = status.Suspect (codes "c"); incarnation = 0 }

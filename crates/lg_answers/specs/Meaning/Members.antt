@@ -4,8 +4,9 @@ use Rattle.std.specs.List.{flat_map}
 use Rattle.lg_rules.specs.declared.addr.Addr.{Addr}
 use Rattle.lg_rules.specs.declared.claim.Claim.{Claim}
 use Rattle.lg_rules.specs.declared.claim.Status.{Status}
-use Rattle.lg_rules.specs.declared.claim.Status.TheVariants.{Alive, Suspect, Failed}
-use Rattle.lg_lines.specs.Meaning.Records.{dotted, status_text}
+use Rattle.lg_rules.specs.declared.claim.Status.TheVariants.{Alive, Suspect, Failed, Left}
+use Rattle.lg_text.specs.Meaning.Addresses.{ip_text}
+use Rattle.lg_lines.specs.Meaning.Records.{status_text}
 use Rattle.lg_answers.specs.declared.route.StatusKind.{StatusKind}
 use Rattle.lg_answers.specs.declared.snapshot.Snapshot.{Snapshot}
 use Rattle.lg_answers.specs.Meaning.Routes.{is_kind_of}
@@ -24,9 +25,9 @@ standing_fields c =
     codes "\"name\":\"" ++ (c.name ++ (codes "\",\"status\":\"" ++ (status_text c.status
     ++ (codes "\",\"incarnation\":" ++ decimal c.incarnation))))
 
--- "address":"A.B.C.D","port":PORT
+-- "address":"ADDRESS","port":PORT, where ADDRESS is A.B.C.D, or that of IPv6 without brackets
 abbrev pub behind_address : Addr → List ℕ
-behind_address addr = dotted addr.octets ++ (codes "\",\"port\":" ++ decimal addr.port)
+behind_address addr = ip_text addr.ip ++ (codes "\",\"port\":" ++ decimal addr.port)
 
 unfoldable pub address_fields : Addr → List ℕ
 address_fields addr = codes "\"address\":\"" ++ behind_address addr
@@ -36,6 +37,7 @@ abbrev pub accuser_value : Status → List ℕ
 accuser_value Alive = codes "null"
 accuser_value (Suspect accuser) = codes "\"" ++ (accuser ++ codes "\"")
 accuser_value Failed = codes "null"
+accuser_value Left = codes "null"
 
 -- the fields of a member
 unfoldable pub member_fields : Claim → List ℕ

@@ -7,7 +7,7 @@ use Rattle.lg_answers.specs.declared.metric.Amount.{Amount}
 use Rattle.lg_answers.specs.declared.metric.Amount.TheVariants.{Number, Milliseconds}
 use Rattle.lg_answers.specs.declared.metric.Metric.{Metric}
 use Rattle.lg_answers.specs.declared.route.StatusKind.{StatusKind}
-use Rattle.lg_answers.specs.declared.route.StatusKind.TheVariants.{Alive, Suspect, Failed}
+use Rattle.lg_answers.specs.declared.route.StatusKind.TheVariants.{Alive, Suspect, Failed, Left}
 use Rattle.lg_counters.specs.declared.counts.Drops.{Drops}
 use Rattle.lg_answers.specs.declared.snapshot.Snapshot.{Snapshot}
 use Rattle.lg_answers.specs.Meaning.MetricTable.{metrics, metric_amount, metric_help, metric_name, metric_type}
@@ -39,6 +39,7 @@ abbrev pub kind_word : StatusKind → List ℕ
 kind_word Alive = codes "alive"
 kind_word Suspect = codes "suspect"
 kind_word Failed = codes "failed"
+kind_word Left = codes "left"
 
 abbrev pub count_of_kind : StatusKind → List Claim → ℕ
 count_of_kind kind records = count_by (λ c. is_kind_of kind c.status) records

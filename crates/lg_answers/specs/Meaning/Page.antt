@@ -5,8 +5,9 @@ use Rattle.std.specs.List.{flat_map}
 use Rattle.lg_rules.specs.declared.addr.Addr.{Addr}
 use Rattle.lg_rules.specs.declared.claim.Claim.{Claim}
 use Rattle.lg_rules.specs.declared.claim.Status.{Status}
-use Rattle.lg_rules.specs.declared.claim.Status.TheVariants.{Alive, Suspect, Failed}
-use Rattle.lg_lines.specs.Meaning.Records.{dotted, status_text}
+use Rattle.lg_rules.specs.declared.claim.Status.TheVariants.{Alive, Suspect, Failed, Left}
+use Rattle.lg_text.specs.Meaning.Addresses.{addr_text}
+use Rattle.lg_lines.specs.Meaning.Records.{status_text}
 use Rattle.lg_answers.specs.declared.page.TheConstants.{PAGE_END, PAGE_FRONT, TABLE_FRONT}
 use Rattle.lg_answers.specs.declared.snapshot.Snapshot.{Snapshot}
 use Rattle.lg_answers.specs.Meaning.Bodies.{live_among}
@@ -61,12 +62,13 @@ unfoldable pub row_front : Claim → List ℕ
 row_front c = name_cells (status_text c.status) c.name ++ status_cells (status_text c.status) c.incarnation
 
 abbrev pub row_address : Addr → List ℕ
-row_address addr = dotted addr.octets ++ (codes ":" ++ (decimal addr.port ++ codes "<td>"))
+row_address addr = addr_text addr ++ codes "<td>"
 
 abbrev pub row_accuser : Status → List ℕ
 row_accuser Alive = []
 row_accuser (Suspect accuser) = accuser
 row_accuser Failed = []
+row_accuser Left = []
 
 unfoldable pub member_row : Claim → List ℕ
 member_row c = row_front c ++ row_address c.addr ++ row_accuser c.status ++ codes "</tr>\n"

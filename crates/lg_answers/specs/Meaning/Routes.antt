@@ -14,18 +14,19 @@ use Rattle.lg_answers.specs.declared.reason.RouteFault.TheVariants.{UnknownPath,
 use Rattle.lg_answers.specs.declared.route.Route.{Route}
 use Rattle.lg_answers.specs.declared.route.Route.TheVariants.{Page, Members, Member, Health, Changes, Config, Metrics}
 use Rattle.lg_answers.specs.declared.route.StatusKind.{StatusKind}
-use Rattle.lg_answers.specs.declared.route.StatusKind.TheVariants.{Alive, Suspect, Failed}
+use Rattle.lg_answers.specs.declared.route.StatusKind.TheVariants.{Alive, Suspect, Failed, Left}
 use Rattle.lg_answers.specs.Meaning.Places.{member_name, place_at}
 use Rattle.lg_answers.specs.Meaning.Queries.{changes_asked}
 
 -- the statuses without their accusers, and the queries that ask for members of one
 abbrev pub status_kinds : List StatusKind
-status_kinds = Alive ∷ Suspect ∷ Failed ∷ []
+status_kinds = Alive ∷ Suspect ∷ Failed ∷ Left ∷ []
 
 abbrev pub kind_query : StatusKind → List ℕ
 kind_query Alive = codes "status=alive"
 kind_query Suspect = codes "status=suspect"
 kind_query Failed = codes "status=failed"
+kind_query Left = codes "status=left"
 
 abbrev pub has_kind_query : List ℕ → StatusKind → Bool
 has_kind_query query kind = bytes_eq query (kind_query kind)
@@ -35,12 +36,19 @@ abbrev pub is_kind_of : StatusKind → Status → Bool
 is_kind_of Alive status.Alive = true
 is_kind_of Alive (status.Suspect accuser) = false
 is_kind_of Alive status.Failed = false
+is_kind_of Alive status.Left = false
 is_kind_of Suspect status.Alive = false
 is_kind_of Suspect (status.Suspect accuser) = true
 is_kind_of Suspect status.Failed = false
+is_kind_of Suspect status.Left = false
 is_kind_of Failed status.Alive = false
 is_kind_of Failed (status.Suspect accuser) = false
 is_kind_of Failed status.Failed = true
+is_kind_of Failed status.Left = false
+is_kind_of Left status.Alive = false
+is_kind_of Left (status.Suspect accuser) = false
+is_kind_of Left status.Failed = false
+is_kind_of Left status.Left = true
 
 -- the route of a path that takes no query
 abbrev pub plain_route : Route → List ℕ → Result Route RouteFault

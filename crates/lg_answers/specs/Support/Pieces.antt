@@ -2,7 +2,7 @@
 use Rattle.std.specs.Prelude.{ℕ, List, ◌++◌, codes, decimal}
 use Rattle.lg_rules.specs.declared.claim.Claim.{Claim}
 use Rattle.lg_rules.specs.declared.claim.Status.{Status}
-use Rattle.lg_rules.specs.declared.claim.Status.TheVariants.{Alive, Suspect, Failed}
+use Rattle.lg_rules.specs.declared.claim.Status.TheVariants.{Alive, Suspect, Failed, Left}
 use Rattle.lg_lines.specs.Meaning.Records.{status_text}
 use Rattle.lg_answers.specs.Meaning.Members.{behind_address}
 
@@ -19,6 +19,7 @@ abbrev pub accuser_end : Status → List ℕ
 accuser_end Alive = codes ",\"accuser\":null}"
 accuser_end (Suspect accuser) = codes ",\"accuser\":\"" ++ (accuser ++ codes "\"}")
 accuser_end Failed = codes ",\"accuser\":null}"
+accuser_end Left = codes ",\"accuser\":null}"
 
 -- what stands of a member behind {"name":"
 unfoldable pub behind_front : Claim → List ℕ

@@ -1,6 +1,7 @@
 -- Worked changes: b finds c, and then that a is suspected by c and that c has failed.
 use Rattle.std.specs.Prelude.{⊤, ◌≡◌, ℕ, List, [], ◌∷◌, Some, codes, refl}
 use Rattle.lg_rules.specs.declared.addr.Addr.{Addr}
+use Rattle.lg_rules.specs.declared.addr.Ip.TheVariants.{V4}
 use Rattle.lg_rules.specs.declared.claim.Claim.{Claim}
 use Rattle.lg_rules.specs.declared.claim.Status.{Status}
 use Rattle.lg_rules.specs.declared.claim.Status.TheVariants as status
@@ -13,7 +14,7 @@ unfolding changes_after
 by_changing = tt
 
 abbrev at : ℕ → Addr
-at port = record { octets = 127 ∷ 0 ∷ 0 ∷ 1 ∷ []; port = port }
+at port = record { ip = V4 (127 ∷ 0 ∷ 0 ∷ 1 ∷ []); port = port }
 
 abbrev claimed : List ℕ → ℕ → Status → ℕ → Claim
 claimed name port status i = record { name = name; addr = at port; status = status; incarnation = i }

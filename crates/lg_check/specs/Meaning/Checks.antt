@@ -10,7 +10,7 @@ use Rattle.lg_timing.specs.declared.keys.Key.{Key}
 use Rattle.lg_timing.specs.Meaning.Keys.{key_name, keys, number_of_key, row_of}
 use Rattle.lg_timing.specs.Meaning.Timeouts.{range_of, suspicion_of}
 use Rattle.lg_text.specs.Meaning.Lines.{newline}
-use Rattle.lg_lines.specs.Meaning.Records.{dotted}
+use Rattle.lg_text.specs.Meaning.Addresses.{ip_text}
 use Rattle.lg_config.specs.declared.node.NodeConfig.{NodeConfig}
 use Rattle.lg_config.specs.declared.node_keys.NodeKey.{NodeKey}
 use Rattle.lg_config.specs.Meaning.Bounds.{default_address, default_dice, default_port}
@@ -34,7 +34,7 @@ number_line key number usual = key_line key (decimal number) (number == usual)
 abbrev pub address_lines : Config → List ℕ
 address_lines c =
     key_line (codes "name") c.name false
-    ++ key_line (codes "address") (dotted c.addr.octets) (bytes_eq (dotted c.addr.octets) default_address)
+    ++ key_line (codes "address") (ip_text c.addr.ip) (bytes_eq (ip_text c.addr.ip) default_address)
 
 abbrev pub start_lines : NodeConfig → List ℕ
 start_lines node =

@@ -2,6 +2,7 @@
 use Rattle.std.specs.Prelude.{⊤, ◌≡◌, ℕ, true, false, List, [], ◌∷◌, None, Some, codes, refl}
 use Rattle.std.specs.Fmt.{digits}
 use Rattle.lg_rules.specs.declared.addr.Addr.{Addr}
+use Rattle.lg_rules.specs.declared.addr.Ip.TheVariants.{V4}
 use Rattle.lg_timing.specs.declared.config.Config.{Config}
 use Rattle.lg_timing.specs.declared.keys.Key.TheVariants.{IntervalMs, TimeoutMs}
 use Rattle.lg_timing.specs.Meaning.Config.{defaults}
@@ -19,7 +20,7 @@ unfolding digits log10_of ratio_of range_of timeout_of
 on_checks = tt
 
 abbrev addr_of : List ℕ → ℕ → Addr
-addr_of octets port = record { octets = octets; port = port }
+addr_of octets port = record { ip = V4 octets; port = port }
 
 -- the member b with the default numbers, at 127.0.0.1:7946
 abbrev b-by-default : Config

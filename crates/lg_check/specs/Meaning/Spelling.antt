@@ -3,9 +3,9 @@ use Rattle.std.specs.Prelude.{ℕ, Bool, true, false, List, [], ◌∷◌, ◌++
 use Rattle.std.specs.List.{flat_map}
 use Rattle.lg_rules.specs.declared.addr.Addr.{Addr}
 use Rattle.lg_timing.specs.declared.config.Seed.{Seed}
-use Rattle.lg_lines.specs.Meaning.Records.{addr_text}
+use Rattle.lg_text.specs.Meaning.Addresses.{addr_text}
 
--- NAME@A.B.C.D:PORT
+-- NAME@ADDRESS:PORT
 abbrev pub seed_spelled : Seed → List ℕ
 seed_spelled seed = seed.name ++ (codes "@" ++ addr_text seed.addr)
 
@@ -17,7 +17,7 @@ abbrev pub seeds_spelled : List Seed → List ℕ
 seeds_spelled [] = codes "none"
 seeds_spelled (seed ∷ seeds) = seed_spelled seed ++ flat_map next_seed seeds
 
--- where a status server listens, as A.B.C.D:PORT, or the word for no server
+-- where a status server listens, as ADDRESS:PORT, or the word for no server
 abbrev pub status_spelled : Option Addr → List ℕ
 status_spelled None = codes "none"
 status_spelled (Some addr) = addr_text addr

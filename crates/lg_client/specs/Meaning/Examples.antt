@@ -4,6 +4,7 @@ use Rattle.std.specs.Fmt.{digits}
 use Rattle.std.specs.List.{flat_map}
 use Rattle.std.specs.Str.{chars, is_utf8}
 use Rattle.serde_json.proofs.OnLiterals.{serde_json_on_literals}
+use Rattle.lg_text.specs.Meaning.AddressExamples.{on_addresses}
 use Rattle.lg_text.specs.Meaning.Cutting.{before, behind}
 use Rattle.lg_text.specs.Meaning.Lines.{newline}
 use Rattle.lg_text.specs.Meaning.Octets.{octets_of}
@@ -101,6 +102,12 @@ members-body =
     codes "{\"version\":41,\"moment_ms\":5120,\"name\":\"b\",\"members\":[{\"name\":\"a\",\"status\":\"suspect\","
     ++ codes "\"incarnation\":0,\"address\":\"127.0.0.1\",\"port\":7101,\"accuser\":\"c\"}]}"
 
+-- one that left, and is reached over IPv6
+abbrev left-body : List ℕ
+left-body =
+    codes "{\"version\":41,\"moment_ms\":5120,\"name\":\"b\",\"members\":[{\"name\":\"d\",\"status\":\"left\","
+    ++ codes "\"incarnation\":3,\"address\":\"2001:db8::1\",\"port\":7104,\"accuser\":null}]}"
+
 abbrev health-body : List ℕ
 health-body =
     codes "{\"name\":\"b\",\"score\":0,\"incarnation\":0,\"live\":3,\"known\":3,\"ousted\":false,"
@@ -119,6 +126,11 @@ tells-members : question_told Members false members-body
     ≡ Some record { text = codes "record a suspect 0 127.0.0.1:7101 by c" ++ newline; ousted = false }
 unfolding by_reading
 tells-members = refl
+
+tells-one-that-left : question_told Members false left-body
+    ≡ Some record { text = codes "record d left 3 [2001:db8::1]:7104" ++ newline; ousted = false }
+unfolding by_reading on_addresses
+tells-one-that-left = refl
 
 tells-health : question_told Health false health-body ≡ Some record {
   text = lines (codes "name b" ∷ codes "score 0" ∷ codes "incarnation 0" ∷ codes "live 3" ∷ codes "known 3"

@@ -7,21 +7,21 @@ use Rattle.serde_json.specs.Find.{as_null, get}
 use Rattle.lg_rules.specs.declared.addr.Addr.{Addr}
 use Rattle.lg_rules.specs.declared.claim.Claim.{Claim}
 use Rattle.lg_rules.specs.declared.claim.Status.{Status}
-use Rattle.lg_rules.specs.declared.claim.Status.TheVariants.{Alive, Failed, Suspect}
+use Rattle.lg_rules.specs.declared.claim.Status.TheVariants.{Alive, Failed, Left, Suspect}
 use Rattle.lg_rules.specs.Meaning.Bounds.{greatest_incarnation}
-use Rattle.lg_text.specs.Meaning.Octets.{octets_of}
+use Rattle.lg_text.specs.Meaning.IpReading.{ip_of}
 use Rattle.lg_text.specs.Meaning.Numbers.{port_among}
 use Rattle.lg_text.specs.Meaning.Steps.{◌>>=◌}
 use Rattle.lg_client.specs.Meaning.Fields.{each_read, name_at_key, natural_at_key, rows_at_key, text_at_key}
 
--- the address and the port of a member
+-- the address of a member, of IPv4 or IPv6, and its port
 unfoldable pub addr_said : Data → Option Addr
 addr_said member = do
   text ← text_at_key (codes "address") member
-  octets ← octets_of text
+  ip ← ip_of text
   number ← natural_at_key (codes "port") member
   port ← port_among number
-  Some record { octets = octets; port = port }
+  Some record { ip = ip; port = port }
 
 -- a status, if the member has no accuser
 abbrev pub plain_status : Status → Data → Option Status
@@ -39,6 +39,7 @@ standing_said word member =
     if bytes_eq word (codes "alive") then plain_status Alive member
     else if bytes_eq word (codes "suspect") then suspicion_said member
     else if bytes_eq word (codes "failed") then plain_status Failed member
+    else if bytes_eq word (codes "left") then plain_status Left member
     else None
 
 abbrev pub status_said : Data → Option Status

@@ -160,7 +160,7 @@ fn config(port: u16) -> Config
     ensures { IsChecked result }
 {
     let name = Name::new(b"b").unwrap_or_default();
-    Config::new(name, Addr::new([127, 0, 0, 1], port))
+    Config::new(name, Addr::v4([127, 0, 0, 1], port))
 }
 
 /// Changes the end of a node to that of each row. Gives the first row that isn't told of it.

@@ -2,6 +2,7 @@
 use Rattle.std.specs.Prelude.{ℕ, ◌+◌, Bool, ◌&&◌, List, [], ◌∷◌, ◌++◌, codes, decimal}
 use Rattle.std.specs.List.{flat_map, range_with_len}
 use Rattle.lg_rules.specs.declared.addr.Addr.{Addr}
+use Rattle.lg_rules.specs.declared.addr.Ip.TheVariants.{V4}
 use Rattle.lg_timing.specs.Meaning.TimeoutValue.{TimeoutValue}
 use Rattle.lg_timing.specs.Meaning.Timeouts.{range_of, timeout_of}
 use Rattle.lg_timing.specs.declared.config.Config.{Config}
@@ -21,7 +22,7 @@ are_good n =
     && (allows_number Beta n.beta && allows_number IntervalMs n.interval_ms)))
 
 abbrev pub no_addr : Addr
-no_addr = record { octets = 0 ∷ 0 ∷ 0 ∷ 0 ∷ []; port = 0 }
+no_addr = record { ip = V4 (0 ∷ 0 ∷ 0 ∷ 0 ∷ []); port = 0 }
 
 -- the configuration that has these numbers; no timeout depends on its other fields
 abbrev pub config_of : Numbers → Config

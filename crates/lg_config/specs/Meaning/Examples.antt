@@ -5,6 +5,7 @@ use Rattle.std.specs.List.{flat_map}
 use Rattle.std.specs.Str.{chars, is_utf8}
 use Rattle.toml.proofs.OnLiterals.{toml_on_literals}
 use Rattle.lg_rules.specs.declared.addr.Addr.{Addr}
+use Rattle.lg_rules.specs.declared.addr.Ip.TheVariants.{V4}
 use Rattle.lg_timing.specs.declared.config.Config.{Config}
 use Rattle.lg_timing.specs.declared.config.ConfigFault.TheVariants.{Interval, Lambda, History, Seeds, Wire}
 use Rattle.lg_timing.specs.Meaning.Config.{check_of, defaults}
@@ -32,7 +33,7 @@ b-with lines = codes "name = \"b\"\n" ++ lines
 
 -- 127.0.0.1 with a port
 abbrev local : ℕ → Addr
-local port = record { octets = 127 ∷ 0 ∷ 0 ∷ 1 ∷ []; port = port }
+local port = record { ip = V4 (127 ∷ 0 ∷ 0 ∷ 1 ∷ []); port = port }
 
 -- the member b with the default numbers
 abbrev b-by-default : Config
@@ -77,7 +78,7 @@ all-keys :
     answer_of (b-with (addressed ++ timed ++ counted ++ owned ++ served))
     ≡ Ok record {
       config =
-          record (defaults (98 ∷ []) (record { octets = 10 ∷ 0 ∷ 0 ∷ 7 ∷ []; port = 1 })) {
+          record (defaults (98 ∷ []) (record { ip = V4 (10 ∷ 0 ∷ 0 ∷ 7 ∷ []); port = 1 })) {
             interval_ms = 200;
             timeout_ms = 50;
             indirect = 0;
@@ -94,7 +95,7 @@ all-keys :
       dice = 9223372036854775807;
       pull_ms = 0;
       stall_ms = 60000;
-      status = Some record { octets = 10 ∷ 0 ∷ 0 ∷ 7 ∷ []; port = 8946 };
+      status = Some record { ip = V4 (10 ∷ 0 ∷ 0 ∷ 7 ∷ []); port = 8946 };
       status_open = true;
       key_file = None;
     }
@@ -263,14 +264,14 @@ on-loopback = refl
 
 all-of-127 :
     answer_of (b-with (codes "status = \"127.255.255.255:65535\"\nstatus_open = false"))
-    ≡ b-at (record { octets = 127 ∷ 255 ∷ 255 ∷ 255 ∷ []; port = 65535 }) false
+    ≡ b-at (record { ip = V4 (127 ∷ 255 ∷ 255 ∷ 255 ∷ []); port = 65535 }) false
 unfolding on_files
 all-of-127 = refl
 
 -- 0.0.0.0 stands for each address of the machine
 open-to-all :
     answer_of (b-with (codes "status = \"0.0.0.0:1\"\nstatus_open = true"))
-    ≡ b-at (record { octets = 0 ∷ 0 ∷ 0 ∷ 0 ∷ []; port = 1 }) true
+    ≡ b-at (record { ip = V4 (0 ∷ 0 ∷ 0 ∷ 0 ∷ []); port = 1 }) true
 unfolding on_files
 open-to-all = refl
 
@@ -396,7 +397,7 @@ unfolding on_texts
 empty-number = refl
 
 c-at-65535 : seed_of_text (codes "c@1.2.3.4:65535")
-    ≡ Some record { name = 99 ∷ []; addr = record { octets = 1 ∷ 2 ∷ 3 ∷ 4 ∷ []; port = 65535 } }
+    ≡ Some record { name = 99 ∷ []; addr = record { ip = V4 (1 ∷ 2 ∷ 3 ∷ 4 ∷ []); port = 65535 } }
 unfolding on_texts
 c-at-65535 = refl
 

@@ -4,6 +4,7 @@ use Rattle.std.specs.Prelude.{option_and_then, unwrap_or}
 use Rattle.std.specs.Option.{option_map}
 use Rattle.toml.specs.Data.{Data, Items, no_items, item, Members, get_member, as_str, as_integer, as_array}
 use Rattle.lg_rules.specs.declared.addr.Addr.{Addr}
+use Rattle.lg_rules.specs.declared.addr.Ip.TheVariants.{V4}
 use Rattle.lg_timing.specs.Meaning.Config.{defaults}
 use Rattle.lg_timing.specs.Meaning.Keys.{key_name, keys, number_of_key, with_number}
 use Rattle.lg_timing.specs.declared.config.Config.{Config}
@@ -72,7 +73,7 @@ unfoldable pub addr_in : Members → Option Addr
 addr_in members = do
   octets ← octets_of_member members
   port ← port_of_member members
-  Some record { octets = octets; port = port }
+  Some record { ip = V4 octets; port = port }
 
 -- a whole number, if it isn't negative
 abbrev pub unless_negative : ℤ → Option ℕ

@@ -1,10 +1,11 @@
 -- The status server of a node: the address at which it listens, and whether that may be one that isn't loopback (this
 -- project's choice). Its answers have no authentication, so a file has to allow such an address.
-use Rattle.std.specs.Prelude.{ℕ, Bool, true, false, ◌||◌, ◌==◌, List, [], ◌∷◌}
+use Rattle.std.specs.Prelude.{ℕ, Bool, true, false, ◌||◌, List}
 use Rattle.std.specs.Prelude.{Option, Some, None, ok_or, option_and_then, Result, Ok, Err, if◌then◌else◌}
 use Rattle.std.specs.Option.{option_map}
 use Rattle.toml.specs.Data.{Data, Members, get_member, as_str, as_bool}
 use Rattle.lg_rules.specs.declared.addr.Addr.{Addr}
+use Rattle.lg_rules.specs.Meaning.Addr.{is_loopback}
 use Rattle.lg_config.specs.declared.fault.FileFault.{FileFault}
 use Rattle.lg_config.specs.declared.fault.FileFault.TheVariants as fault
 use Rattle.lg_config.specs.declared.node.NodeConfig.{NodeConfig}
@@ -32,19 +33,10 @@ status_addr_in members = status_addr_of (get_member status_key members)
 abbrev pub open_in : Members → Result Bool FileFault
 open_in members = open_of (get_member open_key members)
 
--- whether an address is loopback: the first of its four numbers is 127, so it is one of 127.0.0.0/8, and no other
--- machine reaches it (RFC 1122, section 3.2.1.3)
-abbrev pub begins_with_127 : List ℕ → Bool
-begins_with_127 [] = false
-begins_with_127 (first ∷ others) = first == 127
-
-abbrev pub is_loopback : Addr → Bool
-is_loopback addr = begins_with_127 addr.octets
-
 -- whether a server may listen there, by whether it may listen at an address that isn't loopback
 abbrev pub may_listen : Option Addr → Bool → Bool
 may_listen None is_open = true
-may_listen (Some addr) is_open = is_open || is_loopback addr
+may_listen (Some addr) is_open = is_open || is_loopback addr.ip
 
 -- Settings with what their document says of the server. Or the first fault: that of its address, that of whether this
 -- may be one that isn't loopback, or that the server may not listen there.

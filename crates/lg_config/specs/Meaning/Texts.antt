@@ -3,6 +3,7 @@
 -- and `port_of` of `lg_text`.
 use Rattle.std.specs.Prelude.{ℕ, List, Option, Some}
 use Rattle.lg_rules.specs.declared.addr.Addr.{Addr}
+use Rattle.lg_rules.specs.declared.addr.Ip.TheVariants.{V4}
 use Rattle.lg_timing.specs.declared.config.Seed.{Seed}
 use Rattle.lg_text.specs.Meaning.Cutting.{colon}
 use Rattle.lg_text.specs.Meaning.Numbers.{port_of}
@@ -22,7 +23,7 @@ address_of text = do
   octets ← octets_of (before colon text)
   rest ← behind colon text
   port ← port_of rest
-  Some record { octets = octets; port = port }
+  Some record { ip = V4 octets; port = port }
 
 -- a seed, cut at its first `@`: a name stands before it, and an address with its port after it
 unfoldable pub seed_of_text : List ℕ → Option Seed

@@ -19,7 +19,7 @@ ask now log = come now log
 abbrev pub status : List ℕ → Log → Answer
 status name log = Status (row_at name_cmp name_of name (group_view (group_log log)))
 
--- or the score, this member's incarnation, and how many members haven't failed
+-- or the score, this member's incarnation, and how many members aren't gone
 abbrev pub health : Log → Answer
 health log =
     let members = group_log log in

@@ -3,6 +3,7 @@
 use Rattle.std.specs.Prelude.{◌≡◌, ℕ, Bool, true, false, List, [], ◌∷◌, Some, None, reverse, refl}
 use Rattle.std.specs.Fmt.{digits}
 use Rattle.lg_rules.specs.declared.addr.Addr.{Addr}
+use Rattle.lg_rules.specs.declared.addr.Ip.TheVariants.{V4}
 use Rattle.lg_rules.specs.declared.claim.Claim.{Claim}
 use Rattle.lg_rules.specs.declared.claim.Status.{Status}
 use Rattle.lg_rules.specs.declared.claim.Status.TheVariants.{Alive, Suspect, Failed}
@@ -63,7 +64,7 @@ abbrev pub z : ℕ
 z = 122
 
 abbrev pub at : ℕ → Addr
-at port = record { octets = 127 ∷ 0 ∷ 0 ∷ 1 ∷ []; port = port }
+at port = record { ip = V4 (127 ∷ 0 ∷ 0 ∷ 1 ∷ []); port = port }
 
 -- claims about the member with a name of one letter
 abbrev pub on : ℕ → Status → ℕ → Claim

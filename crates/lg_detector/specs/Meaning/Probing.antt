@@ -17,7 +17,7 @@ abbrev pub is_round_start : TimerId → Bool
 is_round_start RoundStart = true
 is_round_start _ = false
 
--- the members that may be probed or asked to help: the others that haven't failed, in the order of names
+-- the members that may be probed or asked to help: the others that aren't gone, in the order of names
 abbrev pub others : Log → List (List ℕ)
 others log = group.live_others (group_log log)
 

@@ -118,7 +118,7 @@ unfolding by_computing
 a_new_cycle_begins = refl
 
 -- The stretch in which these three rounds start: its targets, of which any three must include both names; and that
--- both names are the others that haven't failed throughout it.
+-- both names are the others that aren't gone throughout it.
 abbrev three_starts : Log
 three_starts = started 5 (started 6 (started 0 []))
 

@@ -5,7 +5,7 @@ use Rattle.std.specs.List.{filter_map}
 use Rattle.lg_rules.specs.declared.addr.Addr.{Addr}
 use Rattle.lg_rules.specs.declared.claim.Claim.{Claim}
 use Rattle.lg_rules.specs.declared.claim.Status.{Status}
-use Rattle.lg_rules.specs.declared.claim.Status.TheVariants.{Suspect, Failed}
+use Rattle.lg_rules.specs.declared.claim.Status.TheVariants.{Suspect, Failed, Left}
 use Rattle.lg_rules.specs.Meaning.Claim.{name_of}
 use Rattle.lg_rules.specs.Meaning.Rows.{name_cmp, row_at}
 use Rattle.lg_packet.specs.declared.packet.Body.TheVariants.{Ping, PingReq, Nack}
@@ -32,13 +32,14 @@ found m rows = row_at name_cmp name_of m rows
 
 -- The claims that a timer makes when it fires, at the incarnation and the address of a record. A member whose
 -- suspicion runs out has failed (SWIM, section 4.2). If a round ends without an Ack that counts, this member suspects
--- its target, unless that has failed already.
+-- its target, unless that is gone already.
 abbrev pub failed_of : Option Claim → List Claim
 failed_of None = []
 failed_of (Some r) = record { name = r.name; addr = r.addr; status = Failed; incarnation = r.incarnation } ∷ []
 
 abbrev pub accusation : List ℕ → Status → Claim → List Claim
 accusation me Failed r = []
+accusation me Left r = []
 accusation me _ r =
     record { name = r.name; addr = r.addr; status = Suspect me; incarnation = r.incarnation } ∷ []
 

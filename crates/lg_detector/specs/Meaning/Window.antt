@@ -13,7 +13,7 @@ targets (Fired timer words ∷ stretch) log =
     else targets stretch log
 targets (_ ∷ stretch) log = targets stretch log
 
--- throughout the stretch, these names are the others that haven't failed
+-- throughout the stretch, these names are the others that aren't gone
 abbrev pub AreOthers : List (List ℕ) → Log → Log → Type 0
 AreOthers names [] log = others log ≡ names
 AreOthers names (fact ∷ stretch) log = (others (fact ∷ stretch ++ log) ≡ names) × AreOthers names stretch log

@@ -39,7 +39,7 @@ impl Detector {
         self.come(now);
     }
 
-    /// The health score, this member's incarnation, and how many members haven't failed.
+    /// The health score, this member's incarnation, and how many members aren't gone.
     fn health(&self) -> Answer
         ensures { result ≡ health_state self.now }
     {

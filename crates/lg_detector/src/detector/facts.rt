@@ -55,7 +55,7 @@ fn mark_if(score: &mut Score, refuted: bool)
     }
 }
 
-/// Makes the order of probing follow a member's presence among those that haven't failed: the member joins the order,
+/// Makes the order of probing follow a member's presence among those that aren't gone: the member joins the order,
 /// leaves it, or neither.
 fn reorder(order: &mut Order, member: &Name, presence: Presence)
     requires { (presence ≡ Joins) → length (put_key name_cmp member.now (known_names order.old)) ≤ MAX_OTHERS }

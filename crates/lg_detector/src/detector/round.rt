@@ -219,7 +219,7 @@ fn request(number: u32, target: &Record, helper: &Record) -> Message
     }
 }
 
-/// The claim that this member suspects another one, unless that one has failed.
+/// The claim that this member suspects another one, unless that one is gone.
 fn accusation(me: &Name, current: &Record) -> Option<Claim>
     ensures { option_to_list result ≡ accusation me.now current.now.status current.now }
 {
@@ -228,7 +228,7 @@ fn accusation(me: &Name, current: &Record) -> Option<Claim>
             status: Status::Suspect(*me),
             ..*current
         }),
-        Status::Failed => None,
+        Status::Failed | Status::Left => None,
     }
 }
 

@@ -30,7 +30,7 @@ const fn with_c(record: Said) -> [Said; 5] {
     ]
 }
 
-/// How many members haven't failed, and the next deadline once a round has started at 40,000, for each number of
+/// How many members aren't gone, and the next deadline once a round has started at 40,000, for each number of
 /// claims that came. A suspicion that was raised at 2000 lasts until 32,000. If there is none, helpers are asked at
 /// 40,500.
 const AFTER: [(u64, u64); 5] = [

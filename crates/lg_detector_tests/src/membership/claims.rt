@@ -211,7 +211,7 @@ const SUSPICIONS: &[Case] = &[
     ),
 ];
 
-/// A member joins those that haven't failed, and leaves them. At a greater incarnation it joins them again.
+/// A member joins those that aren't gone, and leaves them. At a greater incarnation it joins them again.
 const PLACES: Case = (
     "joining and leaving",
     &[

@@ -18,7 +18,7 @@ pub(super) enum Step {
     /// The group says a claim at a moment. This is what the claim does.
     Hears(u64, Said, Did),
     /// The group says a claim at a moment. This is what becomes of its member's presence, and how many members
-    /// haven't failed then.
+    /// aren't gone then.
     Places(u64, Said, Presence, usize),
     /// The group says a claim at a moment.
     Says(u64, Said),
@@ -26,7 +26,7 @@ pub(super) enum Step {
     Sends(&'static [Said]),
     /// The claims of the next packet, a Ping to a member.
     Pings(Member, &'static [Said]),
-    /// How many members haven't failed.
+    /// How many members aren't gone.
     Live(usize),
     /// This member's incarnation.
     Number(u32),
@@ -75,7 +75,7 @@ pub(super) const CHANGED: Did = Did {
     ..NOTHING
 };
 
-/// It let a member join those that haven't failed.
+/// It let a member join those that aren't gone.
 pub(super) const JOINED: Did = Did {
     changed: true,
     presence: Presence::Joins,

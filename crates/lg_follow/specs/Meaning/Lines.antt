@@ -6,7 +6,7 @@ use Rattle.lg_changes.specs.declared.change.Change.{Change}
 use Rattle.lg_text.specs.Meaning.Lines.{newline}
 use Rattle.lg_lines.specs.Meaning.Records.{blank, record_line}
 
--- the line of a record that was told at this moment: MS record NAME STATUS INCARNATION A.B.C.D:PORT
+-- the line of a record that was told at this moment: MS record NAME STATUS INCARNATION ADDRESS:PORT
 abbrev pub told_line : ℕ → Claim → List ℕ
 told_line moment c = decimal moment ++ blank ++ record_line c
 

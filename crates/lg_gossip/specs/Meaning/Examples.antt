@@ -1,6 +1,7 @@
 -- Worked rows: what is queued, and what packets take.
 use Rattle.std.specs.Prelude.{◌≡◌, ℕ, List, [], ◌∷◌, ◌++◌, Some, None, refl}
 use Rattle.lg_rules.specs.declared.addr.Addr.{Addr}
+use Rattle.lg_rules.specs.declared.addr.Ip.TheVariants.{V4}
 use Rattle.lg_rules.specs.declared.claim.Claim.{Claim}
 use Rattle.lg_rules.specs.declared.claim.Status.{Status}
 use Rattle.lg_rules.specs.declared.claim.Status.TheVariants.{Alive, Suspect}
@@ -11,7 +12,7 @@ use Rattle.std.specs.Fmt.{digits}
 -- a claim about the member with a name of one letter
 abbrev on : ℕ → Status → ℕ → Claim
 on letter status i =
-    let addr : Addr = record { octets = 127 ∷ 0 ∷ 0 ∷ 1 ∷ []; port = 7000 } in
+    let addr : Addr = record { ip = V4 (127 ∷ 0 ∷ 0 ∷ 1 ∷ []); port = 7000 } in
     record { name = letter ∷ []; addr = addr; status = status; incarnation = i }
 
 abbrev suspect-c : Claim

@@ -3,7 +3,7 @@
 -- A packet that takes claims has at most 6. If it pings a member whose record is Suspect, it begins with that record,
 -- its buddy. The buddy takes one of the 6 places, and doesn't count as sent. The other claims are from the queue, and
 -- none of them is about the buddy's member. They are claims that were sent fewer times than the retransmit limit:
--- lambda times for each decimal digit of the number of live members, which are those that haven't failed, this member
+-- lambda times for each decimal digit of the number of live members, which are those that aren't gone, this member
 -- included. Claims sent least often come first, and of those sent equally often the one about the lesser name by its
 -- bytes. Each claim that is taken counts as sent once more, and stays in the queue. A claim that is put replaces the
 -- one about its member, and has no sends. Lambda is set by the configuration, 4 by default.
@@ -14,7 +14,7 @@ use Rattle.std.specs.Option.{option_to_list}
 use Rattle.std.specs.Ordering.{is_lt}
 use Rattle.lg_rules.specs.declared.claim.Claim.{Claim}
 use Rattle.lg_rules.specs.declared.claim.Status.{Status}
-use Rattle.lg_rules.specs.declared.claim.Status.TheVariants.{Alive, Suspect, Failed}
+use Rattle.lg_rules.specs.declared.claim.Status.TheVariants.{Alive, Suspect, Failed, Left}
 use Rattle.lg_rules.specs.Meaning.Bounds.{most_claims}
 use Rattle.lg_rules.specs.Meaning.Claim.{name_of}
 use Rattle.lg_rules.specs.Meaning.Rows.{name_cmp, is_same, is_among, put_row}
@@ -68,6 +68,7 @@ abbrev pub is_suspect : Status → Bool
 is_suspect Alive = false
 is_suspect (Suspect accuser) = true
 is_suspect Failed = false
+is_suspect Left = false
 
 -- The buddy of a packet is the record of the member that it pings, if that record is Suspect.
 abbrev pub buddy_of : Option Claim → Option Claim

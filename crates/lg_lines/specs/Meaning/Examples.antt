@@ -6,7 +6,7 @@ use Rattle.std.specs.List.{flat_map}
 use Rattle.hex.proofs.OnLiterals.{hex_on_literals}
 use Rattle.lg_rules.specs.declared.claim.Claim.{Claim}
 use Rattle.lg_rules.specs.declared.claim.Status.{Status}
-use Rattle.lg_rules.specs.declared.claim.Status.TheVariants.{Alive, Suspect, Failed}
+use Rattle.lg_rules.specs.declared.claim.Status.TheVariants.{Alive, Suspect, Failed, Left}
 use Rattle.lg_timers.specs.declared.timer.TimerId.{TimerId}
 use Rattle.lg_timers.specs.declared.timer.TimerId.TheVariants.{RoundEnd, Suspicion, Direct}
 use Rattle.lg_timers.specs.declared.timer.TimerId.TheVariants.{RelayNack, RelayEnd, RoundStart}
@@ -207,3 +207,7 @@ three_records : table_text
     ∷ codes "record c failed 1000000000 127.0.0.1:7003" ∷ [])
 unfolding by_computing
 three_records = refl
+
+one_that_left : table_text (claimed c 7003 Left 4 ∷ []) ≡ lines (codes "record c left 4 127.0.0.1:7003" ∷ [])
+unfolding by_computing
+one_that_left = refl

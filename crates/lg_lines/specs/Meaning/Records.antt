@@ -1,36 +1,29 @@
 -- Records as text.
 use Rattle.std.specs.Prelude.{ℕ, List, [], ◌∷◌, ◌++◌, codes, decimal}
 use Rattle.std.specs.List.{flat_map}
-use Rattle.lg_rules.specs.declared.addr.Addr.{Addr}
 use Rattle.lg_rules.specs.declared.claim.Claim.{Claim}
 use Rattle.lg_rules.specs.declared.claim.Status.{Status}
-use Rattle.lg_rules.specs.declared.claim.Status.TheVariants.{Alive, Suspect, Failed}
+use Rattle.lg_rules.specs.declared.claim.Status.TheVariants.{Alive, Suspect, Failed, Left}
+use Rattle.lg_text.specs.Meaning.Addresses.{addr_text}
 use Rattle.lg_text.specs.Meaning.Lines.{newline}
 
 abbrev pub blank : List ℕ
 blank = 32 ∷ []
 
--- numbers in decimal, with dots between them
-abbrev pub dotted : List ℕ → List ℕ
-dotted [] = []
-dotted (n ∷ ns) = decimal n ++ flat_map (λ m. codes "." ++ decimal m) ns
-
--- A.B.C.D:PORT
-abbrev pub addr_text : Addr → List ℕ
-addr_text addr = dotted addr.octets ++ codes ":" ++ decimal addr.port
-
 abbrev pub status_text : Status → List ℕ
 status_text Alive = codes "alive"
 status_text (Suspect accuser) = codes "suspect"
 status_text Failed = codes "failed"
+status_text Left = codes "left"
 
 -- the accuser of a suspect
 abbrev pub accuser_text : Status → List ℕ
 accuser_text Alive = []
 accuser_text (Suspect accuser) = codes " by " ++ accuser
 accuser_text Failed = []
+accuser_text Left = []
 
--- NAME STATUS INCARNATION A.B.C.D:PORT, and ` by ACCUSER` at the end if the member is suspected
+-- NAME STATUS INCARNATION ADDRESS:PORT, and ` by ACCUSER` at the end if the member is suspected
 abbrev pub record_text : Claim → List ℕ
 record_text c =
     c.name ++ blank ++ status_text c.status ++ blank ++ decimal c.incarnation ++ blank ++ addr_text c.addr

@@ -15,7 +15,8 @@ use Rattle.lg_detector.specs.declared.reply.Answer.TheVariants.{Status as OfStat
 use Rattle.lg_detector.specs.declared.reply.Outgoing.{Outgoing}
 use Rattle.lg_detector.specs.declared.reply.Reply.{Reply}
 use Rattle.lg_text.specs.Meaning.Lines.{newline}
-use Rattle.lg_lines.specs.Meaning.Records.{addr_text, blank, record_text, table_text}
+use Rattle.lg_text.specs.Meaning.Addresses.{addr_text}
+use Rattle.lg_lines.specs.Meaning.Records.{blank, record_text, table_text}
 
 -- the word for the kind of a timer
 abbrev pub kind_text : TimerId → List ℕ
@@ -49,7 +50,7 @@ fired_text (Ask now name) fired = []
 fired_text (Health now) fired = []
 fired_text (Pull now peer) fired = []
 
--- the health score, this member's incarnation, and how many members haven't failed
+-- the health score, this member's incarnation, and how many members aren't gone
 abbrev pub health_text : ℕ → ℕ → ℕ → List ℕ
 health_text score number members =
     codes "score " ++ decimal score ++ codes " number " ++ decimal number ++ codes " members " ++ decimal members

@@ -4,9 +4,7 @@ use Rattle.std.specs.Prelude.{List, [], ◌∷◌, ◌++◌, length, map, drop, 
 use Rattle.std.specs.List.{flat_map, list_all}
 use Rattle.lg_rules.specs.declared.addr.Addr.{Addr}
 use Rattle.lg_rules.specs.declared.claim.Claim.{Claim}
-use Rattle.lg_rules.specs.declared.claim.Status.{Status}
-use Rattle.lg_rules.specs.declared.claim.Status.TheVariants.{Failed}
-use Rattle.lg_rules.specs.Meaning.Claim.{name_of}
+use Rattle.lg_rules.specs.Meaning.Claim.{is_gone, name_of}
 use Rattle.lg_rules.specs.Meaning.Rows.{name_cmp, without_row}
 use Rattle.lg_timing.specs.declared.config.Config.{Config}
 use Rattle.lg_timing.specs.declared.config.Seed.{Seed}
@@ -40,19 +38,16 @@ plan_of config pull_ms until =
 abbrev pub addrs : List Seed → List Addr
 addrs seeds = map (λ s. s.addr) seeds
 
--- the records of the others, failed ones too
+-- the records of the others, those of members that are gone too
 abbrev pub others_of : List ℕ → List Claim → List Claim
 others_of own records = without_row name_cmp name_of own records
 
--- whether each of them has failed
-abbrev pub has_failed : Claim → Bool
-has_failed claim = is_failed claim.status where
-  is_failed : Status → Bool
-  is_failed Failed = true
-  is_failed _ = false
+-- whether each of them is gone
+abbrev pub has_gone : Claim → Bool
+has_gone claim = is_gone claim.status
 
 abbrev pub is_alone : List ℕ → List Claim → Bool
-is_alone own records = list_all has_failed (others_of own records)
+is_alone own records = list_all has_gone (others_of own records)
 
 -- the moment of a look whether the seeds are to be asked
 abbrev pub looks_in : Turn → List ℕ

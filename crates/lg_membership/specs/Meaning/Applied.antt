@@ -43,7 +43,7 @@ IsDeadlineChange before after Stays = after ≡ before
 IsDeadlineChange before after Ends = (before ≢ None) × (after ≡ None)
 IsDeadlineChange before after (Stands deadline) = option_map (λ r. deadline_of r.suspicion) after ≡ Some deadline
 
--- whether a member is among the others that haven't failed
+-- whether a member is among the others that aren't gone
 abbrev pub is_live : GroupLog → List ℕ → Bool
 is_live log m = is_among name_cmp m (live_others log)
 
@@ -58,7 +58,7 @@ presence_of true false = Leaves
 --     changed     the record of its member, if it changes that
 --     refuted     whether it is a suspicion of this member, and this member refutes it
 --     deadline    what becomes of the deadline of its member's suspicion
---     presence    whether its member joins the others that haven't failed, or leaves them
+--     presence    whether its member joins the others that aren't gone, or leaves them
 pub record IsApplied (now : ℕ) (origin : Origin) (c : Claim) (log : GroupLog) (applied : Applied) : Type 0 where
   pub changed : (let after = Said now origin c ∷ log in
       IsRecordChange (record_in log c.name) (record_in after c.name) applied.changed)

@@ -2,6 +2,7 @@
 use Rattle.std.specs.Prelude.{◌≡◌, ℕ, false, List, [], ◌∷◌, map, Option, Some, None, refl}
 use Rattle.std.specs.Fmt.{digits}
 use Rattle.lg_rules.specs.declared.addr.Addr.{Addr}
+use Rattle.lg_rules.specs.declared.addr.Ip.TheVariants.{V4}
 use Rattle.lg_rules.specs.declared.claim.Claim.{Claim}
 use Rattle.lg_rules.specs.declared.claim.Status.{Status}
 use Rattle.lg_rules.specs.declared.claim.Status.TheVariants.{Alive, Suspect, Failed}
@@ -41,7 +42,7 @@ abbrev e : ℕ
 e = 101
 
 abbrev here : Addr
-here = record { octets = 127 ∷ 0 ∷ 0 ∷ 1 ∷ []; port = 7000 }
+here = record { ip = V4 (127 ∷ 0 ∷ 0 ∷ 1 ∷ []); port = 7000 }
 
 abbrev accused_by : ℕ → Status
 accused_by letter = Suspect (letter ∷ [])
@@ -124,7 +125,7 @@ four_live : live (says 2000 (on c Failed 0) ∷ others) ≡ 4
 unfolding table_of record_of roster
 four_live = refl
 
--- a joins the others that haven't failed, and stays among them while it is suspected. When it fails it leaves them. It
+-- a joins the others that aren't gone, and stays among them while it is suspected. When it fails it leaves them. It
 -- joins them again when it is alive at a greater incarnation.
 abbrev begun : GroupLog
 begun = opened ∷ []

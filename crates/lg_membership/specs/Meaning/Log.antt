@@ -1,10 +1,11 @@
 -- What a member hears of its group, as facts, and what follows from them.
 use Rattle.std.specs.Prelude.{ℕ, not, List, [], ◌∷◌, map, filter, Option, Some, None}
 use Rattle.lg_rules.specs.declared.addr.Addr.{Addr}
+use Rattle.lg_rules.specs.declared.addr.Ip.TheVariants.{V4}
 use Rattle.lg_rules.specs.declared.claim.Claim.{Claim}
-use Rattle.lg_rules.specs.Meaning.Claim.{name_of}
+use Rattle.lg_rules.specs.Meaning.Claim.{is_gone, name_of}
 use Rattle.lg_rules.specs.Meaning.Rows.{name_cmp, put_key}
-use Rattle.lg_rules.specs.Meaning.Table.{roster, table_of, is_failed, live_in}
+use Rattle.lg_rules.specs.Meaning.Table.{roster, table_of, live_in}
 use Rattle.lg_rules.specs.Meaning.Own.{OwnValue, own_of, own_record}
 use Rattle.lg_rules.specs.Meaning.View.{view_of}
 use Rattle.lg_timing.specs.declared.config.Config.{Config}
@@ -39,7 +40,7 @@ opening_name None = 97 ∷ []
 opening_name (Some opening) = opening.name
 
 abbrev pub opening_addr : Option Config → Addr
-opening_addr None = record { octets = 0 ∷ 0 ∷ 0 ∷ 0 ∷ []; port = 0 }
+opening_addr None = record { ip = V4 (0 ∷ 0 ∷ 0 ∷ 0 ∷ []); port = 0 }
 opening_addr (Some opening) = opening.addr
 
 abbrev pub me : GroupLog → List ℕ
@@ -53,15 +54,15 @@ own log = own_of (me log) (opening_addr (config log)) (said log)
 abbrev pub table : GroupLog → List Claim
 table log = table_of (me log) (said log)
 
--- how many members haven't failed, this member included (n)
+-- how many members aren't gone, this member included (n)
 abbrev pub live : GroupLog → ℕ
 live log = live_in (table log)
 
--- of some records, the names of the members that haven't failed
+-- of some records, the names of the members that aren't gone
 abbrev pub live_names : List Claim → List (List ℕ)
-live_names rows = map name_of (filter (λ r. not (is_failed r.status)) rows)
+live_names rows = map name_of (filter (λ r. not (is_gone r.status)) rows)
 
--- the others that haven't failed, in the order of names
+-- the others that aren't gone, in the order of names
 abbrev pub live_others : GroupLog → List (List ℕ)
 live_others log = live_names (table log)
 

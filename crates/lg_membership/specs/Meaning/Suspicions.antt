@@ -42,7 +42,7 @@ said_at (Said now origin c ∷ log) = now
 said_at _ = 0
 
 -- The suspicion that the first such claim raises, at its moment. Its timeouts are those for the number of members
--- that haven't failed once the claim was taken. Its accusers are all who accuse the member at this incarnation.
+-- that aren't gone once the claim was taken. Its accusers are all who accuse the member at this incarnation.
 abbrev pub suspicion_since : Config → List ℕ → List (List ℕ) → Option GroupLog → Option SuspectedValue
 suspicion_since opening m accusers None = None
 suspicion_since opening m accusers (Some front) =

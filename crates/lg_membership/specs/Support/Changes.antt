@@ -1,11 +1,11 @@
--- What a claim about another member changes of the suspicions and of those that haven't failed, by the values before
+-- What a claim about another member changes of the suspicions and of those that aren't gone, by the values before
 -- it.
 use Rattle.std.specs.Ordering.{nat_cmp}
 use Rattle.std.specs.Prelude.{◌≡◌, ℕ, Bool, true, false, List, []}
 use Rattle.std.specs.Prelude.{◌∷◌, Option, Some, None, if◌then◌else◌}
 use Rattle.lg_rules.specs.declared.claim.Claim.{Claim}
 use Rattle.lg_rules.specs.declared.claim.Status.{Status}
-use Rattle.lg_rules.specs.declared.claim.Status.TheVariants.{Alive, Suspect, Failed}
+use Rattle.lg_rules.specs.declared.claim.Status.TheVariants.{Alive, Suspect, Failed, Left}
 use Rattle.lg_rules.specs.declared.members.Heard.{Heard}
 use Rattle.lg_rules.specs.declared.members.Heard.TheVariants.{Overrode, Accused}
 use Rattle.lg_rules.specs.Meaning.Claim.{accuser_of}
@@ -43,6 +43,7 @@ abbrev pub overriding : Option Config → ℕ → ℕ → List ℕ → Option Su
 overriding opened now n m row Alive = ended m row
 overriding opened now n m row (Suspect accuser) = raised opened now n m accuser
 overriding opened now n m row Failed = ended m row
+overriding opened now n m row Left = ended m row
 
 -- a suspicion with one more accuser, if that one counts
 abbrev pub joined : List ℕ → SuspectedValue → SuspectedValue
@@ -98,7 +99,7 @@ abbrev pub is_override : Heard → Bool
 is_override Overrode = true
 is_override _ = false
 
--- whether the claim's member joins those that haven't failed, or leaves them; and the same by how many haven't failed
+-- whether the claim's member joins those that aren't gone, or leaves them; and the same by how many aren't gone
 -- before the claim and after it
 abbrev pub presence_heard : List Claim → Claim → Presence
 presence_heard table c =
@@ -107,7 +108,7 @@ presence_heard table c =
 abbrev pub presence_by : ℕ → ℕ → Presence
 presence_by before after = by_order (nat_cmp after before) Leaves Remains Joins
 
--- the members that haven't failed once that happened
+-- the members that aren't gone once that happened
 abbrev pub live_after : Presence → List ℕ → List (List ℕ) → List (List ℕ)
 live_after Remains m names = names
 live_after Joins m names = put_key name_cmp m names

@@ -51,7 +51,7 @@ open_group opening s = record {
 abbrev pub standing : GroupState → Standing
 standing s = record { own = s.own; table = s.members.table }
 
--- the others that haven't failed
+-- the others that aren't gone
 abbrev pub live_others_in : GroupState → List (List ℕ)
 live_others_in s = live_names s.members.table
 

@@ -56,7 +56,7 @@ impl Membership {
         self.own.ousted()
     }
 
-    /// How many members haven't failed, this member included: 1 to 256.
+    /// How many members aren't gone, this member included: 1 to 256.
     pub fn live(&self) -> usize
         ensures count { result ≡ live_in self.now.members.table }
         ensures few { result ≤ MAX_MEMBERS }

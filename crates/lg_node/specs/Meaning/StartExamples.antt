@@ -1,5 +1,6 @@
 -- Worked stalls, waits and hosts.
 use Rattle.std.specs.Prelude.{◌≡◌, [], ◌∷◌, Some, refl}
+use Rattle.lg_rules.specs.declared.addr.Ip.TheVariants.{V4}
 use Rattle.lg_http.specs.declared.hosts.Hosts.TheVariants.{Any, Local}
 use Rattle.lg_node.specs.Meaning.Starts.{hosts_of, stall_of, turn_wait}
 
@@ -43,8 +44,8 @@ a_long_stall : turn_wait 200 1000 ≡ 20
 a_long_stall = refl
 
 -- on loopback a page of another name is answered nothing
-on_loopback : hosts_of (Some record { octets = 127 ∷ 0 ∷ 0 ∷ 2 ∷ []; port = 8946 }) ≡ Local
+on_loopback : hosts_of (Some record { ip = V4 (127 ∷ 0 ∷ 0 ∷ 2 ∷ []); port = 8946 }) ≡ Local
 on_loopback = refl
 
-for_all : hosts_of (Some record { octets = 0 ∷ 0 ∷ 0 ∷ 0 ∷ []; port = 8946 }) ≡ Any
+for_all : hosts_of (Some record { ip = V4 (0 ∷ 0 ∷ 0 ∷ 0 ∷ []); port = 8946 }) ≡ Any
 for_all = refl

@@ -3,6 +3,7 @@
 use Rattle.std.specs.Prelude.{◌≡◌, ℕ, ◌/◌, ◌==◌, min, max, if◌then◌else◌, codes}
 use Rattle.std.specs.Prelude.{List, [], ◌∷◌, map, Option, Some, None, Bool, false}
 use Rattle.lg_rules.specs.declared.addr.Addr.{Addr}
+use Rattle.lg_rules.specs.Meaning.Addr.{is_loopback}
 use Rattle.lg_timing.specs.declared.config.Config.{Config}
 use Rattle.lg_http.specs.declared.hosts.Hosts.{Hosts}
 use Rattle.lg_http.specs.declared.hosts.Hosts.TheVariants.{Any, Local}
@@ -24,15 +25,10 @@ tenth_of timeout_ms = max 5 (min (timeout_ms / 10) 50)
 abbrev pub turn_wait : (timeout_ms stall : ℕ) → ℕ
 turn_wait timeout_ms stall = if stall == 0 then tenth_of timeout_ms else min (tenth_of timeout_ms) (stall / 2)
 
--- whether the first of some bytes is this one
-abbrev pub begins_with : List ℕ → ℕ → Bool
-begins_with [] byte = false
-begins_with (first ∷ rest) byte = first == byte
-
 -- The hosts that a status server at this address answers to: if it is a loopback address, addresses and `localhost`
 -- alone, so that no page of another name can read the answers in a browser on this machine.
 abbrev pub hosts_at : Addr → Hosts
-hosts_at addr = if begins_with addr.octets 127 then Local else Any
+hosts_at addr = if is_loopback addr.ip then Local else Any
 
 abbrev pub hosts_of : Option Addr → Hosts
 hosts_of None = Any

@@ -3,7 +3,7 @@ ghost use Rattle.std.specs.Prelude.{◌≡◌, ◌+◌, ◌≤◌, MatchBool};
 
 use arrayvec::ArrayVec;
 use lg_node::{Link, LinkFault, MAX_DATAGRAM};
-use lg_rules::Addr;
+use lg_rules::{Addr, Ip};
 use lg_testing::local;
 use std::sync::atomic::AtomicBool;
 use std::sync::atomic::Ordering::SeqCst;
@@ -98,7 +98,7 @@ pub enum Call {
 
 /// The port of an address at 127.0.0.1, and 0 for another address.
 pub(super) fn port_of(to: Addr) -> u16 {
-    if to.octets == [127, 0, 0, 1] {
+    if to.ip == Ip::V4([127, 0, 0, 1]) {
         to.port
     } else {
         0

@@ -7,6 +7,7 @@ use Rattle.std.specs.List.{list_all}
 use Rattle.std.specs.Int.{Width, w16, w32, byte_len, from_be_bytes}
 use Rattle.lg_rules.specs.Meaning.Name.{is_name_byte}
 use Rattle.lg_rules.specs.declared.addr.Addr.{Addr}
+use Rattle.lg_rules.specs.declared.addr.Ip.TheVariants.{V4}
 use Rattle.lg_rules.specs.declared.claim.Claim.{Claim}
 use Rattle.lg_rules.specs.declared.claim.Status.{Status}
 use Rattle.lg_rules.specs.declared.claim.Status.TheVariants.{Alive, Suspect, Failed}
@@ -85,7 +86,7 @@ unfoldable pub addr_at : List ℕ → Result (Addr × List ℕ) Fault
 addr_at bytes = do
   octets ← octets_at bytes
   port ← number_at w16 octets.1
-  Ok (record { octets = octets.0; port = port.0 }, port.1)
+  Ok (record { ip = V4 octets.0; port = port.0 }, port.1)
 
 -- the name of a Pull that has one
 unfoldable pub some_name_at : List ℕ → Result (Option (List ℕ) × List ℕ) Fault

@@ -1,13 +1,15 @@
 -- What packets are, and the one spelling of each, which is its bytes (the formats are this project's choice).
 use Rattle.std.specs.Prelude.{◌≡◌, ℕ, ◌<◌, ◌≤◌, ◌^◌, IsTrue}
-use Rattle.std.specs.Prelude.{List, [], ◌∷◌, ◌++◌, length, Option, Some, None}
+use Rattle.std.specs.Prelude.{List, [], ◌∷◌, ◌++◌, length, map, Option, Some, None}
 use Rattle.std.specs.Int.{w16, w32, to_be_bytes}
 use Rattle.std.specs.List.{flat_map, AllByRecursion}
 use Rattle.lg_rules.specs.Meaning.Name.{is_name}
 use Rattle.lg_rules.specs.declared.addr.Addr.{Addr}
+use Rattle.lg_rules.specs.declared.addr.Ip.{Ip}
+use Rattle.lg_rules.specs.declared.addr.Ip.TheVariants.{V4, V6}
 use Rattle.lg_rules.specs.declared.claim.Claim.{Claim}
 use Rattle.lg_rules.specs.declared.claim.Status.{Status}
-use Rattle.lg_rules.specs.declared.claim.Status.TheVariants.{Alive, Suspect, Failed}
+use Rattle.lg_rules.specs.declared.claim.Status.TheVariants.{Alive, Suspect, Failed, Left}
 use Rattle.lg_rules.specs.Meaning.Bounds.{greatest_incarnation, most_claims}
 use Rattle.lg_packet.specs.Meaning.Bytes.{IsByte, first_magic, second_magic}
 use Rattle.lg_packet.specs.declared.kind.ClaimKind.{ClaimKind}
@@ -42,10 +44,12 @@ byte_of_kind kinds.Nack = 4
 byte_of_kind kinds.Pull = 5
 byte_of_kind kinds.Page = 6
 
+-- the kind of a claim with this status; Left is told as Failed
 abbrev pub claim_kind_of : Status → ClaimKind
 claim_kind_of Alive = claims.Alive
 claim_kind_of (Suspect accuser) = claims.Suspect
 claim_kind_of Failed = claims.Failed
+claim_kind_of Left = claims.Failed
 
 abbrev pub byte_of_claim_kind : ClaimKind → ℕ
 byte_of_claim_kind claims.Alive = 1
@@ -60,9 +64,14 @@ spelled_name name = length name ∷ name
 abbrev pub spelled_number : ℕ → List ℕ
 spelled_number number = to_be_bytes w32 number
 
+-- the four bytes of an IP address; one of sixteen bytes is told as 0.0.0.0
+abbrev pub spelled_ip : Ip → List ℕ
+spelled_ip (V4 octets) = octets
+spelled_ip (V6 octets) = 0 ∷ 0 ∷ 0 ∷ 0 ∷ []
+
 -- an address: its four bytes, and its port
 abbrev pub spelled_addr : Addr → List ℕ
-spelled_addr addr = addr.octets ++ to_be_bytes w16 addr.port
+spelled_addr addr = spelled_ip addr.ip ++ to_be_bytes w16 addr.port
 
 -- the name of a Pull, or a length of 0 if it has none
 abbrev pub spelled_after : Option (List ℕ) → List ℕ
@@ -87,6 +96,7 @@ abbrev pub spelled_accuser : Status → List ℕ
 spelled_accuser Alive = []
 spelled_accuser (Suspect accuser) = spelled_name accuser
 spelled_accuser Failed = []
+spelled_accuser Left = []
 
 -- a claim: its kind, its name, its address, its incarnation and its accuser
 abbrev pub spelled_claim : Claim → List ℕ
@@ -104,11 +114,18 @@ spelling p =
     spelled_head p.version (kind_of p.body)
     ++ (spelled_name p.sender ++ (spelled_body p.body ++ spelled_claims p.claims.items))
 
--- What has a spelling: names that are names, numbers of four bytes, addresses of four bytes with a port of two bytes,
--- incarnations of at most `greatest_incarnation`, and at most `most_claims` claims.
+-- What has a spelling of its own: names that are names, numbers of four bytes, addresses of four bytes with a port of
+-- two bytes, statuses but Left, incarnations of at most `greatest_incarnation`, and at most `most_claims` claims.
+pub record AreOctets (octets : List ℕ) : Type 0 where
+  pub four : length octets ≡ 4
+  pub bytes : AllByRecursion IsByte octets
+
+abbrev pub IsIp : Ip → Type 0
+IsIp (V4 octets) = AreOctets octets
+IsIp (V6 octets) = ⊥
+
 pub record IsAddr (addr : Addr) : Type 0 where
-  pub four : length addr.octets ≡ 4
-  pub octets : AllByRecursion IsByte addr.octets
+  pub ip : IsIp addr.ip
   pub port : addr.port < 2 ^ 16
 
 abbrev pub IsAfter : Option (List ℕ) → Type 0
@@ -127,6 +144,7 @@ abbrev pub IsStatus : Status → Type 0
 IsStatus Alive = Unit {0}
 IsStatus (Suspect accuser) = IsTrue (is_name accuser)
 IsStatus Failed = Unit {0}
+IsStatus Left = ⊥
 
 pub record IsClaim (c : Claim) : Type 0 where
   pub name : IsTrue (is_name c.name)
@@ -142,6 +160,35 @@ pub record IsPacket (p : Packet) : Type 0 where
   pub sender : IsTrue (is_name p.sender)
   pub body : IsBody p.body
   pub claims : AreClaims p.claims.items
+
+-- What a version can't spell is told as something else that it can: a status Left as Failed, and an IP address of
+-- sixteen bytes as 0.0.0.0. Any other packet is told as it is.
+abbrev pub spellable_ip : Ip → Ip
+spellable_ip (V4 octets) = V4 octets
+spellable_ip (V6 octets) = V4 (0 ∷ 0 ∷ 0 ∷ 0 ∷ [])
+
+abbrev pub spellable_addr : Addr → Addr
+spellable_addr addr = record addr { ip = spellable_ip addr.ip }
+
+abbrev pub spellable_status : Status → Status
+spellable_status Alive = Alive
+spellable_status (Suspect accuser) = Suspect accuser
+spellable_status Failed = Failed
+spellable_status Left = Failed
+
+abbrev pub spellable_claim : Claim → Claim
+spellable_claim c = record c { addr = spellable_addr c.addr; status = spellable_status c.status }
+
+abbrev pub spellable_body : Body → Body
+spellable_body (Ping number target) = Ping number target
+spellable_body (PingReq number target addr) = PingReq number target (spellable_addr addr)
+spellable_body (Ack number) = Ack number
+spellable_body (Nack number) = Nack number
+spellable_body (Pull after) = Pull after
+spellable_body Page = Page
+
+abbrev pub spellable : Packet → Packet
+spellable p = record p { body = spellable_body p.body; claims = record { items = map spellable_claim p.claims.items } }
 
 -- these bytes spell this packet
 abbrev pub Spells : List ℕ → Packet → Type 0

@@ -1,6 +1,7 @@
 -- Worked rows: orders, helpers, rounds and relays after some facts.
 use Rattle.std.specs.Prelude.{◌≡◌, ◌≤◌, ℕ, ℤ, pos, true, false, List, [], ◌∷◌, Some, None, refl}
 use Rattle.lg_rules.specs.declared.addr.Addr.{Addr}
+use Rattle.lg_rules.specs.declared.addr.Ip.TheVariants.{V4}
 use Rattle.lg_probe.specs.declared.relays.Relay.{Relay}
 use Rattle.lg_probe.specs.Meaning.Helpers.{picked}
 use Rattle.lg_probe.specs.Meaning.Relays.{Opened, TargetAcked, Closed, asker_at, ended_asker, ends, is_open, relay_at}
@@ -198,7 +199,7 @@ second_nack = refl
 
 -- a asks for a probe of c, for its own probe numbered 9. The probe of the relay is numbered 4.
 abbrev at_port : ℕ → Addr
-at_port port = record { octets = 127 ∷ 0 ∷ 0 ∷ 1 ∷ []; port = port }
+at_port port = record { ip = V4 (127 ∷ 0 ∷ 0 ∷ 1 ∷ []); port = port }
 
 abbrev to_c : Relay
 to_c = record { number = 4; target = c; asker = at_port 7000; asked = 9 }

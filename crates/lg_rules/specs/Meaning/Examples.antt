@@ -1,9 +1,10 @@
 -- Worked rows: what the definitions give for some claims.
 use Rattle.std.specs.Prelude.{◌≡◌, ℕ, ◌+◌, Bool, true, false, List, [], ◌∷◌, Some, None, refl}
 use Rattle.lg_rules.specs.declared.addr.Addr.{Addr}
+use Rattle.lg_rules.specs.declared.addr.Ip.TheVariants.{V4}
 use Rattle.lg_rules.specs.declared.claim.Claim.{Claim}
 use Rattle.lg_rules.specs.declared.claim.Status.{Status}
-use Rattle.lg_rules.specs.declared.claim.Status.TheVariants.{Alive, Suspect, Failed}
+use Rattle.lg_rules.specs.declared.claim.Status.TheVariants.{Alive, Suspect, Failed, Left}
 use Rattle.lg_rules.specs.declared.members.Heard.TheVariants.{Accused, Ignored}
 use Rattle.lg_rules.specs.declared.own.OwnHeard.TheVariants.{Ignored as Unheeded}
 use Rattle.lg_rules.specs.Meaning.Beats.{beats_of}
@@ -33,7 +34,7 @@ abbrev pub accused_by : ℕ → Status
 accused_by letter = Suspect (letter ∷ [])
 
 abbrev pub at_port : ℕ → Addr
-at_port port = record { octets = 127 ∷ 0 ∷ 0 ∷ 1 ∷ []; port = port }
+at_port port = record { ip = V4 (127 ∷ 0 ∷ 0 ∷ 1 ∷ []); port = port }
 
 abbrev pub on : ℕ → Status → ℕ → Claim
 on letter status i = record { name = letter ∷ []; addr = at_port (7000 + letter); status = status; incarnation = i }
@@ -58,6 +59,15 @@ failed_at_the_number = refl
 
 pub alive_at_the_number_of_failed : beats_of (on c Alive 4) (on c Failed 4) ≡ false
 alive_at_the_number_of_failed = refl
+
+pub left_at_the_number_of_failed : beats_of (on c Left 4) (on c Failed 4) ≡ true
+left_at_the_number_of_failed = refl
+
+pub failed_at_the_number_of_left : beats_of (on c Failed 4) (on c Left 4) ≡ false
+failed_at_the_number_of_left = refl
+
+pub back_from_leaving : beats_of (on c Alive 5) (on c Left 4) ≡ true
+back_from_leaving = refl
 
 pub comes_back : beats_of (on c Alive 5) (on c Failed 4) ≡ true
 comes_back = refl
@@ -150,6 +160,10 @@ refuted_by_the_greatest = refl
 pub comes_back_itself : own_of (b ∷ []) b_at (on b Failed 0 ∷ []) ≡ b_is 1 false
 unfolding own_of
 comes_back_itself = refl
+
+pub leaving_is_refuted : own_of (b ∷ []) b_at (on b Left 0 ∷ []) ≡ b_is 1 false
+unfolding own_of
+leaving_is_refuted = refl
 
 pub failed_below_the_own_number : own_of (b ∷ []) b_at (on b Failed 0 ∷ on b Failed 0 ∷ []) ≡ b_is 1 false
 unfolding own_of

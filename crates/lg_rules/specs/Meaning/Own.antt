@@ -4,7 +4,7 @@ use Rattle.std.specs.Prelude.{ℕ, ◌+◌, Bool, true, false, List, [], ◌∷�
 use Rattle.lg_rules.specs.declared.addr.Addr.{Addr}
 use Rattle.lg_rules.specs.declared.claim.Claim.{Claim}
 use Rattle.lg_rules.specs.declared.claim.Status.{Status}
-use Rattle.lg_rules.specs.declared.claim.Status.TheVariants.{Alive, Suspect, Failed}
+use Rattle.lg_rules.specs.declared.claim.Status.TheVariants.{Alive, Suspect, Failed, Left}
 use Rattle.lg_rules.specs.declared.own.OwnHeard.{OwnHeard}
 use Rattle.lg_rules.specs.declared.own.OwnHeard.TheVariants.{Refuted, Raised, Ousted, Ignored}
 use Rattle.lg_rules.specs.Meaning.Bounds.{greatest_incarnation}
@@ -21,8 +21,9 @@ pub record OwnValue : Type 0 where
 -- What a claim about this member does, by its status, its incarnation i and this member's incarnation (number):
 --     Suspect    if i >= number: this member refutes it and is at i + 1 from now on (SWIM, section 4.2)
 --     Failed     if i >= number: this member is at i + 1 from now on (this project's choice)
+--     Left       as Failed
 --     Alive      if i > number: this member is at i + 1 from now on (this project's choice)
--- If i is the greatest incarnation, these three oust this member. Nothing else does anything.
+-- If i is the greatest incarnation, these four oust this member. Nothing else does anything.
 abbrev pub beyond : ℕ → OwnHeard → OwnHeard
 beyond i hearing = if nat_lt i greatest_incarnation then hearing else Ousted
 
@@ -30,6 +31,7 @@ abbrev pub own_hearing_at : Status → ℕ → ℕ → OwnHeard
 own_hearing_at Alive i number = if nat_lt number i then beyond i Raised else Ignored
 own_hearing_at (Suspect accuser) i number = if nat_le number i then beyond i Refuted else Ignored
 own_hearing_at Failed i number = if nat_le number i then beyond i Raised else Ignored
+own_hearing_at Left i number = if nat_le number i then beyond i Raised else Ignored
 
 -- What any claim does. A claim about another member does nothing.
 abbrev pub own_hearing : OwnValue → Claim → OwnHeard

@@ -1,15 +1,15 @@
 -- The table of members: of each other member that is known, the claim that stands. A past has the latest claim first.
-use Rattle.std.specs.Prelude.{ℕ, suc, ◌+◌, ◌==◌, Bool, true, false, not, nat_lt, if◌then◌else◌}
+use Rattle.std.specs.Prelude.{ℕ, suc, ◌+◌, ◌==◌, Bool, not, nat_lt, if◌then◌else◌}
 use Rattle.std.specs.Prelude.{List, [], ◌∷◌, ◌++◌, length, map, filter, reverse, count_by, Option, Some, None}
 use Rattle.std.specs.List.{filter_map}
 use Rattle.lg_rules.specs.declared.claim.Claim.{Claim}
 use Rattle.lg_rules.specs.declared.claim.Status.{Status}
-use Rattle.lg_rules.specs.declared.claim.Status.TheVariants.{Alive, Suspect, Failed}
+use Rattle.lg_rules.specs.declared.claim.Status.TheVariants.{Alive, Suspect, Failed, Left}
 use Rattle.lg_rules.specs.declared.members.Heard.{Heard}
 use Rattle.lg_rules.specs.declared.members.Heard.TheVariants.{Overrode, Accused, Same, Ignored, NoRoom}
 use Rattle.lg_rules.specs.Meaning.Beats.{beats_of}
 use Rattle.lg_rules.specs.Meaning.Bounds.{most_members, most_others}
-use Rattle.lg_rules.specs.Meaning.Claim.{name_of}
+use Rattle.lg_rules.specs.Meaning.Claim.{is_gone, name_of}
 use Rattle.lg_rules.specs.Meaning.Past.{earliest_unbeaten, oldest}
 use Rattle.lg_rules.specs.Meaning.Rows.{name_cmp, is_same, is_among, put_row, row_at, in_order, distinct}
 
@@ -90,12 +90,19 @@ abbrev pub standing_status : Status → Status → Heard
 standing_status Alive Alive = Same
 standing_status (Suspect a) (Suspect b) = Accused
 standing_status Failed Failed = Same
+standing_status Left Left = Same
 standing_status Alive (Suspect b) = Ignored
 standing_status Alive Failed = Ignored
+standing_status Alive Left = Ignored
 standing_status (Suspect a) Alive = Ignored
 standing_status (Suspect a) Failed = Ignored
+standing_status (Suspect a) Left = Ignored
 standing_status Failed Alive = Ignored
 standing_status Failed (Suspect b) = Ignored
+standing_status Failed Left = Ignored
+standing_status Left Alive = Ignored
+standing_status Left (Suspect b) = Ignored
+standing_status Left Failed = Ignored
 
 abbrev pub standing_hearing : Claim → Option Claim → Heard
 standing_hearing c None = NoRoom
@@ -104,11 +111,6 @@ standing_hearing c (Some r) = if c.incarnation == r.incarnation then standing_st
 abbrev pub hearing_of : List Claim → Claim → Heard
 hearing_of table c = if takes table c then Overrode else standing_hearing c (row_at name_cmp name_of c.name table)
 
-abbrev pub is_failed : Status → Bool
-is_failed Alive = false
-is_failed (Suspect a) = false
-is_failed Failed = true
-
--- the number of live members, n: how many haven't failed, this member included
+-- the number of live members, n: how many aren't gone, this member included
 abbrev pub live_in : List Claim → ℕ
-live_in table = 1 + count_by (λ r. not (is_failed r.status)) table
+live_in table = 1 + count_by (λ r. not (is_gone r.status)) table

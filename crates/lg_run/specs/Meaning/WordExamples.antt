@@ -3,6 +3,7 @@ use Rattle.std.specs.Prelude.{◌≡◌, ℕ, true, false, List, [], ◌∷◌, 
 use Rattle.std.specs.Fmt.{digits}
 use Rattle.std.specs.declared.io.ErrorKind.TheVariants as error
 use Rattle.lg_rules.specs.declared.addr.Addr.{Addr}
+use Rattle.lg_rules.specs.declared.addr.Ip.TheVariants.{V4}
 use Rattle.lg_timing.specs.declared.config.Seed.{Seed}
 use Rattle.lg_timing.specs.Meaning.Config.{defaults}
 use Rattle.lg_config.specs.declared.node.NodeConfig.{NodeConfig}
@@ -12,7 +13,7 @@ use Rattle.lg_run.specs.Meaning.Words.{link_reason, start_line}
 
 -- 127.0.0.1 with a port
 abbrev local_at : ℕ → Addr
-local_at port = record { octets = 127 ∷ 0 ∷ 0 ∷ 1 ∷ []; port = port }
+local_at port = record { ip = V4 (127 ∷ 0 ∷ 0 ∷ 1 ∷ []); port = port }
 
 abbrev seed_of : ℕ → Seed
 seed_of letter = record { name = letter ∷ []; addr = local_at 7101 }

@@ -5,7 +5,7 @@ use Rattle.std.specs.declared.io.ErrorKind.{ErrorKind}
 use Rattle.std.specs.declared.io.ErrorKind.TheVariants as error
 use Rattle.lg_rules.specs.declared.addr.Addr.{Addr}
 use Rattle.lg_text.specs.Meaning.Lines.{newline}
-use Rattle.lg_lines.specs.Meaning.Records.{addr_text}
+use Rattle.lg_text.specs.Meaning.Addresses.{addr_text}
 use Rattle.lg_config.specs.declared.node.NodeConfig.{NodeConfig}
 
 abbrev pub seed_count : ℕ → List ℕ

@@ -2,6 +2,7 @@
 use Rattle.std.specs.Prelude.{◌≡◌, ℕ, List, [], ◌∷◌, ◌++◌, replicate}
 use Rattle.std.specs.Prelude.{Option, Some, None, Result, Ok, Err, codes, refl}
 use Rattle.std.specs.List.{flat_map}
+use Rattle.lg_rules.specs.declared.addr.Ip.TheVariants.{V4}
 use Rattle.lg_timing.specs.declared.config.Seed.{Seed}
 use Rattle.lg_script.specs.declared.command.Command.{Command}
 use Rattle.lg_script.specs.declared.command.Command.TheVariants.{Set, Open, Tick, Deliver, Ask, Health, Pull, Table}
@@ -42,7 +43,7 @@ unfolding command_of verb_of open_command
 opens-alone = refl
 
 b-at-7002 : Seed
-b-at-7002 = record { name = 98 ∷ []; addr = record { octets = 127 ∷ 0 ∷ 0 ∷ 1 ∷ []; port = 7002 } }
+b-at-7002 = record { name = 98 ∷ []; addr = record { ip = V4 (127 ∷ 0 ∷ 0 ∷ 1 ∷ []); port = 7002 } }
 
 opens-with-seed : command_of (codes "open a 65535 1000 b:7002")
     ≡ gives (Open (97 ∷ []) 65535 1000 record { items = b-at-7002 ∷ [] })

@@ -5,6 +5,7 @@ use Rattle.std.specs.Prelude.{◌∷◌, ◌++◌, length, replicate}
 use Rattle.std.specs.Prelude.{Option, Some, None, if◌then◌else◌}
 use Rattle.std.specs.Option.{option_map}
 use Rattle.lg_rules.specs.declared.addr.Addr.{Addr}
+use Rattle.lg_rules.specs.declared.addr.Ip.TheVariants.{V4}
 use Rattle.lg_timing.specs.Meaning.Bounds.{most_seeds}
 use Rattle.lg_timing.specs.declared.config.Seed.{Seed}
 use Rattle.lg_text.specs.Meaning.Cutting.{before, behind, colon}
@@ -23,7 +24,7 @@ random_word_of word = number_within 0 greatest_random_word word
 
 -- the address of the member with a port: all members are at 127.0.0.1
 abbrev pub local : ℕ → Addr
-local port = record { octets = 127 ∷ 0 ∷ 0 ∷ 1 ∷ []; port = port }
+local port = record { ip = V4 (127 ∷ 0 ∷ 0 ∷ 1 ∷ []); port = port }
 
 -- a seed, cut at the first colon: a name stands before it, and a port after it
 abbrev pub seed_of : List ℕ → Option Seed

@@ -19,6 +19,7 @@ use Rattle.std.specs.Prelude.{
 }
 use Rattle.std.specs.Cmp.Lexicographic.{pointwise}
 use Rattle.lg_rules.specs.declared.addr.Addr.{Addr}
+use Rattle.lg_rules.specs.Meaning.View.{is_same_addr}
 use Rattle.lg_detector.specs.Meaning.Step.{reply_after}
 use Rattle.lg_detector.specs.declared.event.Event.{Event}
 use Rattle.lg_detector.specs.declared.reply.Outgoing.{Outgoing}
@@ -30,7 +31,7 @@ abbrev pub is_named : List ℕ → Member → Bool
 is_named name member = pointwise nat_eq member.name name
 
 abbrev pub is_at : Addr → Member → Bool
-is_at addr member = pointwise nat_eq member.addr.octets addr.octets && member.addr.port == addr.port
+is_at addr member = is_same_addr member.addr addr
 
 -- among some members, the one with this name, and the one at this address
 abbrev pub member_named : List ℕ → List Member → Option Member

@@ -4,6 +4,7 @@ use Rattle.std.specs.Prelude.{ℕ, List, [], ◌∷◌, ◌++◌, Option, Some, 
 use Rattle.std.specs.List.{cons_option}
 use Rattle.std.specs.Option.{option_map}
 use Rattle.arrayvec.specs.ArrayVec.{ArrayVec}
+use Rattle.lg_rules.specs.declared.addr.Ip.TheVariants.{V4}
 use Rattle.lg_timing.specs.Meaning.Config.{defaults}
 use Rattle.lg_timing.specs.Meaning.Keys.{with_number}
 use Rattle.lg_timing.specs.declared.config.Config.{Config}
@@ -19,7 +20,7 @@ use Rattle.lg_sim.specs.declared.host.SentPacket.{SentPacket}
 
 -- The defaults. Their name and address are placeholders.
 abbrev pub unset : Config
-unset = defaults (97 ∷ []) (record { octets = 0 ∷ 0 ∷ 0 ∷ 0 ∷ []; port = 0 })
+unset = defaults (97 ∷ []) (record { ip = V4 (0 ∷ 0 ∷ 0 ∷ 0 ∷ []); port = 0 })
 
 -- the numbers for the members that are opened next: the defaults, changed by the latest `set` of each key
 abbrev pub settings : List Command → Config

@@ -20,6 +20,6 @@ most_confirmations = 5
 abbrev pub most_seeds : ℕ
 most_seeds = 16
 
--- the members of a table that haven't failed, this member included
+-- the members of a table that aren't gone, this member included
 abbrev pub most_live : ℕ
 most_live = 256

@@ -1,5 +1,6 @@
 -- Worked rows: what the definitions give for some numbers.
 use Rattle.std.specs.Prelude.{◌≡◌, ℕ, pos, negsuc, List, [], ◌∷◌, map, Result, Ok, Err, refl}
+use Rattle.lg_rules.specs.declared.addr.Ip.TheVariants.{V4}
 use Rattle.lg_timing.specs.declared.config.Config.{Config}
 use Rattle.lg_timing.specs.declared.config.ConfigFault.{ConfigFault}
 use Rattle.lg_timing.specs.declared.config.ConfigFault.TheVariants.{History, Seeds, Wire}
@@ -11,7 +12,7 @@ use Rattle.lg_timing.specs.Meaning.Timeouts.{range_of, timeout_of, suspicion_of}
 -- the member b with the default numbers, except for these
 abbrev with_numbers : ℕ → ℕ → Config
 with_numbers interval confirmations =
-    record (defaults (98 ∷ []) (record { octets = 127 ∷ 0 ∷ 0 ∷ 1 ∷ []; port = 7946 })) {
+    record (defaults (98 ∷ []) (record { ip = V4 (127 ∷ 0 ∷ 0 ∷ 1 ∷ []); port = 7946 })) {
       interval_ms = interval;
       timeout_ms = 1;
       confirmations = confirmations;
@@ -60,7 +61,7 @@ held_at_every_mark = refl
 -- what a check returns for the member b with a version of packets, a limit of the history and a seed of this name
 abbrev checked : ℕ → ℕ → List ℕ → Result (Unit {0}) ConfigFault
 checked wire limit seed =
-    let usual = defaults (98 ∷ []) (record { octets = 127 ∷ 0 ∷ 0 ∷ 1 ∷ []; port = 7946 }) in
+    let usual = defaults (98 ∷ []) (record { ip = V4 (127 ∷ 0 ∷ 0 ∷ 1 ∷ []); port = 7946 }) in
     check_of (record usual {
       wire = wire;
       history_limit = limit;

@@ -2,7 +2,7 @@ use Rattle.std.proofs.Common.{◌∙◌, ap, sym, refl, arith, append-nil}
 use Rattle.std.specs.List.{list_all}
 use Rattle.lg_loops.specs.Meaning.Turns.{Turn}
 use Rattle.lg_loops.specs.Meaning.Turns.Turn.{Looked, Unlooked}
-use Rattle.lg_loops.specs.Meaning.Pulling.{has_failed}
+use Rattle.lg_loops.specs.Meaning.Pulling.{has_gone}
 use Rattle.lg_loops.proofs.TurnLaws.{before_until}
 use Rattle.lg_loops.proofs.PullingLaws.{agenda_more, look_time, look_decides}
 use Rattle.lg_loops.proofs.finding.look.Goals as goal
@@ -51,7 +51,7 @@ returns g c = λ p look low duty.
         };
         timely = λ since before was. (
           look_time c.args.plan.now since before c.args.agenda.now c.args.now was duty,
-          λ all. c.wants_seeds-asks.ensures (ap (list_all has_failed) (c.as_slice.ensures.value ∙ e.0) ∙ all),
+          λ all. c.wants_seeds-asks.ensures (ap (list_all has_gone) (c.as_slice.ensures.value ∙ e.0) ∙ all),
         );
         noted = λ since before was. agenda_more c.args.plan.now since before t c.args.agenda.now c.note_look.new.self was (rw c.note_look.ensures refl) (rw c.note_look.ensures refl) (rw c.note_look.ensures (look_decides c.args.plan.now asks));
       },

@@ -1,7 +1,7 @@
 use Rattle.std.proofs.Common.{not, length, ap, arith}
 use Rattle.std.proofs.lemmas.List.Sums.{count_by-le-length}
 use Rattle.lg_rules.specs.declared.claim.Claim.{Claim}
-use Rattle.lg_rules.specs.Meaning.Table.{is_failed}
+use Rattle.lg_rules.specs.Meaning.Claim.{is_gone}
 use Rattle.lg_rules.proofs.members.Members.live.Goals as goal
 
 pub returns-clause-few : goal.returns-clause-few
@@ -11,5 +11,5 @@ returns-clause-few c =
       c.self.invariant.rows.counted,
       c.as_slice.ensures.fits,
       ap length c.as_slice.ensures.value,
-      count_by-le-length (λ (r : Claim). not (is_failed r.status)) c.self.inside.records.items,
+      count_by-le-length (λ (r : Claim). not (is_gone r.status)) c.self.inside.records.items,
     )

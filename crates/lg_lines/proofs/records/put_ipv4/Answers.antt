@@ -1,12 +1,12 @@
 use Rattle.std.proofs.Common.{◌≡◌, ℕ, ◌∷◌, ◌++◌, length, decimal, ap, ◌∙◌, rules}
 use Rattle.std.proofs.Transfers.{starts_with_trans}
 use Rattle.lg_lines.proofs.RecordLaws.{addr_written}
-use Rattle.lg_lines.proofs.records.put_addr.Goals as goal
+use Rattle.lg_lines.proofs.records.put_ipv4.Goals as goal
 
 pub returns-clause-put : goal.returns-clause-put
 returns-clause-put c =
-    let four : length c.args.addr.now.octets ≡ 4 = search rules in
-    addr_written c.args.addr.now.octets _ _ _ _ _ _ _ _ _ _ _ four c.from.ensures c.from-2.ensures c.from-3.ensures c.from-4.ensures
+    let four : length c.args.octets.now ≡ 4 = search rules in
+    addr_written c.args.octets.now _ _ _ _ _ _ _ _ _ _ _ four c.from.ensures c.from-2.ensures c.from-3.ensures c.from-4.ensures
     c.in_ok-put_number.ensures.put c.in_ok-put_numbered.ensures.put c.in_ok-put_numbered-2.ensures.put c.in_ok-put_numbered-3.ensures.put
     (c.in_ok-put_numbered-4.ensures.put ∙ ap (λ (port : ℕ). c.put_numbered-3.new.text.items ++ (58 ∷ decimal port)) c.from-5.ensures)
 
