@@ -1,4 +1,4 @@
-//! Sets of numbers: each call on numbers at the borders of the words.
+//! Sets of numbers: each call on numbers at the borders of their 64-bit words.
 use lg_bit_set::{BitSet, NUMBERS};
 
 const BORDERS: [u8; 7] = [0, 63, 64, 127, 128, 191, 255];
@@ -58,12 +58,28 @@ fn opens_and_closes_places(rt: HostRuntime) {
     }
 }
 
+/// How many numbers a set has, from 0 on, and how many of them are no borders.
+const LEFT: &[(usize, usize)] = &[
+    (0, 0),
+    (1, 0),
+    (63, 62),
+    (64, 62),
+    (65, 62),
+    (128, 124),
+    (255, 249),
+    (256, 249),
+    (1000, 249),
+];
+
 #[test]
 fn takes_one_set_from_another(rt: HostRuntime) {
-    for count in [0, 1, 63, 64, 65, 128, 255, 256, 1000] {
+    for (count, left) in LEFT {
+        let count = *count;
         let all = BitSet::below(count);
         assert_eq!(rt; all.len(), count.min(NUMBERS));
         let mut rest = all.without(&set_of(&BORDERS));
+        assert_eq!(rt; rest.len(), *left, "{count}");
+        assert!(rt; BORDERS.iter().all(|border| !rest.contains(*border)));
         assert_eq!(rt;
             rest.nth(61),
             if count > 62 { Some(62) } else { None },

@@ -1,4 +1,4 @@
-//! Memory that is refused once.
+//! Memory that is refused once: `gate/refusals` refuses each allocation in turn. Without it none is refused.
 use crate::detector::Happens::{Opens, Ping};
 use crate::detector::Step::{self, Events, Takes};
 use crate::detector::{play_on, table_of};
@@ -18,31 +18,34 @@ const HEARD: &[Step<'static>] = &[
     Events(2),
 ];
 
-/// Asks for the table twice. Returns whether it was given. When it isn't given, nothing has changed.
-fn shows_table(rt: &impl Abort, alloc: Global, detector: &Detector) -> bool {
-    let mut shown = false;
+/// Asks for the table twice. Returns how often memory was refused for it. Nothing has changed then.
+fn refusals(rt: &impl Abort, alloc: Global, detector: &Detector) -> usize {
+    let mut refused = 0_usize;
     for _ in 0..2 {
-        let same = match detector.table(alloc) {
-            Ok(table) => {
-                shown = true;
-                are_said(table.as_slice(), MEMBERS)
-            }
+        let table = detector.table(alloc);
+        refused = refused.saturating_add(usize::from(table.is_err()));
+        let same = match table {
+            Ok(table) => are_said(table.as_slice(), MEMBERS),
             Err(_) => are_said(table_of(detector).as_slice(), MEMBERS),
         };
-        assert!(rt; same);
+        assert!(rt; same, "another table");
     }
-    shown
+    refused
 }
 
-/// Two detectors give two tables each. If any one allocation is refused, at least one table is still given.
+/// Two detectors give two tables each. If any one allocation is refused, only the call that wanted it fails.
 #[test]
 fn goes_on_after_refused_memory(rt: HostRuntime) {
-    let mut shown = false;
+    let mut refused = 0_usize;
     for _ in 0..2 {
-        if let Ok(mut detector) = Detector::blank(rt.alloc()) {
-            play_on(&rt, &mut detector, "a member", HEARD);
-            shown = shows_table(&rt, rt.alloc(), &detector) || shown;
-        }
+        let failed = match Detector::blank(rt.alloc()) {
+            Ok(mut detector) => {
+                play_on(&rt, &mut detector, "a member", HEARD);
+                refusals(&rt, rt.alloc(), &detector)
+            }
+            Err(_) => 1,
+        };
+        refused = refused.saturating_add(failed);
     }
-    assert!(rt; shown);
+    assert!(rt; refused <= 1, "{refused}");
 }
