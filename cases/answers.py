@@ -57,7 +57,7 @@ def all_wanted(name, table):
         of_status = [it for it in members if it["status"] == status]
         wanted[f"/v1/members?status={status}"] = {"name": name, "members": of_status}
     wanted |= {f"/v1/members/{it['name']}": it for it in members}
-    live = [it for it in members if it["status"] != "failed"]
+    live = [it for it in members if it["status"] not in ("failed", "left")]
     wanted["/v1/health"] = {"name": name, "incarnation": table[name].incarnation, "live": len(live),
                             "known": len(members), "ousted": False}
     return wanted | {"/v1/changes?after=0": {"missed": False, "changes": {it["name"]: it for it in members}}}

@@ -126,6 +126,38 @@ def a_relay_too_many(program):
     return answers(program, requests, pings + ["534c010401620000000700"])
 
 
+# Packets of version 3: a Ping that says that one left, a Page, an Ack for a with an address of IPv6, a PingReq about a
+# member that is reached there, and a Gossip of a group.
+THREE = [
+    "534c030100016100000007016201040163047f0000011b5b00000002",
+    "534c030600016301040163047f0000011b5b00000002", "534c030100016100000007016201040163047f0000011b5b00000000",
+    "534c030300016200000007016102040163047f0000011b5b00000000020164047f0000011b5c000000000162",
+    "534c030200016100000007016306000000000000000000000000000000011b5b00",
+    "534c03070367726e0161010101630620010db80000000000000000000000011b5b00000003"]
+
+
+def faults_answered(program, lines, wanted):
+    """Runs `answer` for b over these lines, of which each is faulty, and compares."""
+    status, text, told = run(program, ["answer", "--name", "b"], "".join(line + "\n" for line in lines))
+    return unless((status, text.splitlines(), told) == (3, wanted, ""), f"status {status}, {text!r} {told!r}")
+
+
+def fronts_of_packets_are_short(program):
+    """Each beginning of a packet of version 3 is short, from no byte to all but one."""
+    fronts = [packet[:end] for packet in THREE for end in range(0, len(packet), 2)]
+    return faults_answered(program, fronts, ["fault 1 Short"] * len(fronts))
+
+
+def the_longest_packet(program):
+    """A PingReq of a group with all names of 32 bytes, addresses of IPv6 and twelve claims has 1,207 bytes. The group
+    isn't that of b, so it gives nothing. With a byte less or more it is faulty."""
+    name, address = "20" + 32 * "6e", "06" + 16 * "ff" + "1b5b"
+    claims = "0c" + 12 * ("02" + name + address + "3b9aca00" + name)
+    longest = "534c0302" + name + name + "ffffffff" + name + address + claims
+    faults = faults_answered(program, [longest[:-2], longest, longest + "00"], ["fault 1 Short", "fault 9 Trailing"])
+    return faults + unless(len(longest) == 2 * 1207, f"{len(longest) // 2} bytes")
+
+
 def at_most_255_names(program):
     """So many names of `order` are taken, and one more is not."""
     names = [f"n{number}" for number in range(256)]
@@ -138,4 +170,4 @@ def at_most_255_names(program):
 
 
 CASES = [sixteen_members_join_by_one, only_the_dead_member_fails, a_script_of_a_mebibyte, a_flood_of_names,
-         a_relay_too_many, at_most_255_names]
+         a_relay_too_many, fronts_of_packets_are_short, the_longest_packet, at_most_255_names]

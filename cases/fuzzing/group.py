@@ -6,7 +6,7 @@ from dataclasses import dataclass, field
 
 from fuzzing.numbers import suspicion_range
 from fuzzing.script import MOST_MEMBERS, Cluster
-from fuzzing.wire import ALIVE, FAILED
+from fuzzing.wire import ALIVE, FAILED, ONE, THREE, TWO, VERSIONS
 
 FIRST_PORT = 7001
 MOST_SEEDS = 16
@@ -61,7 +61,7 @@ def config_of(dice, size):
     return {"interval_ms": interval, "timeout_ms": interval // dice.choice([2, 2, 3, 4]), "alpha": dice.choice(factors),
             "beta": dice.choice(factors), "indirect": dice.choice([0, 1, 3, 8]), "max_score": dice.choice([0, 2, 8]),
             "confirmations": dice.choice([0, 1, 3, 5]), "lambda": dice.choice([1, 4, 10]),
-            "nack_thousandths": dice.choice([1, 500, 800, 999])}
+            "nack_thousandths": dice.choice([1, 500, 800, 999]), "wire": dice.choice([ONE, ONE, TWO, THREE])}
 
 
 def troubles_of(dice, names, length, may_restart):
@@ -211,8 +211,8 @@ class Group:
         for key, number in self.plan.config.items():
             self.write(f"set {key} {number}")
         for name in self.names:
-            if self.dice.random() < 0.1:
-                self.write(f"set wire {self.dice.choice([1, 2])}")
+            if self.dice.random() < 0.15:
+                self.write(f"set wire {self.dice.choice(VERSIONS)}")
             late = self.dice.randrange(length) if self.dice.random() < self.plan.late else 0
             if late:
                 self.plan_for(late, "start", name)

@@ -1,6 +1,6 @@
 """What has to hold of any group, by what its members wrote. Nothing here is taken from the model of a detector."""
 
-from fuzzing.wire import ACK, FAILED, PING_REQ, SUSPECT, read
+from fuzzing.wire import ACK, PING_REQ, STATUS_WORDS, read
 
 
 def events_of(script, output):
@@ -68,8 +68,9 @@ class Witness:
         return name
 
     def hear(self, name, _, packet):
-        probe = self.probes.get(name)
-        if probe and packet.kind == ACK and packet.number == probe[0] and packet.sender.decode() in probe[2]:
+        probe, is_meant = self.probes.get(name), packet.receiver.decode() in ("", name)
+        if (probe and packet.kind == ACK and is_meant and packet.number == probe[0]
+                and packet.sender.decode() in probe[2]):
             probe[3] = True
 
     def fire(self, name, fired):
@@ -104,9 +105,8 @@ class Witness:
         if probe and packet.kind == PING_REQ and packet.number == probe[0] and to in self.names:
             probe[2].add(self.names[to])
         for claim in packet.claims:
-            status = {SUSPECT: "suspect", FAILED: "failed"}.get(claim.status, "alive")
             accuser = claim.accuser.decode() if claim.accuser else None
-            self.judge(name, claim.member.decode(), status, claim.incarnation, accuser)
+            self.judge(name, claim.member.decode(), STATUS_WORDS[claim.status], claim.incarnation, accuser)
 
 
 def broken_laws(script, output, is_perfect=False):

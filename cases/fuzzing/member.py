@@ -7,13 +7,16 @@ from dataclasses import dataclass, field, replace
 
 from fuzzing.numbers import MOST_OTHERS, suspicion_range, timeout
 from fuzzing.wire import (
-    ACK, ALIVE, FAILED, MOST_CLAIMS, MOST_INCARNATION, NACK, PAGE, PING, PING_REQ, PULL, SUSPECT, Claim, Packet)
+    ACK, ALIVE, FAILED, LEFT, MOST_CLAIMS, MOST_INCARNATION, NACK, PAGE, PING, PING_REQ, PULL, SUSPECT, THREE, Claim,
+    Packet, is_told)
 
 ROUND_END, SUSPICION, DIRECT, RELAY_NACK, RELAY_END, ROUND_START = range(1, 7)
 TIMER_WORDS = {ROUND_END: "round-end", SUSPICION: "suspicion", DIRECT: "direct", RELAY_NACK: "relay-nack",
                RELAY_END: "relay-end", ROUND_START: "round-start"}
 MOST_RELAYS = 64
 WORDS = 8
+# The statuses of a member that is gone.
+GONE = (FAILED, LEFT)
 
 
 @dataclass
@@ -77,11 +80,11 @@ class Member:
         return sorted([self.own(), *self.records.values()], key=lambda it: it.member)
 
     def others(self):
-        """The names of the others that haven't failed, in order."""
-        return sorted(name for name, record in self.records.items() if record.status != FAILED)
+        """The names of the others that aren't gone, in order."""
+        return sorted(name for name, record in self.records.items() if record.status not in GONE)
 
     def live(self):
-        return 1 + sum(record.status != FAILED for record in self.records.values())
+        return 1 + sum(record.status not in GONE for record in self.records.values())
 
     def mark(self, points):
         self.score = max(0, min(self.config["max_score"], self.score + points))
@@ -143,38 +146,56 @@ class Member:
 
     # ---- Packets
 
-    def queued(self, room=MOST_CLAIMS, without=None):
+    def room(self):
+        """How many claims a packet of this member has at most."""
+        return MOST_CLAIMS[self.config["wire"]]
+
+    def can_tell(self, address):
+        """Whether an address has a spelling in the version in which this member sends."""
+        return is_told(self.config["wire"], address)
+
+    def as_told(self, claim):
+        """A claim as this member tells it: the first two versions say that one who left has failed."""
+        is_left = claim.status == LEFT and self.config["wire"] != THREE
+        return replace(claim, status=FAILED) if is_left else claim
+
+    def queued(self, room=None, without=None):
         """The claims that a packet takes of the queue, which are counted as sent."""
         bound = self.config["lambda"] * len(str(self.live()))
-        ready = sorted((sends, name) for name, (_, sends) in self.queue.items() if sends < bound and name != without)
-        taken = [name for _, name in ready[:room]]
+        ready = sorted((sends, name) for name, (claim, sends) in self.queue.items()
+                       if sends < bound and name != without and self.can_tell(claim.address))
+        taken = [name for _, name in ready[:room or self.room()]]
         for name in taken:
             claim, sends = self.queue[name]
             self.queue[name] = claim, sends + 1
         return tuple(self.queue[name][0] for name in taken)
 
-    def send(self, to, kind, number=0, target=b"", address=b"", claims=()):
-        packet = Packet(self.config["wire"], kind, self.name, number, target, address, claims)
+    def send(self, to, kind, number=0, target=b"", address=b"", claims=(), receiver=b""):
+        """Sends a packet. It names no group, and in version three alone it names a receiver."""
+        version, claims = self.config["wire"], tuple(map(self.as_told, claims))
+        packet = Packet(version, kind, self.name, number, target, address, claims,
+                        receiver=receiver if version == THREE else b"")
         self.reply.sends.append((to, packet))
 
     def send_ping(self, to, number, target):
         """A Ping, which begins with the record of a target that is suspected (Lifeguard's buddy system)."""
         record = self.records.get(target)
-        if record and record.status == SUSPECT:
-            claims = (record, *self.queued(MOST_CLAIMS - 1, target))
+        if record and record.status == SUSPECT and self.can_tell(record.address):
+            claims = (record, *self.queued(self.room() - 1, target))
         else:
             claims = self.queued()
         self.send(to, PING, number, target, claims=claims)
 
-    def send_ack(self, to, number):
-        self.send(to, ACK, number, claims=self.queued())
+    def send_ack(self, to, number, receiver):
+        self.send(to, ACK, number, claims=self.queued(), receiver=receiver)
 
     def send_pull(self, to, after):
-        self.send(to, PULL, target=after, claims=(self.own(),))
+        own = self.own()
+        self.send(to, PULL, target=after, claims=(own,) if self.can_tell(own.address) else ())
 
     def send_page(self, to, after):
-        rest = [record for record in self.view() if record.member > after]
-        self.send(to, PAGE, claims=tuple(rest[:MOST_CLAIMS]))
+        rest = [record for record in self.view() if record.member > after and self.can_tell(record.address)]
+        self.send(to, PAGE, claims=tuple(rest[:self.room()]))
 
     # ---- Events
 
@@ -244,11 +265,12 @@ class Member:
         self.send_ping(self.records[target].address, self.sequence, target)
 
     def ask_helpers(self, _, words):
-        left = [name for name in self.others() if name != self.probe.target]
+        """Asks helpers about the target, and nobody if a PingReq can't tell where that is."""
+        target = self.records[self.probe.target]
+        left = [name for name in self.others() if name != target.member] if self.can_tell(target.address) else []
         for word in words[:self.config["indirect"]]:
             if left:
                 self.probe.helpers.append(left.pop(word % len(left)))
-        target = self.records[self.probe.target]
         for helper in self.probe.helpers:
             to = self.records[helper].address
             self.send(to, PING_REQ, self.probe.number, target.member, target.address, self.queued())
@@ -259,7 +281,7 @@ class Member:
         if not probe.is_acked:
             self.mark(1 if probe.nacks.issuperset(probe.helpers) else 2)
             record = self.records[probe.target]
-            if record.status != FAILED:
+            if record.status not in GONE:
                 self.take(replace(record, status=SUSPECT, accuser=self.name))
         self.timers[ROUND_START, 0] = self.now
 
@@ -267,8 +289,8 @@ class Member:
         self.take(replace(self.records[name], status=FAILED, accuser=None))
 
     def send_nack(self, relay, _):
-        _, asker, number = self.relays[relay]
-        self.send(asker, NACK, number)
+        _, asker, number, name = self.relays[relay]
+        self.send(asker, NACK, number, receiver=name)
 
     def end_relay(self, relay, _):
         del self.relays[relay]
@@ -278,30 +300,40 @@ class Member:
     # ---- Hearing
 
     def respond(self, source, packet):
-        """Takes the claims of a packet in their order, and then its body."""
+        """Takes the claims of a packet in their order, and then its body. A packet that names a group is dropped."""
+        if self.drops(packet):
+            return
         for claim in packet.claims:
             self.take(claim)
         if packet.kind == PING and packet.target == self.name:
-            self.send_ack(source, packet.number)
+            self.send_ack(source, packet.number, packet.sender)
         elif packet.kind == PING_REQ:
             self.relay(source, packet)
-        elif packet.kind == ACK:
+        elif packet.kind == ACK and self.is_meant(packet):
             self.hear_ack(packet)
-        elif packet.kind == NACK:
+        elif packet.kind == NACK and self.is_meant(packet):
             self.hear_nack(packet)
         elif packet.kind == PULL:
             self.send_page(source, packet.target)
-        elif packet.kind == PAGE and len(packet.claims) == MOST_CLAIMS:
+        elif packet.kind == PAGE and len(packet.claims) == MOST_CLAIMS[packet.version]:
             self.send_pull(source, packet.claims[-1].member)
+
+    def drops(self, packet):
+        """Whether a packet is of a group. A member has none so far."""
+        return packet.group != b""
+
+    def is_meant(self, packet):
+        """Whether an Ack or a Nack is for this member: one that names no receiver is."""
+        return packet.receiver in (b"", self.name)
 
     def relay(self, source, packet):
         if packet.target == self.name:
-            self.send_ack(source, packet.number)
+            self.send_ack(source, packet.number, packet.sender)
         elif len(self.relays) == MOST_RELAYS:
-            self.send(source, NACK, packet.number)
+            self.send(source, NACK, packet.number, receiver=packet.sender)
         else:
             self.sequence += 1
-            self.relays[self.sequence] = packet.target, source, packet.number
+            self.relays[self.sequence] = packet.target, source, packet.number, packet.sender
             wait = self.config["timeout_ms"] * self.config["nack_thousandths"] // 1000
             self.timers[RELAY_NACK, self.sequence] = self.now + wait
             self.timers[RELAY_END, self.sequence] = self.now + self.config["interval_ms"]
@@ -320,6 +352,6 @@ class Member:
                 self.mark(-1)
                 self.timers.pop((DIRECT, 0), None)
         elif packet.number in self.relays and self.relays[packet.number][0] == packet.sender:
-            _, asker, number = self.relays[packet.number]
+            _, asker, number, name = self.relays[packet.number]
             self.end_relay(packet.number, None)
-            self.send_ack(asker, number)
+            self.send_ack(asker, number, name)

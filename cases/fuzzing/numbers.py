@@ -5,7 +5,7 @@ NUMBERS = {
     "interval_ms": (10, 60_000, 1000, 1), "timeout_ms": (1, 59_999, 500, 2), "indirect": (0, 8, 3, 3),
     "max_score": (0, 20, 8, 4), "alpha": (1, 20, 5, 5), "beta": (1, 20, 6, 6), "confirmations": (0, 5, 3, 7),
     "lambda": (1, 10, 4, 8), "nack_thousandths": (1, 999, 800, 9), "history_limit": (2, 1_000_000, 20_000, 10),
-    "wire": (1, 2, 1, 15),
+    "wire": (1, 3, 1, 15),
 }
 DEFAULTS = {key: row[2] for key, row in NUMBERS.items()}
 SEEDS_FAULT = 11

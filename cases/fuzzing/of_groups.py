@@ -7,6 +7,7 @@ from fuzzing.kinds import RunKind
 from fuzzing.laws import broken_laws
 from fuzzing.runs import Case, Outcome, first_difference, test_of, text_of
 from fuzzing.script import MOST_MEMBERS, Cluster, written
+from fuzzing.wire import MOST_CLAIMS, ONE, THREE
 
 MOST_INPUT = 1_048_576
 MOST_GROUP = 64
@@ -45,7 +46,8 @@ class Groups(RunKind):
     name = "groups"
     has_small_lines = False
     wrong_rules = (
-        (member.Member, "live", lambda it: 1 + len(it.records)), (member, "MOST_CLAIMS", 5),
+        (member.Member, "live", lambda it: 1 + len(it.records)), (member, "MOST_CLAIMS", MOST_CLAIMS | {ONE: 5}),
+        (member, "MOST_CLAIMS", MOST_CLAIMS | {THREE: 6}),
         (member.Member, "mark", lambda *_: None), (member.Member, "accuse", lambda *_: None),
         (member.Member, "hear_nack", lambda *_: None), (numbers, "LOGARITHMS", numbers.LOGARITHMS | {10: 999}))
     # Detectors that break a law: the self-test runs small groups of them, and looks at the laws alone. One goes by

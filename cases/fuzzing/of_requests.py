@@ -14,7 +14,7 @@ from fuzzing.making import HOST, damaged
 from fuzzing.member import Member
 from fuzzing.numbers import DEFAULTS
 from fuzzing.shrinking import shrunk
-from fuzzing.wire import ALIVE, FAILED, PING, SUSPECT, Claim, Packet, spelled
+from fuzzing.wire import ALIVE, FAILED, LEFT, ONE, PING, SUSPECT, THREE, Claim, Packet, is_told, spelled
 from running import HELD, PATIENCE, bound_socket, table_of, wait_until
 
 # Longer than a request for changes may wait.
@@ -38,8 +38,8 @@ FIELDS = ["", "", "", "accept: */*\r\n", "a: b\r\n", "a:\tb \r\n", "x: " + "y" *
 
 # What the node hears: of one member of each status.
 CLAIMS = (Claim(ALIVE, b"a", HOST + b"\0\1", 3), Claim(SUSPECT, b"c", HOST + b"\0\2", 0, b"a"),
-          Claim(FAILED, b"d", HOST + b"\0\3", 7))
-HEARD = Packet(1, PING, b"z", 1, b"nobody", claims=CLAIMS)
+          Claim(FAILED, b"d", HOST + b"\0\3", 7), Claim(LEFT, b"e", bytes(15) + b"\1\0\4", 2))
+HEARD = Packet(THREE, PING, b"z", 1, b"nobody", claims=CLAIMS)
 
 
 @dataclass(frozen=True)
@@ -93,10 +93,11 @@ class Asked:
             raise RuntimeError(f"the node knows {table_of(self.lone.port)}")
 
     def has_heard(self):
-        """Sends the packet, which changes nothing if it comes again, and says whether the node has heard it."""
+        """Sends the packet, which changes nothing if it comes again, and says whether the node has heard it. Its Pages
+        are of version one, which can't tell the address of e."""
         with bound_socket() as sender:
             sender.sendto(spelled(HEARD), ("127.0.0.1", self.lone.port))
-        return len(table_of(self.lone.port)) == len(self.view)
+        return len(table_of(self.lone.port)) == sum(is_told(ONE, record.address) for record in self.view)
 
     def fault(self, requests):
         """What is wrong with what comes for the requests of a connection."""

@@ -4,6 +4,7 @@ from fuzzing import member, numbers, script
 from fuzzing.kinds import RunKind
 from fuzzing.making import NAMES, damaged
 from fuzzing.runs import Case, Outcome, text_of
+from fuzzing.wire import MOST_CLAIMS, ONE, THREE, TWO, VERSIONS
 
 MOST_LINES = 150
 CROWD = [b"m%02d" % number for number in range(20)]
@@ -50,6 +51,10 @@ class Maker:
         value = self.dice.choice([least - 1 if least else most + 1, most + 1]) if self.dice.random() < 0.01 else value
         return f"set {key} {value}"
 
+    def set_wire(self):
+        """The version of the packets of those that are opened later."""
+        return f"set wire {self.dice.choice(VERSIONS)}"
+
     def open(self):
         """An opening, seldom of a name that is open, which is a fault."""
         new = [name for name in self.names if name not in self.cluster.members]
@@ -89,6 +94,8 @@ class Maker:
             opened = len(self.cluster.members)
             is_early = opened < self.early and self.dice.random() < 0.8
             if is_early or opened < len(self.names) and self.dice.random() < 0.03:
+                if self.dice.random() < 0.3:
+                    self.add(self.set_wire().encode())
                 line = self.open()
             elif self.cluster.sent or self.dice.random() < 0.01:
                 line = self.dice.choice([self.tick, self.tick, self.deliver, self.deliver, self.question])()
@@ -123,7 +130,8 @@ class Scripts(RunKind):
     name = "scripts"
     wrong_rules = (
         (script, "MOST_MEMBERS", 17), (script, "MOST_WORD", 2**32), (script, "MOST_MOMENT", 10**15 + 1),
-        (script, "MOST_SEEDS", 15), (member, "MOST_CLAIMS", 5), (member.Member, "live", lambda it: 1 + len(it.records)),
+        (script, "MOST_SEEDS", 15), (member, "MOST_CLAIMS", MOST_CLAIMS | {ONE: 5, TWO: 5}),
+        (member, "MOST_CLAIMS", MOST_CLAIMS | {THREE: 6}), (member.Member, "live", lambda it: 1 + len(it.records)),
         (member.Member, "mark", lambda *_: None), (member.Member, "accuse", lambda *_: None),
         (numbers, "RATIOS", [[900], [0, 1000], *numbers.RATIOS[2:]]),
         (numbers, "LOGARITHMS", numbers.LOGARITHMS | {10: 999}))

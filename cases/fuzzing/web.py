@@ -6,14 +6,14 @@ import re
 from dataclasses import dataclass
 
 from fuzzing.script import LineFault, number
-from fuzzing.wire import STATUS_WORDS, is_name
+from fuzzing.wire import STATUS_WORDS, ip_text, is_name, port_of
 
 MOST_WAIT = 30_000
 PLAIN = ("/", "/v1/health", "/v1/config", "/metrics")
 ONE_MEMBER = "/v1/members/"
 JSON = "application/json"
 MEDIA = {"/": "text/html; charset=utf-8", "/metrics": "text/plain; version=0.0.4; charset=utf-8"}
-MEMBERS_QUERIES = ("", *(f"status={it}" for it in (*STATUS_WORDS.values(), "left")))
+MEMBERS_QUERIES = ("", *(f"status={it}" for it in STATUS_WORDS.values()))
 SERVED = ("GET", "HEAD")
 # The name of a host that a server on a loopback address answers to, beside addresses.
 OWN_NAME = "localhost"
@@ -78,7 +78,7 @@ def code_of(method, host, target, known):
 def member_json(record):
     """A record as JSON says it."""
     return {"name": record.member.decode(), "status": STATUS_WORDS[record.status], "incarnation": record.incarnation,
-            "address": ".".join(map(str, record.address[:4])), "port": int.from_bytes(record.address[4:], "big"),
+            "address": ip_text(record.address), "port": port_of(record.address),
             "accuser": record.accuser.decode() if record.accuser else None}
 
 
@@ -92,7 +92,7 @@ def body_of(target, view):
     if path.startswith(ONE_MEMBER):
         return next(it for it in members if it["name"] == path.removeprefix(ONE_MEMBER))
     if path == "/v1/health":
-        live = sum(it["status"] != "failed" for it in members)
+        live = sum(it["status"] not in ("failed", "left") for it in members)
         return {"name": "b", "incarnation": 0, "live": live, "known": len(members), "ousted": False}
     return {}
 

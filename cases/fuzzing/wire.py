@@ -3,19 +3,26 @@
 It reads the bytes from the first on, and shares nothing with the program.
 """
 
+import ipaddress
 from dataclasses import dataclass
 
-PING, PING_REQ, ACK, NACK, PULL, PAGE = range(1, 7)
-ALIVE, SUSPECT, FAILED = range(1, 4)
-STATUS_WORDS = {ALIVE: "alive", SUSPECT: "suspect", FAILED: "failed"}
-SHORT, MAGIC, VERSION, KIND, NAME, COUNT, CLAIM_KIND, INCARNATION, TRAILING = range(1, 10)
+ONE, TWO, THREE = VERSIONS = range(1, 4)
+PING, PING_REQ, ACK, NACK, PULL, PAGE, GOSSIP = range(1, 8)
+ALIVE, SUSPECT, FAILED, LEFT = range(1, 5)
+STATUS_WORDS = {ALIVE: "alive", SUSPECT: "suspect", FAILED: "failed", LEFT: "left"}
+SHORT, MAGIC, VERSION, KIND, NAME, COUNT, CLAIM_KIND, INCARNATION, TRAILING, FAMILY = range(1, 11)
 FAULT_WORDS = {SHORT: "Short", MAGIC: "Magic", VERSION: "Version", KIND: "Kind", NAME: "Name", COUNT: "Count",
-               CLAIM_KIND: "ClaimKind", INCARNATION: "Incarnation", TRAILING: "Trailing"}
+               CLAIM_KIND: "ClaimKind", INCARNATION: "Incarnation", TRAILING: "Trailing", FAMILY: "Family"}
+# The kinds of packets and of claims that a version has.
+KINDS = {ONE: range(PING, GOSSIP), TWO: range(PING, GOSSIP), THREE: range(PING, GOSSIP + 1)}
+CLAIM_KINDS = {ONE: (ALIVE, SUSPECT, FAILED), TWO: (ALIVE, SUSPECT, FAILED), THREE: (ALIVE, SUSPECT, FAILED, LEFT)}
+# How many bytes the IP address has that stands behind a family byte.
+FAMILIES = {4: 4, 6: 16}
 
 MAGIC_BYTES = b"SL"
 NAME_BYTES = frozenset(b"ABCDEFGHIJKLMNOPQRSTUVWXYZabcdefghijklmnopqrstuvwxyz0123456789._-")
 MOST_NAME = 32
-MOST_CLAIMS = 6
+MOST_CLAIMS = {ONE: 6, TWO: 6, THREE: 12}
 MOST_INCARNATION = 1_000_000_000
 
 
@@ -29,7 +36,8 @@ class Fault(Exception):
 
 @dataclass(frozen=True)
 class Claim:
-    """What a packet says of a member. The address has six bytes, the port last. Who accuses is there for a suspect."""
+    """What a packet says of a member. The address has six bytes, or 18 if it is one of IPv6, the port last. Who accuses
+    is there for a suspect."""
 
     status: int
     member: bytes
@@ -49,7 +57,8 @@ class Claim:
 
 @dataclass(frozen=True)
 class Packet:
-    """A packet. A Pull for the first records has an empty target; the parts that its kind doesn't have are empty."""
+    """A packet. A Pull for the first records has an empty target; the parts that its kind or its version doesn't have
+    are empty."""
 
     version: int
     kind: int
@@ -58,6 +67,8 @@ class Packet:
     target: bytes = b""
     address: bytes = b""
     claims: tuple = ()
+    group: bytes = b""
+    receiver: bytes = b""
 
 
 def is_name(text):
@@ -65,9 +76,27 @@ def is_name(text):
     return 1 <= len(text) <= MOST_NAME and NAME_BYTES.issuperset(text)
 
 
+def ip_text(address):
+    """The IP address of an address as it is written, that of IPv6 as RFC 5952 has it."""
+    if len(address) == 6:
+        return ".".join(map(str, address[:4]))
+    ip = ipaddress.IPv6Address(address[:16])
+    return f"::ffff:{ip.ipv4_mapped}" if ip.ipv4_mapped else str(ip)
+
+
+def port_of(address):
+    return int.from_bytes(address[-2:], "big")
+
+
 def address_text(address):
-    """An address of six bytes as it is written."""
-    return f"{'.'.join(map(str, address[:4]))}:{int.from_bytes(address[4:], 'big')}"
+    """An address with its port as it is written."""
+    ip = ip_text(address)
+    return f"{ip if len(address) == 6 else f'[{ip}]'}:{port_of(address)}"
+
+
+def is_told(version, address):
+    """Whether a version has a spelling for an address: the first two have none for one of IPv6."""
+    return version == THREE or len(address) == 6
 
 
 # ---- Reading
@@ -110,9 +139,13 @@ class Reader:
     def number(self):
         return int.from_bytes(self.raw(4), "big")
 
-    def claim(self):
-        status = self.one_of((ALIVE, SUSPECT, FAILED), CLAIM_KIND)
-        member, address, incarnation = self.name(), self.raw(6), self.number()
+    def address(self, version):
+        length = FAMILIES[self.one_of(FAMILIES, FAMILY)] if version == THREE else 4
+        return self.raw(length + 2)
+
+    def claim(self, version):
+        status = self.one_of(CLAIM_KINDS[version], CLAIM_KIND)
+        member, address, incarnation = self.name(), self.address(version), self.number()
         if incarnation > MOST_INCARNATION:
             raise Fault(INCARNATION)
         return Claim(status, member, address, incarnation, self.name() if status == SUSPECT else None)
@@ -123,17 +156,19 @@ def read(data):
     reader = Reader(data)
     for byte in MAGIC_BYTES:
         reader.one_of((byte,), MAGIC)
-    version = reader.one_of((1, 2), VERSION)
-    kind = reader.one_of(range(PING, PAGE + 1), KIND)
+    version = reader.one_of(VERSIONS, VERSION)
+    kind = reader.one_of(KINDS[version], KIND)
+    group = reader.name(0) if version == THREE else b""
     sender = reader.name()
     number = reader.number() if kind in (PING, PING_REQ, ACK, NACK) else 0
     target = reader.name(0 if kind == PULL else 1) if kind in (PING, PING_REQ, PULL) else b""
-    address = reader.raw(6) if kind == PING_REQ else b""
-    count = reader.one_of(range(MOST_CLAIMS + 1), COUNT)
-    claims = tuple([reader.claim() for _ in range(count)])
+    receiver = reader.name() if version == THREE and kind in (ACK, NACK) else b""
+    address = reader.address(version) if kind == PING_REQ else b""
+    count = reader.one_of(range(MOST_CLAIMS[version] + 1), COUNT)
+    claims = tuple([reader.claim(version) for _ in range(count)])
     if reader.place != len(data):
         raise Fault(TRAILING)
-    return Packet(version, kind, sender, number, target, address, claims)
+    return Packet(version, kind, sender, number, target, address, claims, group, receiver)
 
 
 # ---- Writing
@@ -143,17 +178,28 @@ def spelled_name(name):
     return bytes([len(name)]) + name
 
 
-def spelled_claim(claim):
+def spelled_address(version, address):
+    family = bytes([4 if len(address) == 6 else 6]) if version == THREE else b""
+    return family + address
+
+
+def spelled_claim(version, claim):
     accuser = spelled_name(claim.accuser) if claim.status == SUSPECT else b""
-    return (bytes([claim.status]) + spelled_name(claim.member) + claim.address + claim.incarnation.to_bytes(4, "big")
-            + accuser)
+    return (bytes([claim.status]) + spelled_name(claim.member) + spelled_address(version, claim.address)
+            + claim.incarnation.to_bytes(4, "big") + accuser)
 
 
 def spelled(packet):
     """The bytes of a packet."""
-    body = packet.number.to_bytes(4, "big") if packet.kind in (PING, PING_REQ, ACK, NACK) else b""
-    if packet.kind in (PING, PING_REQ, PULL):
+    version, kind = packet.version, packet.kind
+    body = packet.number.to_bytes(4, "big") if kind in (PING, PING_REQ, ACK, NACK) else b""
+    if kind in (PING, PING_REQ, PULL):
         body += spelled_name(packet.target)
-    head = MAGIC_BYTES + bytes([packet.version, packet.kind]) + spelled_name(packet.sender)
-    claims = b"".join(map(spelled_claim, packet.claims))
-    return head + body + packet.address + bytes([len(packet.claims)]) + claims
+    if version == THREE and kind in (ACK, NACK):
+        body += spelled_name(packet.receiver)
+    if kind == PING_REQ:
+        body += spelled_address(version, packet.address)
+    group = spelled_name(packet.group) if version == THREE else b""
+    head = MAGIC_BYTES + bytes([version, kind]) + group + spelled_name(packet.sender)
+    claims = b"".join(spelled_claim(version, claim) for claim in packet.claims)
+    return head + body + bytes([len(packet.claims)]) + claims

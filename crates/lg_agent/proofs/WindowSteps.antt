@@ -36,7 +36,7 @@ targets-split (Came now ∷ stretch) log = targets-split stretch log
 targets-split (Fired timer words ∷ stretch) log = fired-split timer words stretch log (targets-split stretch log)
 targets-split (AckHeard k sender ∷ stretch) log = targets-split stretch log
 targets-split (NackHeard k sender ∷ stretch) log = targets-split stretch log
-targets-split (Relayed target asker asked ∷ stretch) log = targets-split stretch log
+targets-split (Relayed target asker ∷ stretch) log = targets-split stretch log
 targets-split (OfGroup fact ∷ stretch) log = targets-split stretch log
 
 names_are : (before whole : List Event) (names : List (List ℕ)) (stretch : Log) → targets_after whole ≡ targets_after before ++ names

@@ -43,22 +43,32 @@ const CONFIGS: &[(ConfigFault, &str)] = &[
         ConfigFault::Seeds,
         "seeds may be at most 16, with different names, none of them the member's own",
     ),
-    (ConfigFault::Wire, "wire has to be 1 or 2"),
+    (ConfigFault::Wire, "wire has to be 1 to 3"),
 ];
 
 const PACKETS: &[(Fault, &str)] = &[
     (Fault::Short, "the bytes end before the packet does"),
     (Fault::Magic, "a packet begins with the bytes 53 4c"),
-    (Fault::Version, "the version has to be 1 or 2"),
-    (Fault::Kind, "the kind of a packet has to be 1 to 6"),
+    (Fault::Version, "the version has to be 1, 2 or 3"),
+    (
+        Fault::Kind,
+        "the kind of a packet has to be 1 to 6, or 7 in version 3",
+    ),
     (
         Fault::Name,
         "a name has to be 1 to 32 bytes of A-Z a-z 0-9 . _ -",
     ),
-    (Fault::Count, "a packet has at most 6 claims"),
-    (Fault::ClaimKind, "the kind of a claim has to be 1 to 3"),
+    (
+        Fault::Count,
+        "a packet has at most 6 claims, or 12 in version 3",
+    ),
+    (
+        Fault::ClaimKind,
+        "the kind of a claim has to be 1 to 3, or 4 in version 3",
+    ),
     (Fault::Incarnation, "an incarnation is at most 1000000000"),
     (Fault::Trailing, "bytes follow the packet's end"),
+    (Fault::Family, "the family of an address has to be 4 or 6"),
 ];
 
 const SCRIPTS: &[(ScriptFault, &str)] = &[
@@ -97,7 +107,7 @@ const LINES: &[(LineFault, &str)] = &[
     (LineFault::NotHex, "a line has to be pairs of hex digits"),
     (
         LineFault::Refused(Fault::Version),
-        "the version has to be 1 or 2",
+        "the version has to be 1, 2 or 3",
     ),
 ];
 
@@ -173,7 +183,7 @@ const LOOKS: &[(MembersFault, &str)] = &[
 const REFUSALS: &[(Refusal, &str)] = &[
     (
         Refusal::BadPacket(Fault::Count),
-        "the bytes are no packet: a packet has at most 6 claims",
+        "the bytes are no packet: a packet has at most 6 claims, or 12 in version 3",
     ),
     (Refusal::NoMemory, "memory was refused"),
     (

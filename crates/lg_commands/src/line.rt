@@ -35,6 +35,7 @@ impl LineFault {
             LineFault::Refused(Fault::ClaimKind) => "fault 7 ClaimKind",
             LineFault::Refused(Fault::Incarnation) => "fault 8 Incarnation",
             LineFault::Refused(Fault::Trailing) => "fault 9 Trailing",
+            LineFault::Refused(Fault::Family) => "fault 10 Family",
         }
     }
 }

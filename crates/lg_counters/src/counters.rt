@@ -13,15 +13,15 @@ use lg_timing::Moment;
 use std::sync::atomic::AtomicU64;
 use std::sync::atomic::Ordering::Relaxed;
 
-/// How many faults a datagram can have: nine of the bytes of a packet, and two of a datagram that isn't sealed as a
+/// How many faults a datagram can have: ten of the bytes of a packet, and two of a datagram that isn't sealed as a
 /// keyed link wants it.
-pub const FAULTS: usize = 11;
+pub const FAULTS: usize = 12;
 
 /// The index of a datagram that isn't sealed in the version of the keyed link.
-const UNSIGNED: usize = 9;
+const UNSIGNED: usize = 10;
 
 /// The index of a datagram that isn't sealed with one of the keys.
-const FORGED: usize = 10;
+const FORGED: usize = 11;
 
 /// What a node counts from its start on. Threads share it by reference. No call waits, and none allocates. A count that
 /// has come to 2^64 - 1 goes on from 0.
@@ -71,6 +71,7 @@ impl Counters {
             refused: AtomicU64::new(0),
             last_event: AtomicU64::new(opened.milliseconds()),
             dropped: [
+                AtomicU64::new(0),
                 AtomicU64::new(0),
                 AtomicU64::new(0),
                 AtomicU64::new(0),
@@ -177,6 +178,7 @@ impl Counters {
             claim_kind,
             incarnation,
             trailing,
+            family,
             unsigned,
             forged,
         ] = &self.dropped;
@@ -190,6 +192,7 @@ impl Counters {
             drops_of("ClaimKind", claim_kind),
             drops_of("Incarnation", incarnation),
             drops_of("Trailing", trailing),
+            drops_of("Family", family),
             drops_of("Unsigned", unsigned),
             drops_of("Forged", forged),
         ]
@@ -221,5 +224,6 @@ fn index_of(fault: Fault) -> usize
         Fault::ClaimKind => 6,
         Fault::Incarnation => 7,
         Fault::Trailing => 8,
+        Fault::Family => 9,
     }
 }

@@ -20,7 +20,7 @@ pub struct Tally {
     pub probe_failed: bool,
     /// Another member was pinged for one that asked (SWIM, section 3.1).
     pub probe_helped: bool,
-    /// How many records became suspect, or got another accuser or incarnation while suspect: at most 6.
+    /// How many records became suspect, or got another accuser or incarnation while suspect: at most 12.
     pub suspicions_raised: usize,
     /// A claim against this member was refuted: its own incarnation rose (SWIM, section 4.2).
     pub refuted: bool,

@@ -24,7 +24,7 @@ events_left = record {
   sent = λ taken log. refl;
   acked = λ k sender log. refl;
   nacked = λ k sender log. refl;
-  relayed = λ target source k log. refl;
+  relayed = λ target asker log. refl;
 }
 
 events-expire : (o : Option Timer) (words : List ℕ) (log : Log) → event_count (expire o words log) ≡ event_count log

@@ -147,7 +147,7 @@ timed_left = record {
   sent = λ taken log. refl;
   acked = λ k sender log. refl;
   nacked = λ k sender log. refl;
-  relayed = λ target source k log. refl;
+  relayed = λ target asker log. refl;
 }
 
 untimed-by : (id : TimerId) (words : List ℕ) (log : Log) → is_of_round id ≡ false → (is_some (probe_by id words log (probe log)) || is_some (start_by id words log (round_start log))) ≡ is_timed log
@@ -193,7 +193,7 @@ targets_left = record {
   sent = λ taken log. refl;
   acked = λ k sender log. refl;
   nacked = λ k sender log. refl;
-  relayed = λ target source k log. refl;
+  relayed = λ target asker log. refl;
 }
 
 nothing_gained : (names : List (List ℕ)) → names ≡ names ++ []

@@ -34,7 +34,7 @@ configuration_left = record {
   sent = λ taken log. refl;
   acked = λ k sender log. refl;
   nacked = λ k sender log. refl;
-  relayed = λ target source k log. refl;
+  relayed = λ target asker log. refl;
 }
 
 pub configuration-expire : (o : Option Timer) (words : List ℕ) (log : Log) → configuration (expire o words log) ≡ configuration log
@@ -84,7 +84,7 @@ timed (Came now ∷ log) opened = timed log opened
 timed (Fired timer words ∷ log) opened = timed-by timer.id words log (timed log opened)
 timed (AckHeard k sender ∷ log) opened = timed log opened
 timed (NackHeard k sender ∷ log) opened = timed log opened
-timed (Relayed target asker asked ∷ log) opened = timed log opened
+timed (Relayed target asker ∷ log) opened = timed log opened
 timed (OfGroup (group.Opened opening) ∷ log) opened = refl
 timed (OfGroup (group.Said now origin c) ∷ log) opened = timed log opened
 timed (OfGroup (group.Sent taken) ∷ log) opened = timed log opened

@@ -104,7 +104,7 @@ cycle-known (Fired timer words ∷ log) k a = elim (cases_Bool (probing.is_round
 ]
 cycle-known (AckHeard j sender ∷ log) k a = cycle-known log k a
 cycle-known (NackHeard j sender ∷ log) k a = cycle-known log k a
-cycle-known (Relayed target asker asked ∷ log) k a = cycle-known log k a
+cycle-known (Relayed target asker ∷ log) k a = cycle-known log k a
 cycle-known (OfGroup (group.Opened opening) ∷ log) k a = absurd cc
 cycle-known (OfGroup (group.Said now origin c) ∷ log) k a = roster-grows (group.me (group_log log)) c (group.said (group_log log)) k (cycle-known log k a)
 cycle-known (OfGroup (group.Sent taken) ∷ log) k a = cycle-known log k a

@@ -3,23 +3,25 @@
 use Rattle.std.proofs.Common.{◌≡◌, ℕ, ◌+◌, Bool, true, false, not, cond, ◌||◌, ◌&&◌, List, [], ◌∷◌, ◌++◌, Option, Some, None, option_map, inl, inr, refl, sym, ◌∙◌, ap}
 use Rattle.std.specs.Prelude.{ℤ, filter, is_some, ◌==◌}
 use Rattle.std.proofs.lemmas.Bool.{cases_Bool}
-use Rattle.lg_rules.specs.declared.addr.Addr.{Addr}
 use Rattle.lg_timing.specs.Meaning.Score.{ScoreValue, score_of}
 use Rattle.lg_timers.specs.declared.timer.Timer.{Timer}
 use Rattle.lg_timers.specs.declared.timer.TimerId.{TimerId}
 use Rattle.lg_timers.specs.declared.timer.TimerId.TheVariants.{RoundEnd, Suspicion, Direct}
 use Rattle.lg_timers.specs.declared.timer.TimerId.TheVariants.{RelayNack, RelayEnd, RoundStart}
+use Rattle.lg_probe.specs.declared.relays.Asker.{Asker}
 use Rattle.lg_probe.specs.declared.relays.Relay.{Relay}
 use Rattle.lg_probe.specs.Meaning.Order.{OrderValue, Chose, order_with}
 use Rattle.lg_probe.specs.Meaning.Relays.{ended_asker}
 use Rattle.lg_probe.specs.Meaning.Round.{RoundFact, RoundValue, Asked, Acked, Nacked, asked_in, is_acked, ack_counts, round_of, round_with}
 use Rattle.lg_probe.proofs.RoundLaws.{asked_after, nacked_after}
+use Rattle.lg_membership.specs.Meaning.Gossip.{version_sent}
 use Rattle.lg_membership.specs.Meaning.Log as group
+use Rattle.lg_membership.specs.Meaning.Log.{group_view}
 use Rattle.lg_membership.specs.Meaning.Suspicions.{SuspectedValue, suspicions}
 use Rattle.lg_membership.specs.Support.State.{group_state_of}
 use Rattle.lg_detector.specs.Meaning.Log.{Log, Fired, AckHeard, NackHeard, Relayed, event_count, moment, group_log}
 use Rattle.lg_detector.specs.Meaning.Probing as probing
-use Rattle.lg_detector.specs.Meaning.Probing.{Probe, number, probe, since_start, round, round_at, new_probe, first_word, target, helpers_of}
+use Rattle.lg_detector.specs.Meaning.Probing.{Probe, number, probe, since_start, round, round_at, new_probe, first_word, target, helpers_of, asked_about}
 use Rattle.lg_detector.specs.Meaning.Relaying.{relays, relay_has_nacked, opened_at}
 use Rattle.lg_detector.specs.Meaning.Timing as timing
 use Rattle.lg_detector.specs.Meaning.Timing.{earned, max_in, score, round_start, round_timers, nack_timers, relay_timers, pending, nack_time, relay_time, end_at, direct_at, is_first, mark_of_end, mark_of_ack}
@@ -102,7 +104,9 @@ start-state d words log =
 -- helpers are asked
 pub helpers-is : (words : List ℕ) (log : Log) → helpers_state words (state_of log) ≡ probing.helpers words log
 helpers-is words log =
-    ap (helpers_of (probing.indirect_in (group.config (group_log log))) words (probing.others log)) (target-is (probe log) (since_start log))
+    let g = group_log log in
+    ap (λ t. helpers_of (probing.indirect_in (group.config g)) words (probing.others log) (asked_about (version_sent (group.config g)) (group_view g) t))
+    (target-is (probe log) (since_start log))
 
 asked-round : (p : Option Probe) (past : List RoundFact) (helpers : List (List ℕ)) → option_map (λ r. round_with r (Asked helpers)) (round_at past p) ≡ round_at (Asked helpers ∷ past) p
 asked-round None past helpers = refl
@@ -276,13 +280,13 @@ nack-heard k sender log =
     }
 
 -- a relay is opened
-pub relayed-state : (target : List ℕ) (asker : Addr) (asked : ℕ) (log : Log) → open_relay target asker asked (state_of log) ≡ state_of (Relayed target asker asked ∷ log)
+pub relayed-state : (target : List ℕ) (asker : Asker) (log : Log) → open_relay target asker (state_of log) ≡ state_of (Relayed target asker ∷ log)
 unfolding open_relay
-relayed-state target asker asked log =
-    let open_then = sym (relays-opened target asker asked log) in
+relayed-state target asker log =
+    let open_then = sym (relays-opened target asker log) in
     let timers = opened-timers (round_timers log) (are log) (nack_at log) (relay_at log) (rows log) (number log) (state.nack_later (state_of log)) (state.relay_later (state_of log)) (is_silent log) (relays log)
     (numbered log).below
-    ∙ (λ i. turned (round_timers log) (nacks-opened target asker asked log i) (ends-opened target asker asked log i) (runs (rows log))) in
+    ∙ (λ i. turned (round_timers log) (nacks-opened target asker log i) (ends-opened target asker log i) (runs (rows log))) in
     λ i. record {
       events = event_count log;
       moment = moment log;

@@ -1,7 +1,6 @@
 -- What each fact makes of a state that some log has is such a state again; and few timers are set in it.
 use Rattle.std.proofs.Common.{◌≡◌, ℕ, ◌+◌, ◌<◌, ◌≤◌, Bool, not, List, [], ◌∷◌, length, Option, Some, None, refl, sym, ◌∙◌, ap, subst, arith, length-append}
 use Rattle.std.specs.Prelude.{filter}
-use Rattle.lg_rules.specs.declared.addr.Addr.{Addr}
 use Rattle.lg_rules.specs.declared.claim.Claim.{Claim}
 use Rattle.lg_timing.specs.declared.config.Config.{Config}
 use Rattle.lg_timing.specs.Meaning.Config.{IsChecked}
@@ -10,6 +9,7 @@ use Rattle.lg_timers.specs.declared.timer.TimerId.{TimerId}
 use Rattle.lg_timers.specs.declared.timer.TimerId.TheVariants.{RoundEnd, Suspicion, Direct}
 use Rattle.lg_timers.specs.declared.timer.TimerId.TheVariants.{RelayNack, RelayEnd, RoundStart}
 use Rattle.lg_timers.specs.declared.timers.TheConstants.{MAX_TIMERS}
+use Rattle.lg_probe.specs.declared.relays.Asker.{Asker}
 use Rattle.lg_probe.specs.declared.relays.Relay.{Relay}
 use Rattle.lg_probe.specs.declared.relays.TheConstants.{MAX_RELAYS}
 use Rattle.lg_probe.specs.Meaning.Relays.{asker_at, has_number, is_ended}
@@ -166,8 +166,8 @@ unfolding hear_nack
 reached-nack s after k sender e r =
     leads (hear_nack k sender s) after (NackHeard k sender ∷ r.log) e (ap (hear_nack k sender) r.is ∙ nack-heard k sender r.log) r.good r.few_events r.numbered r.few_relays
 
-pub reached-open : (s after : State) (target : List ℕ) (asker : Addr) (asked : ℕ) → after ≡ open_relay target asker asked s → s.number ≤ s.events → length s.relays < MAX_RELAYS → IsReached s → IsReached after
+pub reached-open : (s after : State) (target : List ℕ) (asker : Asker) → after ≡ open_relay target asker s → s.number ≤ s.events → length s.relays < MAX_RELAYS → IsReached s → IsReached after
 unfolding open_relay
-reached-open s after target asker asked e le room r =
-    leads (open_relay target asker asked s) after (Relayed target asker asked ∷ r.log) e (ap (open_relay target asker asked) r.is ∙ relayed-state target asker asked r.log) r.good r.few_events (omega (arith, le))
-    (omega (arith, room, length-append s.relays (new_relay s.number target asker asked ∷ [])))
+reached-open s after target asker e le room r =
+    leads (open_relay target asker s) after (Relayed target asker ∷ r.log) e (ap (open_relay target asker) r.is ∙ relayed-state target asker r.log) r.good r.few_events (omega (arith, le))
+    (omega (arith, room, length-append s.relays (new_relay s.number target asker ∷ [])))

@@ -6,13 +6,13 @@ use Rattle.std.proofs.lemmas.Bool.{cases_Bool, eq-eqb}
 use Rattle.std.proofs.lemmas.Bool.Decides.{eqb_tells}
 use Rattle.std.proofs.lemmas.List.Elements.{filter-append}
 use mathlib.Core.List.{map-append}
-use Rattle.lg_rules.specs.declared.addr.Addr.{Addr}
 use Rattle.lg_timers.specs.declared.timer.Timer.{Timer}
 use Rattle.lg_timers.specs.declared.timer.TimerId.{TimerId}
 use Rattle.lg_timers.specs.declared.timer.TimerId.TheVariants.{RoundEnd, Suspicion, Direct}
 use Rattle.lg_timers.specs.declared.timer.TimerId.TheVariants.{RelayNack, RelayEnd, RoundStart}
 use Rattle.lg_timers.specs.Meaning.Timers.{has_id, with_timer, without_timer}
 use Rattle.lg_timers.proofs.Parts.{without-parts, with-second, with-third, without-map, without-nacks, without-ends, filter-swap, filter-both}
+use Rattle.lg_probe.specs.declared.relays.Asker.{Asker}
 use Rattle.lg_probe.specs.declared.relays.Relay.{Relay}
 use Rattle.lg_probe.specs.Meaning.Relays.{Opened, TargetAcked, Closed, AreApart, has_number, is_ended, is_open, asker_at, ended_asker}
 use Rattle.lg_probe.proofs.OpenRelays.{relays_after-push}
@@ -28,8 +28,8 @@ use Rattle.lg_detector.proofs.EndedRelays.{found, missed, ended-none, ended-numb
 use Rattle.lg_detector.proofs.TimerLaws.{turned, nacks, ends, runs, AreRound}
 
 -- the relays that are open after one is opened, after an Ack, and after the end of one
-pub relays-opened : (target : List ℕ) (asker : Addr) (asked : ℕ) (log : Log) → relays (Relayed target asker asked ∷ log) ≡ relays log ++ new_relay (number log) target asker asked ∷ []
-relays-opened target asker asked log = relays_after-push (Opened (new_relay (number log) target asker asked)) (relay_past log)
+pub relays-opened : (target : List ℕ) (asker : Asker) (log : Log) → relays (Relayed target asker ∷ log) ≡ relays log ++ new_relay (number log) target asker ∷ []
+relays-opened target asker log = relays_after-push (Opened (new_relay (number log) target asker)) (relay_past log)
 
 pub relays-acked : (k : ℕ) (sender : List ℕ) (log : Log) → relays (AckHeard k sender ∷ log) ≡ filter (λ r. not (is_ended k sender r)) (relays log)
 relays-acked k sender log = relays_after-push (TargetAcked k sender) (relay_past log)
@@ -108,9 +108,9 @@ numbered (AckHeard k sender ∷ log) =
       apart = subst AreApart are (apart-fewer p (relays log) (numbered log).apart);
     }
 numbered (NackHeard k sender ∷ log) = record { below = (numbered log).below; apart = (numbered log).apart }
-numbered (Relayed target asker asked ∷ log) =
-    let r = new_relay (number log) target asker asked in
-    let are = sym (relays-opened target asker asked log) in
+numbered (Relayed target asker ∷ log) =
+    let r = new_relay (number log) target asker in
+    let are = sym (relays-opened target asker log) in
     record {
       below = subst (Below (number log + 1)) are (below-opened (number log) r (relays log) refl (numbered log).below);
       apart = subst AreApart are (apart-opened (relays log) r (not_open (number log) (relays log) (numbered log).below) (numbered log).apart);
@@ -220,13 +220,13 @@ older n new old k lt = rw (other_number n k (λ e. omega (arith, e, lt))) refl
 itself : {A : Type 0} (n : ℕ) (new old : A) → cond (n == n) new old ≡ new
 itself n new old = rw (eq-eqb n n refl) refl
 
-pub nacks-opened : (target : List ℕ) (asker : Addr) (asked : ℕ) (log : Log)
-    → nack_timers log ++ nack_timer (moment log + nack_time (group.config (group_log log))) (number log) ∷ [] ≡ nack_timers (Relayed target asker asked ∷ log)
-nacks-opened target asker asked log =
+pub nacks-opened : (target : List ℕ) (asker : Asker) (log : Log)
+    → nack_timers log ++ nack_timer (moment log + nack_time (group.config (group_log log))) (number log) ∷ [] ≡ nack_timers (Relayed target asker ∷ log)
+nacks-opened target asker log =
     let n = number log in
     let later = nack_time (group.config (group_log log)) in
-    let after : Log = Relayed target asker asked ∷ log in
-    let r = new_relay n target asker asked in
+    let after : Log = Relayed target asker ∷ log in
+    let r = new_relay n target asker in
     let before : Relay → Timer = λ r. nack_timer (opened_at log r.number + later) r.number in
     let now : Relay → Timer = λ r. nack_timer (opened_at after r.number + later) r.number in
     let below = (numbered log).below in
@@ -241,18 +241,18 @@ nacks-opened target asker asked log =
     (λ i. (ap (map before) silent ∙ mapped) i ++ last i)
     ∙ sym (map-append now (filter (is_silent after) (relays log)) (filter (is_silent after) (r ∷ [])))
     ∙ ap (map now) (sym (filter-append (is_silent after) (relays log) (r ∷ [])))
-    ∙ ap (λ rs. map now (filter (is_silent after) rs)) (sym (relays-opened target asker asked log))
+    ∙ ap (λ rs. map now (filter (is_silent after) rs)) (sym (relays-opened target asker log))
 
-pub ends-opened : (target : List ℕ) (asker : Addr) (asked : ℕ) (log : Log)
-    → relay_timers log ++ relay_timer (moment log + relay_time (group.config (group_log log))) (number log) ∷ [] ≡ relay_timers (Relayed target asker asked ∷ log)
-ends-opened target asker asked log =
+pub ends-opened : (target : List ℕ) (asker : Asker) (log : Log)
+    → relay_timers log ++ relay_timer (moment log + relay_time (group.config (group_log log))) (number log) ∷ [] ≡ relay_timers (Relayed target asker ∷ log)
+ends-opened target asker log =
     let n = number log in
     let later = relay_time (group.config (group_log log)) in
-    let after : Log = Relayed target asker asked ∷ log in
-    let r = new_relay n target asker asked in
+    let after : Log = Relayed target asker ∷ log in
+    let r = new_relay n target asker in
     let before : Relay → Timer = λ r. relay_timer (opened_at log r.number + later) r.number in
     let now : Relay → Timer = λ r. relay_timer (opened_at after r.number + later) r.number in
     let mapped : map before (relays log) ≡ map now (relays log) =
     agree-map before now n (relays log) (λ r lt. ap (λ d. relay_timer (d + later) r.number) (sym (older n (moment log) (opened_at log r.number) r.number lt))) (numbered log).below in
     let last : relay_timer (moment log + later) n ∷ [] ≡ map now (r ∷ []) = ap (λ d. relay_timer (d + later) n ∷ []) (sym (itself n (moment log) (opened_at log n))) in
-    (λ i. mapped i ++ last i) ∙ sym (map-append now (relays log) (r ∷ [])) ∙ ap (map now) (sym (relays-opened target asker asked log))
+    (λ i. mapped i ++ last i) ∙ sym (map-append now (relays log) (r ∷ [])) ∙ ap (map now) (sym (relays-opened target asker log))

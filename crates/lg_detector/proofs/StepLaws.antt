@@ -6,15 +6,17 @@ use Rattle.lg_rules.specs.declared.claim.Claim.{Claim}
 use Rattle.lg_rules.specs.Meaning.Own.{own_record}
 use Rattle.lg_rules.specs.Meaning.View.{changed}
 use Rattle.lg_packet.specs.declared.packet.Body.{Body}
-use Rattle.lg_packet.specs.declared.packet.Body.TheVariants.{Ping, PingReq, Ack, Nack, Pull, Page}
+use Rattle.lg_packet.specs.declared.packet.Body.TheVariants.{Ping, PingReq, Ack, Nack, Pull, Page, Gossip}
 use Rattle.lg_packet.specs.declared.packet.Packet.{Packet}
 use Rattle.lg_timing.specs.declared.config.Config.{Config}
 use Rattle.lg_timers.specs.declared.timer.Timer.{Timer}
 use Rattle.lg_timers.specs.declared.timer.TimerId.{TimerId}
 use Rattle.lg_timers.specs.declared.timer.TimerId.TheVariants.{RoundEnd, Suspicion, Direct}
 use Rattle.lg_timers.specs.declared.timer.TimerId.TheVariants.{RelayNack, RelayEnd, RoundStart}
+use Rattle.lg_probe.specs.declared.relays.Asker.{Asker}
 use Rattle.lg_membership.specs.declared.origin.Origin.{Origin}
 use Rattle.lg_membership.specs.declared.origin.Origin.TheVariants.{Seed, Group}
+use Rattle.lg_membership.specs.Meaning.Gossip.{version_sent}
 use Rattle.lg_membership.specs.Meaning.Log as group
 use Rattle.lg_membership.specs.Meaning.Log.{group_view}
 use Rattle.lg_membership.specs.Meaning.Pages.{page_of}
@@ -36,8 +38,8 @@ use Rattle.lg_detector.specs.Meaning.Step as step_log
 use Rattle.lg_detector.specs.Support.State.{State, state_of, begin, apply_all_state, open_relay}
 use Rattle.lg_detector.specs.Support.Send.{claims_of_state, outgoing_state, packets_state, send_all_state, send_state}
 use Rattle.lg_detector.specs.Support.Open.{open_with_state}
-use Rattle.lg_detector.specs.Support.Hear.{hear_claims_state, hear_state, note_state, respond_state, response_state}
-use Rattle.lg_detector.specs.Support.Hear.{sends_to_state}
+use Rattle.lg_detector.specs.Support.Hear.{answer_state, body_meant_state, hear_claims_state, hear_state, note_state, respond_state}
+use Rattle.lg_detector.specs.Support.Hear.{response_state, sends_of_state, sends_to_state}
 use Rattle.lg_detector.specs.Support.Joining.{next_pull_state, page_behind_state, pull_after_state}
 use Rattle.lg_detector.specs.Support.Tick as tick_state
 use Rattle.lg_detector.specs.Support.Tick.{claims_said_state, due_state, expire_sends_state, expire_state}
@@ -60,16 +62,19 @@ open-state now opening log =
     ∙ apply_all-state Seed claims (OfGroup (group.Opened opening) ∷ Came now ∷ log)
 
 claims-state : (now : ℕ) (packet : Packet) (log : Log) → hear_claims_state now packet (state_of log) ≡ state_of (hear_log.hear_claims now packet log)
-claims-state now packet log = ap (apply_all_state Group packet.claims.items) (come-state now log) ∙ apply_all-state Group packet.claims.items (Came now ∷ log)
+claims-state now packet log =
+    let said = hear_log.claims_heard packet in
+    ap (apply_all_state Group said) (come-state now log) ∙ apply_all-state Group said (Came now ∷ log)
 
 -- the packets that are sent
 send-body : (body : Body) (log : Log) → send_state body (state_of log) ≡ state_of (send_log.send body log)
 send-body (Ping number target) log = send-state _ log
 send-body (PingReq number target addr) log = send-state _ log
-send-body (Ack number) log = send-state _ log
-send-body (Nack number) log = refl
+send-body (Ack number receiver) log = send-state _ log
+send-body (Nack number receiver) log = refl
 send-body (Pull after) log = refl
 send-body Page log = refl
+send-body Gossip log = refl
 
 pub send_all-state : (ms : List Message) (log : Log) → send_all_state ms (state_of log) ≡ state_of (send_log.send_all ms log)
 send_all-state [] log = refl
@@ -78,18 +83,20 @@ send_all-state (m ∷ ms) log = ap (send_all_state ms) (send-body m.body log) �
 claims_of-log : (body : Body) (log : Log) → claims_of_state body (state_of log) ≡ send_log.claims_of body log
 claims_of-log (Ping number target) log = refl
 claims_of-log (PingReq number target addr) log = refl
-claims_of-log (Ack number) log = refl
-claims_of-log (Nack number) log = refl
+claims_of-log (Ack number receiver) log = refl
+claims_of-log (Nack number receiver) log = refl
 claims_of-log (Pull after) log = refl
 claims_of-log Page log = refl
+claims_of-log Gossip log = refl
 
 outgoing-log : (m : Message) (log : Log) → outgoing_state m (state_of log) ≡ send_log.outgoing m log
 outgoing-log m log = λ i. record {
   to = m.to;
   packet = record {
-    version = send_log.version_sent (group.config (group_log log));
+    version = version_sent (group.config (group_log log));
+    group = None;
     sender = own_name (group_log log) i;
-    body = m.body;
+    body = send_log.body_told (version_sent (group.config (group_log log))) m.body;
     claims = record { items = claims_of-log m.body log i };
   };
 }
@@ -104,29 +111,41 @@ packets-log (m ∷ ms) log =
 response-log : (source : Addr) (sender : List ℕ) (body : Body) (log : Log) → response_state source sender body (state_of log) ≡ hear_log.response source sender body log
 response-log source sender body log = ap (λ me. hear_log.response_by me (number log) (relays log) source sender body) (own_name (group_log log))
 
-note-request : (b : Bool) (target : List ℕ) (source : Addr) (k : ℕ) (log : Log)
-    → cond b (open_relay target source k (state_of log)) (state_of log) ≡ state_of (cond b (Relayed target source k ∷ log) log)
-note-request true target source k log = relayed-state target source k log
-note-request false target source k log = refl
+note-request : (b : Bool) (target : List ℕ) (asker : Asker) (log : Log)
+    → cond b (open_relay target asker (state_of log)) (state_of log) ≡ state_of (cond b (Relayed target asker ∷ log) log)
+note-request true target asker log = relayed-state target asker log
+note-request false target asker log = refl
 
 note-state : (source : Addr) (sender : List ℕ) (body : Body) (log : Log) → note_state source sender body (state_of log) ≡ state_of (hear_log.note source sender body log)
 note-state source sender (Ping k target) log = refl
 note-state source sender (PingReq k target addr) log =
-    ap (λ me. cond (hear_log.is_relayed me (relays log) target) (open_relay target source k (state_of log)) (state_of log)) (own_name (group_log log))
-    ∙ note-request (hear_log.is_relayed (group.me (group_log log)) (relays log) target) target source k log
-note-state source sender (Ack k) log = ack-state k sender log
-note-state source sender (Nack k) log = nack-heard k sender log
+    let asker = hear_log.asker_from sender source k in
+    ap (λ me. cond (hear_log.is_relayed me (relays log) target) (open_relay target asker (state_of log)) (state_of log)) (own_name (group_log log))
+    ∙ note-request (hear_log.is_relayed (group.me (group_log log)) (relays log) target) target asker log
+note-state source sender (Ack k receiver) log = ack-state k sender log
+note-state source sender (Nack k receiver) log = nack-heard k sender log
 note-state source sender (Pull after) log = refl
 note-state source sender Page log = refl
+note-state source sender Gossip log = refl
 
 respond-state : (source : Addr) (sender : List ℕ) (body : Body) (log : Log) → respond_state source sender body (state_of log) ≡ state_of (hear_log.respond source sender body log)
 respond-state source sender body log =
     (λ i. send_all_state (response-log source sender body log i) (note-state source sender body log i))
     ∙ send_all-state (hear_log.response source sender body log) (hear_log.note source sender body log)
 
+-- what the body of a packet means to this member
+body-is : (packet : Packet) (log : Log) → body_meant_state packet (state_of log) ≡ hear_log.body_meant packet log
+body-is packet log = ap (λ me. hear_log.body_heard me packet) (own_name (group_log log))
+
+answer-state : (source : Addr) (packet : Packet) (log : Log)
+    → answer_state source packet (state_of log) ≡ state_of (hear_log.respond source packet.sender (hear_log.body_meant packet log) log)
+answer-state source packet log =
+    ap (λ body. respond_state source packet.sender body (state_of log)) (body-is packet log)
+    ∙ respond-state source packet.sender (hear_log.body_meant packet log) log
+
 hear-state : (now : ℕ) (source : Addr) (packet : Packet) (log : Log) → hear_state now source packet (state_of log) ≡ state_of (hear_log.hear now source packet log)
 hear-state now source packet log =
-    ap (respond_state source packet.sender packet.body) (claims-state now packet log) ∙ respond-state source packet.sender packet.body (hear_log.hear_claims now packet log)
+    ap (answer_state source packet) (claims-state now packet log) ∙ answer-state source packet (hear_log.hear_claims now packet log)
 
 response_sent-log : (source : Addr) (sender : List ℕ) (body : Body) (log : Log)
     → packets_state (response_state source sender body (state_of log)) (note_state source sender body (state_of log))
@@ -138,26 +157,32 @@ response_sent-log source sender body log =
 -- Pulls and Pages
 pull_after-log : (to : Addr) (after : Option (List ℕ)) (log : Log) → pull_after_state to after (state_of log) ≡ join_log.pull_after to after log
 pull_after-log to after log =
-    let version = send_log.version_sent (group.config (group_log log)) in
-    ap (λ me. join_log.with_claims to version me (Pull after) (own_record (group.own (group_log log)) ∷ [])) (own_name (group_log log))
+    let version = version_sent (group.config (group_log log)) in
+    let own = join_log.own_told version (own_record (group.own (group_log log))) in
+    ap (λ me. join_log.with_claims to version me (Pull after) own) (own_name (group_log log))
 
 page_behind-log : (to : Addr) (after : Option (List ℕ)) (log : Log) → page_behind_state to after (state_of log) ≡ join_log.page_behind to after log
 page_behind-log to after log =
-    let version = send_log.version_sent (group.config (group_log log)) in
-    ap (λ me. join_log.with_claims to version me Page (page_of after (group_view (group_log log)))) (own_name (group_log log))
+    let version = version_sent (group.config (group_log log)) in
+    ap (λ me. join_log.with_claims to version me Page (page_of version after (group_view (group_log log)))) (own_name (group_log log))
 
-next_pull-log : (to : Addr) (sixth : Option Claim) (log : Log) → next_pull_state to sixth (state_of log) ≡ join_log.next_pull to sixth log
+next_pull-log : (to : Addr) (last : Option Claim) (log : Log) → next_pull_state to last (state_of log) ≡ join_log.next_pull to last log
 next_pull-log to None log = refl
-next_pull-log to (Some sixth) log = λ i. pull_after-log to (Some sixth.name) log i ∷ []
+next_pull-log to (Some last) log = λ i. pull_after-log to (Some last.name) log i ∷ []
 
-sends_to-log : (source : Addr) (sender : List ℕ) (body : Body) (claims : List Claim) (log : Log)
-    → sends_to_state source sender body claims (state_of log) ≡ hear_log.sends_to source sender body claims log
-sends_to-log source sender (Ping k target) claims log = response_sent-log source sender (Ping k target) log
-sends_to-log source sender (PingReq k target addr) claims log = response_sent-log source sender (PingReq k target addr) log
-sends_to-log source sender (Ack k) claims log = response_sent-log source sender (Ack k) log
-sends_to-log source sender (Nack k) claims log = response_sent-log source sender (Nack k) log
-sends_to-log source sender (Pull after) claims log = λ i. page_behind-log source after log i ∷ []
-sends_to-log source sender Page claims log = next_pull-log source (join_log.sixth_of claims) log
+sends_of-log : (source : Addr) (packet : Packet) (body : Body) (log : Log)
+    → sends_of_state source packet body (state_of log) ≡ hear_log.sends_of source packet body log
+sends_of-log source packet (Ping k target) log = response_sent-log source packet.sender (Ping k target) log
+sends_of-log source packet (PingReq k target addr) log = response_sent-log source packet.sender (PingReq k target addr) log
+sends_of-log source packet (Ack k receiver) log = response_sent-log source packet.sender (Ack k receiver) log
+sends_of-log source packet (Nack k receiver) log = response_sent-log source packet.sender (Nack k receiver) log
+sends_of-log source packet (Pull after) log = λ i. page_behind-log source after log i ∷ []
+sends_of-log source packet Page log = next_pull-log source (join_log.last_of_full packet.version packet.claims.items) log
+sends_of-log source packet Gossip log = response_sent-log source packet.sender Gossip log
+
+sends_to-log : (source : Addr) (packet : Packet) (log : Log) → sends_to_state source packet (state_of log) ≡ hear_log.sends_to source packet log
+sends_to-log source packet log =
+    ap (λ body. sends_of_state source packet body (state_of log)) (body-is packet log) ∙ sends_of-log source packet (hear_log.body_meant packet log) log
 
 -- a timer fires, if one is due
 said-log : (id : TimerId) (log : Log) → claims_said_state id (state_of log) ≡ tick_log.claims_said id log
@@ -213,8 +238,7 @@ reply-state log (Open now opening) = λ i. record {
 reply-state log (Heard now source packet) =
     let heard = hear_log.hear_claims now packet log in
     let heard-is = claims-state now packet log in
-    let said = packet.claims.items in
-    let sends-is = ap (sends_to_state source packet.sender packet.body said) heard-is ∙ sends_to-log source packet.sender packet.body said heard in
+    let sends-is = ap (sends_to_state source packet) heard-is ∙ sends_to-log source packet heard in
     λ i. record {
       fired = None;
       sends = record { items = sends-is i };

@@ -2,7 +2,7 @@
 use Rattle.std.proofs.Common.{◌≡◌, ℕ, List, [], ◌∷◌, Option, arith, sym, Some, None, refl, ◌∙◌, ap}
 use Rattle.lg_rules.specs.Meaning.View.{changed}
 use Rattle.lg_packet.specs.declared.packet.Body.{Body}
-use Rattle.lg_packet.specs.declared.packet.Body.TheVariants.{Ping, PingReq, Ack, Nack, Pull, Page}
+use Rattle.lg_packet.specs.declared.packet.Body.TheVariants.{Ping, PingReq, Ack, Nack, Pull, Page, Gossip}
 use Rattle.lg_timers.specs.declared.timer.Timer.{Timer}
 use Rattle.lg_membership.specs.declared.origin.Origin.TheVariants.{Group}
 use Rattle.lg_membership.specs.Support.State.{shown}
@@ -24,10 +24,11 @@ view-fire_due (Some timer) words s = ap shown (membership-fire timer words s)
 view-send : (body : Body) (s : State) → view_state (send_state body s) ≡ view_state s
 view-send (Ping number target) s = refl
 view-send (PingReq number target addr) s = refl
-view-send (Ack number) s = refl
-view-send (Nack number) s = refl
+view-send (Ack number receiver) s = refl
+view-send (Nack number receiver) s = refl
 view-send (Pull after) s = refl
 view-send Page s = refl
+view-send Gossip s = refl
 
 pub view-send_all : (ms : List Message) (s : State) → view_state (send_all_state ms s) ≡ view_state s
 view-send_all [] s = refl

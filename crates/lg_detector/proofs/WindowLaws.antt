@@ -84,7 +84,7 @@ chosen_in names (Fired timer words ∷ stretch) log name named same =
     after_choice names timer words stretch log (others_then names stretch log same.1) (chosen_in names stretch log name named same.1)
 chosen_in names (AckHeard k sender ∷ stretch) log name named same = let c = chosen_in names stretch log name named same.1 in record { words = c.words; are = c.are; cycle = c.cycle }
 chosen_in names (NackHeard k sender ∷ stretch) log name named same = let c = chosen_in names stretch log name named same.1 in record { words = c.words; are = c.are; cycle = c.cycle }
-chosen_in names (Relayed target asker asked ∷ stretch) log name named same = let c = chosen_in names stretch log name named same.1 in record { words = c.words; are = c.are; cycle = c.cycle }
+chosen_in names (Relayed target asker ∷ stretch) log name named same = let c = chosen_in names stretch log name named same.1 in record { words = c.words; are = c.are; cycle = c.cycle }
 chosen_in names (OfGroup (group.Opened opening) ∷ stretch) log name named same =
     let none : names ≡ [] = sym same.0 ∙ live-opened opening (group_log (stretch ++ log)) in
     absurd (false≢true (sym (ap (is_among name_cmp name) none) ∙ named))
@@ -115,5 +115,5 @@ no_target log (Came now ∷ stretch) same = no_target log stretch same.1
 no_target log (Fired timer words ∷ stretch) same = nobody_then log timer words stretch (others_then [] stretch log same.1) (no_target log stretch same.1)
 no_target log (AckHeard k sender ∷ stretch) same = no_target log stretch same.1
 no_target log (NackHeard k sender ∷ stretch) same = no_target log stretch same.1
-no_target log (Relayed target asker asked ∷ stretch) same = no_target log stretch same.1
+no_target log (Relayed target asker ∷ stretch) same = no_target log stretch same.1
 no_target log (OfGroup fact ∷ stretch) same = no_target log stretch same.1

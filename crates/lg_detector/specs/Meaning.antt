@@ -28,4 +28,5 @@ pub mod ProbingExamples
 pub mod RelayingExamples
 pub mod JoiningExamples
 pub mod VersionExamples
+pub mod VersionThreeExamples
 pub mod ChoiceExamples

@@ -16,17 +16,20 @@ pub(crate) struct Message {
 
 /// An Ack numbered 0 to the address 0.0.0.0:0. It fills the slots of a fixed-capacity row that hold no message.
 impl Default for Message {
-    ghost use Rattle.std.specs.Prelude.{◌≡◌, [], ◌∷◌};
+    ghost use Rattle.std.specs.Prelude.{◌≡◌, [], ◌∷◌, None};
     ghost use Rattle.lg_rules.specs.declared.addr.Ip.TheVariants.{V4};
     ghost use Rattle.lg_packet.specs.declared.packet.Body.TheVariants.{Ack};
 
     ghost is_default = { λ m. m
-        ≡ record { to = record { ip = V4 (0 ∷ 0 ∷ 0 ∷ 0 ∷ []); port = 0 }; body = Ack 0 } };
+        ≡ record { to = record { ip = V4 (0 ∷ 0 ∷ 0 ∷ 0 ∷ []); port = 0 }; body = Ack 0 None } };
 
     fn default() -> Self {
         Message {
             to: Addr::default(),
-            body: Body::Ack { number: 0 },
+            body: Body::Ack {
+                number: 0,
+                receiver: None,
+            },
         }
     }
 }

@@ -1,10 +1,13 @@
 //! Worked events of the detector b at 127.0.0.1:7000, which hears from port 1.
 mod acks;
+mod answers;
 mod ask;
 mod comeback;
 mod comparing;
 mod copies;
+mod far;
 mod group;
+mod groups;
 mod happening;
 mod hear;
 mod joining;
@@ -12,13 +15,16 @@ mod many;
 mod open;
 mod playing;
 mod probing;
+mod receivers;
 mod rejoining;
 mod relaying;
 mod resuming;
 mod round_ends;
+mod sending;
 mod tables;
 mod tick;
 mod versions;
 
+pub(crate) use answers::ANSWERS;
 pub(crate) use happening::{Happens, Says, packet_of};
 pub(crate) use playing::{Due, Step, play_on, table_of, timer_of};

@@ -1,13 +1,26 @@
 //! Which claims a packet takes, and how often.
+use crate::says::far;
 use arrayvec::ArrayVec;
 use lg_gossip::{MAX_QUEUED, Queue};
-use lg_rules::Claim;
+use lg_rules::{Claim, Version};
 use lg_testing::{alive, suspect};
+use std::process::Abort;
+
+/// A claim at port 7 of ::1.
+fn moved_far(claim: Claim) -> Claim {
+    Claim {
+        addr: far(),
+        ..claim
+    }
+}
 
 /// The claim of a letter. `c` is that `a` suspects `c` at 2, and `C` is that `b` does. `0` and `1` are that `c` is
-/// alive at that number. Any other letter is that its member is alive at 0.
+/// alive at that number. `F` is that `f` is alive at 0, and `S` that `a` suspects `s` at 2, both at an address of
+/// sixteen bytes. Any other letter is that its member is alive at 0.
 fn claim_of(byte: u8) -> Claim {
     match byte {
+        b'F' => moved_far(alive(b'f', 0)),
+        b'S' => moved_far(suspect(b's', 2, b'a')),
         b'c' => suspect(b'c', 2, b'a'),
         b'C' => suspect(b'c', 2, b'b'),
         b'0' => alive(b'c', 0),
@@ -79,6 +92,9 @@ const BUDDY: &[Turn] = &[
     (b"", Some(b'0'), 99, b"cd", b"cd", &[3, 6]),
 ];
 
+/// The sends of a claim that is never sent, since the version can't tell its address: as many as any claim may have.
+const NEVER: u32 = 200;
+
 /// Six claims: those that were sent fewer times come first, then the names decide. Beside a buddy there are five.
 const SIX_WITH_BUDDY: &[Turn] = &[
     (
@@ -110,21 +126,101 @@ const PUT_AGAIN: &[Turn] = &[
     (b"1", None, 1, b"1d", b"1d", &[1, 2]),
 ];
 
+/// Thirteen claims in a version with room for twelve, and then for eleven beside a buddy.
+const TWELVE: &[Turn] = &[
+    (
+        b"pondefghijklm",
+        None,
+        9,
+        b"defghijklmno",
+        b"defghijklmnop",
+        &[1, 1, 1, 1, 1, 1, 1, 1, 1, 1, 1, 1, 0],
+    ),
+    (
+        b"",
+        Some(b'c'),
+        9,
+        b"cpdefghijklm",
+        b"defghijklmnop",
+        &[2, 2, 2, 2, 2, 2, 2, 2, 2, 2, 1, 1, 1],
+    ),
+];
+
+/// An address of sixteen bytes, in a version that can't tell it. The claim takes no place beside six others, and its
+/// sends stay. No record at such an address is a buddy.
+const UNTOLD: &[Turn] = &[
+    (
+        b"adeFghi",
+        None,
+        9,
+        b"adeghi",
+        b"adeFghi",
+        &[1, 1, 1, NEVER, 1, 1, 1],
+    ),
+    (
+        b"",
+        Some(b'S'),
+        9,
+        b"adeghi",
+        b"adeFghi",
+        &[2, 2, 2, NEVER, 2, 2, 2],
+    ),
+    (
+        b"S",
+        None,
+        999,
+        b"adeghi",
+        b"adeFghiS",
+        &[3, 3, 3, NEVER, 3, 3, 3, NEVER],
+    ),
+];
+
+/// The same in a version that tells it.
+const TOLD: &[Turn] = &[
+    (b"adF", None, 9, b"adF", b"adF", &[1, 1, 1]),
+    (b"", Some(b'S'), 9, b"SadF", b"adF", &[2, 2, 2]),
+];
+
+/// The versions with room for six claims, and the one with room for twelve.
+const OLD: &[Version] = &[Version::One, Version::Two];
+
+const NEW: &[Version] = &[Version::Three];
+
+const EACH: &[Version] = &[Version::One, Version::Two, Version::Three];
+
+/// Some plays, with the versions of the queues in which they go this way.
+const PLAYS: &[(&[Version], &[Turn])] = &[
+    (EACH, BUDDY),
+    (OLD, SIX_WITH_BUDDY),
+    (OLD, SIX),
+    (EACH, PUT_AGAIN),
+    (NEW, TWELVE),
+    (OLD, UNTOLD),
+    (NEW, TOLD),
+];
+
+/// Plays on an empty queue of a version.
+fn play(rt: &impl Abort, version: Version, turns: &[Turn]) {
+    let mut queue = Queue::new(4, version);
+    let mut claims = ArrayVec::new();
+    for (letters, to, live, want, rows, sends) in turns {
+        put(&mut queue, letters);
+        let to = to.map(claim_of);
+        queue.fill_into(to.as_ref(), *live, &mut claims);
+        let taken = are_claims(&claims, want);
+        assert!(rt;
+            taken & has_queued(&queue, rows, sends),
+            "{want:?} of {rows:?}"
+        );
+    }
+}
+
 /// The claims of the packets of some plays. Each play begins with an empty queue.
 #[test]
 fn fills_packets(rt: HostRuntime) {
-    for turns in [BUDDY, SIX_WITH_BUDDY, SIX, PUT_AGAIN] {
-        let mut queue = Queue::new(4);
-        let mut claims = ArrayVec::new();
-        for (letters, to, live, want, rows, sends) in turns {
-            put(&mut queue, letters);
-            let to = to.map(claim_of);
-            queue.fill_into(to.as_ref(), *live, &mut claims);
-            let taken = are_claims(&claims, want);
-            assert!(rt;
-                taken & has_queued(&queue, rows, sends),
-                "{want:?} of {rows:?}"
-            );
+    for (versions, turns) in PLAYS {
+        for version in *versions {
+            play(&rt, *version, turns);
         }
     }
 }
@@ -132,7 +228,7 @@ fn fills_packets(rt: HostRuntime) {
 /// A claim that was put has no sends. Of two that were put, the names give the order.
 #[test]
 fn puts_with_no_sends(rt: HostRuntime) {
-    let mut queue = Queue::new(4);
+    let mut queue = Queue::new(4, Version::One);
     put(&mut queue, b"d0");
     assert!(rt; has_queued(&queue, b"0d", &[0, 0]));
 }
@@ -166,13 +262,27 @@ const LIMITS: &[(bool, usize, u32)] = &[
 /// How often a claim is sent among a number of members, in a new queue or after what was sent before.
 #[test]
 fn sends_up_to_the_limit(rt: HostRuntime) {
-    let mut queue = Queue::new(4);
+    let mut queue = Queue::new(4, Version::One);
     for (is_new, live, sends) in LIMITS {
         if *is_new {
-            queue = Queue::new(4);
+            queue = Queue::new(4, Version::One);
             put(&mut queue, b"0");
         }
         let sent = packets_until_none(&mut queue, *live);
         assert!(rt; sent == Some(*sends), "among {live}: {sent:?}");
     }
+}
+
+/// A queue that starts over is empty, and has another version.
+#[test]
+fn starts_over(rt: HostRuntime) {
+    let mut queue = Queue::new(4, Version::One);
+    put(&mut queue, b"F0");
+    queue.restart(1, Version::Three);
+    let was_empty = has_queued(&queue, b"", &[]);
+    put(&mut queue, b"F");
+    let first = queue.fill(None, 9);
+    let second = queue.fill(None, 9);
+    let taken = are_claims(&first, b"F") && second.is_empty();
+    assert!(rt; was_empty && taken, "{first:?}, {second:?}");
 }

@@ -1,17 +1,18 @@
-//! Packets: worked rows, and every front and every one-byte change of some packets in both versions, checked against a
-//! slow judge.
+//! Packets: worked rows, and every front and every one-byte change of some packets in versions 1 and 2, checked against
+//! a slow judge.
 mod judge;
+mod telling;
+mod three;
 
 use crate::detector::{Says, packet_of};
-use crate::says::Said::{self, Alive, AliveAt, Failed, Left, Suspect};
-use crate::says::{Member, claim_of};
+use crate::says::Member;
+use crate::says::Said::{self, Alive, AliveAt, Suspect};
 use arrayvec::ArrayVec;
 use judge::judge;
 use lg_packet::{
     Body, Fault, MAX_PACKET, Packet, Version, begun_spelling, decode, encode, first_bad_byte,
-    one_reading, one_spelling,
+    one_reading, one_spelling, own_spelling,
 };
-use lg_rules::{Addr, Claim};
 
 /// A Ping from `a` for `b`, numbered 7.
 const PING: &[u8] = b"SL\x01\x01\x01a\x00\x00\x00\x07\x01b\x00";
@@ -67,9 +68,6 @@ const GREATEST: &[u8] = b"SL\x01\x01\x01a\x00\x00\x00\x01\x01b\x01\
 const ABOVE: &[u8] = b"SL\x01\x01\x01a\x00\x00\x00\x01\x01b\x01\
     \x02\x01b\x7f\x00\x00\x01\x1b\x58\x3b\x9a\xca\x01\x01a";
 
-/// The longest name.
-const LONGEST: Member = "ABCDEFGHIJKLMNOPabcdefghijklm._-";
-
 /// The default packet.
 const FIRST_ACK: &[u8] = b"SL\x01\x03\x01a\x00\x00\x00\x00\x00";
 
@@ -79,7 +77,7 @@ const SECOND: &[u8] = b"SL\x02\x01\x01a\x00\x00\x00\x01\x01b\x00";
 /// The place of the version.
 const VERSION_PLACE: usize = 2;
 
-/// The versions, with the bytes that stand for them.
+/// The versions whose packets differ in this place alone, with the bytes that stand for them.
 const VERSIONS: &[(Version, u8)] = &[(Version::One, 1), (Version::Two, 2)];
 
 /// Bytes that are packets of version 1.
@@ -201,7 +199,7 @@ fn each_byte_of_a_ping(rt: HostRuntime) {
 /// its place is past the end.
 const REFUSED_CHANGES: &[(usize, u8, Fault)] = &[
     (VERSION_PLACE, 0, Fault::Version),
-    (VERSION_PLACE, 3, Fault::Version),
+    (VERSION_PLACE, 4, Fault::Version),
     (VERSION_PLACE, 255, Fault::Version),
     (3, 0, Fault::Kind),
     (3, 7, Fault::Kind),
@@ -228,7 +226,8 @@ const REFUSED: &[(&[u8], Fault)] = &[
     (b"\x00", Fault::Magic),
     (b"S\x00", Fault::Magic),
     (b"SL\x00", Fault::Version),
-    (b"SL\x03", Fault::Version),
+    (b"SL\x03", Fault::Short),
+    (b"SL\x04", Fault::Version),
     (b"SL\xff", Fault::Version),
     (b"SL\x02", Fault::Short),
     (b"SL\x02\x00", Fault::Kind),
@@ -265,27 +264,12 @@ fn refuses_by_the_first_fault(rt: HostRuntime) {
     }
 }
 
-/// The packet of version 2 with the longest names and the most claims.
-fn longest() -> Packet {
-    let accused = Suspect(LONGEST, 0, LONGEST);
-    let Packet { sender, claims, .. } = packet_of(LONGEST, &Says::Page, &[accused; 6]);
-    Packet {
-        version: Version::Two,
-        sender,
-        body: Body::PingReq {
-            number: u32::MAX,
-            target: sender,
-            addr: Addr::v4([255; 4], u16::MAX),
-        },
-        claims,
-    }
-}
-
-/// Whether bytes are read as a packet's version, its sender, its body and its claims.
+/// Whether bytes are read as a packet's version, its group, its sender, its body and its claims.
 fn is_read_as(bytes: &[u8], wanted: &Packet) -> bool {
     match decode(bytes) {
         Ok(read) => {
             read.version == wanted.version
+                && read.group == wanted.group
                 && read.sender == wanted.sender
                 && read.body == wanted.body
                 && read.claims == wanted.claims
@@ -345,6 +329,7 @@ fn writes_and_reads_packets(rt: HostRuntime) {
     one_spelling();
     first_bad_byte();
     begun_spelling();
+    own_spelling();
     for (bytes, sender, says, said) in WRITTEN {
         let packet = packet_of(sender, says, said);
         for (version, byte) in VERSIONS {
@@ -354,75 +339,4 @@ fn writes_and_reads_packets(rt: HostRuntime) {
     }
     let second = in_version(Version::Two, &packet_of("a", &Says::Ping(1, "b"), &[]));
     assert!(rt; is_one(SECOND, &second) && is_one(FIRST_ACK, &Packet::default()));
-}
-
-/// A Page of a version with some claims.
-fn page_of(version: Version, claims: &[Claim]) -> Packet {
-    let mut page = in_version(version, &packet_of("a", &Says::Page, &[]));
-    for claim in claims {
-        // Built anew from its parts, since the checker doesn't follow a whole claim into a generic call.
-        let Claim {
-            name,
-            addr,
-            status,
-            incarnation,
-        } = *claim;
-        if !page.claims.is_full() {
-            page.claims.push(Claim {
-                name,
-                addr,
-                status,
-                incarnation,
-            });
-        }
-    }
-    page
-}
-
-/// The claim that `d` is alive at an address.
-fn far_at(addr: Addr) -> Claim {
-    let mut far = claim_of(&Alive("d", 4));
-    far.addr = addr;
-    far
-}
-
-/// Versions one and two tell Left as Failed, and an IPv6 address as 0.0.0.0.
-#[test]
-fn tells_what_it_can(rt: HostRuntime) {
-    for (version, _) in VERSIONS {
-        let said = page_of(
-            *version,
-            &[claim_of(&Left("c", 3)), far_at(Addr::v6([0xfd; 16], 7004))],
-        );
-        let told = page_of(
-            *version,
-            &[claim_of(&Failed("c", 3)), far_at(Addr::v4([0; 4], 7004))],
-        );
-        assert!(rt; is_read_as(&bytes_of(&said), &told), "{version:?}");
-    }
-}
-
-/// Some bytes and one more, for which a packet has no room.
-fn longer(bytes: &[u8]) -> ArrayVec<u8, 544> {
-    let mut longer = ArrayVec::new();
-    let _ = longer.try_extend_from_slice(bytes);
-    let _ = longer.try_push(0);
-    longer
-}
-
-/// The longest packet has as many bytes as there is room for, and is read as it was written. With one more it is no
-/// packet.
-#[test]
-fn the_longest_packet(rt: HostRuntime) {
-    let wanted = longest();
-    let bytes = bytes_of(&wanted);
-    let longer = longer(&bytes);
-    let lengths = [bytes.len(), MAX_PACKET, longer.len()];
-    assert_eq!(rt; lengths, [4 + 33 + 43 + 1 + 6 * 77, 543, 544]);
-    let facts = [
-        both_are(&bytes, Ok(true)),
-        is_read_as(&bytes, &wanted),
-        both_are(&longer, Err(Fault::Trailing)),
-    ];
-    assert_eq!(rt; facts, [true; 3], "it is one, it is read, no byte follows");
 }

@@ -1,9 +1,9 @@
 //! Names, claims, which claim overrides which, the table of members, and a member's own incarnation.
 use crate::says::Said::{self, Alive, Failed, Left, Suspect};
-use crate::says::{claim_of, moved};
+use crate::says::{claim_of, far, moved};
 use lg_rules::{
     Claim, Heard, Incarnation, Ip, Keyed, MAX_OTHERS, Members, Name, NameFault, Own, OwnHeard,
-    Slot, Status, beats, index_of, is_name_byte,
+    Slot, Status, Version, beats, index_of, is_name_byte,
 };
 use lg_testing::{alive, claim, failed, letter, local, name, numbered, suspect};
 
@@ -55,8 +55,8 @@ fn facts_of_a_claim() -> [bool; 7] {
     let heard = suspect(b'c', 4, b'a');
     [
         heard.name() == letter(b'c'),
-        heard.addr().ip() == Ip::V4([127, 0, 0, 1]),
-        heard.addr().port() == 7000,
+        heard.addr().ip == Ip::V4([127, 0, 0, 1]),
+        heard.addr().port == 7000,
         heard.status() == Status::Suspect(letter(b'a')),
         heard.incarnation().number() == 4,
         heard.accuser() == Some(letter(b'a')),
@@ -68,6 +68,26 @@ fn facts_of_a_claim() -> [bool; 7] {
 fn reads_names_and_claims(rt: HostRuntime) {
     assert_eq!(rt; facts_of_names(), [true; 6]);
     assert_eq!(rt; facts_of_a_claim(), [true; 7]);
+}
+
+/// The versions, the most claims of their packets, and whether they tell an address of sixteen bytes.
+const VERSIONS: &[(Version, usize, bool)] = &[
+    (Version::One, 6, false),
+    (Version::Two, 6, false),
+    (Version::Three, 12, true),
+];
+
+/// Version 3 has room for more claims, and tells more addresses. Each version tells those of four bytes.
+#[test]
+fn versions_tell_what_they_can(rt: HostRuntime) {
+    for (version, most, is_told) in VERSIONS {
+        let tells = [version.tells(&local(7000)), version.tells(&far())];
+        let has_room = version.most_claims() == *most;
+        assert!(rt;
+            has_room && tells == [true, *is_told],
+            "{version:?}: {tells:?}"
+        );
+    }
 }
 
 /// Hears a claim about another member.

@@ -1,6 +1,6 @@
 //! Claims as plain data, so that a table of rows is a constant.
 use arrayvec::ArrayVec;
-use lg_rules::{Claim, MAX_CLAIMS, Name, Status};
+use lg_rules::{Addr, Claim, MAX_CLAIMS, Name, Status};
 use lg_testing::{claim, local, name, numbered};
 
 /// A member, by its name.
@@ -23,10 +23,24 @@ pub(crate) enum Said {
     SuspectAt(Member, u32, Member, u16),
     /// A member has failed, at an incarnation and a port.
     FailedAt(Member, u32, u16),
+    /// A member leaves, at an incarnation and a port.
+    LeftAt(Member, u32, u16),
     /// The member whose name is `m` and three decimal digits is alive at incarnation 0.
     Numbered(u32),
     /// A member is suspected at incarnation 0, by the member whose name is `m` and three decimal digits.
     Accused(Member, u32),
+    /// A member is alive at incarnation 0, at port 7 of ::1.
+    AliveFar(Member),
+    /// A member is suspected at incarnation 0, by another, at port 7 of ::1.
+    SuspectFar(Member, Member),
+}
+
+/// The bytes of ::1.
+const LOOPBACK: [u8; 16] = [0, 0, 0, 0, 0, 0, 0, 0, 0, 0, 0, 0, 0, 0, 0, 1];
+
+/// Port 7 of ::1, an address of sixteen bytes.
+pub(crate) fn far() -> Addr {
+    Addr::v6(LOOPBACK, 7)
 }
 
 /// The name of a member.
@@ -34,7 +48,7 @@ pub(crate) fn named(member: Member) -> Name {
     name(member.as_bytes())
 }
 
-/// The names of at most six members.
+/// The names of at most twelve members.
 pub(crate) fn names_of(members: &[Member]) -> ArrayVec<Name, MAX_CLAIMS> {
     let mut names = ArrayVec::new();
     for member in members {
@@ -59,6 +73,14 @@ pub(crate) fn moved(claim: Claim, port: u16) -> Claim {
     }
 }
 
+/// The claim at port 7 of ::1.
+fn moved_far(claim: Claim) -> Claim {
+    Claim {
+        addr: far(),
+        ..claim
+    }
+}
+
 /// The claim that a member is suspected by another.
 fn suspected(member: Member, number: u32, accuser: Name) -> Claim {
     at_home(member, Status::Suspect(accuser), number)
@@ -79,12 +101,15 @@ pub(crate) fn claim_of(said: &Said) -> Claim {
             at_home(member, Status::Failed, number),
             port,
         ),
+        Said::LeftAt(member, number, port) => moved(at_home(member, Status::Left, number), port),
         Said::Numbered(number) => claim(numbered(number), Status::Alive, 0),
         Said::Accused(member, accuser) => suspected(member, 0, numbered(accuser)),
+        Said::AliveFar(member) => moved_far(at_home(member, Status::Alive, 0)),
+        Said::SuspectFar(member, accuser) => moved_far(suspected(member, 0, named(accuser))),
     }
 }
 
-/// The first six of some claims.
+/// The first twelve of some claims.
 pub(crate) fn claims_of(said: &[Said]) -> ArrayVec<Claim, MAX_CLAIMS> {
     let mut list = ArrayVec::new();
     for one in said {

@@ -1,6 +1,6 @@
 //! Moments, the configuration, the health score, and each function of the timeouts. What the command `timeouts`
 //! writes shows the values of the tables and of the timeouts.
-use lg_rules::Addr;
+use lg_rules::{Addr, Version};
 use lg_testing::{at, letter};
 use lg_timing::{
     Config, ConfigFault, Key, Moment, Score, Seed, is_within, suspicion_ms, tables_are_logarithms,
@@ -80,7 +80,7 @@ const RANGES: &[(Key, ConfigFault, u8, u64, u64)] = &[
     (Key::Lambda, ConfigFault::Lambda, 8, 1, 10),
     (Key::NackThousandths, ConfigFault::Nack, 9, 1, 999),
     (Key::HistoryLimit, ConfigFault::History, 10, 2, 1_000_000),
-    (Key::Wire, ConfigFault::Wire, 15, 1, 2),
+    (Key::Wire, ConfigFault::Wire, 15, 1, 3),
 ];
 
 /// The member `b` with seeds of one letter each, and another number for some keys. It has the default numbers for the
@@ -177,5 +177,23 @@ fn the_first_of_several_faults(rt: HostRuntime) {
     for (keys, want) in FAULTS {
         let config = config_of(keys, 2_000_000, b"b");
         assert!(rt; config.check() == Err(*want), "{keys:?}");
+    }
+}
+
+/// Numbers of `wire`, with the version of what is written. Those that are out of the range stand for version 1.
+const WIRES: &[(u64, Version)] = &[
+    (0, Version::One),
+    (1, Version::One),
+    (2, Version::Two),
+    (3, Version::Three),
+    (4, Version::One),
+];
+
+/// The version that is written goes by `wire`.
+#[test]
+fn writes_by_its_wire(rt: HostRuntime) {
+    for (wire, version) in WIRES {
+        let written = config_of(&[Key::Wire], *wire, b"").version();
+        assert!(rt; written == *version, "{wire}: {written:?}");
     }
 }

@@ -16,7 +16,7 @@ use Rattle.lg_rules.proofs.Views.{rises-view, Changes, Leaves, view_hearing}
 use Rattle.lg_timing.specs.declared.config.Config.{Config}
 use Rattle.lg_timers.specs.declared.timer.Timer.{Timer}
 use Rattle.lg_packet.specs.declared.packet.Body.{Body}
-use Rattle.lg_packet.specs.declared.packet.Body.TheVariants.{Ping, PingReq, Ack, Nack, Pull, Page}
+use Rattle.lg_packet.specs.declared.packet.Body.TheVariants.{Ping, PingReq, Ack, Nack, Pull, Page, Gossip}
 use Rattle.lg_membership.specs.declared.origin.Origin.{Origin}
 use Rattle.lg_membership.specs.declared.origin.Origin.TheVariants.{Group}
 use Rattle.lg_membership.specs.Meaning.Log as group
@@ -28,7 +28,7 @@ use Rattle.lg_detector.specs.declared.event.Event.TheVariants.{Open, Tick, Heard
 use Rattle.lg_detector.specs.Meaning.Log.{Log, Relayed, group_log}
 use Rattle.lg_detector.specs.Meaning.Timing.{due}
 use Rattle.lg_detector.specs.Meaning.Apply.{come, apply, apply_all, fire}
-use Rattle.lg_detector.specs.Meaning.Hear.{is_relayed, hear_claims, note, response, respond}
+use Rattle.lg_detector.specs.Meaning.Hear.{asker_from, body_meant, claims_heard, is_relayed, hear_claims, note, response, respond}
 use Rattle.lg_detector.specs.Meaning.Relaying.{relays}
 use Rattle.lg_detector.specs.Meaning.Send.{send, send_all}
 use Rattle.lg_detector.specs.Meaning.Tick.{claims_said, messages, expire, tick}
@@ -69,27 +69,29 @@ keeps_all origin (c ∷ cs) log m e = keeps_by (config (group_log log)) c (said 
 view_send : (body : Body) (log : Log) → view (send body log) ≡ view log
 view_send (Ping number target) log = refl
 view_send (PingReq number target addr) log = refl
-view_send (Ack number) log = refl
-view_send (Nack number) log = refl
+view_send (Ack number receiver) log = refl
+view_send (Nack number receiver) log = refl
 view_send (Pull after) log = refl
 view_send Page log = refl
+view_send Gossip log = refl
 
 -- (what is sent is a list of messages, whose type lg_detector keeps to itself)
 view_send_all : (ms : _) (log : Log) → view (send_all ms log) ≡ view log
 view_send_all [] log = refl
 view_send_all (m ∷ ms) log = view_send_all ms (send m.body log) ∙ view_send m.body log
 
-view_relayed : (b : Bool) (target : List ℕ) (source : Addr) (k : ℕ) (log : Log) → view (cond b (Relayed target source k ∷ log) log) ≡ view log
-view_relayed true target source k log = refl
-view_relayed false target source k log = refl
+view_relayed : (b : Bool) (target : List ℕ) (asker : _) (log : Log) → view (cond b (Relayed target asker ∷ log) log) ≡ view log
+view_relayed true target asker log = refl
+view_relayed false target asker log = refl
 
 view_note : (source : Addr) (sender : List ℕ) (body : Body) (log : Log) → view (note source sender body log) ≡ view log
 view_note source sender (Ping k target) log = refl
-view_note source sender (PingReq k target addr) log = view_relayed (is_relayed (group.me (group_log log)) (relays log) target) target source k log
-view_note source sender (Ack k) log = refl
-view_note source sender (Nack k) log = refl
+view_note source sender (PingReq k target addr) log = view_relayed (is_relayed (group.me (group_log log)) (relays log) target) target (asker_from sender source k) log
+view_note source sender (Ack k receiver) log = refl
+view_note source sender (Nack k receiver) log = refl
 view_note source sender (Pull after) log = refl
 view_note source sender Page log = refl
+view_note source sender Gossip log = refl
 
 view_respond : (source : Addr) (sender : List ℕ) (body : Body) (log : Log) → view (respond source sender body log) ≡ view log
 view_respond source sender body log = view_send_all (response source sender body log) (note source sender body log) ∙ view_note source sender body log
@@ -106,8 +108,8 @@ step_leads : (e : Event) (log : Log) → is_open_event e ≡ false → puts (cha
 step_leads (Open now opening) log shut = absurd cc
 step_leads (Heard now source packet) log shut =
     let heard : Log = hear_claims now packet log in
-    changed_leads (view log) (view heard) (rises_log log) (rises_log heard) (keeps_all Group packet.claims.items (come now log))
-    ∙ sym (view_respond source packet.sender packet.body heard)
+    changed_leads (view log) (view heard) (rises_log log) (rises_log heard) (keeps_all Group (claims_heard packet) (come now log))
+    ∙ sym (view_respond source packet.sender (body_meant packet heard) heard)
 step_leads (Tick now words) log shut =
     changed_leads (view log) (view (tick now words log)) (rises_log log) (rises_log (tick now words log)) (keeps_expire (due (come now log)) words (come now log))
 step_leads (Ask now name) log shut = refl

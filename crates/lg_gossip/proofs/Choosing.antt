@@ -33,6 +33,7 @@ use Rattle.std.proofs.lemmas.List.{length-take, take_all}
 use Rattle.std.proofs.lemmas.List.Edits.{length-insert}
 use Rattle.std.proofs.lemmas.Option.{slice_get_read}
 use Rattle.lg_rules.specs.declared.claim.Claim.{Claim}
+use Rattle.lg_rules.specs.declared.version.Version.{Version}
 use Rattle.lg_rules.proofs.Tests.{both}
 use Rattle.lg_gossip.specs.declared.choice.TakenRow.{TakenRow}
 use Rattle.lg_gossip.specs.declared.queued.Queued.{Queued}
@@ -156,12 +157,15 @@ none_may : (buddy : Option Claim) (limit : ℕ) (rows : List Queued) → AreSent
 none_may buddy limit [] least = refl
 none_may buddy limit (q ∷ qs) least = rw (le-ltb q.sends limit least.0) (none_may buddy limit qs least.1)
 
-takes_none : (buddy : Option Claim) (limit : ℕ) (rows : List Queued) → AreSent limit rows
-    → rows_taken buddy limit rows ≡ []
-takes_none buddy limit rows least = ap (λ rs. take (room_beside buddy) (by_sends rs)) (none_may buddy limit rows least) ∙ take_all (room_beside buddy) [] (omega arith)
+takes_none : (v : Version) (buddy : Option Claim) (limit : ℕ) (rows : List Queued) → AreSent limit rows
+    → rows_taken v buddy limit rows ≡ []
+takes_none v buddy limit rows least =
+    ap (λ rs. take (room_beside v buddy) (by_sends rs)) (none_may buddy limit rows least)
+    ∙ take_all (room_beside v buddy) [] (omega arith)
 
-pub taken_none : (buddy : Option Claim) (limit : ℕ) (rows : List Queued) (none : List TakenRow) → none ≡ []
+pub taken_none : (v : Version) (buddy : Option Claim) (limit : ℕ) (rows : List Queued) (none : List TakenRow)
+    → none ≡ []
     → AreSent limit rows
-    → HasTaken buddy limit rows none
-taken_none buddy limit rows none e least = subst (HasTaken buddy limit rows) (sym e)
-    (record { places = tt; chosen = sym (takes_none buddy limit rows least) })
+    → HasTaken v buddy limit rows none
+taken_none v buddy limit rows none e least = subst (HasTaken v buddy limit rows) (sym e)
+    (record { places = tt; chosen = sym (takes_none v buddy limit rows least) })

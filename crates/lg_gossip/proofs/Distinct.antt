@@ -5,6 +5,7 @@ use Rattle.std.specs.Option.{option_to_list}
 use Rattle.std.specs.List.{AllByRecursion, IsDistinct}
 use Rattle.std.proofs.lemmas.Bool.{cases_Bool, false≢true}
 use Rattle.lg_rules.specs.declared.claim.Claim.{Claim}
+use Rattle.lg_rules.specs.declared.version.Version.{Version}
 use Rattle.lg_rules.specs.Meaning.Claim.{name_of}
 use Rattle.lg_rules.specs.Meaning.Rows.{name_cmp, is_same, AreAbove}
 use Rattle.lg_rules.proofs.KeyOrder.{names_order, other_key, same_back, less_apart}
@@ -58,9 +59,12 @@ distinct (q ∷ qs) a = (others qs a.0, distinct qs a.1)
     others [] o = tt
     others (r ∷ rs) o = (o.0, others rs o.1)
 
-pub distinct-taken : (buddy : Option Claim) (limit : ℕ) (rows : List Queued) → AreInOrder rows → IsDistinct (is_same name_cmp) (map name_of (map queued_claim (rows_taken buddy limit rows)))
-distinct-taken buddy limit rows o =
-    distinct (rows_taken buddy limit rows) (apart-take (room_beside buddy) _ (apart-by_sends _ (apart-in_order _ (in_order-filter (may_go buddy limit) rows o))))
+pub distinct-taken : (v : Version) (buddy : Option Claim) (limit : ℕ) (rows : List Queued) → AreInOrder rows
+    → IsDistinct (is_same name_cmp) (map name_of (map queued_claim (rows_taken v buddy limit rows)))
+distinct-taken v buddy limit rows o =
+    distinct (rows_taken v buddy limit rows)
+    (apart-take (room_beside v buddy) _
+    (apart-by_sends _ (apart-in_order _ (in_order-filter (may_go buddy limit) rows o))))
 
 -- and none is about the buddy's
 beside : (buddy : Claim) (limit : ℕ) (q : Queued) → may_go (Some buddy) limit q ≡ true → is_same name_cmp buddy.name (queued_name q) ≡ false
@@ -74,7 +78,12 @@ none_of : (buddy : Claim) (limit : ℕ) (rows taken : List Queued) → AllByRecu
 none_of buddy limit rows [] a = tt
 none_of buddy limit rows (q ∷ qs) a = (beside buddy limit q a.0.may, none_of buddy limit rows qs a.1)
 
-pub distinct-packet : (buddy : Option Claim) (limit : ℕ) (rows : List Queued) → AreInOrder rows → IsDistinct (is_same name_cmp) (map name_of (option_to_list buddy ++ map queued_claim (rows_taken buddy limit rows)))
+pub distinct-packet : (v : Version) (buddy : Option Claim) (limit : ℕ) (rows : List Queued) → AreInOrder rows
+    → IsDistinct (is_same name_cmp)
+    (map name_of (option_to_list buddy ++ map queued_claim (rows_taken v buddy limit rows)))
 unfolding IsDistinct
-distinct-packet None limit rows o = distinct-taken None limit rows o
-distinct-packet (Some buddy) limit rows o = (none_of buddy limit rows (rows_taken (Some buddy) limit rows) (are_taken (Some buddy) limit rows o), distinct-taken (Some buddy) limit rows o)
+distinct-packet v None limit rows o = distinct-taken v None limit rows o
+distinct-packet v (Some buddy) limit rows o = (
+  none_of buddy limit rows (rows_taken v (Some buddy) limit rows) (are_taken v (Some buddy) limit rows o),
+  distinct-taken v (Some buddy) limit rows o,
+)

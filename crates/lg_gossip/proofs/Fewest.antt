@@ -1,13 +1,47 @@
 -- How often each row of a queue was sent at least, once a packet took some of them.
-use Rattle.std.proofs.Common.{◌≡◌, ℕ, suc, zero, ◌+◌, ◌-◌, ◌<◌, ◌≤◌, Bool, true, false, ◌||◌, List, [], ◌∷◌, length, map, take, get_or, Option, Some, None, ◌⊎◌, inl, inr, refl, sym, ◌∙◌, ap, arith}
+use Rattle.std.proofs.Common.{
+  ◌≡◌,
+  ℕ,
+  suc,
+  zero,
+  ◌+◌,
+  ◌-◌,
+  ◌<◌,
+  ◌≤◌,
+  Bool,
+  true,
+  false,
+  ◌||◌,
+  List,
+  [],
+  ◌∷◌,
+  length,
+  map,
+  take,
+  get_or,
+  Option,
+  Some,
+  None,
+  ◌⊎◌,
+  inl,
+  inr,
+  refl,
+  sym,
+  ◌∙◌,
+  ap,
+  subst,
+  arith,
+}
 use Rattle.std.specs.Prelude.{⊤, filter, is_some}
 use Rattle.std.specs.List.{AllByRecursion}
 use Rattle.std.proofs.lemmas.Bool.{cases_Bool, cases_lt, lt-ltb, false≢true}
 use Rattle.std.proofs.lemmas.List.{length-take}
 use Rattle.lg_rules.specs.declared.claim.Claim.{Claim}
-use Rattle.lg_rules.specs.Meaning.Bounds.{most_claims}
+use Rattle.lg_rules.specs.declared.version.Version.{Version}
+use Rattle.lg_rules.specs.declared.version.Version.TheVariants.{One, Two, Three}
 use Rattle.lg_rules.specs.Meaning.Claim.{name_of}
 use Rattle.lg_rules.specs.Meaning.Rows.{name_cmp, is_same, is_among}
+use Rattle.lg_rules.specs.Meaning.Version.{most_claims_of}
 use Rattle.lg_rules.proofs.KeyOrder.{names_order, same_key}
 use Rattle.lg_gossip.specs.declared.choice.TakenRow.{TakenRow}
 use Rattle.lg_gossip.specs.declared.queued.Queued.{Queued}
@@ -128,29 +162,50 @@ sent_after taken floor (q ∷ qs) a b = (here, sent_after taken floor qs a.1 b.1
       | inr f ↦ rw f (b.0 f)
     ]
 
-module _ (limit floor : ℕ) (rows : List Queued) (o : AreInOrder rows) where
+-- a packet of each version has room
+pub has_room : (v : Version) → suc (most_claims_of v - 1) ≡ most_claims_of v
+has_room One = refl
+has_room Two = refl
+has_room Three = refl
+
+module _ (v : Version) (limit floor : ℕ) (rows : List Queued) (o : AreInOrder rows) where
   abbrev the_taken : List Queued
-  the_taken = rows_taken None limit rows
+  the_taken = rows_taken v None limit rows
 
   -- Each row was sent at least so often, once a packet without a buddy took these: they have one more, and the others
   -- were sent as often as the last of them, if there was no room for more.
   rises : ((d : Queued) → 0 < length the_taken → floor ≤ (get_or the_taken 0 d).sends + 1)
-      → ((d : Queued) → most_claims - 1 < length the_taken → floor ≤ (get_or the_taken (most_claims - 1) d).sends)
+      → ((d : Queued) → most_claims_of v - 1 < length the_taken
+      → floor ≤ (get_or the_taken (most_claims_of v - 1) d).sends)
       → (length the_taken ≤ 0 → floor ≤ limit)
       → AreSent floor (map (sent_once (map queued_claim the_taken)) rows)
   rises first last none =
       let p = may_go None limit in
+      let chosen = by_sends (filter p rows) in
       let rising = rising-by_sends (filter p rows) in
-      let low = of_filter _ p rows (of_by_sends _ (filter p rows) (first_least (most_claims - 1) floor (by_sends (filter p rows)) rising first)) in
-      let one = of_filter _ p rows (of_by_sends _ (filter p rows) (among_or_later (most_claims - 1) floor (by_sends (filter p rows)) rising last)) in
-      let may = may_when_taken None limit rows o in
+      let k = most_claims_of v - 1 in
+      let room = has_room v in
+      let least =
+      subst (λ n. (d : Queued) → 0 < length (take n chosen) → floor ≤ (get_or (take n chosen) 0 d).sends + 1)
+      (sym room) first in
+      let behind =
+      subst (λ n. (d : Queued) → k < length (take n chosen) → floor ≤ (get_or (take n chosen) k d).sends)
+      (sym room) last in
+      let among =
+      subst (λ n. AllByRecursion (λ q. (is_one (take n chosen) q ≡ true) ⊎ (floor ≤ q.sends)) chosen) room
+      (among_or_later k floor chosen rising behind) in
+      let low = of_filter _ p rows (of_by_sends _ (filter p rows) (first_least k floor chosen rising least)) in
+      let one = of_filter _ p rows (of_by_sends _ (filter p rows) among) in
+      let may = may_when_taken v None limit rows o in
       sent_after (map queued_claim the_taken) floor rows
       (all-both _ _ _ rows (λ q l m a. l (m a)) low may)
       (all-both _ _ _ rows (λ q a _. other q a) one one)
     where
       most : (d : Queued) → floor ≤ limit
       most d = elim (cases_lt 0 (length the_taken)) [
-        | inl l ↦ omega (arith, first d l, below_limit None limit (get_or the_taken 0 d) (holds_at (IsTaken None limit rows) 0 d the_taken l (are_taken None limit rows o)).may)
+        | inl l ↦
+            let here = holds_at (IsTaken None limit rows) 0 d the_taken l (are_taken v None limit rows o) in
+            omega (arith, first d l, below_limit None limit (get_or the_taken 0 d) here.may)
         | inr g ↦ none g
       ]
 
@@ -164,19 +219,23 @@ module _ (limit floor : ℕ) (rows : List Queued) (o : AreInOrder rows) where
       ]
 
 -- The same by the places of those that were taken.
-pub rises-to : (buddy : Option Claim) (limit floor : ℕ) (rows : List Queued) (ts : List TakenRow) (t : TakenRow) → is_some buddy ≡ false → AreInOrder rows → HasTaken buddy limit rows ts
+pub rises-to : (v : Version) (buddy : Option Claim) (limit floor : ℕ) (rows : List Queued) (ts : List TakenRow)
+    (t : TakenRow) → is_some buddy ≡ false → AreInOrder rows → HasTaken v buddy limit rows ts
     → (length ts ≡ 0 → floor ≤ limit)
     → (0 < length ts → floor ≤ (get_or ts 0 t).sends + 1)
-    → (length ts ≡ most_claims → floor ≤ (get_or ts (most_claims - 1) t).sends)
-    → AreSent floor (map (sent_once (map queued_claim (rows_taken buddy limit rows))) rows)
-rises-to (Some b) limit floor rows ts t e o a none first last = absurd (false≢true (sym e))
-rises-to None limit floor rows ts t e o a none first last =
-    let as_many : length (rows_taken None limit rows) ≡ length ts = ap length (sym a.chosen) ∙ length-at rows ts a.places in
-    let most : length (rows_taken None limit rows) ≤ most_claims = simp length-take (omega arith) in
-    rises limit floor rows o
+    → (length ts ≡ most_claims_of v → floor ≤ (get_or ts (most_claims_of v - 1) t).sends)
+    → AreSent floor (map (sent_once (map queued_claim (rows_taken v buddy limit rows))) rows)
+rises-to v (Some b) limit floor rows ts t e o a none first last = absurd (false≢true (sym e))
+rises-to v None limit floor rows ts t e o a none first last =
+    let as_many : length (rows_taken v None limit rows) ≡ length ts =
+    ap length (sym a.chosen) ∙ length-at rows ts a.places in
+    let most : length (rows_taken v None limit rows) ≤ most_claims_of v = simp length-take (omega arith) in
+    rises v limit floor rows o
     (λ d l. let within : 0 < length ts = omega (arith, l, as_many) in omega (arith, first within, same 0 d within))
-    (λ d l. let within : most_claims - 1 < length ts = omega (arith, l, as_many) in omega (arith, last (omega (arith, l, most, as_many)), same (most_claims - 1) d within))
+    (λ d l. let within : most_claims_of v - 1 < length ts = omega (arith, l, as_many) in
+    omega (arith, last (omega (arith, l, most, as_many)), same (most_claims_of v - 1) d within))
     (λ l. none (omega (arith, l, as_many)))
   where
-    same : (k : ℕ) (d : Queued) → k < length ts → (get_or (rows_taken None limit rows) k d).sends ≡ (get_or ts k t).sends
+    same : (k : ℕ) (d : Queued) → k < length ts
+        → (get_or (rows_taken v None limit rows) k d).sends ≡ (get_or ts k t).sends
     same k d l = ap (λ rs. (get_or rs k d).sends) (sym a.chosen) ∙ sends-at rows k d t ts l a.places

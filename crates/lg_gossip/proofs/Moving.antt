@@ -143,40 +143,40 @@ module _ (sent : List (List Bool)) (rows : List Queued) (row next : Queued) (ind
     ];
   }
 
-module _ (sent opened : List (List Bool)) (rows : List Queued) (row : Queued) (index : ℕ) (sets : AreSets sent rows)
-    (long : length opened ≡ SETS)
+module _ (sent opened : List (List Bool)) (rows : List Queued) (row : Queued) (index so : ℕ)
+    (sets : AreSets sent rows) (long : length opened ≡ SETS)
     (each : (sends : ℕ) (d : List Bool) → sends < SETS
     → get_or opened sends d ≡ opened_flags index (get_or sent sends d))
-    (few : length rows < MAX_QUEUED) (within : index ≤ length rows) (none : row.sends ≡ 0) where
+    (few : length rows < MAX_QUEUED) (within : index ≤ length rows) (was : row.sends ≡ so) where
   -- a place is open in the set of the rows that were sent so often
   open_place : (sends : ℕ) (d : List Bool) → sends < SETS
       → get_or opened sends d ≡ opened_flags index (flags_by (was_sent sends) rows)
   open_place sends d l = each sends d l ∙ ap (opened_flags index) (sets.each sends d l)
 
-  filled_place : (sends : ℕ) (flag : Bool) → flag ≡ nat_eq 0 sends
+  filled_place : (sends : ℕ) (flag : Bool) → flag ≡ nat_eq so sends
       → set (opened_flags index (flags_by (was_sent sends) rows)) index flag
       ≡ flags_by (was_sent sends) (insert rows index row)
   filled_place sends flag e =
-      ap (set (opened_flags index (flags_by (was_sent sends) rows)) index) (e ∙ ap (λ n. nat_eq n sends) (sym none))
+      ap (set (opened_flags index (flags_by (was_sent sends) rows)) index) (e ∙ ap (λ n. nat_eq n sends) (sym was))
       ∙ opened_flags-flags_by (was_sent sends) rows index row few within
 
-  pub sets-opened : AreSets (with_flag opened 0 index true) (insert rows index row)
+  pub sets-opened : AreSets (with_flag opened so index true) (insert rows index row)
   sets-opened = record {
-    long = length-flag opened 0 index true ∙ long;
-    each = λ sends d l. elim (cases_eq sends 0) [
+    long = length-flag opened so index true ∙ long;
+    each = λ sends d l. elim (cases_eq sends so) [
       | inl e ↦
-          ap (λ n. get_or (with_flag opened 0 index true) n d) e
-          ∙ flag-here opened 0 index true d (omega (arith, long, l))
-          ∙ ap (λ s. set s index true) (open_place 0 [] (omega (arith, l)))
-          ∙ filled_place 0 true refl
+          ap (λ n. get_or (with_flag opened so index true) n d) e
+          ∙ flag-here opened so index true d (omega (arith, long, l, e))
+          ∙ ap (λ s. set s index true) (open_place so [] (omega (arith, l, e)))
+          ∙ filled_place so true (sym (eq-eqb so so refl))
           ∙ ap (λ n. flags_by (was_sent n) (insert rows index row)) (sym e)
       | inr n ↦
           let many = length-flags_by (was_sent sends) rows (omega (arith, few)) in
-          flag-other opened 0 sends index true d n
+          flag-other opened so sends index true d n
           ∙ open_place sends d l
           ∙ sym (set_same (opened_flags index (flags_by (was_sent sends) rows)) index false false
           (get_or-opened_flags (flags_by (was_sent sends) rows) index (omega (arith, many, few, within))))
-          ∙ filled_place sends false (sym (ne_eqb 0 sends (λ e. n (sym e))))
+          ∙ filled_place sends false (sym (ne_eqb so sends (λ e. n (sym e))))
     ];
   }
 

@@ -7,7 +7,6 @@ use Rattle.std.proofs.Common.{
   Option,
   inl,
   inr,
-  ◌*◌,
   ◌<◌,
   ◌≤◌,
   List,
@@ -23,15 +22,24 @@ use Rattle.std.proofs.Common.{
 }
 use Rattle.std.specs.List.{AllByRecursion}
 use Rattle.lg_rules.specs.declared.claim.Claim.{Claim}
+use Rattle.lg_rules.specs.declared.version.Version.{Version}
 use Rattle.lg_rules.specs.Meaning.Claim.{name_of}
 use Rattle.lg_rules.specs.Meaning.Rows.{name_cmp, is_among, put_row, put_key, Rises}
+use Rattle.lg_rules.specs.Meaning.Version.{tells}
 use Rattle.std.proofs.lemmas.Bool.{cases_Bool}
 use Rattle.lg_rules.proofs.Cases.{Below, Tied, Above, compared}
 use Rattle.lg_rules.proofs.KeyOrder.{names_order}
 use Rattle.lg_rules.proofs.Rises.{rises-put}
-use Rattle.lg_gossip.specs.declared.limit.TheConstants.{MAX_DIGITS}
 use Rattle.lg_gossip.specs.declared.queued.Queued.{Queued}
-use Rattle.lg_gossip.specs.Meaning.Queue.{queued_name, queued_claim, fresh, rows_taken, sent_once}
+use Rattle.lg_gossip.specs.Meaning.Queue.{
+  queued_name,
+  queued_claim,
+  most_times_sent,
+  first_sends,
+  fresh,
+  rows_taken,
+  sent_once,
+}
 use Rattle.lg_bit_set.specs.Meaning.Flags.{no_flags}
 use Rattle.lg_rules.specs.declared.claim.TheConstants.{MAX_LAMBDA}
 use Rattle.lg_gossip.specs.declared.sets.TheConstants.{SETS}
@@ -64,15 +72,23 @@ pub sound-new : (lambda fewest : ℕ) (set : List Bool) → lambda ≤ MAX_LAMBD
     → IsSound lambda fewest (replicate SETS set) []
 sound-new lambda fewest set l e = record { often = l; in_order = tt; within = tt; least = tt; sets = sets-none set e }
 
-pub sound-put : (lambda fewest : ℕ) (c : Claim) (sent now : List (List Bool)) (rows : List Queued)
+-- the sends of a claim that no packet has taken yet are none or the most
+within-fresh : (v : Version) (c : Claim) → first_sends v c ≤ most_times_sent
+within-fresh v c = elim (cases_Bool (tells v c.addr)) [
+  | inl t ↦ rw t (omega arith)
+  | inr f ↦ rw f (omega arith)
+]
+
+pub sound-put : (lambda fewest : ℕ) (v : Version) (c : Claim) (sent now : List (List Bool)) (rows : List Queued)
     → IsSound lambda fewest sent rows
-    → AreSets now (put_row name_cmp queued_name (fresh c) rows)
-    → IsSound lambda 0 now (put_row name_cmp queued_name (fresh c) rows)
-sound-put lambda fewest c sent now rows s sets = record {
+    → AreSets now (put_row name_cmp queued_name (fresh v c) rows)
+    → IsSound lambda 0 now (put_row name_cmp queued_name (fresh v c) rows)
+sound-put lambda fewest v c sent now rows s sets = record {
   often = s.often;
-  in_order = subst (Rises name_cmp) (sym (names-put (fresh c) rows)) (rises-put names_order c.name (map queued_name rows) s.in_order);
-  within = within-put (lambda * MAX_DIGITS) (fresh c) rows (omega arith) s.within;
-  least = sent-none (put_row name_cmp queued_name (fresh c) rows);
+  in_order = subst (Rises name_cmp) (sym (names-put (fresh v c) rows))
+      (rises-put names_order c.name (map queued_name rows) s.in_order);
+  within = within-put most_times_sent (fresh v c) rows (within-fresh v c) s.within;
+  least = sent-none (put_row name_cmp queued_name (fresh v c) rows);
   sets = sets;
 }
 
@@ -93,18 +109,20 @@ within-sent taken limit most (q ∷ qs) l w t = (here, within-sent taken limit m
       | inr n ↦ rw n w.0
     ]
 
-pub sound-sent : (lambda limit fewest now : ℕ) (buddy : Option Claim) (sent after : List (List Bool))
-    (rows : List Queued) → limit ≤ lambda * MAX_DIGITS
+pub sound-sent : (lambda limit fewest now : ℕ) (v : Version) (buddy : Option Claim) (sent after : List (List Bool))
+    (rows : List Queued) → limit ≤ most_times_sent
     → IsSound lambda fewest sent rows
-    → AreSent now (map (sent_once (map queued_claim (rows_taken buddy limit rows))) rows)
-    → AreSets after (map (sent_once (map queued_claim (rows_taken buddy limit rows))) rows)
-    → IsSound lambda now after (map (sent_once (map queued_claim (rows_taken buddy limit rows))) rows)
-sound-sent lambda limit fewest now buddy sent after rows l s least sets =
-    let taken = map queued_claim (rows_taken buddy limit rows) in
+    → AreSent now (map (sent_once (map queued_claim (rows_taken v buddy limit rows))) rows)
+    → AreSets after (map (sent_once (map queued_claim (rows_taken v buddy limit rows))) rows)
+    → IsSound lambda now after (map (sent_once (map queued_claim (rows_taken v buddy limit rows))) rows)
+sound-sent lambda limit fewest now v buddy sent after rows l s least sets =
+    let taken = map queued_claim (rows_taken v buddy limit rows) in
     record {
       often = s.often;
       in_order = subst (Rises name_cmp) (sym (names-sent taken rows)) s.in_order;
-      within = within-sent taken limit (lambda * MAX_DIGITS) rows l s.within (all-both _ _ _ rows (λ q w m a. below_limit buddy limit q (m a)) s.within (may_when_taken buddy limit rows s.in_order));
+      within = within-sent taken limit most_times_sent rows l s.within
+          (all-both _ _ _ rows (λ q w m a. below_limit buddy limit q (m a)) s.within
+          (may_when_taken v buddy limit rows s.in_order));
       least = least;
       sets = sets;
     }

@@ -5,6 +5,7 @@ use Rattle.std.specs.List.{AllByRecursion}
 use Rattle.std.specs.declared.cmp.Ordering.TheVariants.{Less}
 use Rattle.std.proofs.lemmas.Bool.{cases_Bool, false≢true, ltb-true}
 use Rattle.lg_rules.specs.declared.claim.Claim.{Claim}
+use Rattle.lg_rules.specs.declared.version.Version.{Version}
 use Rattle.lg_rules.specs.Meaning.Claim.{name_of}
 use Rattle.lg_rules.specs.Meaning.Rows.{name_cmp, is_among, row_at, AreAbove}
 use Rattle.lg_rules.proofs.KeyOrder.{names_order, tied, turned, cases_key}
@@ -51,11 +52,12 @@ pub record IsTaken (buddy : Option Claim) (limit : ℕ) (rows : List Queued) (q 
   pub its_own : row_at name_cmp queued_name (queued_name q) rows ≡ Some q
   pub may : may_go buddy limit q ≡ true
 
-pub are_taken : (buddy : Option Claim) (limit : ℕ) (rows : List Queued) → AreInOrder rows → AllByRecursion (IsTaken buddy limit rows) (rows_taken buddy limit rows)
-are_taken buddy limit rows o =
+pub are_taken : (v : Version) (buddy : Option Claim) (limit : ℕ) (rows : List Queued) → AreInOrder rows
+    → AllByRecursion (IsTaken buddy limit rows) (rows_taken v buddy limit rows)
+are_taken v buddy limit rows o =
     let p = may_go buddy limit in
     let open_rows = filter p rows in
-    all-take (IsTaken buddy limit rows) (room_beside buddy) (by_sends open_rows)
+    all-take (IsTaken buddy limit rows) (room_beside v buddy) (by_sends open_rows)
     (all-by_sends (IsTaken buddy limit rows) open_rows
     (all-both _ _ (IsTaken buddy limit rows) open_rows (λ q a b. record { its_own = a; may = b }) (all-filter _ p rows (its_own rows o)) (passed p rows)))
 
@@ -78,12 +80,15 @@ found buddy limit rows n (q ∷ qs) a e = elim (cases_key names_order (queued_na
 ]
 
 -- so a row whose name is taken may go
-pub may_when_taken : (buddy : Option Claim) (limit : ℕ) (rows : List Queued) → AreInOrder rows
-    → AllByRecursion (λ r. is_among name_cmp (queued_name r) (map name_of (map queued_claim (rows_taken buddy limit rows))) ≡ true → may_go buddy limit r ≡ true) rows
-may_when_taken buddy limit rows o = all-both _ _ _ rows go (its_own rows o) (its_own rows o)
+pub may_when_taken : (v : Version) (buddy : Option Claim) (limit : ℕ) (rows : List Queued) → AreInOrder rows
+    → AllByRecursion (λ r. is_among name_cmp (queued_name r)
+    (map name_of (map queued_claim (rows_taken v buddy limit rows))) ≡ true → may_go buddy limit r ≡ true) rows
+may_when_taken v buddy limit rows o = all-both _ _ _ rows go (its_own rows o) (its_own rows o)
   where
     go : (r : Queued) → row_at name_cmp queued_name (queued_name r) rows ≡ Some r → row_at name_cmp queued_name (queued_name r) rows ≡ Some r
-        → is_among name_cmp (queued_name r) (map name_of (map queued_claim (rows_taken buddy limit rows))) ≡ true → may_go buddy limit r ≡ true
+        → is_among name_cmp (queued_name r) (map name_of (map queued_claim (rows_taken v buddy limit rows))) ≡ true
+        → may_go buddy limit r ≡ true
     go r e _ a =
-        let f = found buddy limit rows (queued_name r) (rows_taken buddy limit rows) (are_taken buddy limit rows o) a in
+        let taken = rows_taken v buddy limit rows in
+        let f = found buddy limit rows (queued_name r) taken (are_taken v buddy limit rows o) a in
         subst (λ x. may_go buddy limit x ≡ true) (held_once f.row r (sym f.stands ∙ e)) f.may

@@ -20,7 +20,7 @@ use crate::queued::Queued;
 use crate::sets::{SETS, move_row, without};
 use arrayvec::ArrayVec;
 use lg_bit_set::BitSet;
-use lg_rules::{Claim, MAX_CLAIMS, Record, Status, index_of};
+use lg_rules::{Claim, MAX_CLAIMS, Record, Status, Version, index_of};
 
 /// A row that a packet takes.
 #[derive(Clone, Copy, Default)]
@@ -31,25 +31,29 @@ pub(crate) struct TakenRow {
     sends: u32,
 }
 
-/// The buddy of a packet: the record of the member that the packet goes to, if that record is Suspect.
-pub(crate) fn buddy_of(to: Option<&Record>) -> Option<Claim>
-    ensures { result ≡ buddy_of (option_copied to.entry) }
+/// The buddy of a packet: the record of the member that the packet goes to, if that record is Suspect and the version
+/// can tell its address.
+pub(crate) fn buddy_of(version: Version, to: Option<&Record>) -> Option<Claim>
+    ensures { result ≡ buddy_of version (option_copied to.entry) }
 {
     match to {
-        Some(record) if matches!(record.status, Status::Suspect(_)) => Some(*record),
+        Some(record)
+            if matches!(record.status, Status::Suspect(_)) && version.tells(&record.addr) => Some(
+            *record,
+        ),
         _ => None,
     }
 }
 
-/// How many claims of the queue a packet can hold beside its buddy.
-fn room_beside(buddy: &Option<Claim>) -> usize
-    ensures room { result ≡ room_beside buddy.now }
+/// How many claims of the queue a packet of a version can hold beside its buddy.
+fn room_beside(version: Version, buddy: &Option<Claim>) -> usize
+    ensures room { result ≡ room_beside version buddy.now }
     ensures some { 0 < result }
     ensures most { result ≤ MAX_CLAIMS }
 {
     match buddy {
-        Some(_) => MAX_CLAIMS - 1,
-        None => MAX_CLAIMS,
+        Some(_) => version.most_claims() - 1,
+        None => version.most_claims(),
     }
 }
 
@@ -125,6 +129,7 @@ fn take_sent(taken: &mut ArrayVec<TakenRow, MAX_CLAIMS>, set: &BitSet, sends: u3
 fn rows_by_sets(
     rows: &[Queued],
     sent: &[BitSet; SETS],
+    version: Version,
     buddy: &Option<Claim>,
     limit: u64,
     fewest: u64,
@@ -135,10 +140,10 @@ fn rows_by_sets(
     requires sets { AreSets sent.now rows.now }
     requires rises { fewest ≤ limit }
     requires few { limit ≤ SETS }
-    ensures taken { HasTaken buddy.now limit rows.now result.items }
-    ensures few { array_vec_len result ≤ room_beside buddy.now }
+    ensures taken { HasTaken version buddy.now limit rows.now result.items }
+    ensures few { array_vec_len result ≤ room_beside version buddy.now }
 {
-    let room = room_beside(buddy);
+    let room = room_beside(version, buddy);
     let passed_over = index_of_buddy(rows, buddy);
     let mut taken = ArrayVec::new();
     for sends in fewest as u32..limit as u32 {
@@ -155,15 +160,16 @@ fn rows_by_sets(
 /// names.
 fn rows_by_walk(
     rows: &[Queued],
+    version: Version,
     buddy: &Option<Claim>,
     limit: u64,
 ) -> ArrayVec<TakenRow, MAX_CLAIMS>
     requires { AreInOrder rows.now }
-    ensures taken { HasTaken buddy.now limit rows.now result.items }
-    ensures few { array_vec_len result ≤ room_beside buddy.now }
+    ensures taken { HasTaken version buddy.now limit rows.now result.items }
+    ensures few { array_vec_len result ≤ room_beside version buddy.now }
 {
     let mut first = ArrayVec::new();
-    let room = room_beside(buddy);
+    let room = room_beside(version, buddy);
     let passed_over = index_of_buddy(rows, buddy);
     // No row that was sent this often, or more often, is among the first.
     let mut bound = limit;
@@ -181,6 +187,7 @@ fn rows_by_walk(
 pub(crate) fn rows_taken(
     rows: &[Queued],
     sent: &[BitSet; SETS],
+    version: Version,
     buddy: &Option<Claim>,
     limit: u64,
     fewest: u64,
@@ -189,17 +196,17 @@ pub(crate) fn rows_taken(
     requires least { AreSent fewest rows.now }
     requires most { length rows.now ≤ MAX_QUEUED }
     requires sets { AreSets sent.now rows.now }
-    ensures taken { HasTaken buddy.now limit rows.now result.items }
-    ensures few { array_vec_len result ≤ room_beside buddy.now }
+    ensures taken { HasTaken version buddy.now limit rows.now result.items }
+    ensures few { array_vec_len result ≤ room_beside version buddy.now }
 {
     if limit <= fewest {
         // Mostly no row may be sent any more, and then none is looked at.
         ArrayVec::new()
     } else if limit <= SETS as u64 {
-        rows_by_sets(rows, sent, buddy, limit, fewest)
+        rows_by_sets(rows, sent, version, buddy, limit, fewest)
     } else {
         // No group of up to 256 members has such a limit, but a caller may count more.
-        rows_by_walk(rows, buddy, limit)
+        rows_by_walk(rows, version, buddy, limit)
     }
 }
 
@@ -222,7 +229,7 @@ pub(crate) fn write_claims(
     taken: &[TakenRow],
 )
     requires places { AllByRecursion (IsRowOf rows.now) taken.now }
-    requires room { length taken.now ≤ room_beside buddy.now }
+    requires room { length (option_to_list buddy.now) + length taken.now ≤ MAX_CLAIMS }
     ensures { claims.new.items ≡ option_to_list buddy.now ++ map queued_claim (rows_at rows.now taken.now) }
 {
     claims.clear();
@@ -253,12 +260,14 @@ pub(crate) fn count_sends(rows: &mut [Queued], sent: &mut [BitSet; SETS], taken:
 /// before. It isn't the greatest such number, which only a pass over all rows would find.
 pub(crate) fn fewest_after(
     taken: &[TakenRow],
+    version: Version,
     buddy: &Option<Claim>,
     limit: u64,
     fewest: u64,
 ) -> u64
-    ensures { (rows : List Row) → AreInOrder rows → HasTaken buddy.now limit rows taken.now → AreSent fewest rows
-        → AreSent result (map (sent_once (map queued_claim (rows_taken buddy.now limit rows))) rows) }
+    ensures { (rows : List Row) → AreInOrder rows → HasTaken version buddy.now limit rows taken.now
+        → AreSent fewest rows
+        → AreSent result (map (sent_once (map queued_claim (rows_taken version buddy.now limit rows))) rows) }
 {
     // Of the row about a buddy's member nothing more is known. And with such a limit no row was taken.
     if buddy.is_some() || limit <= fewest {
@@ -266,9 +275,10 @@ pub(crate) fn fewest_after(
     }
     // Each row that was taken has one more. If there was no room for further ones, the others were sent as often as the
     // last that was taken, or more often. Else they were sent as often as the limit, or more often.
+    let room = version.most_claims();
     match taken {
         [] => limit,
-        [first, .., last] if taken.len() == MAX_CLAIMS => {
+        [first, .., last] if taken.len() == room => {
             u64::from(last.sends).min(u64::from(first.sends) + 1)
         }
         [first, ..] => u64::from(first.sends) + 1,

@@ -14,7 +14,7 @@ use crate::queued::Queued;
 use crate::sets::{SETS, clear_sets, put_fresh};
 use arrayvec::ArrayVec;
 use lg_bit_set::BitSet;
-use lg_rules::{Claim, MAX_CLAIMS, MAX_LAMBDA, MAX_MEMBERS, Record};
+use lg_rules::{Claim, MAX_CLAIMS, MAX_LAMBDA, MAX_MEMBERS, Record, Version};
 use std::marker::Model;
 
 /// The most claims of a queue: 256, one for each member (this project's choice).
@@ -25,11 +25,13 @@ pub const MAX_QUEUED: usize = MAX_MEMBERS;
 ///
 /// A claim may be sent up to the retransmit limit, `lambda` times for each decimal digit of the number of members.
 /// (SWIM takes a logarithm. The digits are this project's choice.) It stays in the queue after that, since with more
-/// members it may be sent again. No call allocates memory. A contract sees `lambda` and the list of the claims with
-/// their sends.
+/// members it may be sent again. A claim whose address the version of its packets can't tell is never sent. No call
+/// allocates memory. A contract sees `lambda`, the version and the list of the claims with their sends.
 #[derive(Debug, Drop)]
 pub struct Queue {
     lambda: u64,
+    /// The version of the packets that take claims.
+    version: Version,
     /// No claim was sent less often than this, so that a packet needn't look at all of them.
     fewest: u64,
     /// The indexes of the rows by how often they were sent: a set for each number of sends below 30.
@@ -44,20 +46,21 @@ impl Model for Queue {
 
     ghost use Rattle.lg_gossip.specs.Support.Sound.{IsSound};
 
-    ghost view = { λ q. record { lambda = q.lambda; rows = q.rows.items } };
+    ghost view = { λ q. record { lambda = q.lambda; version = q.version; rows = q.rows.items } };
 
     ghost invariant = { λ q. IsSound q.lambda q.fewest q.sent q.rows.items };
 }
 
 impl Queue {
-    /// An empty queue. Its claims may be sent `lambda` times for each decimal digit of the number of members.
-    /// `lambda` is at most 10.
-    pub fn new(lambda: u64) -> Queue
+    /// An empty queue, whose claims ride on packets of a version. They may be sent `lambda` times for each decimal
+    /// digit of the number of members. `lambda` is at most 10.
+    pub fn new(lambda: u64, version: Version) -> Queue
         requires { lambda ≤ MAX_LAMBDA }
-        ensures { result ≡ record { lambda = lambda; rows = [] } }
+        ensures { result ≡ record { lambda = lambda; version = version; rows = [] } }
     {
         Queue {
             lambda,
+            version,
             fewest: u64::MAX,
             sent: [BitSet::new(); SETS],
             rows: ArrayVec::new(),
@@ -72,6 +75,7 @@ impl Queue {
         rows.try_extend_from_slice(&self.rows).unwrap();
         Queue {
             lambda: self.lambda,
+            version: self.version,
             fewest: self.fewest,
             sent: self.sent,
             rows,
@@ -85,24 +89,27 @@ impl Queue {
         self.rows.as_slice()
     }
 
-    /// Forgets all claims, and starts over with another `lambda`, at most 10.
-    pub fn restart(&mut self, lambda: u64)
+    /// Forgets all claims, and starts over with another `lambda`, at most 10, and another version.
+    pub fn restart(&mut self, lambda: u64, version: Version)
         requires { lambda ≤ MAX_LAMBDA }
-        ensures { self.new ≡ record { lambda = lambda; rows = [] } }
+        ensures { self.new ≡ record { lambda = lambda; version = version; rows = [] } }
     {
         let Queue {
             lambda: factor,
+            version: format,
             fewest,
             sent,
             rows,
         } = self;
         *factor = lambda;
+        *format = version;
         *fewest = u64::MAX;
         clear_sets(sent);
         rows.clear();
     }
 
-    /// Queues a claim with no sends: replaces the one about its member, or adds it.
+    /// Queues a claim with no sends: replaces the one about its member, or adds it. If the version can't tell its
+    /// address, it counts as sent as often as any claim may be, and no packet takes it.
     ///
     /// If none about its member is queued, fewer than 256 claims have to be queued.
     pub fn put(&mut self, claim: Claim)
@@ -110,17 +117,18 @@ impl Queue {
             → length self.old.rows < MAX_QUEUED }
         ensures { self.new ≡ put_of claim self.old }
     {
-        put_fresh(&mut self.rows, &mut self.sent, claim);
+        put_fresh(&mut self.rows, &mut self.sent, self.version, claim);
         self.fewest = 0;
     }
 
     /// Replaces what `claims` holds by the claims of the next packet. `live` is the number of members that aren't
     /// gone, this member included. It may be any number.
     ///
-    /// The packet takes the claims that were sent fewer times than the retransmit limit: the first six, by their
-    /// sends and then by their names. Each of them counts as sent once more. If `to` is the record of the member that
-    /// a Ping goes to, and is Suspect, it stands first (Lifeguard's buddy system). It doesn't count as sent. The
-    /// queue's claim about that member is passed over, so at most five others follow.
+    /// The packet takes the claims that were sent fewer times than the retransmit limit: the first, as many as a packet
+    /// of its version has room for, by their sends and then by their names. Each of them counts as sent once more. If
+    /// `to` is the record of the member that a Ping goes to, is Suspect, and has an address that the version can tell,
+    /// it stands first (Lifeguard's buddy system). It takes one of the places, and doesn't count as sent. The queue's
+    /// claim about that member is passed over.
     pub fn fill_into(
         &mut self,
         to: Option<&Record>,
@@ -131,11 +139,19 @@ impl Queue {
         ensures claims { claims.new.items ≡ fill_of self.old (option_copied to.entry) live }
         ensures queue { self.new ≡ filled self.old (option_copied to.entry) live }
     {
-        let buddy = buddy_of(to);
+        let version = self.version;
+        let buddy = buddy_of(version, to);
         let limit = send_limit(self.lambda, live);
-        let taken = rows_taken(self.rows.as_slice(), &self.sent, &buddy, limit, self.fewest);
+        let taken = rows_taken(
+            self.rows.as_slice(),
+            &self.sent,
+            version,
+            &buddy,
+            limit,
+            self.fewest,
+        );
         write_claims(claims, &buddy, self.rows.as_slice(), taken.as_slice());
-        self.fewest = fewest_after(taken.as_slice(), &buddy, limit, self.fewest);
+        self.fewest = fewest_after(taken.as_slice(), version, &buddy, limit, self.fewest);
         count_sends(self.rows.as_mut_slice(), &mut self.sent, taken.as_slice());
     }
 

@@ -4,7 +4,8 @@
 //! Tested in: `lg_detector_tests/src/gossip.rt`.
 ghost use Rattle.std.specs.Prelude.{◌≡◌};
 
-use lg_rules::{Claim, Keyed, Name};
+use crate::limit::MAX_TIMES_SENT;
+use lg_rules::{Claim, Keyed, Name, Version};
 
 /// A claim that waits to be sent, and the number of packets that took it from the queue.
 #[derive(Clone, Copy, Debug, Default, PartialEq, Eq)]
@@ -12,18 +13,24 @@ pub struct Queued {
     /// The claim.
     pub claim: Claim,
     /// How many packets took it since it was queued: at most 200 in a queue. A packet that had it as its buddy isn't
-    /// counted.
+    /// counted. A claim whose address the version of the queue can't tell has 200 from the outset.
     pub sends: u32,
 }
 
 impl Queued {
     ghost use Rattle.lg_gossip.specs.Meaning.Queue.{fresh};
 
-    /// A claim that no packet has taken yet.
-    pub(crate) fn fresh(claim: Claim) -> Queued
-        ensures { result ≡ fresh claim }
+    /// A claim that no packet has taken yet. If the version can't tell its address, it counts as sent as often as any
+    /// claim may be, so that no packet takes it.
+    pub(crate) fn fresh(version: Version, claim: Claim) -> Queued
+        ensures { result ≡ fresh version claim }
     {
-        Queued { claim, sends: 0 }
+        let sends = if version.tells(&claim.addr) {
+            0
+        } else {
+            MAX_TIMES_SENT as u32
+        };
+        Queued { claim, sends }
     }
 }
 

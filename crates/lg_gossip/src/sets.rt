@@ -16,7 +16,7 @@ use crate::queue::MAX_QUEUED;
 use crate::queued::Queued;
 use arrayvec::ArrayVec;
 use lg_bit_set::{BitSet, NUMBERS};
-use lg_rules::{Claim, MAX_LAMBDA, index_of};
+use lg_rules::{Claim, MAX_LAMBDA, Version, index_of};
 
 /// How many sets of rows there are: 30, the greatest retransmit limit of a group of up to 256 members, whose number has
 /// three digits (this project's choice). Each set has the indexes of the rows that were sent exactly as often as its
@@ -83,38 +83,41 @@ fn open_sets(sent: &mut [BitSet; SETS], index: u8)
     }
 }
 
-/// Makes room for a new row at an index, which no packet has taken yet.
-pub(crate) fn open_row(sent: &mut [BitSet; SETS], index: u8)
+/// Makes room for a new row at an index, which was sent so often.
+pub(crate) fn open_row(sent: &mut [BitSet; SETS], index: u8, sends: usize)
     ensures { (rows : List Row) (row : Row) → AreSets sent.old rows → length rows < MAX_QUEUED → index ≤ length rows
-        → row.sends ≡ 0 → AreSets sent.new (insert rows index row) }
+        → row.sends ≡ sends → AreSets sent.new (insert rows index row) }
 {
     open_sets(sent, index);
-    add_to(sent, 0, index);
+    add_to(sent, sends, index);
 }
 
-/// Puts a claim with no sends among the rows, which have to be in the order of their names: replaces the row about its
-/// member, or inserts one if there is none.
+/// Puts a claim that no packet has taken yet among the rows, which have to be in the order of their names: replaces the
+/// row about its member, or inserts one if there is none.
 pub(crate) fn put_fresh(
     rows: &mut ArrayVec<Queued, MAX_QUEUED>,
     sent: &mut [BitSet; SETS],
+    version: Version,
     claim: Claim,
 )
     requires room { (row_at name_cmp queued_name claim.name rows.old.items ≡ None)
         → array_vec_len rows.old < MAX_QUEUED }
     requires order { AreInOrder rows.old.items }
     requires sets { AreSets sent.old rows.old.items }
-    ensures rows { rows.new.items ≡ put_row name_cmp queued_name (fresh claim) rows.old.items }
+    ensures rows { rows.new.items ≡ put_row name_cmp queued_name (fresh version claim) rows.old.items }
     ensures sets { AreSets sent.new rows.new.items }
 {
+    let row = Queued::fresh(version, claim);
+    let sends = row.sends as usize;
     match index_of(rows.as_slice(), &claim.name) {
         Ok(index) => {
-            let sends = rows[index].sends as usize;
-            rows[index] = Queued::fresh(claim);
-            move_row(sent, index as u8, sends, 0);
+            let before = rows[index].sends as usize;
+            rows[index] = row;
+            move_row(sent, index as u8, before, sends);
         }
         Err(index) => {
-            rows.insert(index, Queued::fresh(claim));
-            open_row(sent, index as u8);
+            rows.insert(index, row);
+            open_row(sent, index as u8, sends);
         }
     }
 }

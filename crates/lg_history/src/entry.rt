@@ -14,9 +14,9 @@ use std::marker::Model;
 /// One entry of a history: an event, the seat that made it, and the reply to it.
 ///
 /// It takes the memory that the event and the reply need. With its part of the history's list, a tick that fires
-/// nothing takes at most 320 bytes, and a Ping without claims and its Ack at most 512. A packet of six claims that
-/// changes six records and is answered by six claims takes at most 2,560 (the bounds are this project's choice). If
-/// memory for the reply was refused, the reply is in a box for a whole one, some 5 KB.
+/// nothing takes at most 320 bytes, and a Ping without claims and its Ack at most 576. A packet of twelve claims
+/// that changes twelve records and is answered by twelve claims takes at most 4,096 (the bounds are this project's
+/// choice). If memory for the reply was refused, the reply is in a box for a whole one, some 11 KB.
 ///
 /// A contract sees it as the record of the three.
 #[derive(Drop)]

@@ -15,6 +15,7 @@ use std::marker::Model;
 #[derive(Drop)]
 pub(crate) struct StoredPacket {
     version: Version,
+    group: Option<Name>,
     sender: Name,
     body: Body,
     claims: Vec<Claim>,
@@ -29,6 +30,7 @@ impl Model for StoredPacket {
 
     ghost view = { λ p. record {
       version = p.version;
+      group = p.group;
       sender = p.sender;
       body = p.body;
       claims = record { items = p.claims.items };
@@ -45,6 +47,7 @@ impl StoredPacket {
         let claims = Vec::from_slice(alloc, packet.claims.as_slice())?;
         Ok(StoredPacket {
             version: packet.version,
+            group: packet.group,
             sender: packet.sender,
             body: packet.body,
             claims,
@@ -60,6 +63,7 @@ impl StoredPacket {
         prove!(copied.is_ok());
         Packet {
             version: self.version,
+            group: self.group,
             sender: self.sender,
             body: self.body,
             claims,

@@ -21,11 +21,11 @@ const IDLE_TICK: usize = LEAST + size_of::<[u32; 8]>();
 /// A Ping without claims, and its Ack: the packet that was heard, and a list of one that is sent.
 const PING: usize = LEAST + size_of::<Hearing>() + size_of::<StoredOutgoing>();
 
-/// A Ping of six claims that change six records, and its Ack of six claims.
+/// A Ping of twelve claims that change twelve records, and its Ack of twelve claims.
 const FULL_PING: usize = PING + 2 * CLAIMS + MAX_CLAIMS * size_of::<Record>();
 
 const _: () = prove!(IDLE_TICK <= 320);
 
-const _: () = prove!(PING <= 512);
+const _: () = prove!(PING <= 576);
 
-const _: () = prove!(FULL_PING <= 2560);
+const _: () = prove!(FULL_PING <= 4096);

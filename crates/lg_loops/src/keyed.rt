@@ -14,7 +14,7 @@ use lg_packet::MAX_PACKET;
 use lg_rules::Addr;
 use lg_seal::{Keys, SEAL_LEN, SealFault, Sealer, TAG_LEN};
 
-/// The most bytes of a sealed packet: 562.
+/// The most bytes of a sealed packet: 1,226.
 const MAX_SEALED: usize = MAX_PACKET + SEAL_LEN;
 
 /// Where the packet of a sealed datagram begins.
@@ -113,7 +113,7 @@ impl<L: Link> Link for KeyedLink<L> {
     ghost failed = { λ l. L.failed l.inner };
 
     /// Seals a packet with the first key, and hands that to the inner link once, which sends it or fails as
-    /// [`Link::send`] says. Of bytes that are longer than any packet only the first 543 are sealed and sent. It
+    /// [`Link::send`] says. Of bytes that are longer than any packet only the first 1,207 are sealed and sent. It
     /// allocates nothing.
     fn send(&mut self, to: Addr, bytes: &[u8]) -> Result<(), LinkFault>
         ensures sealed { L.tells ≡ true → L.log self.new.inner ≡ L.log self.old.inner

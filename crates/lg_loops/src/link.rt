@@ -5,8 +5,9 @@
 
 use lg_rules::Addr;
 
-/// How many bytes of a datagram are read: 1024. No packet is longer than 543.
-pub const MAX_DATAGRAM: usize = 1024;
+/// How many bytes of a datagram are read: 1280, the least MTU of IPv6 (RFC 8200, section 5). No packet is longer than
+/// 1,207, and a sealed one has at most 1,226.
+pub const MAX_DATAGRAM: usize = 1280;
 
 /// Receiving or sending failed. The link has counted it.
 #[derive(Clone, Copy, Debug, PartialEq, Eq)]

@@ -9,9 +9,10 @@ use Rattle.lg_rules.proofs.OwnLaws.{own-same, own-other, own_of_name}
 use Rattle.lg_rules.proofs.Naming.{heard-names, heard-oneself}
 use Rattle.lg_rules.proofs.Tables.{heard-table}
 use Rattle.lg_timing.specs.declared.config.Config.{Config}
+use Rattle.lg_timing.specs.Meaning.Config.{version_of}
 use Rattle.lg_membership.specs.declared.origin.Origin.{Origin}
 use Rattle.lg_membership.specs.Meaning.Log.{GroupLog, Opened, Said, Sent, config, me, said, own, opening_addr}
-use Rattle.lg_membership.specs.Meaning.Gossip.{lambda_in}
+use Rattle.lg_membership.specs.Meaning.Gossip.{lambda_in, version_sent}
 use Rattle.lg_membership.specs.Support.State.{group_state_of, open_group, apply_own, apply_other, apply_to_group}
 use Rattle.lg_membership.specs.Support.State.{send_from_group}
 use Rattle.lg_membership.proofs.QueueLaws.{queue-own, queue-other, queue-sent, queue-opened}
@@ -23,7 +24,7 @@ open-state opening log = λ i. record {
   own = own_of opening.name opening.addr [];
   members = known_of opening.name [];
   suspicions = sym (suspicions-opened opening log) i;
-  queue = record { lambda = opening.lambda; rows = sym (queue-opened opening log) i };
+  queue = record { lambda = opening.lambda; version = version_of opening; rows = sym (queue-opened opening log) i };
 }
 
 own-applied : (now : ℕ) (origin : Origin) (c : Claim) (log : GroupLog) → c.name ≡ me log → apply_own c (group_state_of log) ≡ group_state_of (Said now origin c ∷ log)
@@ -70,5 +71,5 @@ send-state taken log = λ i. record {
   own = own log;
   members = known_of (me log) (said log);
   suspicions = suspicions-sent taken log i;
-  queue = record { lambda = lambda_in (config log); rows = queue-sent log taken i };
+  queue = record { lambda = lambda_in (config log); version = version_sent (config log); rows = queue-sent log taken i };
 }

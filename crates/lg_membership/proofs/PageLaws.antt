@@ -1,12 +1,12 @@
 -- The first rows that a test finds, and one more put among them.
-use Rattle.std.proofs.Common.{◌≡◌, ℕ, zero, suc, ◌≤◌, Bool, true, false, List, [], ◌∷◌, ◌++◌, length, map, take, drop, inl, inr, refl, sym, ◌∙◌, ap, arith}
+use Rattle.std.proofs.Common.{◌≡◌, ℕ, zero, suc, ◌≤◌, Bool, true, false, List, [], ◌∷◌, ◌++◌, length, map, take, drop, Some, None, inl, inr, refl, sym, ◌∙◌, ap, arith}
 use Rattle.std.specs.Prelude.{filter}
 use Rattle.std.proofs.lemmas.Bool.{cases_Bool}
 use Rattle.std.proofs.lemmas.List.{take-append-drop}
 use Rattle.std.proofs.lemmas.List.Elements.{filter-append}
 use Rattle.std.proofs.Math.Seq.{take-append_seam}
 use Rattle.std.specs.declared.cmp.Ordering.{Ordering}
-use Rattle.lg_rules.specs.Meaning.Rows.{put_row, AreAbove, Rises}
+use Rattle.lg_rules.specs.Meaning.Rows.{put_row, row_at, AreAbove, Rises}
 use Rattle.lg_rules.proofs.Cases.{Below, Tied, Above, compared}
 use Rattle.lg_rules.proofs.KeyOrder.{IsKeyOrder}
 use Rattle.lg_rules.proofs.Rises.{above_lower}
@@ -61,7 +61,7 @@ module _ {K : Type 0} {cmp : K → K → Ordering} (order : IsKeyOrder cmp) {R :
     | inr f ↦ rw f (rises-passed p xs rise.1)
   ]
 
-  module _ (p : R → Bool) (by_key : (a b : R) → key a ≡ key b → p a ≡ p b) where
+  module _ (p : R → Bool) where
     above-passed : (r : R) (rows : List R) → AreAbove cmp (key r) (map key rows) → put_row cmp key r (filter p rows) ≡ r ∷ filter p rows
     above-passed r [] above = refl
     above-passed r (x ∷ xs) above = elim (cases_Bool (p x)) [
@@ -69,30 +69,34 @@ module _ {K : Type 0} {cmp : K → K → Ordering} (order : IsKeyOrder cmp) {R :
       | inr f ↦ rw f (above-passed r xs above.1)
     ]
 
-    -- a row that doesn't pass changes nothing, and one that passes is put among those that do
-    pub filter-put_other : (r : R) (rows : List R) → p r ≡ false → filter p (put_row cmp key r rows) ≡ filter p rows
-    filter-put_other r [] out = rw out refl
-    filter-put_other r (x ∷ xs) out = elim (compared (cmp (key r) (key x))) [
+    -- If no row has its key, a row that doesn't pass changes nothing, and one that passes is put among those that do.
+    pub filter-put_other : (r : R) (rows : List R) → row_at cmp key (key r) rows ≡ None → p r ≡ false
+        → filter p (put_row cmp key r rows) ≡ filter p rows
+    filter-put_other r [] missing out = rw out refl
+    filter-put_other r (x ∷ xs) missing out = elim (compared (cmp (key r) (key x))) [
       | Below l ↦ rw (l, out) refl
-      | Tied t ↦ (let out' : p x ≡ false = by_key x r (sym (order.exact (key r) (key x) t)) ∙ out in rw (t, out, out') refl)
-      | Above a ↦ elim (cases_Bool (p x)) [
-        | inl t ↦ rw (a, t) (ap (λ rs. x ∷ rs) (filter-put_other r xs out))
-        | inr f ↦ rw (a, f) (filter-put_other r xs out)
-      ]
+      | Tied t ↦ (let bad : Some x ≡ None = rw t at missing in absurd cc)
+      | Above a ↦ (
+          let rest = filter-put_other r xs (rw a at missing) out in
+          elim (cases_Bool (p x)) [
+            | inl t ↦ rw (a, t) (ap (λ rs. x ∷ rs) rest)
+            | inr f ↦ rw (a, f) rest
+          ])
     ]
 
-    pub filter-put : (r : R) (rows : List R) → Rises cmp (map key rows) → p r ≡ true → filter p (put_row cmp key r rows) ≡ put_row cmp key r (filter p rows)
-    filter-put r [] rise passes = rw passes refl
-    filter-put r (x ∷ xs) rise passes = elim (compared (cmp (key r) (key x))) [
+    pub filter-put : (r : R) (rows : List R) → Rises cmp (map key rows) → row_at cmp key (key r) rows ≡ None → p r ≡ true
+        → filter p (put_row cmp key r rows) ≡ put_row cmp key r (filter p rows)
+    filter-put r [] rise missing passes = rw passes refl
+    filter-put r (x ∷ xs) rise missing passes = elim (compared (cmp (key r) (key x))) [
       | Below l ↦ (
           let above : AreAbove cmp (key r) (map key (x ∷ xs)) = (l, above_lower order (key r) (key x) (map key xs) l rise.0) in
           let left : filter p (put_row cmp key r (x ∷ xs)) ≡ r ∷ filter p (x ∷ xs) = rw (l, passes) refl in
           left ∙ sym (above-passed r (x ∷ xs) above))
-      | Tied t ↦ (
-          let passes' : p x ≡ true = by_key x r (sym (order.exact (key r) (key x) t)) ∙ passes in
-          rw (t, passes, passes', t) refl)
-      | Above a ↦ elim (cases_Bool (p x)) [
-        | inl t ↦ rw (a, t, a) (ap (λ rs. x ∷ rs) (filter-put r xs rise.1 passes))
-        | inr f ↦ rw (a, f) (filter-put r xs rise.1 passes)
-      ]
+      | Tied t ↦ (let bad : Some x ≡ None = rw t at missing in absurd cc)
+      | Above a ↦ (
+          let rest = filter-put r xs rise.1 (rw a at missing) passes in
+          elim (cases_Bool (p x)) [
+            | inl t ↦ rw (a, t, a) (ap (λ rs. x ∷ rs) rest)
+            | inr f ↦ rw (a, f) rest
+          ])
     ]

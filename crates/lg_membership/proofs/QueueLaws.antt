@@ -15,7 +15,7 @@ use Rattle.lg_gossip.specs.Meaning.Queue.{fresh, queued_name, sent_once}
 use Rattle.lg_membership.specs.declared.origin.Origin.{Origin}
 use Rattle.lg_membership.specs.Meaning.Log.{GroupLog, Opened, Said, Sent, config, me, said, own, table, known}
 use Rattle.lg_membership.specs.Meaning.Suspicions.{suspicions}
-use Rattle.lg_membership.specs.Meaning.Gossip.{lambda_in, put_of_own, put_of_other, put_by, queued, queue_rows, queue}
+use Rattle.lg_membership.specs.Meaning.Gossip.{lambda_in, version_sent, put_of_own, put_of_other, put_by, queued, queue_rows, queue}
 use Rattle.lg_membership.specs.Support.State.{queue_with}
 use Rattle.lg_membership.proofs.KnownLaws.{rises-known, known-own, known-taken, known-passed}
 use Rattle.lg_membership.proofs.QueuedLaws.{queued-sent, put_by-own, put_by-other, put_by-grows, queued_keyed, queued_unknown, queued-put, queued-put_other, queued-no_put}
@@ -25,10 +25,10 @@ names_after now origin log c = known (Said now origin c ∷ log)
 
 -- a claim is put
 rows-queued : (now : ℕ) (origin : Origin) (log : GroupLog) (c p : Claim) → put_by origin log c ≡ Some p
-    → put_row name_cmp queued_name (fresh p) (queue_rows log) ≡ queue_rows (Said now origin c ∷ log)
+    → put_row name_cmp queued_name (fresh (version_sent (config log)) p) (queue_rows log) ≡ queue_rows (Said now origin c ∷ log)
 unfolding queue_rows
 rows-queued now origin log c p put =
-    rows-put names_order queued_name (queued log) (queued (Said now origin c ∷ log)) (fresh p) (known log) (rises-known log) (queued_keyed log)
+    rows-put names_order queued_name (queued log) (queued (Said now origin c ∷ log)) (fresh (version_sent (config log)) p) (known log) (rises-known log) (queued_keyed log)
     (queued-put now origin log c p put) (queued-put_other now origin log c p put)
     ∙ ap (filter_map (queued (Said now origin c ∷ log))) (sym (put_by-grows now origin log c p put))
 
@@ -53,10 +53,10 @@ rows-join now origin log c none names = elim (cases_Bool (is_among name_cmp c.na
 
 -- a queue with a claim put, or none
 queue-by : (now : ℕ) (origin : Origin) (log : GroupLog) (c : Claim) (o : Option Claim) → (o ≡ None → queue_rows log ≡ queue_rows (Said now origin c ∷ log))
-    → ((p : Claim) → o ≡ Some p → put_row name_cmp queued_name (fresh p) (queue_rows log) ≡ queue_rows (Said now origin c ∷ log))
+    → ((p : Claim) → o ≡ Some p → put_row name_cmp queued_name (fresh (version_sent (config log)) p) (queue_rows log) ≡ queue_rows (Said now origin c ∷ log))
     → queue_with o (queue log) ≡ queue (Said now origin c ∷ log)
-queue-by now origin log c None none some = λ i. record { lambda = lambda_in (config log); rows = none refl i }
-queue-by now origin log c (Some p) none some = λ i. record { lambda = lambda_in (config log); rows = some p refl i }
+queue-by now origin log c None none some = λ i. record { lambda = lambda_in (config log); version = version_sent (config log); rows = none refl i }
+queue-by now origin log c (Some p) none some = λ i. record { lambda = lambda_in (config log); version = version_sent (config log); rows = some p refl i }
 
 -- the queue once a claim about oneself is said
 pub queue-own : (now : ℕ) (origin : Origin) (log : GroupLog) (c : Claim) → c.name ≡ me log
@@ -71,7 +71,7 @@ pub queue-other : (now : ℕ) (origin : Origin) (log : GroupLog) (c : Claim) →
 queue-other now origin log c other =
     let put = put_of_other origin (table log) (suspicions log) c in
     let says = put_by-other origin log c other in
-    let joined : (p : Claim) → put ≡ Some p → put_row name_cmp queued_name (fresh p) (queue_rows log) ≡ queue_rows (Said now origin c ∷ log) = λ p e. rows-queued now origin log c p (says ∙ e) in
+    let joined : (p : Claim) → put ≡ Some p → put_row name_cmp queued_name (fresh (version_sent (config log)) p) (queue_rows log) ≡ queue_rows (Said now origin c ∷ log) = λ p e. rows-queued now origin log c p (says ∙ e) in
     elim (heard_cases (me log) c (said log) other) [
       | Taken t ↦ queue-by now origin log c put (λ e. rows-join now origin log c (says ∙ e) (known-taken now origin log c t)) joined
       | Unbeaten k ↦ queue-by now origin log c put (λ e. rows-stay now origin log c (says ∙ e) (known-passed now origin log c k.names)) joined

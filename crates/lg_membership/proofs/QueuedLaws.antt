@@ -20,9 +20,9 @@ use Rattle.lg_gossip.specs.declared.queued.Queued.{Queued}
 use Rattle.lg_gossip.specs.Meaning.Queue.{fresh, queued_name, sent_once}
 use Rattle.lg_membership.specs.declared.origin.Origin.{Origin}
 use Rattle.lg_membership.specs.declared.origin.Origin.TheVariants.{Seed, Group}
-use Rattle.lg_membership.specs.Meaning.Log.{GroupLog, Opened, Said, Sent, me, said, own, table, known}
+use Rattle.lg_membership.specs.Meaning.Log.{GroupLog, Opened, Said, Sent, config, me, said, own, table, known}
 use Rattle.lg_membership.specs.Meaning.Suspicions.{SuspectedValue, suspicions, confirms}
-use Rattle.lg_membership.specs.Meaning.Gossip.{put_of_own, put_if, put_of_other, put_by, put_or, put_last, sends, queued}
+use Rattle.lg_membership.specs.Meaning.Gossip.{put_of_own, put_if, put_of_other, put_by, put_or, put_last, version_sent, sends, queued}
 use Rattle.lg_membership.proofs.KnownLaws.{rises-known, own_known, known-own, known-taken, known-passed, known-grows, roster_known}
 
 -- What a claim puts into the queue, about oneself or another.
@@ -143,7 +143,7 @@ queued_unknown log m out = elim (held (put_last log m)) [
 ]
 
 -- A claim that is put is queued afresh; about other names nothing changes.
-pub queued-put : (now : ℕ) (origin : Origin) (log : GroupLog) (c p : Claim) → put_by origin log c ≡ Some p → queued (Said now origin c ∷ log) p.name ≡ Some (fresh p)
+pub queued-put : (now : ℕ) (origin : Origin) (log : GroupLog) (c p : Claim) → put_by origin log c ≡ Some p → queued (Said now origin c ∷ log) p.name ≡ Some (fresh (version_sent (config log)) p)
 unfolding queued
 queued-put now origin log c p e = rw (e, same_key names_order p.name p.name refl) refl
 

@@ -5,3 +5,4 @@ pub mod Gossip
 pub mod Applied
 pub mod Pages
 pub mod Examples
+pub mod PageExamples

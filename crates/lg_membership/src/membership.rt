@@ -21,7 +21,7 @@ use crate::origin::Origin;
 use crate::suspicions::{Suspicions, copy_suspicions, suspect};
 use arrayvec::ArrayVec;
 use lg_gossip::Queue;
-use lg_rules::{Addr, Claim, Heard, MAX_CLAIMS, Members, Name, Own, OwnHeard, Record};
+use lg_rules::{Addr, Claim, Heard, MAX_CLAIMS, Members, Name, Own, OwnHeard, Record, Version};
 use lg_timing::{Config, Moment};
 use std::cmp::Ordering;
 use std::marker::Model;
@@ -195,7 +195,7 @@ impl Membership {
             own: Own::new(name, Addr::v4([0; 4], 0)),
             members: Members::new(&name),
             suspicions: Suspicions::new(),
-            queue: Queue::new(1),
+            queue: Queue::new(1, Version::One),
         }
     }
 
@@ -228,7 +228,7 @@ impl Membership {
         self.own = Own::new(config.name, config.addr);
         self.members.restart(&config.name);
         self.suspicions.clear();
-        self.queue.restart(config.lambda);
+        self.queue.restart(config.lambda, config.version());
         self.config = Some(config.copy());
     }
 
@@ -296,12 +296,14 @@ impl Membership {
         }
     }
 
-    /// Replaces what `claims` holds by the claims of the next packet, at most six: those of the queue whose turn it
-    /// is, which count as sent once more (piggyback; SWIM, section 4.1).
+    /// Replaces what `claims` holds by the claims of the next packet, at most six, or twelve in version 3: those of the
+    /// queue whose turn it is, which count as sent once more (piggyback; SWIM, section 4.1). A claim whose address the
+    /// version can't tell is passed over.
     ///
     /// `target` is the member that a Ping goes to. Any other packet has none. If the target's record is Suspect, that
     /// record stands first and doesn't count as sent, and the queue's claim about the target is passed over
-    /// (Lifeguard, buddy system). A target that isn't known, or is this member itself, adds nothing.
+    /// (Lifeguard, buddy system). A record whose address the version can't tell is no buddy. A target that isn't
+    /// known, or is this member itself, adds nothing.
     pub fn fill_into(&mut self, target: Option<&Name>, claims: &mut ArrayVec<Claim, MAX_CLAIMS>)
         ensures claims { claims.new.items ≡ fill_in (option_copied target.entry) self.old }
         ensures state { self.new ≡ send_from_group (taken_in (option_copied target.entry) self.old) self.old }

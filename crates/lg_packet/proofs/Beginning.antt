@@ -12,7 +12,7 @@ use Rattle.lg_packet.proofs.Outcomes.{fault_or}
 use Rattle.lg_packet.proofs.Packets.{packet_read}
 use Rattle.lg_packet.proofs.PacketPlaces.{packet_fault}
 use Rattle.lg_packet.proofs.Places.{fault_from}
-use Rattle.lg_packet.proofs.Decoding.{are_bytes}
+use Rattle.lg_packet.proofs.DecodingLaws.{are_bytes}
 use Rattle.lg_packet.proofs.Standing.{StandsFrom, from_first, each_stands, front_stands, rest_stands, both_stand, due_after-append, fault_of_rest, behind_spelling, spelling_stands, spelling_whole}
 use Rattle.lg_packet.proofs.Completing.{all_append, completion, incarnation_fits}
 use Rattle.lg_packet.proofs.NeverTrailing.{IsOther, NotTrailing, packet_goes}

@@ -1,11 +1,11 @@
 -- The parts that are due behind a front, and bytes that complete it.
-use Rattle.std.proofs.Common.{◌≡◌, ℕ, zero, suc, ◌<◌, ◌≤◌, Bool, true, false, cond, eqb, ltb, leb, List, [], ◌∷◌, ◌++◌, length, replicate, None, refl, arith, length-append}
+use Rattle.std.proofs.Common.{◌≡◌, ℕ, zero, suc, ◌<◌, ◌≤◌, Bool, true, false, cond, eqb, ltb, leb, ◌&&◌, List, [], ◌∷◌, ◌++◌, length, replicate, None, refl, sym, subst, ◌∙◌, append_assoc, arith, length-append}
 use Rattle.std.specs.Int.{w32, from_be_bytes}
 use Rattle.std.specs.List.{AllByRecursion}
 use Rattle.std.proofs.lemmas.Bool.{ltb-true, le-leb, leb-true, eq-eqb}
 use Rattle.lg_rules.specs.Meaning.Bounds.{greatest_incarnation}
 use Rattle.lg_packet.specs.declared.fault.Fault.TheVariants as faults
-use Rattle.lg_packet.specs.Meaning.Fault.{Part, MagicByte, VersionByte, KindByte, LengthByte, AfterLengthByte, NameByte, NumberByte, CountByte, ClaimKindByte, IncarnationByte, number_parts, addr_parts, body_parts, accuser_parts, claim_parts, brought, packet_parts, due_behind, due_after, fault_of_byte, begun_incarnation, least_number, IncarnationFits}
+use Rattle.lg_packet.specs.Meaning.Fault.{Part, MagicByte, VersionByte, KindByte, LengthByte, MaybeLengthByte, NameByte, NumberByte, FamilyByte, CountByte, ClaimKindByte, IncarnationByte, most_count, is_allowed, number_parts, addr_parts, group_parts, receiver_parts, body_parts, accuser_parts, claim_parts, brought, packet_parts, due_behind, due_after, fault_of_byte, begun_incarnation, least_number, IncarnationFits}
 use Rattle.lg_packet.proofs.Standing.{StandsFrom, allowed}
 
 pub all_append : {X : Type 0} (P : X → Type 0) (xs ys : List X) → AllByRecursion P xs → AllByRecursion P ys → AllByRecursion P (xs ++ ys)
@@ -51,18 +51,33 @@ both_parts some others h k = all_append CanFill some others h k
 fill_number : CanFillAll number_parts
 fill_number = same_parts 4 NumberByte (tt, tt)
 
-fill_addr : CanFillAll addr_parts
-fill_addr = same_parts 6 NumberByte (tt, tt)
-
-fill_body : (kind : ℕ) → CanFillAll (body_parts kind)
-fill_body kind = step (eqb kind 1) (eqb kind 2) (eqb kind 5) (eqb kind 6)
+fill_addr : (version : ℕ) → CanFillAll (addr_parts version)
+fill_addr version = step (eqb version 3)
   where
-    step : (one two five six : Bool) → CanFillAll (cond one (number_parts ++ LengthByte ∷ []) (cond two (number_parts ++ LengthByte ∷ addr_parts) (cond five (AfterLengthByte ∷ []) (cond six [] number_parts))))
-    step true two five six = both_parts number_parts (LengthByte ∷ []) fill_number ((tt, tt), tt)
-    step false true five six = both_parts number_parts (LengthByte ∷ addr_parts) fill_number ((tt, tt), fill_addr)
-    step false false true six = ((tt, tt), tt)
+    step : (three : Bool) → CanFillAll (cond three (FamilyByte ∷ NumberByte ∷ NumberByte ∷ []) (replicate 6 NumberByte))
+    step true = ((tt, tt), ((tt, tt), ((tt, tt), tt)))
+    step false = same_parts 6 NumberByte (tt, tt)
+
+-- one part, or none
+fill_some : (some : Bool) (part : Part) → CanFill part → CanFillAll (cond some (part ∷ []) [])
+fill_some true part h = (h, tt)
+fill_some false part h = tt
+
+fill_group : (version : ℕ) → CanFillAll (group_parts version)
+fill_group version = fill_some (eqb version 3) MaybeLengthByte (tt, tt)
+
+fill_receiver : (version : ℕ) → CanFillAll (receiver_parts version)
+fill_receiver version = fill_some (eqb version 3) LengthByte (tt, tt)
+
+fill_body : (version kind : ℕ) → CanFillAll (body_parts version kind)
+fill_body version kind = step (eqb kind 1) (eqb kind 2) (eqb kind 5) (ltb 5 kind)
+  where
+    step : (one two five late : Bool) → CanFillAll (cond one (number_parts ++ LengthByte ∷ []) (cond two (number_parts ++ LengthByte ∷ addr_parts version) (cond five (MaybeLengthByte ∷ []) (cond late [] (number_parts ++ receiver_parts version)))))
+    step true two five late = both_parts number_parts (LengthByte ∷ []) fill_number ((tt, tt), tt)
+    step false true five late = both_parts number_parts (LengthByte ∷ addr_parts version) fill_number ((tt, tt), fill_addr version)
+    step false false true late = ((tt, tt), tt)
     step false false false true = tt
-    step false false false false = fill_number
+    step false false false false = both_parts number_parts (receiver_parts version) fill_number (fill_receiver version)
 
 fill_accuser : (kind : ℕ) → CanFillAll (accuser_parts kind)
 fill_accuser kind = step (eqb kind 2)
@@ -71,20 +86,34 @@ fill_accuser kind = step (eqb kind 2)
     step true = ((tt, tt), tt)
     step false = tt
 
-fill_claim : (kind : ℕ) → CanFillAll (claim_parts kind)
-fill_claim kind = ((tt, tt), both_parts addr_parts (IncarnationByte [] ∷ accuser_parts kind) fill_addr ((omega arith, omega arith), fill_accuser kind))
+fill_claim : (version kind : ℕ) → CanFillAll (claim_parts version kind)
+fill_claim version kind =
+    ((tt, tt), both_parts (addr_parts version) (IncarnationByte [] ∷ accuser_parts kind) (fill_addr version) ((omega arith, omega arith), fill_accuser kind))
+
+-- what is due behind the kind of a packet
+fill_kind : (version kind : ℕ) → CanFillAll ((group_parts version ++ LengthByte ∷ body_parts version kind) ++ CountByte version ∷ [])
+fill_kind version kind =
+    both_parts (group_parts version ++ LengthByte ∷ body_parts version kind) (CountByte version ∷ [])
+    (both_parts (group_parts version) (LengthByte ∷ body_parts version kind) (fill_group version) ((tt, tt), fill_body version kind)) ((tt, tt), tt)
+
+-- these parts in front of others
+due_both : (some parts : List Part) → CanFillAll some → CanFillAll parts → IsDue (some ++ parts)
+due_both some parts h k = due_if_filled (some ++ parts) (both_parts some parts h k)
 
 due_brought : (part : Part) (parts : List Part) (b : ℕ) → IsPart part → CanFillAll parts → IsDue (brought part b ++ parts)
 due_brought (MagicByte magic) parts b h k = due_if_filled parts k
-due_brought VersionByte parts b h k = due_if_filled parts k
-due_brought KindByte parts b h k =
-    (tt, both_parts (body_parts b ++ CountByte ∷ []) parts (both_parts (body_parts b) (CountByte ∷ []) (fill_body b) ((tt, tt), tt)) k)
-due_brought LengthByte parts b h k = due_if_filled (replicate b NameByte ++ parts) (both_parts (replicate b NameByte) parts (same_parts b NameByte (tt, tt)) k)
-due_brought AfterLengthByte parts b h k = due_if_filled (replicate b NameByte ++ parts) (both_parts (replicate b NameByte) parts (same_parts b NameByte (tt, tt)) k)
+due_brought VersionByte parts b h k = (tt, k)
+due_brought (KindByte version) parts b h k =
+    due_both ((group_parts version ++ LengthByte ∷ body_parts version b) ++ CountByte version ∷ []) parts (fill_kind version b) k
+due_brought LengthByte parts b h k = due_both (replicate b NameByte) parts (same_parts b NameByte (tt, tt)) k
+due_brought MaybeLengthByte parts b h k = due_both (replicate b NameByte) parts (same_parts b NameByte (tt, tt)) k
 due_brought NameByte parts b h k = due_if_filled parts k
 due_brought NumberByte parts b h k = due_if_filled parts k
-due_brought CountByte parts b h k = due_if_filled (replicate b ClaimKindByte ++ parts) (both_parts (replicate b ClaimKindByte) parts (same_parts b ClaimKindByte (tt, tt)) k)
-due_brought ClaimKindByte parts b h k = due_if_filled (claim_parts b ++ parts) (both_parts (claim_parts b) parts (fill_claim b) k)
+due_brought FamilyByte parts b h k =
+    let n = cond (eqb b 4) 4 16 in
+    due_both (replicate n NumberByte) parts (same_parts n NumberByte (tt, tt)) k
+due_brought (CountByte version) parts b h k = due_both (replicate b (ClaimKindByte version)) parts (same_parts b (ClaimKindByte version) (tt, tt)) k
+due_brought (ClaimKindByte version) parts b h k = due_both (claim_parts version b) parts (fill_claim version b) k
 due_brought (IncarnationByte before) parts b h k = step (ltb (length before) 3) refl
   where
     step : (more : Bool) → ltb (length before) 3 ≡ more → IsDue (cond more (IncarnationByte (before ++ b ∷ []) ∷ []) [] ++ parts)
@@ -100,7 +129,7 @@ due_behind_front parts [] h = h
 due_behind_front parts (b ∷ front) h = due_behind_front (due_behind parts b) front (due_again parts b h)
 
 pub is_due : (front : List ℕ) → IsDue (due_after packet_parts front)
-is_due front = due_behind_front packet_parts front (omega arith, ((omega arith, tt), ((tt, tt), ((tt, tt), tt))))
+is_due front = due_behind_front packet_parts front (omega arith, ((omega arith, tt), ((tt, tt), tt)))
 
 -- ---- bytes that complete what is due
 
@@ -137,19 +166,68 @@ fill_bytes : (n : ℕ) (parts : List Part) → Completion parts → Completion (
 fill_bytes zero parts c = c
 fill_bytes (suc n) parts c = byte_before (NumberByte ∷ (replicate n NumberByte ++ parts)) 0 refl (omega arith) (fill_bytes n parts c)
 
+-- an address of four bytes
+fill_addr_bytes : (version : ℕ) (parts : List Part) → Completion parts → Completion (addr_parts version ++ parts)
+fill_addr_bytes version parts c = step (eqb version 3)
+  where
+    step : (three : Bool) → Completion (cond three (FamilyByte ∷ NumberByte ∷ NumberByte ∷ []) (replicate 6 NumberByte) ++ parts)
+    step true = byte_before (FamilyByte ∷ NumberByte ∷ NumberByte ∷ parts) 4 refl (omega arith) (fill_bytes 6 parts c)
+    step false = fill_bytes 6 parts c
+
+-- no group
+fill_group_byte : (version : ℕ) (parts : List Part) → Completion parts → Completion (group_parts version ++ parts)
+fill_group_byte version parts c = step (eqb version 3)
+  where
+    step : (three : Bool) → Completion (cond three (MaybeLengthByte ∷ []) [] ++ parts)
+    step true = byte_before (MaybeLengthByte ∷ parts) 0 refl (omega arith) c
+    step false = c
+
+no_claims : (version : ℕ) (parts : List Part) → Completion parts → Completion (CountByte version ∷ parts)
+no_claims version parts c = byte_before (CountByte version ∷ parts) 0 (rw (le-leb 0 (most_count version) (omega arith)) refl) (omega arith) c
+
+page_allowed : (version : ℕ) → is_allowed (KindByte version) 6 ≡ true
+page_allowed version = step (eqb version 3)
+  where
+    step : (three : Bool) → (leb 1 6 && leb 6 (cond three 7 6)) ≡ true
+    step true = refl
+    step false = refl
+
+-- a Page, which has no claims
+fill_page : (version : ℕ) (parts : List Part) → Completion parts → Completion (KindByte version ∷ parts)
+fill_page version parts c =
+    let group = group_parts version in
+    let sender = LengthByte ∷ [] in
+    let count = CountByte version ∷ [] in
+    let others : Completion (group ++ (sender ++ (count ++ parts))) = fill_group_byte version (sender ++ (count ++ parts)) (fill_name (count ++ parts) (no_claims version parts c)) in
+    byte_before (KindByte version ∷ parts) 6 (rw (page_allowed version) refl) (omega arith)
+    (subst Completion (sym (append_assoc (group ++ sender) count parts ∙ append_assoc group sender (count ++ parts))) others)
+
+alive_allowed : (version : ℕ) → is_allowed (ClaimKindByte version) 1 ≡ true
+alive_allowed version = step (eqb version 3)
+  where
+    step : (three : Bool) → (leb 1 1 && leb 1 (cond three 4 3)) ≡ true
+    step true = refl
+    step false = refl
+
+-- a claim that a member is alive
+fill_alive : (version : ℕ) (parts : List Part) → Completion parts → Completion (ClaimKindByte version ∷ parts)
+fill_alive version parts c =
+    let behind = IncarnationByte [] ∷ [] in
+    let others : Completion (addr_parts version ++ (behind ++ parts)) = fill_addr_bytes version (behind ++ parts) (fill_incarnation [] parts (omega arith) (omega arith) c) in
+    byte_before (ClaimKindByte version ∷ parts) 1 (rw (alive_allowed version) refl) (omega arith)
+    (fill_name ((addr_parts version ++ behind) ++ parts) (subst Completion (sym (append_assoc (addr_parts version) behind parts)) others))
+
 fill : (part : Part) (parts : List Part) → CanFill part → Completion parts → Completion (part ∷ parts)
 fill (MagicByte magic) parts h c = byte_before (MagicByte magic ∷ parts) magic (rw (eq-eqb magic magic refl) refl) h.0 c
-fill VersionByte parts h c = byte_before (VersionByte ∷ parts) 1 refl (omega arith) c
-fill KindByte parts h c =
-    byte_before (KindByte ∷ parts) 6 refl (omega arith) (fill_name (CountByte ∷ parts) (byte_before (CountByte ∷ parts) 0 refl (omega arith) c))
+fill VersionByte parts h c = byte_before (VersionByte ∷ parts) 1 refl (omega arith) (fill_page 1 parts c)
+fill (KindByte version) parts h c = fill_page version parts c
 fill LengthByte parts h c = fill_name parts c
-fill AfterLengthByte parts h c = byte_before (AfterLengthByte ∷ parts) 0 refl (omega arith) c
+fill MaybeLengthByte parts h c = byte_before (MaybeLengthByte ∷ parts) 0 refl (omega arith) c
 fill NameByte parts h c = byte_before (NameByte ∷ parts) 97 refl (omega arith) c
 fill NumberByte parts h c = byte_before (NumberByte ∷ parts) 0 refl (omega arith) c
-fill CountByte parts h c = byte_before (CountByte ∷ parts) 0 refl (omega arith) c
-fill ClaimKindByte parts h c =
-    byte_before (ClaimKindByte ∷ parts) 1 refl (omega arith)
-    (fill_name (addr_parts ++ (IncarnationByte [] ∷ parts)) (fill_bytes 6 (IncarnationByte [] ∷ parts) (fill_incarnation [] parts (omega arith) (omega arith) c)))
+fill FamilyByte parts h c = byte_before (FamilyByte ∷ parts) 4 refl (omega arith) (fill_bytes 4 parts c)
+fill (CountByte version) parts h c = no_claims version parts c
+fill (ClaimKindByte version) parts h c = fill_alive version parts c
 fill (IncarnationByte before) parts h c = fill_incarnation before parts h.0 h.1 c
 
 fill_all : (parts : List Part) → CanFillAll parts → Completion parts

@@ -9,7 +9,7 @@ pub mod Places
 pub mod FieldPlaces
 pub mod ClaimPlaces
 pub mod PacketPlaces
-pub mod Decoding
+pub mod DecodingLaws
 pub mod Standing
 pub mod Completing
 pub mod NeverTrailing

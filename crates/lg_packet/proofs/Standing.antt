@@ -5,7 +5,7 @@ use Rattle.lg_packet.specs.declared.fault.Fault.{Fault}
 use Rattle.lg_packet.specs.declared.fault.Fault.TheVariants as faults
 use Rattle.lg_packet.specs.declared.packet.Packet.{Packet}
 use Rattle.lg_packet.specs.Meaning.Spelling.{spelling, IsPacket}
-use Rattle.lg_packet.specs.Meaning.Fault.{Part, MagicByte, VersionByte, KindByte, LengthByte, AfterLengthByte, NameByte, NumberByte, CountByte, ClaimKindByte, IncarnationByte, is_allowed, fault_at, brought, packet_parts, due_behind, due_after, fault_of_byte, fault_behind, Stands}
+use Rattle.lg_packet.specs.Meaning.Fault.{Part, MagicByte, VersionByte, KindByte, LengthByte, MaybeLengthByte, NameByte, NumberByte, FamilyByte, CountByte, ClaimKindByte, IncarnationByte, is_allowed, fault_at, brought, packet_parts, due_behind, due_after, fault_of_byte, fault_behind, Stands}
 use Rattle.lg_packet.proofs.Outcomes.{fault_or}
 use Rattle.lg_packet.proofs.Packets.{packet_again}
 use Rattle.lg_packet.proofs.PacketPlaces.{packet_fault}
@@ -75,13 +75,14 @@ fault_of_rest (part ∷ parts) (b ∷ bytes) rest h =
 not_short : (part : Part) (b : ℕ) → is_allowed part b ≡ false → fault_at part ≡ faults.Short → ⊥
 not_short (MagicByte magic) b bad e = cc
 not_short VersionByte b bad e = cc
-not_short KindByte b bad e = cc
+not_short (KindByte version) b bad e = cc
 not_short LengthByte b bad e = cc
-not_short AfterLengthByte b bad e = cc
+not_short MaybeLengthByte b bad e = cc
 not_short NameByte b bad e = cc
 not_short NumberByte b bad e = cc
-not_short CountByte b bad e = cc
-not_short ClaimKindByte b bad e = cc
+not_short FamilyByte b bad e = cc
+not_short (CountByte version) b bad e = cc
+not_short (ClaimKindByte version) b bad e = cc
 not_short (IncarnationByte before) b bad e = cc
 
 pub short_stands : (parts : List Part) (bytes : List ℕ) → fault_from bytes parts ≡ faults.Short → StandsFrom parts bytes
@@ -106,13 +107,14 @@ nothing_due (part ∷ parts) h = absurd (not_trailing part (is_allowed part 0) h
     not_trailing part true e = cc
     not_trailing (MagicByte magic) false e = cc
     not_trailing VersionByte false e = cc
-    not_trailing KindByte false e = cc
+    not_trailing (KindByte version) false e = cc
     not_trailing LengthByte false e = cc
-    not_trailing AfterLengthByte false e = cc
+    not_trailing MaybeLengthByte false e = cc
     not_trailing NameByte false e = cc
     not_trailing NumberByte false e = cc
-    not_trailing CountByte false e = cc
-    not_trailing ClaimKindByte false e = cc
+    not_trailing FamilyByte false e = cc
+    not_trailing (CountByte version) false e = cc
+    not_trailing (ClaimKindByte version) false e = cc
     not_trailing (IncarnationByte before) false e = cc
 
 -- ---- spellings

@@ -6,4 +6,5 @@ pub mod Decoding
 pub mod Reading
 pub mod Examples
 pub mod VersionExamples
+pub mod VersionThreeExamples
 pub mod FrontExamples

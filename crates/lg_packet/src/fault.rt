@@ -16,20 +16,21 @@ pub enum Fault {
     /// The first byte isn't `53`, or the second isn't `4c`.
     #[error("a packet begins with the bytes 53 4c")]
     Magic = 2,
-    /// The version is neither `01` nor `02`.
-    #[error("the version has to be 1 or 2")]
+    /// The version is none of `01`, `02` and `03`.
+    #[error("the version has to be 1, 2 or 3")]
     Version = 3,
-    /// The kind isn't 1 to 6: a Ping, a PingReq, an Ack, a Nack, a Pull or a Page.
-    #[error("the kind of a packet has to be 1 to 6")]
+    /// The kind isn't 1 to 6: a Ping, a PingReq, an Ack, a Nack, a Pull or a Page. In version 3 it isn't 7 either: a
+    /// Gossip.
+    #[error("the kind of a packet has to be 1 to 6, or 7 in version 3")]
     Kind = 4,
     /// The length of a name is out of its range, or a byte of a name may not stand in one.
     #[error("a name has to be 1 to {most} bytes of A-Z a-z 0-9 . _ -", most = lg_rules::MAX_NAME)]
     Name = 5,
-    /// There are more claims than a packet can have.
-    #[error("a packet has at most {most} claims", most = MAX_CLAIMS)]
+    /// There are more claims than a packet can have: 6, or 12 in version 3.
+    #[error("a packet has at most 6 claims, or {most} in version 3", most = MAX_CLAIMS)]
     Count = 6,
-    /// The kind of a claim isn't 1 to 3.
-    #[error("the kind of a claim has to be 1 to 3")]
+    /// The kind of a claim isn't 1 to 3. In version 3 it isn't 4 either.
+    #[error("the kind of a claim has to be 1 to 3, or 4 in version 3")]
     ClaimKind = 7,
     /// An incarnation is above [`MAX_INCARNATION`]. It is judged at the last of its four bytes.
     #[error("an incarnation is at most {most}", most = MAX_INCARNATION)]
@@ -37,4 +38,7 @@ pub enum Fault {
     /// A byte follows the packet.
     #[error("bytes follow the packet's end")]
     Trailing = 9,
+    /// The family of an address is neither 4 nor 6.
+    #[error("the family of an address has to be 4 or 6")]
+    Family = 10,
 }

@@ -10,13 +10,18 @@ ghost use Rattle.lg_packet.specs.Meaning.Bytes.{IsByte};
 ghost use Rattle.lg_packet.specs.Meaning.Decoding.{DecodesTo};
 ghost use Rattle.lg_packet.specs.Meaning.Reading.{packet_of};
 ghost use Rattle.lg_packet.specs.Meaning.Fault.{IncarnationFits, Stands, fault_behind, fault_of};
-ghost use Rattle.lg_packet.specs.Meaning.Spelling.{BeginsSpelling, IsPacket, spelling};
+ghost use Rattle.lg_packet.specs.Meaning.Spelling.{BeginsSpelling, IsPacket, spellable, spelling};
 
 /// No two packets have the same spelling, and no spelling is the beginning of another.
 pub fn one_spelling()
     ensures apart { (p q : Packet) → IsPacket p → IsPacket q → spelling p ≡ spelling q → p ≡ q }
     ensures whole { (p q : Packet) (rest : List ℕ) → IsPacket p → IsPacket q
         → spelling p ++ rest ≡ spelling q → rest ≡ [] }
+{}
+
+/// A packet that has a spelling of its own is told as it is.
+pub fn own_spelling()
+    ensures { (p : Packet) → IsPacket p → spellable p ≡ p }
 {}
 
 /// Bytes decode to one thing alone, and reading their fields from left to right gives it.

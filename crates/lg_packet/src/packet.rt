@@ -5,10 +5,10 @@
 ghost use Rattle.std.specs.Prelude.{◌≡◌};
 
 use arrayvec::ArrayVec;
-use lg_rules::{Addr, Claim, MAX_CLAIMS, Name};
+use lg_rules::{Addr, Claim, MAX_CLAIMS, Name, Version};
 
-/// What a packet asks for or answers (SWIM, section 3.1). The Nack is Lifeguard's. Pull and Page are this project's
-/// choice.
+/// What a packet asks for, answers or tells (SWIM, section 3.1). The Nack is Lifeguard's. Pull, Page and Gossip are
+/// this project's choice.
 #[derive(Clone, Copy, Debug, PartialEq, Eq)]
 pub enum Body {
     /// Asks a member for an Ack with this number.
@@ -31,12 +31,16 @@ pub enum Body {
     Ack {
         /// The number of the Ping or the PingReq.
         number: u32,
+        /// The sender of the Ping or the PingReq that it answers. Versions 1 and 2 don't tell it.
+        receiver: Option<Name>,
     },
     /// Tells the sender of a PingReq that the helper has no Ack of the target so far (Lifeguard, local health aware
     /// probe).
     Nack {
         /// The number of the PingReq.
         number: u32,
+        /// The sender of the PingReq that it answers. Versions 1 and 2 don't tell it.
+        receiver: Option<Name>,
     },
     /// Asks for the next records after a name, or for the first records if it has no name. In this way a member that
     /// joins learns the table (push-pull, anti-entropy): by pages of records over datagrams (this project's choice).
@@ -46,17 +50,9 @@ pub enum Body {
     },
     /// Answers a Pull: the claims of the packet are a page of records (this project's choice).
     Page,
-}
-
-/// The version of the format in which a packet is spelled (this project's choice). The two differ in the version byte
-/// alone. All else of a packet is spelled and read the same in both.
-#[derive(Clone, Copy, Debug, Default, PartialEq, Eq)]
-pub enum Version {
-    /// Version 1, whose byte is `01`.
-    #[default]
-    One = 1,
-    /// Version 2, whose byte is `02`.
-    Two = 2,
+    /// Tells news: only the claims of the packet; nothing answers it (this project's choice). Versions 1 and 2 tell it
+    /// as a Page.
+    Gossip,
 }
 
 /// What one member sends to another in one datagram.
@@ -64,6 +60,8 @@ pub enum Version {
 pub struct Packet {
     /// The version of the format in which it is spelled.
     pub version: Version,
+    /// The group of the sender, if it has one. Versions 1 and 2 don't tell it.
+    pub group: Option<Name>,
     /// The member that sent it.
     pub sender: Name,
     /// What it asks for or answers.
@@ -83,6 +81,7 @@ impl Packet {
         prove!(copied.is_ok());
         Packet {
             version: self.version,
+            group: self.group,
             sender: self.sender,
             body: self.body,
             claims,
@@ -90,21 +89,31 @@ impl Packet {
     }
 }
 
-/// An Ack of the member `a` in version 1, with the number 0 and no claims. It fills those places of a row of fixed
-/// capacity that hold no packet.
+/// An Ack of the member `a` in version 1, with the number 0, no receiver, no group and no claims. It fills those places
+/// of a row of fixed capacity that hold no packet.
 impl Default for Packet {
-    ghost use Rattle.std.specs.Prelude.{◌≡◌, [], ◌∷◌};
+    ghost use Rattle.std.specs.Prelude.{◌≡◌, [], ◌∷◌, None};
     ghost use Rattle.lg_packet.specs.declared.packet.Body.TheVariants.{Ack};
-    ghost use Rattle.lg_packet.specs.declared.packet.Version.TheVariants.{One};
+    ghost use Rattle.lg_rules.specs.declared.version.Version.TheVariants.{One};
 
     ghost is_default = { λ p.
-        p ≡ record { version = One; sender = 97 ∷ []; body = Ack 0; claims = record { items = [] } } };
+        p ≡ record {
+          version = One;
+          group = None;
+          sender = 97 ∷ [];
+          body = Ack 0 None;
+          claims = record { items = [] };
+        } };
 
     fn default() -> Self {
         Packet {
             version: Version::default(),
+            group: None,
             sender: Name::default(),
-            body: Body::Ack { number: 0 },
+            body: Body::Ack {
+                number: 0,
+                receiver: None,
+            },
             claims: ArrayVec::new(),
         }
     }

@@ -1,29 +1,27 @@
-//! Reading packets, from the first byte on.
+//! Reads the fields of a packet, from the first byte on.
 //!
-//! Defined in: `specs/Meaning/Decoding.antt`, `specs/Meaning/Spelling.antt`, `specs/Meaning/Fault.antt`,
-//! `specs/Meaning/Reading.antt`.
+//! Defined in: `specs/Meaning/Reading.antt`.
 //! Tested in: `lg_detector_tests/src/packet.rt`.
-ghost use Rattle.std.specs.Prelude.{◌≡◌, ◌≤◌, [], length, IfOk, IfErr};
-ghost use Rattle.std.specs.Prelude.{OnOk, OnErr, Ok, Err, if◌then◌else◌};
+ghost use Rattle.std.specs.Prelude.{◌≡◌, ◌≤◌, [], length, IfOk};
+ghost use Rattle.std.specs.Prelude.{OnErr, Ok, Err, if◌then◌else◌};
 ghost use Rattle.std.specs.Int.{w16, w32};
 ghost use Rattle.std.specs.List.{list_all};
 ghost use Rattle.lg_rules.specs.Meaning.Name.{is_name_byte};
-ghost use Rattle.lg_packet.specs.declared.packet.Packet.{Packet};
-ghost use Rattle.lg_packet.specs.Meaning.Decoding.{DecodesTo};
-ghost use Rattle.lg_packet.specs.Meaning.Fault.{fault_of};
-ghost use Rattle.lg_packet.specs.Meaning.Reading.{addr_at, after_at, body_at, claim_at, claim_kind_at, claims_at};
-ghost use Rattle.lg_packet.specs.Meaning.Reading.{count_at, head_at, incarnation_at, kind_at, magic_at, name_at};
-ghost use Rattle.lg_packet.specs.Meaning.Reading.{name_bytes_at, number_at, octets_at, packet_at, packet_of};
-ghost use Rattle.lg_packet.specs.Meaning.Reading.{some_name_at, status_at, version_at};
+ghost use Rattle.lg_packet.specs.Meaning.Reading.{addr_at, body_at, claim_at, claim_kind_at, claims_at, count_at};
+ghost use Rattle.lg_packet.specs.Meaning.Reading.{group_at, head_at, incarnation_at, ip_at, ipv4_at, ipv6_at, kind_at};
+ghost use Rattle.lg_packet.specs.Meaning.Reading.{magic_at, name_at, name_bytes_at, name_or_none_at, number_at};
+ghost use Rattle.lg_packet.specs.Meaning.Reading.{of_family_at, packet_at, packet_of, receiver_at, some_name_at};
+ghost use Rattle.lg_packet.specs.Meaning.Reading.{status_at, version_at};
 ghost use Rattle.lg_packet.specs.Support.Gives.{Gives};
-ghost use Rattle.lg_packet.specs.Meaning.Spelling.{Spells};
 
 use crate::fault::Fault;
 use crate::kind::{
     ClaimKind, FIRST_MAGIC, Kind, SECOND_MAGIC, claim_kind_of_byte, kind_of_byte, version_of_byte,
 };
-use crate::packet::{Body, Packet, Version};
-use lg_rules::{Addr, Claim, Incarnation, MAX_CLAIMS, MAX_NAME, Name, Status, is_name_byte};
+use crate::packet::{Body, Packet};
+use lg_rules::{
+    Addr, Claim, Incarnation, Ip, MAX_CLAIMS, MAX_NAME, Name, Status, Version, is_name_byte,
+};
 
 /// Whether each byte may stand in a name.
 fn are_name_bytes(text: &[u8]) -> bool
@@ -46,8 +44,8 @@ fn cut_name_fault(text: &[u8]) -> Fault
 
 /// The bytes that are still to be read.
 #[derive(Drop)]
-struct Reader<'a> {
-    rest: &'a [u8],
+pub(crate) struct Reader<'a> {
+    pub(crate) rest: &'a [u8],
 }
 
 impl Reader<'_> {
@@ -75,14 +73,14 @@ impl Reader<'_> {
         version_of_byte(*byte).ok_or(Fault::Version)
     }
 
-    fn kind(&mut self) -> Result<Kind, Fault>
-        ensures { Gives (λ x. (x, self.new.rest.now)) result (kind_at self.old.rest.now) }
+    fn kind(&mut self, version: Version) -> Result<Kind, Fault>
+        ensures { Gives (λ x. (x, self.new.rest.now)) result (kind_at version self.old.rest.now) }
     {
         let [byte, rest @ ..] = self.rest else {
             return Err(Fault::Short);
         };
         self.rest = rest;
-        kind_of_byte(*byte).ok_or(Fault::Kind)
+        kind_of_byte(version, *byte).ok_or(Fault::Kind)
     }
 
     #[tactic(auto, unfolding(crate::specs::Meaning::Reading::name_at))]
@@ -124,14 +122,52 @@ impl Reader<'_> {
         Ok(u32::from_be_bytes([*a, *b, *c, *d]))
     }
 
-    fn octets(&mut self) -> Result<[u8; 4], Fault>
-        ensures { Gives (λ x. (x, self.new.rest.now)) result (octets_at self.old.rest.now) }
+    /// Reads the four bytes of an IPv4 address.
+    fn ipv4(&mut self) -> Result<Ip, Fault>
+        ensures { Gives (λ x. (x, self.new.rest.now)) result (ipv4_at self.old.rest.now) }
     {
         let [a, b, c, d, rest @ ..] = self.rest else {
             return Err(Fault::Short);
         };
         self.rest = rest;
-        Ok([*a, *b, *c, *d])
+        Ok(Ip::V4([*a, *b, *c, *d]))
+    }
+
+    /// Reads the sixteen bytes of an IPv6 address.
+    fn ipv6(&mut self) -> Result<Ip, Fault>
+        ensures { Gives (λ x. (x, self.new.rest.now)) result (ipv6_at self.old.rest.now) }
+    {
+        let [a, b, c, d, e, f, g, h, i, j, k, l, m, n, o, p, rest @ ..] = self.rest else {
+            return Err(Fault::Short);
+        };
+        self.rest = rest;
+        Ok(Ip::V6([
+            *a, *b, *c, *d, *e, *f, *g, *h, *i, *j, *k, *l, *m, *n, *o, *p,
+        ]))
+    }
+
+    /// Reads a byte for the family of an IP address, and then the address.
+    fn of_family(&mut self) -> Result<Ip, Fault>
+        ensures { Gives (λ x. (x, self.new.rest.now)) result (of_family_at self.old.rest.now) }
+    {
+        let [family, rest @ ..] = self.rest else {
+            return Err(Fault::Short);
+        };
+        self.rest = rest;
+        match *family {
+            4 => self.ipv4(),
+            6 => self.ipv6(),
+            _ => Err(Fault::Family),
+        }
+    }
+
+    fn ip(&mut self, version: Version) -> Result<Ip, Fault>
+        ensures { Gives (λ x. (x, self.new.rest.now)) result (ip_at version self.old.rest.now) }
+    {
+        match version {
+            Version::One | Version::Two => self.ipv4(),
+            Version::Three => self.of_family(),
+        }
     }
 
     fn port(&mut self) -> Result<u16, Fault>
@@ -145,15 +181,15 @@ impl Reader<'_> {
     }
 
     #[tactic(auto, unfolding(crate::specs::Meaning::Reading::addr_at))]
-    fn addr(&mut self) -> Result<Addr, Fault>
-        ensures { Gives (λ x. (x, self.new.rest.now)) result (addr_at self.old.rest.now) }
+    fn addr(&mut self, version: Version) -> Result<Addr, Fault>
+        ensures { Gives (λ x. (x, self.new.rest.now)) result (addr_at version self.old.rest.now) }
     {
-        let octets = self.octets()?;
+        let ip = self.ip(version)?;
         let port = self.port()?;
-        Ok(Addr::v4(octets, port))
+        Ok(Addr { ip, port })
     }
 
-    /// Reads the name of a Pull that has one.
+    /// Reads a name that has to be there.
     #[tactic(auto, unfolding(crate::specs::Meaning::Reading::some_name_at))]
     fn some_name(&mut self) -> Result<Option<Name>, Fault>
         ensures { Gives (λ x. (x, self.new.rest.now)) result (some_name_at self.old.rest.now) }
@@ -162,10 +198,10 @@ impl Reader<'_> {
         Ok(Some(name))
     }
 
-    /// Reads the name of a Pull, or `None` if its length is 0.
-    #[tactic(auto, unfolding(crate::specs::Meaning::Reading::after_at))]
-    fn after(&mut self) -> Result<Option<Name>, Fault>
-        ensures { Gives (λ x. (x, self.new.rest.now)) result (after_at self.old.rest.now) }
+    /// Reads a name, or `None` if its length is 0.
+    #[tactic(auto, unfolding(crate::specs::Meaning::Reading::name_or_none_at))]
+    fn name_or_none(&mut self) -> Result<Option<Name>, Fault>
+        ensures { Gives (λ x. (x, self.new.rest.now)) result (name_or_none_at self.old.rest.now) }
     {
         let [len, rest @ ..] = self.rest else {
             return Err(Fault::Short);
@@ -177,6 +213,26 @@ impl Reader<'_> {
         self.some_name()
     }
 
+    /// Reads the group, which only version 3 tells.
+    fn group(&mut self, version: Version) -> Result<Option<Name>, Fault>
+        ensures { Gives (λ x. (x, self.new.rest.now)) result (group_at version self.old.rest.now) }
+    {
+        match version {
+            Version::One | Version::Two => Ok(None),
+            Version::Three => self.name_or_none(),
+        }
+    }
+
+    /// Reads the receiver of an Ack or a Nack, which only version 3 tells.
+    fn receiver(&mut self, version: Version) -> Result<Option<Name>, Fault>
+        ensures { Gives (λ x. (x, self.new.rest.now)) result (receiver_at version self.old.rest.now) }
+    {
+        match version {
+            Version::One | Version::Two => Ok(None),
+            Version::Three => self.some_name(),
+        }
+    }
+
     /// Reads the magic, the version and the kind.
     #[tactic(auto, unfolding(crate::specs::Meaning::Reading::head_at))]
     fn head(&mut self) -> Result<(Version, Kind), Fault>
@@ -185,13 +241,13 @@ impl Reader<'_> {
         self.magic(FIRST_MAGIC)?;
         self.magic(SECOND_MAGIC)?;
         let version = self.version()?;
-        let kind = self.kind()?;
+        let kind = self.kind(version)?;
         Ok((version, kind))
     }
 
     #[tactic(auto, unfolding(crate::specs::Meaning::Reading::body_at))]
-    fn body(&mut self, kind: Kind) -> Result<Body, Fault>
-        ensures { Gives (λ x. (x, self.new.rest.now)) result (body_at kind self.old.rest.now) }
+    fn body(&mut self, version: Version, kind: Kind) -> Result<Body, Fault>
+        ensures { Gives (λ x. (x, self.new.rest.now)) result (body_at version kind self.old.rest.now) }
     {
         match kind {
             Kind::Ping => Ok(Body::Ping {
@@ -201,18 +257,21 @@ impl Reader<'_> {
             Kind::PingReq => Ok(Body::PingReq {
                 number: self.number()?,
                 target: self.name()?,
-                addr: self.addr()?,
+                addr: self.addr(version)?,
             }),
             Kind::Ack => Ok(Body::Ack {
                 number: self.number()?,
+                receiver: self.receiver(version)?,
             }),
             Kind::Nack => Ok(Body::Nack {
                 number: self.number()?,
+                receiver: self.receiver(version)?,
             }),
             Kind::Pull => Ok(Body::Pull {
-                after: self.after()?,
+                after: self.name_or_none()?,
             }),
             Kind::Page => Ok(Body::Page),
+            Kind::Gossip => Ok(Body::Gossip),
         }
     }
 
@@ -225,14 +284,14 @@ impl Reader<'_> {
         Incarnation::new(number).ok_or(Fault::Incarnation)
     }
 
-    fn claim_kind(&mut self) -> Result<ClaimKind, Fault>
-        ensures { Gives (λ x. (x, self.new.rest.now)) result (claim_kind_at self.old.rest.now) }
+    fn claim_kind(&mut self, version: Version) -> Result<ClaimKind, Fault>
+        ensures { Gives (λ x. (x, self.new.rest.now)) result (claim_kind_at version self.old.rest.now) }
     {
         let [byte, rest @ ..] = self.rest else {
             return Err(Fault::Short);
         };
         self.rest = rest;
-        claim_kind_of_byte(*byte).ok_or(Fault::ClaimKind)
+        claim_kind_of_byte(version, *byte).ok_or(Fault::ClaimKind)
     }
 
     /// The status of a claim of this kind. Reads the accuser if the kind has one.
@@ -244,16 +303,17 @@ impl Reader<'_> {
             ClaimKind::Alive => Ok(Status::Alive),
             ClaimKind::Suspect => Ok(Status::Suspect(self.name()?)),
             ClaimKind::Failed => Ok(Status::Failed),
+            ClaimKind::Left => Ok(Status::Left),
         }
     }
 
     #[tactic(auto, unfolding(crate::specs::Meaning::Reading::claim_at))]
-    fn claim(&mut self) -> Result<Claim, Fault>
-        ensures { Gives (λ x. (x, self.new.rest.now)) result (claim_at self.old.rest.now) }
+    fn claim(&mut self, version: Version) -> Result<Claim, Fault>
+        ensures { Gives (λ x. (x, self.new.rest.now)) result (claim_at version self.old.rest.now) }
     {
-        let kind = self.claim_kind()?;
+        let kind = self.claim_kind(version)?;
         let name = self.name()?;
-        let addr = self.addr()?;
+        let addr = self.addr(version)?;
         let incarnation = self.incarnation()?;
         let status = self.status(kind)?;
         Ok(Claim {
@@ -265,15 +325,15 @@ impl Reader<'_> {
     }
 
     /// Reads the count of claims.
-    fn count(&mut self) -> Result<usize, Fault>
-        ensures value { Gives (λ x. (x, self.new.rest.now)) result (count_at self.old.rest.now) }
+    fn count(&mut self, version: Version) -> Result<usize, Fault>
+        ensures value { Gives (λ x. (x, self.new.rest.now)) result (count_at version self.old.rest.now) }
         ensures few { IfOk result (λ x. x ≤ MAX_CLAIMS) }
     {
         let [count, rest @ ..] = self.rest else {
             return Err(Fault::Short);
         };
         let count = usize::from(*count);
-        if count > MAX_CLAIMS {
+        if count > version.most_claims() {
             return Err(Fault::Count);
         }
         self.rest = rest;
@@ -281,11 +341,11 @@ impl Reader<'_> {
     }
 
     /// Reads `count` claims into a packet that has none.
-    fn claims(&mut self, count: usize, packet: &mut Packet) -> Result<(), Fault>
+    fn claims(&mut self, version: Version, count: usize, packet: &mut Packet) -> Result<(), Fault>
         requires few { count ≤ MAX_CLAIMS }
         requires none { packet.old.claims.items ≡ [] }
         ensures read { let left = self.new.rest.now in
-            Gives (λ _. (packet.new.claims.items, left)) result (claims_at count self.old.rest.now) }
+            Gives (λ _. (packet.new.claims.items, left)) result (claims_at version count self.old.rest.now) }
         ensures front { packet.new ≡ record packet.old { claims = packet.new.claims } }
     {
         for _ in 0..count {
@@ -295,7 +355,7 @@ impl Reader<'_> {
                 addr,
                 status,
                 incarnation,
-            } = self.claim()?;
+            } = self.claim(version)?;
             packet.claims.push(Claim {
                 name,
                 addr,
@@ -307,72 +367,27 @@ impl Reader<'_> {
     }
 
     /// Reads a packet that takes up all of the bytes, into one that has no claims. On an error, that one keeps its
-    /// version, its sender and its body.
+    /// version, its group, its sender and its body.
     #[tactic(auto, unfolding(crate::specs::Meaning::Reading::packet_of, crate::specs::Meaning::Reading::packet_at))]
-    fn packet(&mut self, packet: &mut Packet) -> Result<(), Fault>
+    pub(crate) fn packet(&mut self, packet: &mut Packet) -> Result<(), Fault>
         requires { packet.old.claims.items ≡ [] }
         ensures read { Gives (λ _. packet.new) result (packet_of self.old.rest.now) }
         ensures left { OnErr result (packet.new ≡ record packet.old { claims = packet.new.claims }) }
     {
         let (version, kind) = self.head()?;
+        let group = self.group(version)?;
         let sender = self.name()?;
-        let body = self.body(kind)?;
-        let count = self.count()?;
-        self.claims(count, packet)?;
+        let body = self.body(version, kind)?;
+        let count = self.count(version)?;
+        self.claims(version, count, packet)?;
         // Not `is_empty`: the checker knows the `Option` in a body only if the function names one.
         if self.rest.first().is_some() {
             return Err(Fault::Trailing);
         }
         packet.version = version;
+        packet.group = group;
         packet.sender = sender;
         packet.body = body;
         Ok(())
     }
-}
-
-/// Replaces a packet by the one that the bytes spell. All of the bytes have to belong to it.
-///
-/// It refuses what [`decode`] refuses, with the same fault. After that, the packet has the version, the sender and the
-/// body that it had, and no claims. Nothing is allocated. Of the packet, it writes only the version, the sender, the
-/// body, the claims that it had, and the claims that it gets.
-// If this were inlined, the compiler could take a caller's packet apart and copy it piece by piece, several times.
-#[inline(never)]
-pub(crate) fn decode_into(bytes: &[u8], packet: &mut Packet) -> Result<(), Fault>
-    // On success the bytes spell the packet. On an error they spell none, and it is their fault.
-    ensures found { OnOk result (Spells bytes.now packet.new) }
-    ensures refused { IfErr result (λ f. DecodesTo bytes.now (Err f)) }
-    // The same result as a function of the bytes.
-    ensures exact { OnOk result (packet_of bytes.now ≡ Ok packet.new) }
-    ensures fault { IfErr result (λ f. packet_of bytes.now ≡ Err f) }
-    // What an error leaves.
-    ensures left { OnErr result (packet.new ≡ record packet.old { claims = record { items = [] } }) }
-{
-    packet.claims.clear();
-    let mut reader = Reader { rest: bytes };
-    let read = reader.packet(packet);
-    if read.is_err() {
-        packet.claims.clear();
-    }
-    read
-}
-
-/// Decodes the packet that the bytes spell. All of the bytes have to belong to it.
-///
-/// The bytes are judged from the first on. The error is the fault of the first byte that can't stand in its place, or
-/// [`Fault::Short`] if each can and more are due. Nothing is allocated.
-pub fn decode(bytes: &[u8]) -> Result<Packet, Fault>
-    // The bytes spell the packet that is returned.
-    ensures found { IfOk result (λ p. Spells bytes.now p) }
-    // A packet that the bytes spell is returned.
-    ensures only { (p : Packet) → Spells bytes.now p → result ≡ Ok p }
-    // The error is the fault of the bytes.
-    ensures fault { IfErr result (λ f. f ≡ fault_of bytes.now) }
-    // The result is a packet exactly if the bytes spell it, and their fault exactly if they spell none.
-    ensures decodes { DecodesTo bytes.now result }
-    // The same result as a function of the bytes.
-    ensures exact { result ≡ packet_of bytes.now }
-{
-    let mut packet = Packet::default();
-    decode_into(bytes, &mut packet)?;
-    Ok(packet)
 }

@@ -10,5 +10,5 @@ mod round;
 
 pub use helpers::{Helpers, MAX_HELPERS};
 pub use order::{Order, choose_all, orders_have_room, windows_have_each};
-pub use relays::{MAX_RELAYS, Relay, Relays};
+pub use relays::{Asker, MAX_RELAYS, Relay, Relays};
 pub use round::Round;

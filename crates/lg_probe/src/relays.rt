@@ -14,6 +14,17 @@ use std::marker::Model;
 /// The most relays that are open at once: 64 (this project's choice).
 pub const MAX_RELAYS: usize = 64;
 
+/// Who asked for a relay, and by which number: the sender of a PingReq.
+#[derive(Clone, Copy, Debug, Default, PartialEq, Eq)]
+pub struct Asker {
+    /// The member.
+    pub name: Name,
+    /// Where it is reached.
+    pub addr: Addr,
+    /// The number of its own probe.
+    pub number: u32,
+}
+
 /// A probe of a target for another member, its asker, which sent a ping-req. The asker is told of the target's ack
 /// (SWIM, section 3.1), or that none came yet (Lifeguard, local health aware probe).
 #[derive(Clone, Copy, Debug, Default, PartialEq, Eq)]
@@ -22,10 +33,8 @@ pub struct Relay {
     pub number: u32,
     /// The member that is probed.
     pub target: Name,
-    /// Where the asker is reached.
-    pub asker: Addr,
-    /// The number of the asker's own probe.
-    pub asked: u32,
+    /// Who asked for it, and by which number.
+    pub asker: Asker,
 }
 
 /// The relays that are open, at most 64, in the order in which they were opened (SWIM, section 3.1). No call
@@ -110,16 +119,15 @@ impl Relays {
         self.open.len()
     }
 
-    /// Opens a relay with this number to a target, for an asker whose own probe has the number `asked`. Fewer than 64
-    /// have to be open, and none with this number.
-    pub fn add(&mut self, number: u32, target: &Name, asker: Addr, asked: u32)
+    /// Opens a relay with this number to a target, for this asker. Fewer than 64 have to be open, and none with this
+    /// number.
+    pub fn add(&mut self, number: u32, target: &Name, asker: Asker)
         requires room { length self.old < MAX_RELAYS }
         requires apart { asker_at number self.old ≡ None }
         ensures relays { self.new ≡ relays_with self.old (Opened record {
           number = number;
           target = target.now;
           asker = asker;
-          asked = asked;
         }) }
         // If these were the relays open after some facts (the latest first), they are now those open after these and
         // this one.
@@ -128,31 +136,27 @@ impl Relays {
               number = number;
               target = target.now;
               asker = asker;
-              asked = asked;
             } ∷ past) }
     {
         self.open.push(Relay {
             number,
             target: *target,
             asker,
-            asked,
         });
     }
 
-    /// The asker of the open relay with this number, and the number of the asker's own probe, if there is such a
-    /// relay.
-    pub fn get(&self, number: u32) -> Option<(Addr, u32)>
+    /// The asker of the open relay with this number, if there is such a relay.
+    pub fn get(&self, number: u32) -> Option<Asker>
         ensures { result ≡ asker_at number self.now }
     {
         self.open
             .iter()
             .find(|relay| relay.has_number(number))
-            .map(|relay| (relay.asker, relay.asked))
+            .map(|relay| relay.asker)
     }
 
-    /// Takes an ack. If a relay with its number to its sender is open, closes it, and returns its asker and the
-    /// number of the asker's own probe.
-    pub fn ack(&mut self, number: u32, sender: &Name) -> Option<(Addr, u32)>
+    /// Takes an ack. If a relay with its number to its sender is open, closes it, and returns its asker.
+    pub fn ack(&mut self, number: u32, sender: &Name) -> Option<Asker>
         ensures asker { result ≡ ended_asker number sender.now self.old }
         ensures relays { self.new ≡ relays_with self.old (TargetAcked number sender.now) }
         ensures past { (past : List RelayFact) → self.old ≡ relays_after past
@@ -160,7 +164,7 @@ impl Relays {
     {
         let place = place_ended(self.open.as_slice(), number, sender)?;
         let relay = self.open.remove(place);
-        Some((relay.asker, relay.asked))
+        Some(relay.asker)
     }
 
     /// Closes the relay with this number, and returns whether it was open.

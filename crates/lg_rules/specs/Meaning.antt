@@ -9,4 +9,5 @@ pub mod Own
 pub mod Past
 pub mod Rows
 pub mod Table
+pub mod Version
 pub mod View

@@ -1,7 +1,7 @@
 //! The address of a member.
 //!
 //! Defined in: `specs/Meaning/Addr.antt`.
-//! Tested in: `lg_detector_tests/src/packet.rt`.
+//! Tested in: `lg_command_tests/src/addresses.rt`.
 ghost use Rattle.std.specs.Prelude.{◌≡◌};
 ghost use Rattle.std.specs.Str.{bytes_eq};
 ghost use Rattle.lg_rules.specs.Meaning.Addr.{ipv6_loopback, is_loopback};
@@ -58,7 +58,7 @@ impl Default for Ip {
 pub struct Addr {
     /// The IP address.
     pub ip: Ip,
-    /// The UDP port.
+    /// The port.
     pub port: u16,
 }
 
@@ -81,20 +81,6 @@ impl Addr {
             ip: Ip::V6(octets),
             port,
         }
-    }
-
-    /// The IP address.
-    pub fn ip(&self) -> Ip
-        ensures { result ≡ self.now.ip }
-    {
-        self.ip
-    }
-
-    /// The UDP port.
-    pub fn port(&self) -> u16
-        ensures { result ≡ self.now.port }
-    {
-        self.port
     }
 }
 

@@ -10,8 +10,8 @@ use crate::incarnation::Incarnation;
 use crate::name::Name;
 use crate::rows::Keyed;
 
-/// The most claims of a packet: 6 (this project's choice).
-pub const MAX_CLAIMS: usize = 6;
+/// The most claims of a packet: 12, those of version 3 (this project's choice).
+pub const MAX_CLAIMS: usize = 12;
 
 /// The greatest `lambda`, which is how often a claim may be sent for each decimal digit of the number of live
 /// members: 10 (this project's choice).

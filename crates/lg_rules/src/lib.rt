@@ -12,6 +12,7 @@ mod own;
 mod random;
 mod rows;
 mod slots;
+mod version;
 
 pub use addr::{Addr, Ip};
 pub use claim::{Claim, MAX_CLAIMS, MAX_LAMBDA, Record, Status};
@@ -23,3 +24,4 @@ pub use own::{Own, OwnHeard};
 pub use random::RANDOM_WORDS;
 pub use rows::{Keyed, index_of, put_row};
 pub use slots::Slot;
+pub use version::Version;

@@ -44,8 +44,8 @@ pub(crate) const FIRST: [u8; 32] =
     *b"\x00\x01\x02\x03\x04\x05\x06\x07\x08\x09\x0a\x0b\x0c\x0d\x0e\x0f\
       \x10\x11\x12\x13\x14\x15\x16\x17\x18\x19\x1a\x1b\x1c\x1d\x1e\x1f";
 
-/// Letters `a`, and their tag under the first key. The lengths are those at which a block more is hashed, and 543, the
-/// greatest of a packet.
+/// Letters `a`, and their tag under the first key. The lengths are those at which a block more is hashed, 543, the
+/// greatest of a packet of versions 1 and 2, and 1,207, the greatest of version 3.
 const LETTERS: &[(&[u8], &[u8; TAG_LEN])] = &[
     (
         &[b'a'; 0],
@@ -86,6 +86,10 @@ const LETTERS: &[(&[u8], &[u8; TAG_LEN])] = &[
     (
         &[b'a'; 543],
         b"\xa7\xb7\x6c\x82\xa9\xb5\x19\x59\xdc\xb2\x1d\xed\xf1\x4a\xd4\x12",
+    ),
+    (
+        &[b'a'; 1207],
+        b"\x60\x1f\x50\x80\xcd\xa1\xa4\x39\xdb\x37\x5d\x85\x28\xbe\xf9\x76",
     ),
 ];
 

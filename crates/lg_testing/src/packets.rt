@@ -4,7 +4,7 @@ use arrayvec::ArrayVec;
 use lg_packet::{Body, Packet, Version};
 use lg_rules::{Claim, MAX_CLAIMS};
 
-/// The first six of some claims.
+/// The first of some claims, at most as many as a packet has room for.
 pub fn said(claims: &[Claim]) -> ArrayVec<Claim, MAX_CLAIMS> {
     let mut list = ArrayVec::new();
     for claim in claims {
@@ -15,10 +15,11 @@ pub fn said(claims: &[Claim]) -> ArrayVec<Claim, MAX_CLAIMS> {
     list
 }
 
-/// A packet of version 1 of the member named by a letter, with the first six of some claims.
+/// A packet of version 1 of the member named by a letter, with the first of some claims.
 pub fn packet(sender: u8, body: Body, claims: &[Claim]) -> Packet {
     Packet {
         version: Version::One,
+        group: None,
         sender: letter(sender),
         body,
         claims: said(claims),
@@ -33,7 +34,10 @@ pub fn ping(number: u32, target: u8) -> Body {
     }
 }
 
-/// An Ack.
+/// An Ack that names no receiver.
 pub fn ack(number: u32) -> Body {
-    Body::Ack { number }
+    Body::Ack {
+        number,
+        receiver: None,
+    }
 }

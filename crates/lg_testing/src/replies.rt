@@ -5,6 +5,7 @@ use lg_packet::Packet;
 /// Whether two packets are equal.
 pub fn is_same_packet(one: &Packet, other: &Packet) -> bool {
     one.version == other.version
+        && one.group == other.group
         && one.sender == other.sender
         && one.body == other.body
         && one.claims.as_slice() == other.claims.as_slice()

@@ -1,7 +1,7 @@
 //! Reads an IP address.
 //!
 //! Defined in: `specs/Meaning/IpReading.antt`, `specs/Meaning/Octets.antt`.
-//! Tested in: `lg_client_tests/src/asking.rt`.
+//! Tested in: `lg_command_tests/src/addresses.rt`, `lg_client_tests/src/asking.rt`.
 ghost use Rattle.std.specs.Prelude.{◌≡◌};
 ghost use Rattle.lg_text.specs.Meaning.IpReading.{IsIpv6Read, ip_of, ipv6_of};
 

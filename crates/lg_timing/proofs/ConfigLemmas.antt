@@ -73,7 +73,7 @@ ranges c e =
     let lambda = is_between 1 10 c.lambda (at 7 (omega arith)) in
     let nack = is_between 1 999 c.nack_thousandths (at 8 (omega arith)) in
     let history = is_between 2 1000000 c.history_limit (at 9 (omega arith)) in
-    let wire = is_between 1 2 c.wire (at 10 (omega arith)) in
+    let wire = is_between 1 3 c.wire (at 10 (omega arith)) in
     let seeds = both _ _ whole.1 in
     let names = both _ _ seeds.1 in
     record {

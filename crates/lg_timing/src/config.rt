@@ -3,11 +3,11 @@
 //! Defined in: `specs/Meaning/Config.antt`, `specs/Meaning/Keys.antt`.
 //! Tested in: `lg_detector_tests/src/timing.rt`.
 ghost use Rattle.std.specs.Prelude.{◌≡◌};
-ghost use Rattle.lg_timing.specs.Meaning.Config.{is_within, is_seed, have_distinct_names, are_good_seeds};
+ghost use Rattle.lg_timing.specs.Meaning.Config.{is_within, is_seed, have_distinct_names, are_good_seeds, version_of};
 
 use crate::keys::{KEYS, Key};
 use arrayvec::ArrayVec;
-use lg_rules::{Addr, MAX_LAMBDA, Name};
+use lg_rules::{Addr, MAX_LAMBDA, Name, Version};
 use thiserror::Error;
 
 /// The shortest interval (protocol period), in milliseconds: 10 (this project's choice).
@@ -43,8 +43,8 @@ pub const MAX_HISTORY_LIMIT: u64 = 1_000_000;
 /// The oldest version of the format of packets: 1 (this project's choice).
 pub const MIN_WIRE: u64 = 1;
 
-/// The newest version of the format of packets: 2 (this project's choice).
-pub const MAX_WIRE: u64 = 2;
+/// The newest version of the format of packets: 3 (this project's choice).
+pub const MAX_WIRE: u64 = 3;
 
 /// The most seeds of a configuration: 16 (this project's choice).
 pub const MAX_SEEDS: usize = 16;
@@ -95,8 +95,8 @@ pub enum ConfigFault {
     /// Two seeds have the same name, or a seed has the member's own name.
     #[error("seeds may be at most {most}, with different names, none of them the member's own", most = MAX_SEEDS)]
     Seeds = 11,
-    /// `wire` isn't 1 or 2. The faults of a file that means no configuration have the numbers between.
-    #[error("wire has to be {least} or {most}", least = MIN_WIRE, most = MAX_WIRE)]
+    /// `wire` isn't 1 to 3. The faults of a file that means no configuration have the numbers between.
+    #[error("wire has to be {least} to {most}", least = MIN_WIRE, most = MAX_WIRE)]
     Wire = 15,
 }
 
@@ -141,7 +141,7 @@ pub struct Config {
     pub nack_thousandths: u64,
     /// The most entries of a stored history: 2 to 1,000,000 (this project's choice).
     pub history_limit: u64,
-    /// In which version of the format the member writes its packets: 1 or 2 (this project's choice).
+    /// In which version of the format the member writes its packets: 1 to 3 (this project's choice).
     pub wire: u64,
     /// The members that are known from the start: at most 16, with different names, none of them the member's own.
     pub seeds: ArrayVec<Seed, MAX_SEEDS>,
@@ -218,6 +218,18 @@ impl Config {
         let mut seeds = ArrayVec::new();
         seeds.try_extend_from_slice(&self.seeds).unwrap();
         Config { seeds, ..*self }
+    }
+
+    /// The version of the format in which the member writes its packets, which is that of `wire`. It is version 1 if
+    /// `wire` is out of its range.
+    pub fn version(&self) -> Version
+        ensures { result ≡ version_of self.now }
+    {
+        match self.wire {
+            2 => Version::Two,
+            3 => Version::Three,
+            _ => Version::One,
+        }
     }
 
     /// The number of a key.

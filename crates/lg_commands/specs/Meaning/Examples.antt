@@ -1,6 +1,6 @@
 -- Worked inputs.
 use Rattle.std.specs.Prelude.{◌≡◌, ℕ, true, false, List, [], ◌∷◌}
-use Rattle.std.specs.Prelude.{◌++◌, map, take, Ok, Err, codes, refl}
+use Rattle.std.specs.Prelude.{◌++◌, map, take, None, Ok, Err, codes, refl}
 use Rattle.std.specs.Fmt.{digits}
 use Rattle.std.specs.List.{flat_map}
 use Rattle.hex.proofs.OnLiterals.{hex_on_literals}
@@ -8,7 +8,7 @@ use Rattle.lg_rules.specs.declared.claim.Claim.{Claim}
 use Rattle.lg_rules.specs.declared.claim.Status.TheVariants.{Alive}
 use Rattle.lg_packet.specs.declared.packet.Body.TheVariants.{Ack, Ping}
 use Rattle.lg_packet.specs.declared.packet.Packet.{Packet}
-use Rattle.lg_packet.specs.declared.packet.Version.TheVariants.{One}
+use Rattle.lg_rules.specs.declared.version.Version.TheVariants.{One}
 use Rattle.lg_packet.specs.Meaning.Reading.{addr_at, body_at, claim_at, claims_at, head_at, incarnation_at}
 use Rattle.lg_packet.specs.Meaning.Reading.{name_at, packet_at, packet_of, status_at}
 use Rattle.lg_packet.specs.Meaning.Spelling.{spelling}
@@ -29,13 +29,25 @@ abbrev ping : List ℕ
 ping = codes "534c0101016100000007016200"
 
 pinged : Packet
-pinged = record { version = One; sender = 97 ∷ []; body = Ping 7 (98 ∷ []); claims = record { items = [] } }
+pinged = record {
+  version = One;
+  group = None;
+  sender = 97 ∷ [];
+  body = Ping 7 (98 ∷ []);
+  claims = record { items = [] };
+}
 
 heard-ping : events_of_lines (codes "b") (lines_of (ping ++ 10 ∷ [])) ≡ opening (98 ∷ []) ∷ heard_event pinged ∷ []
 unfolding events_of_lines packet_in hex_on_literals packet_of packet_at head_at name_at body_at claims_at pinged
 heard-ping = refl
 
-acked : sent_text record { version = One; sender = 98 ∷ []; body = Ack 7; claims = record { items = [] } }
+acked : sent_text record {
+  version = One;
+  group = None;
+  sender = 98 ∷ [];
+  body = Ack 7 None;
+  claims = record { items = [] };
+}
     ≡ codes "534c010301620000000700" ++ 10 ∷ []
 unfolding hex_on_literals spelling
 acked = refl
@@ -51,6 +63,7 @@ c-alive = record { name = 99 ∷ []; addr = local 7003; status = Alive; incarnat
 heard-claim : packet_in (codes "534c01010161000000070163010101637f0000011b5b00000000")
     ≡ Ok record {
       version = One;
+      group = None;
       sender = 97 ∷ [];
       body = Ping 7 (99 ∷ []);
       claims = record { items = c-alive ∷ [] };
@@ -61,8 +74,9 @@ heard-claim = refl
 
 acked-with-claim : sent_text record {
   version = One;
+  group = None;
   sender = 98 ∷ [];
-  body = Ack 8;
+  body = Ack 8 None;
   claims = record { items = c-alive ∷ [] };
 }
     ≡ codes "534c0103016200000008010101637f0000011b5b00000000" ++ 10 ∷ []

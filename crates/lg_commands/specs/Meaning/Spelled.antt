@@ -5,7 +5,7 @@ use Rattle.hex.specs.declared.error.FromHexError.{FromHexError}
 use Rattle.lg_packet.specs.Meaning.Reading.{packet_of}
 use Rattle.lg_packet.specs.declared.fault.Fault.{Fault}
 use Rattle.lg_packet.specs.declared.fault.Fault.TheVariants.{Short, Magic, Version, Kind, Name, Count, ClaimKind}
-use Rattle.lg_packet.specs.declared.fault.Fault.TheVariants.{Incarnation, Trailing}
+use Rattle.lg_packet.specs.declared.fault.Fault.TheVariants.{Incarnation, Trailing, Family}
 use Rattle.lg_packet.specs.declared.packet.Packet.{Packet}
 use Rattle.lg_commands.specs.declared.line.LineFault.{LineFault}
 use Rattle.lg_commands.specs.declared.line.LineFault.TheVariants.{NotHex, Refused}
@@ -34,3 +34,4 @@ fault_text (Refused Count) = codes "fault 6 Count"
 fault_text (Refused ClaimKind) = codes "fault 7 ClaimKind"
 fault_text (Refused Incarnation) = codes "fault 8 Incarnation"
 fault_text (Refused Trailing) = codes "fault 9 Trailing"
+fault_text (Refused Family) = codes "fault 10 Family"

@@ -216,9 +216,9 @@ seeds-17-and-wire : answer_of (b-with (many-seeds ++ codes "wire = 0")) ≡ Err 
 unfolding on_files
 seeds-17-and-wire = refl
 
-third-version : answer_of (b-with (codes "wire = 3")) ≡ Err (fault.Config Wire)
+fourth-version : answer_of (b-with (codes "wire = 4")) ≡ Err (fault.Config Wire)
 unfolding on_files
-third-version = refl
+fourth-version = refl
 
 -- ---- files with a number of the node's own out of its range
 
@@ -239,7 +239,7 @@ pulls-before-stall : answer_of (b-with (codes "stall_ms = -1\npull_ms = -1")) �
 unfolding on_files
 pulls-before-stall = refl
 
-wire-before-pulls : answer_of (b-with (codes "pull_ms = -1\nwire = 3")) ≡ Err (fault.Config Wire)
+wire-before-pulls : answer_of (b-with (codes "pull_ms = -1\nwire = 4")) ≡ Err (fault.Config Wire)
 unfolding on_files
 wire-before-pulls = refl
 

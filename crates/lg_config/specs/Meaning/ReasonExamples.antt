@@ -59,9 +59,9 @@ negative-interval : said (codes "interval_ms = -1") ≡ Some (codes "interval_ms
 unfolding on_reasons
 negative-interval = refl
 
-third-version : said (codes "wire = 3") ≡ Some (codes "wire is 3, and has to be from 1 to 2\n")
+fourth-version : said (codes "wire = 4") ≡ Some (codes "wire is 4, and has to be from 1 to 3\n")
 unfolding on_reasons
-third-version = refl
+fourth-version = refl
 
 rare-pulls : said (codes "pull_ms = 3600001") ≡ Some (codes "pull_ms is 3600001, and has to be from 0 to 3600000\n")
 unfolding on_reasons

@@ -15,13 +15,14 @@ fault_name fault.Count = codes "Count"
 fault_name fault.ClaimKind = codes "ClaimKind"
 fault_name fault.Incarnation = codes "Incarnation"
 fault_name fault.Trailing = codes "Trailing"
+fault_name fault.Family = codes "Family"
 
 -- The faults for which datagrams are dropped, in the order in which they are shown: those of a packet in the order of
 -- their numbers, and then those of a datagram that isn't sealed as a keyed link wants it.
 abbrev pub fault_names : List (List ℕ)
 fault_names =
     codes "Short" ∷ codes "Magic" ∷ codes "Version" ∷ codes "Kind" ∷ codes "Name" ∷ codes "Count" ∷ codes "ClaimKind"
-    ∷ codes "Incarnation" ∷ codes "Trailing" ∷ codes "Unsigned" ∷ codes "Forged" ∷ []
+    ∷ codes "Incarnation" ∷ codes "Trailing" ∷ codes "Family" ∷ codes "Unsigned" ∷ codes "Forged" ∷ []
 
 -- there is one row for each fault, in this order
 abbrev pub AreOfFaults : List Drops → Type 0

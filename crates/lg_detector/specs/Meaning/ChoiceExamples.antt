@@ -24,7 +24,7 @@ a_relayed_ping_tells_of_nobody = refl
 
 -- Nor is what is sent if c didn't ack in time: d is asked to ping it.
 abbrev both_known : List Event
-both_known = opening 0 ∷ says 0 (Ack 7) (alive c 0 ∷ alive d 0 ∷ []) ∷ ticks 0 ∷ []
+both_known = opening 0 ∷ says 0 (Ack 7 None) (alive c 0 ∷ alive d 0 ∷ []) ∷ ticks 0 ∷ []
 
 asking_a_helper_tells_of_nobody : choice_of_reply (reply_after both_known (ticks 500)) ≡ None
 unfolding by_computing

@@ -17,8 +17,8 @@ use Rattle.lg_suspicion.specs.Meaning.Accusers.{counted_accusers}
 use Rattle.lg_gossip.specs.Meaning.Queue.{taken_of}
 use Rattle.lg_packet.specs.declared.packet.Body.{Body}
 use Rattle.lg_packet.specs.declared.packet.Body.TheVariants.{Ping, Ack}
-use Rattle.lg_packet.specs.declared.packet.Version.{Version}
-use Rattle.lg_packet.specs.declared.packet.Version.TheVariants.{One}
+use Rattle.lg_rules.specs.declared.version.Version.{Version}
+use Rattle.lg_rules.specs.declared.version.Version.TheVariants.{One}
 use Rattle.lg_timers.specs.declared.timer.Timer.{Timer}
 use Rattle.lg_timers.specs.declared.timer.TimerId.{TimerId}
 use Rattle.lg_timers.specs.declared.timer.TimerId.TheVariants.{RoundStart}
@@ -94,7 +94,7 @@ seeded = opening_with 1000 (record { name = c ∷ []; addr = at 7000 } ∷ [])
 abbrev pub says_in : Version → ℕ → Body → List Claim → Event
 says_in version now body claims =
     Heard now (at 1)
-    (record { version = version; sender = a ∷ []; body = body; claims = record { items = claims } })
+    (record { version = version; group = None; sender = a ∷ []; body = body; claims = record { items = claims } })
 
 abbrev pub says : ℕ → Body → List Claim → Event
 says now body claims = says_in One now body claims
@@ -132,7 +132,13 @@ abbrev pub sent_in : Version → ℕ → Body → List Claim → List Outgoing
 sent_in version port body claims =
     record {
       to = at port;
-      packet = record { version = version; sender = b ∷ []; body = body; claims = record { items = claims } };
+      packet = record {
+        version = version;
+        group = None;
+        sender = b ∷ [];
+        body = body;
+        claims = record { items = claims };
+      };
     }
     ∷ []
 
@@ -140,7 +146,7 @@ abbrev pub sent : ℕ → Body → List Claim → List Outgoing
 sent port body claims = sent_in One port body claims
 
 abbrev pub acks : ℕ → List Claim → List Outgoing
-acks number claims = sent 1 (Ack number) claims
+acks number claims = sent 1 (Ack number None) claims
 
 -- the log of some events, the earliest first
 abbrev pub log_after : List Event → Log
@@ -148,7 +154,7 @@ log_after events = log_of (reverse events)
 
 -- c is suspected and a is alive, by one Ack. No packet has taken these claims yet.
 abbrev pub suspects_c : List Event
-suspects_c = opening 0 ∷ says 2000 (Ack 7) (suspect c 0 d ∷ alive a 0 ∷ []) ∷ []
+suspects_c = opening 0 ∷ says 2000 (Ack 7 None) (suspect c 0 d ∷ alive a 0 ∷ []) ∷ []
 
 -- OPEN
 -- A seed is known, and the opening's reply shows no change. No packet takes the seed's claim, but one takes the claim
@@ -205,13 +211,13 @@ an_ack_takes_what_was_heard = refl
 
 -- An Ack is heard: its claims are applied, and it isn't acked.
 an_ack_is_not_acked :
-    reply_after (opening 0 ∷ []) (says 0 (Ack 7) (alive c 0 ∷ []))
+    reply_after (opening 0 ∷ []) (says 0 (Ack 7 None) (alive c 0 ∷ []))
     ≡ record (nothing 0) { changed = record { items = alive c 0 ∷ [] } }
 unfolding by_computing
 an_ack_is_not_acked = refl
 
 the_claims_of_an_ack_are_said :
-    view_after (opening 0 ∷ says 0 (Ack 7) (alive c 0 ∷ []) ∷ []) ≡ alive b 0 ∷ alive c 0 ∷ []
+    view_after (opening 0 ∷ says 0 (Ack 7 None) (alive c 0 ∷ []) ∷ []) ≡ alive b 0 ∷ alive c 0 ∷ []
 unfolding by_computing
 the_claims_of_an_ack_are_said = refl
 
@@ -332,7 +338,7 @@ alive_others = alive a 0 ∷ alive d 0 ∷ alive e 0 ∷ []
 
 -- what comes after b has heard of the others
 abbrev among_five : List Event → List Event
-among_five f = opening 0 ∷ says 0 (Ack 7) alive_others ∷ f
+among_five f = opening 0 ∷ says 0 (Ack 7 None) alive_others ∷ f
 
 an_accuser_counts_once :
     (reply_after (among_five (accusing 2000 d ∷ accusing 2000 d ∷ [])) (ticks 31500)).next ≡ 32000
@@ -355,7 +361,7 @@ an_accusation_that_counts_is_sent = refl
 -- ASK
 -- b is asked for c, for itself and for a stranger.
 abbrev knows_c : List Event
-knows_c = opening 0 ∷ says 0 (Ack 7) (alive c 0 ∷ []) ∷ []
+knows_c = opening 0 ∷ says 0 (Ack 7 None) (alive c 0 ∷ []) ∷ []
 
 asked_for_c :
     reply_after knows_c (Ask 20 (c ∷ [])) ≡ record (nothing 0) { answer = Some (OfStatus (Some (alive c 0))) }

@@ -1,9 +1,10 @@
 -- Worked Pulls and Pages of b.
-use Rattle.std.specs.Prelude.{◌≡◌, false, List, [], ◌∷◌, Some, None, refl}
+use Rattle.std.specs.Prelude.{◌≡◌, false, List, [], ◌∷◌, ◌++◌, Some, None, refl}
 use Rattle.lg_rules.specs.declared.claim.Claim.{Claim}
+use Rattle.lg_rules.specs.declared.version.Version.TheVariants.{One, Three}
 use Rattle.lg_packet.specs.declared.packet.Body.TheVariants.{Pull, Page}
 use Rattle.lg_detector.specs.declared.event.Event.TheVariants.{Pull as Pulls}
-use Rattle.lg_detector.specs.Meaning.Joining.{sixth_of}
+use Rattle.lg_detector.specs.Meaning.Joining.{last_of_full}
 use Rattle.lg_detector.specs.Meaning.Step.{is_accepted, reply_after}
 use Rattle.lg_detector.specs.Meaning.Log.{event_count}
 use Rattle.lg_detector.specs.Meaning.Examples.{by_computing, a, b, c, d, at, alive, suspect, opening, says, nothing}
@@ -44,11 +45,18 @@ five = alive 99 0 ∷ alive 100 0 ∷ alive 101 0 ∷ alive 102 0 ∷ alive 103 
 abbrev six : List Claim
 six = alive 104 0 ∷ five
 
-the_sixth : sixth_of six ≡ Some (alive 103 0)
+the_sixth : last_of_full One six ≡ Some (alive 103 0)
 the_sixth = refl
 
-no_sixth : sixth_of five ≡ None
+no_sixth : last_of_full One five ≡ None
 no_sixth = refl
+
+-- A Page of version 3 is full with twelve claims.
+six_of_three : last_of_full Three six ≡ None
+six_of_three = refl
+
+twelve_of_three : last_of_full Three (six ++ six) ≡ Some (alive 103 0)
+twelve_of_three = refl
 
 a_full_page_goes_on :
     (reply_after (opening 0 ∷ []) (says 10 Page six)).sends.items

@@ -1,16 +1,15 @@
 -- The log of a detector: what happened to it, as a list of facts, the latest first. Read off it here are the number of
 -- events, the greatest moment, and the facts that concern the group. The other files of this folder read off the rest.
 use Rattle.std.specs.Prelude.{ℕ, ◌+◌, max, List, [], ◌∷◌}
-use Rattle.lg_rules.specs.declared.addr.Addr.{Addr}
 use Rattle.lg_membership.specs.Meaning.Log.{GroupFact, GroupLog}
 use Rattle.lg_timers.specs.declared.timer.Timer.{Timer}
+use Rattle.lg_probe.specs.declared.relays.Asker.{Asker}
 
 -- The facts:
 -- - Came: an event came at this moment, in milliseconds;
 -- - Fired: this timer fired, at a tick with these random words;
 -- - AckHeard, NackHeard: an Ack, or a Nack, with this number came from the member of this name;
--- - Relayed: a relay to the target of this name was opened for an asker, which is reached at this address and asked by
---   this number;
+-- - Relayed: a relay to the target of this name was opened for this asker;
 -- - OfGroup: a fact that concerns the group. The member was opened, a claim was applied, or a packet was sent that took
 --   claims of the queue.
 pub data Fact : Type 0 where
@@ -18,7 +17,7 @@ pub data Fact : Type 0 where
   Fired : Timer → List ℕ → Fact
   AckHeard : ℕ → List ℕ → Fact
   NackHeard : ℕ → List ℕ → Fact
-  Relayed : List ℕ → Addr → ℕ → Fact
+  Relayed : List ℕ → Asker → Fact
   OfGroup : GroupFact → Fact
 
 abbrev pub Log : Type 0

@@ -3,6 +3,11 @@
 use Rattle.std.specs.Prelude.{ℕ, ◌+◌, Bool, true, false, ◌&&◌, List}
 use Rattle.std.specs.Prelude.{[], ◌∷◌, Option, Some, None, option_map}
 use Rattle.std.specs.Prelude.{is_some, slice_index, if◌then◌else◌}
+use Rattle.lg_rules.specs.declared.claim.Claim.{Claim}
+use Rattle.lg_rules.specs.declared.version.Version.{Version}
+use Rattle.lg_rules.specs.Meaning.Claim.{name_of}
+use Rattle.lg_rules.specs.Meaning.Rows.{name_cmp, row_at}
+use Rattle.lg_rules.specs.Meaning.Version.{tells}
 use Rattle.lg_timing.specs.declared.config.Config.{Config}
 use Rattle.lg_timers.specs.declared.timer.TimerId.{TimerId}
 use Rattle.lg_timers.specs.declared.timer.TimerId.TheVariants.{RoundEnd, Direct, RoundStart}
@@ -10,7 +15,9 @@ use Rattle.lg_probe.specs.Meaning.Helpers.{picked}
 use Rattle.lg_probe.specs.Meaning.Order as order
 use Rattle.lg_probe.specs.Meaning.Order.{candidate, next_cycle, without}
 use Rattle.lg_probe.specs.Meaning.Round.{RoundFact, RoundValue, Asked, Acked, Nacked, round_of}
+use Rattle.lg_membership.specs.Meaning.Gossip.{version_sent}
 use Rattle.lg_membership.specs.Meaning.Log as group
+use Rattle.lg_membership.specs.Meaning.Log.{group_view}
 use Rattle.lg_detector.specs.Meaning.Log.{Log, Fired, AckHeard, NackHeard, Relayed, OfGroup, group_log}
 
 abbrev pub is_round_start : TimerId → Bool
@@ -58,7 +65,7 @@ abbrev pub number : Log → ℕ
 number [] = first_number
 number (OfGroup (group.Opened opening) ∷ log) = first_number
 number (Fired timer words ∷ log) = if starts timer.id words log then number log + 1 else number log
-number (Relayed target asker asked ∷ log) = number log + 1
+number (Relayed target asker ∷ log) = number log + 1
 number (_ ∷ log) = number log
 
 -- The probe that runs: that of the last start of a round that chose a target, unless a round has ended since.
@@ -93,8 +100,22 @@ helpers_of k words names (Some target) = picked k words (without target names)
 abbrev pub target : Log → Option (List ℕ)
 target log = option_map (λ p. p.target) (probe log)
 
+-- Nobody is asked about a target that has no record, or whose address the version that is sent can't tell.
+abbrev pub if_told : Version → Option Claim → List ℕ → Option (List ℕ)
+if_told v None m = None
+if_told v (Some r) m = if tells v r.addr then Some m else None
+
+abbrev pub asked_about : Version → List Claim → Option (List ℕ) → Option (List ℕ)
+asked_about v rows None = None
+asked_about v rows (Some m) = if_told v (row_at name_cmp name_of m rows) m
+
+abbrev pub target_told : Log → Option (List ℕ)
+target_told log =
+    let g = group_log log in
+    asked_about (version_sent (group.config g)) (group_view g) (target log)
+
 abbrev pub helpers : List ℕ → Log → List (List ℕ)
-helpers words log = helpers_of (indirect_in (group.config (group_log log))) words (others log) (target log)
+helpers words log = helpers_of (indirect_in (group.config (group_log log))) words (others log) (target_told log)
 
 -- what has happened since a round started, the latest first: helpers were asked, Acks and Nacks came
 abbrev pub asked_by : TimerId → List ℕ → Log → List RoundFact → List RoundFact

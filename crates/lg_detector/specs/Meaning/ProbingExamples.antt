@@ -1,12 +1,12 @@
 -- Worked rounds of b: whom it probes, who helps, what it claims at the end, and its score. Each tick fires one timer,
 -- the first of those that are due.
-use Rattle.std.specs.Prelude.{◌≡◌, ℕ, ℤ, pos, negsuc, true, false, List, [], ◌∷◌, ◌++◌, Some, refl}
+use Rattle.std.specs.Prelude.{◌≡◌, ℕ, ℤ, pos, negsuc, true, false, List, [], ◌∷◌, ◌++◌, Some, None, refl}
 use Rattle.lg_rules.specs.declared.claim.Claim.{Claim}
 use Rattle.lg_rules.specs.declared.claim.Status.TheVariants.{Alive, Suspect}
 use Rattle.lg_timing.specs.Meaning.Score.{ScoreValue}
 use Rattle.lg_packet.specs.declared.packet.Body.{Body}
 use Rattle.lg_packet.specs.declared.packet.Body.TheVariants.{Ping, PingReq, Ack, Nack}
-use Rattle.lg_packet.specs.declared.packet.Version.TheVariants.{One}
+use Rattle.lg_rules.specs.declared.version.Version.TheVariants.{One}
 use Rattle.lg_timers.specs.declared.timer.TimerId.TheVariants.{RoundEnd, Suspicion, Direct}
 use Rattle.lg_detector.specs.declared.event.Event.{Event}
 use Rattle.lg_detector.specs.declared.event.Event.TheVariants.{Tick, Heard, Health}
@@ -77,7 +77,13 @@ nobody_is_chosen = refl
 abbrev acked_by : ℕ → ℕ → Event
 acked_by sender number =
     Heard 2100 (at 1)
-    (record { version = One; sender = sender ∷ []; body = Ack number; claims = record { items = [] } })
+    (record {
+      version = One;
+      group = None;
+      sender = sender ∷ [];
+      body = Ack number None;
+      claims = record { items = [] };
+    })
 
 an_ack_counts : (reply_after probing (acked_by c 1)).next ≡ 3000
 unfolding by_computing
@@ -94,7 +100,7 @@ an_ack_of_another_number_does_not_count = refl
 -- TURNS
 -- b knows c and d. The word 0 chooses c of both. Then 6 chooses d, which is left, and 5 begins a new cycle, with d.
 abbrev knows_two : List Event
-knows_two = opening 0 ∷ says 0 (Ack 7) (alive c 0 ∷ alive d 0 ∷ []) ∷ []
+knows_two = opening 0 ∷ says 0 (Ack 7 None) (alive c 0 ∷ alive d 0 ∷ []) ∷ []
 
 abbrev started : ℕ → Log → Log
 started word log = Fired (start_of_round 0) (word ∷ []) ∷ log
@@ -133,7 +139,7 @@ both_throughout = (refl, (refl, (refl, refl)))
 -- The same by events: c acks, the round ends, and the next one pings d.
 the_other_is_pinged :
     (reply_after
-    (opening 0 ∷ says 0 (Ack 7) (alive c 0 ∷ alive d 0 ∷ []) ∷ ticks 0 ∷ acked_by c 1 ∷ ticks 2100 ∷ [])
+    (opening 0 ∷ says 0 (Ack 7 None) (alive c 0 ∷ alive d 0 ∷ []) ∷ ticks 0 ∷ acked_by c 1 ∷ ticks 2100 ∷ [])
     (ticks 2100)).sends.items
     ≡ sent 7000 (Ping 2 (d ∷ [])) (alive c 0 ∷ alive d 0 ∷ [])
 unfolding by_computing
@@ -149,7 +155,7 @@ four_others = alive_at 7003 c ∷ alive_at 7004 d ∷ alive_at 7005 e ∷ alive_
 
 -- what comes after c was pinged, and what comes after the helpers were asked
 abbrev pinged_then : List Event → List Event
-pinged_then events = opening 0 ∷ says 0 (Ack 7) four_others ∷ ticks 0 ∷ events
+pinged_then events = opening 0 ∷ says 0 (Ack 7 None) four_others ∷ ticks 0 ∷ events
 
 abbrev asking : Event
 asking = Tick 500 (5 ∷ 0 ∷ 9 ∷ 0 ∷ 0 ∷ 0 ∷ 0 ∷ 0 ∷ [])
@@ -191,7 +197,7 @@ helpers_are_asked :
 unfolding by_computing
 helpers_are_asked = refl
 
-no_claim_is_left : claims_of (Ack 1) (log_after (asked_then [])) ≡ []
+no_claim_is_left : claims_of (Ack 1 None) (log_after (asked_then [])) ≡ []
 unfolding by_computing
 no_claim_is_left = refl
 
@@ -205,7 +211,7 @@ a_ping_has_its_buddy : claims_of (Ping 1 (c ∷ [])) (log_after suspects_c) ≡ 
 unfolding by_computing
 a_ping_has_its_buddy = refl
 
-a_nack_has_no_claims : claims_of (Nack 1) (log_after suspects_c) ≡ []
+a_nack_has_no_claims : claims_of (Nack 1 None) (log_after suspects_c) ≡ []
 a_nack_has_no_claims = refl
 
 -- THE END
@@ -230,7 +236,7 @@ a_target_is_accused = refl
 
 -- c fails while it is probed: nothing is claimed, but the round counts.
 abbrev failing : List Event
-failing = opening 0 ∷ says 0 (Ack 7) (alive c 0 ∷ []) ∷ ticks 0 ∷ pings 100 1 b (failed c 0 ∷ [])
+failing = opening 0 ∷ says 0 (Ack 7 None) (alive c 0 ∷ []) ∷ ticks 0 ∷ pings 100 1 b (failed c 0 ∷ [])
     ∷ ticks 500 ∷ []
 
 a_failed_target_is_not_accused :
@@ -243,7 +249,7 @@ a_failed_target_is_not_accused = refl
 abbrev nacked_by : ℕ → Event
 nacked_by sender =
     Heard 600 (at 1)
-    (record { version = One; sender = sender ∷ []; body = Nack 1; claims = record { items = [] } })
+    (record { version = One; group = None; sender = sender ∷ []; body = Nack 1 None; claims = record { items = [] } })
 
 abbrev earned_after : List Event → List ℤ
 earned_after events = earned (log_after events)
@@ -283,7 +289,7 @@ the_score_is_one = refl
 
 -- The score is 1, since b refuted a suspicion. The first Ack that counts lowers it to 0; a second one does nothing.
 abbrev refuted_then : List Event → List Event
-refuted_then events = opening 0 ∷ accused_twice ∷ says 0 (Ack 7) (alive c 0 ∷ []) ∷ ticks 0 ∷ events
+refuted_then events = opening 0 ∷ accused_twice ∷ says 0 (Ack 7 None) (alive c 0 ∷ []) ∷ ticks 0 ∷ events
 
 a_first_ack_marks : mark_of_ack true (pos 1 ∷ []) ≡ negsuc 0 ∷ pos 1 ∷ []
 a_first_ack_marks = refl

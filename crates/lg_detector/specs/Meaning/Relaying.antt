@@ -1,9 +1,9 @@
 -- The relays: indirect probes of a target for another member, the asker. The target's Ack is passed on to the asker
 -- (SWIM, section 3.1). If none comes in time, the asker gets a Nack (Lifeguard, local health aware probe).
 use Rattle.std.specs.Prelude.{ℕ, Bool, false, ◌||◌, ◌==◌, List, [], ◌∷◌, length, if◌then◌else◌}
-use Rattle.lg_rules.specs.declared.addr.Addr.{Addr}
 use Rattle.lg_timers.specs.declared.timer.TimerId.{TimerId}
 use Rattle.lg_timers.specs.declared.timer.TimerId.TheVariants.{RelayNack, RelayEnd}
+use Rattle.lg_probe.specs.declared.relays.Asker.{Asker}
 use Rattle.lg_probe.specs.declared.relays.Relay.{Relay}
 use Rattle.lg_probe.specs.Meaning.Relays.{RelayFact, Opened, TargetAcked, Closed, relays_after}
 use Rattle.lg_membership.specs.Meaning.Log as group
@@ -15,8 +15,8 @@ abbrev pub most_relays : ℕ
 most_relays = 64
 
 -- a relay that takes the next sequence number
-abbrev pub new_relay : ℕ → List ℕ → Addr → ℕ → Relay
-new_relay k target asker asked = record { number = k; target = target; asker = asker; asked = asked }
+abbrev pub new_relay : ℕ → List ℕ → Asker → Relay
+new_relay k target asker = record { number = k; target = target; asker = asker }
 
 -- what happened to relays since the opening, the latest first: one was opened, an Ack came, or the time of one ran out
 abbrev pub closed_by : TimerId → List RelayFact → List RelayFact
@@ -28,7 +28,7 @@ relay_past [] = []
 relay_past (OfGroup (group.Opened opening) ∷ log) = []
 relay_past (Fired timer words ∷ log) = closed_by timer.id (relay_past log)
 relay_past (AckHeard k sender ∷ log) = TargetAcked k sender ∷ relay_past log
-relay_past (Relayed target asker asked ∷ log) = Opened (new_relay (number log) target asker asked) ∷ relay_past log
+relay_past (Relayed target asker ∷ log) = Opened (new_relay (number log) target asker) ∷ relay_past log
 relay_past (_ ∷ log) = relay_past log
 
 -- the relays that are open, in the order in which they were opened
@@ -38,7 +38,7 @@ relays log = relays_after (relay_past log)
 -- the moment at which the relay with a number was opened
 abbrev pub opened_at : Log → ℕ → ℕ
 opened_at [] k = 0
-opened_at (Relayed target asker asked ∷ log) k = if number log == k then moment log else opened_at log k
+opened_at (Relayed target asker ∷ log) k = if number log == k then moment log else opened_at log k
 opened_at (_ ∷ log) k = opened_at log k
 
 -- whether that relay has sent its Nack
@@ -49,7 +49,7 @@ is_nack_of k _ = false
 abbrev pub relay_has_nacked : Log → ℕ → Bool
 relay_has_nacked [] k = false
 relay_has_nacked (Fired timer words ∷ log) k = is_nack_of k timer.id || relay_has_nacked log k
-relay_has_nacked (Relayed target asker asked ∷ log) k = if number log == k then false else relay_has_nacked log k
+relay_has_nacked (Relayed target asker ∷ log) k = if number log == k then false else relay_has_nacked log k
 relay_has_nacked (_ ∷ log) k = relay_has_nacked log k
 
 -- whether as many relays are open as are allowed

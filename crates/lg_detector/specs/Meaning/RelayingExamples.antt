@@ -1,9 +1,10 @@
 -- Worked relays of b: how one is opened, its Nack and its end, and that no more than 64 are open.
-use Rattle.std.specs.Prelude.{◌≡◌, ℕ, true, false, List, [], ◌∷◌, ◌++◌, replicate, Some, refl}
+use Rattle.std.specs.Prelude.{◌≡◌, ℕ, true, false, List, [], ◌∷◌, ◌++◌, replicate, Some, None, refl}
 use Rattle.lg_packet.specs.declared.packet.Body.{Body}
 use Rattle.lg_packet.specs.declared.packet.Body.TheVariants.{Ping, PingReq, Ack, Nack}
-use Rattle.lg_packet.specs.declared.packet.Version.TheVariants.{One}
+use Rattle.lg_rules.specs.declared.version.Version.TheVariants.{One}
 use Rattle.lg_timers.specs.declared.timer.TimerId.TheVariants.{RelayNack, RelayEnd}
+use Rattle.lg_probe.specs.declared.relays.Asker.{Asker}
 use Rattle.lg_probe.specs.declared.relays.Relay.{Relay}
 use Rattle.lg_probe.specs.Meaning.Relays.{Closed}
 use Rattle.lg_detector.specs.declared.event.Event.{Event}
@@ -37,7 +38,7 @@ a_relay_sends_its_nack :
     reply_after (opening 0 ∷ says 510 (PingReq 1 (c ∷ []) (at 7003)) [] ∷ ticks 910 ∷ []) (ticks 910)
     ≡ record (nothing 1510) {
       fired = Some (timer_of 910 (RelayNack 1));
-      sends = record { items = sent 1 (Nack 1) [] };
+      sends = record { items = sent 1 (Nack 1 None) [] };
     }
 unfolding by_computing
 a_relay_sends_its_nack = refl
@@ -45,14 +46,23 @@ a_relay_sends_its_nack = refl
 an_ack_of_the_target_is_passed_on :
     (reply_after requested
     (Heard 600 (at 7003)
-    (record { version = One; sender = c ∷ []; body = Ack 1; claims = record { items = [] } }))).sends.items
+    (record {
+      version = One;
+      group = None;
+      sender = c ∷ [];
+      body = Ack 1 None;
+      claims = record { items = [] };
+    }))).sends.items
     ≡ acks 1 []
 unfolding by_computing
 an_ack_of_the_target_is_passed_on = refl
 
--- Once it is closed, no relay is open any more.
+-- a asked by a number; once the relay is closed, none is open any more
+abbrev asked_by_a : ℕ → Asker
+asked_by_a k = record { name = a ∷ []; addr = at 1; number = k }
+
 abbrev relay_to_c : Relay
-relay_to_c = record { number = 1; target = c ∷ []; asker = at 1; asked = 1 }
+relay_to_c = record { number = 1; target = c ∷ []; asker = asked_by_a 1 }
 
 abbrev nacked : List Event
 nacked = opening 0 ∷ says 510 (PingReq 1 (c ∷ []) (at 7003)) [] ∷ ticks 910 ∷ ticks 910 ∷ []
@@ -86,13 +96,13 @@ a_relayed_ping_has_its_buddy = refl
 -- Probes and relays are numbered together: b pings c with 1, and then d, for a, with 2. At 1000 the timers Direct,
 -- RelayNack and RoundEnd fire. Then b pings c, which is suspected now, with 3.
 abbrev pinged : List Event
-pinged = opening 0 ∷ says 0 (Ack 7) (alive c 0 ∷ []) ∷ ticks 0 ∷ []
+pinged = opening 0 ∷ says 0 (Ack 7 None) (alive c 0 ∷ []) ∷ ticks 0 ∷ []
 
 abbrev for_d : Event
 for_d = says 510 (PingReq 5 (d ∷ []) (at 7004)) []
 
 abbrev pinged_twice : List Event
-pinged_twice = opening 0 ∷ says 0 (Ack 7) (alive c 0 ∷ []) ∷ ticks 0 ∷ for_d ∷ []
+pinged_twice = opening 0 ∷ says 0 (Ack 7 None) (alive c 0 ∷ []) ∷ ticks 0 ∷ for_d ∷ []
 
 the_second_number : number (log_after pinged) ≡ 2
 unfolding by_computing
@@ -108,7 +118,7 @@ the_third_number = refl
 
 a_probe_takes_the_third :
     (reply_after
-    (opening 0 ∷ says 0 (Ack 7) (alive c 0 ∷ []) ∷ ticks 0 ∷ for_d ∷ ticks 1000 ∷ ticks 1000
+    (opening 0 ∷ says 0 (Ack 7 None) (alive c 0 ∷ []) ∷ ticks 0 ∷ for_d ∷ ticks 1000 ∷ ticks 1000
     ∷ ticks 1000 ∷ [])
     (ticks 1000)).sends.items
     ≡ sent 7000 (Ping 3 (c ∷ [])) (suspect c 0 b ∷ [])
@@ -118,7 +128,7 @@ a_probe_takes_the_third = refl
 -- THE LIMIT
 -- This many relays to c are open, each for a, which asked by the number 5.
 abbrev relaying : ℕ → Log
-relaying count = replicate count (Relayed (c ∷ []) (at 1) 5) ++ log_after (opening 0 ∷ [])
+relaying count = replicate count (Relayed (c ∷ []) (asked_by_a 5)) ++ log_after (opening 0 ∷ [])
 
 one_place_is_left : is_full (relays (relaying 63)) ≡ false
 one_place_is_left = refl
@@ -135,12 +145,12 @@ abbrev to_d : Message
 to_d = record { to = at 7004; body = Ping 64 (d ∷ []) }
 
 abbrev refusal : Message
-refusal = record { to = at 1; body = Nack 9 }
+refusal = record { to = at 1; body = Nack 9 (Some (a ∷ [])) }
 
-relayed_where_there_is_room : relay_or_refuse false (at 1) 9 to_d ≡ to_d ∷ []
+relayed_where_there_is_room : relay_or_refuse false (asked_by_a 9) to_d ≡ to_d ∷ []
 relayed_where_there_is_room = refl
 
-refused_where_there_is_none : relay_or_refuse true (at 1) 9 to_d ≡ refusal ∷ []
+refused_where_there_is_none : relay_or_refuse true (asked_by_a 9) to_d ≡ refusal ∷ []
 refused_where_there_is_none = refl
 
 the_last_place_is_taken : response (at 1) (a ∷ []) ninth (relaying 63) ≡ to_d ∷ []

@@ -2,26 +2,34 @@
 -- acknowledges, and goes to an address. Pings, PingReqs and Acks take claims of the queue, and are filled one after
 -- another (SWIM, section 4.1). A Ping for a suspected member begins with its record (Lifeguard's buddy system).
 -- Nacks, Pulls and Pages take none (this project's choice); which claims Pulls and Pages have is in Joining.antt.
--- Each packet has the version of the sender's own configuration, whichever versions the sender hears (this project's
--- choice).
-use Rattle.std.specs.Prelude.{◌==◌, List, [], ◌∷◌, Option, Some, None, if◌then◌else◌}
+-- Each packet has the version of the sender's own configuration, whichever versions the sender hears, and no group
+-- (this project's choice).
+use Rattle.std.specs.Prelude.{ℕ, List, [], ◌∷◌, Option, Some, None}
 use Rattle.lg_rules.specs.declared.claim.Claim.{Claim}
-use Rattle.lg_timing.specs.declared.config.Config.{Config}
+use Rattle.lg_rules.specs.declared.version.Version.{Version}
+use Rattle.lg_rules.specs.declared.version.Version.TheVariants.{One, Two, Three}
 use Rattle.lg_packet.specs.declared.packet.Body.{Body}
-use Rattle.lg_packet.specs.declared.packet.Body.TheVariants.{Ping, PingReq, Ack, Nack, Pull, Page}
-use Rattle.lg_packet.specs.declared.packet.Version.{Version}
-use Rattle.lg_packet.specs.declared.packet.Version.TheVariants.{One, Two}
-use Rattle.lg_membership.specs.Meaning.Gossip.{taken, fill}
+use Rattle.lg_packet.specs.declared.packet.Body.TheVariants.{Ping, PingReq, Ack, Nack, Pull, Page, Gossip}
+use Rattle.lg_membership.specs.Meaning.Gossip.{taken, fill, version_sent}
 use Rattle.lg_membership.specs.Meaning.Log as group
 use Rattle.lg_detector.specs.declared.message.Message.{Message}
 use Rattle.lg_detector.specs.declared.reply.Outgoing.{Outgoing}
 use Rattle.lg_detector.specs.Meaning.Log.{Log, OfGroup, group_log}
 
--- The version of all that a member sends: that of the key `wire` of its configuration. Nothing is sent before the
--- opening.
-abbrev pub version_sent : Option Config → Version
-version_sent None = One
-version_sent (Some opening) = if opening.wire == 2 then Two else One
+-- The body that is sent: versions one and two don't tell the receiver of an Ack or a Nack.
+abbrev pub receiver_told : Version → Option (List ℕ) → Option (List ℕ)
+receiver_told One receiver = None
+receiver_told Two receiver = None
+receiver_told Three receiver = receiver
+
+abbrev pub body_told : Version → Body → Body
+body_told v (Ping number target) = Ping number target
+body_told v (PingReq number target addr) = PingReq number target addr
+body_told v (Ack number receiver) = Ack number (receiver_told v receiver)
+body_told v (Nack number receiver) = Nack number (receiver_told v receiver)
+body_told v (Pull after) = Pull after
+body_told v Page = Page
+body_told v Gossip = Gossip
 
 -- A message is a packet without its version, its sender and its claims: where it goes, and its body.
 
@@ -29,10 +37,11 @@ version_sent (Some opening) = if opening.wire == 2 then Two else One
 abbrev pub claims_of : Body → Log → List Claim
 claims_of (Ping number target) log = fill (Some target) (group_log log)
 claims_of (PingReq number target addr) log = fill None (group_log log)
-claims_of (Ack number) log = fill None (group_log log)
-claims_of (Nack number) log = []
+claims_of (Ack number receiver) log = fill None (group_log log)
+claims_of (Nack number receiver) log = []
 claims_of (Pull after) log = []
 claims_of Page log = []
+claims_of Gossip log = []
 
 abbrev pub outgoing : Message → Log → Outgoing
 outgoing message log =
@@ -41,17 +50,24 @@ outgoing message log =
     let sender = group.me (group_log log) in
     record {
       to = message.to;
-      packet = record { version = version; sender = sender; body = message.body; claims = record { items = claims } };
+      packet = record {
+        version = version;
+        group = None;
+        sender = sender;
+        body = body_told version message.body;
+        claims = record { items = claims };
+      };
     }
 
 -- the packet is sent, with the claims that it took of the queue
 abbrev pub send : Body → Log → Log
 send (Ping number target) log = OfGroup (group.Sent (taken (Some target) (group_log log))) ∷ log
 send (PingReq number target addr) log = OfGroup (group.Sent (taken None (group_log log))) ∷ log
-send (Ack number) log = OfGroup (group.Sent (taken None (group_log log))) ∷ log
-send (Nack number) log = log
+send (Ack number receiver) log = OfGroup (group.Sent (taken None (group_log log))) ∷ log
+send (Nack number receiver) log = log
 send (Pull after) log = log
 send Page log = log
+send Gossip log = log
 
 -- packets are sent one after another, each filled after those before it
 abbrev pub send_all : List Message → Log → Log

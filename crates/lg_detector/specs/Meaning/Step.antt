@@ -61,8 +61,7 @@ fired_by _ log = None
 
 -- the packets to be sent;
 abbrev pub sends_by : Event → Log → List Outgoing
-sends_by (Heard now source packet) log =
-    sends_to source packet.sender packet.body packet.claims.items (hear_claims now packet log)
+sends_by (Heard now source packet) log = sends_to source packet (hear_claims now packet log)
 sends_by (Tick now words) log = sends_at now words log
 sends_by (Pull now peer) log = pulls now peer log
 sends_by _ log = []

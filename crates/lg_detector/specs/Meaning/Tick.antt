@@ -2,16 +2,16 @@
 -- set is `pending` in Timing.antt. Whom a start of a round chooses and who helps is in Probing.antt.
 use Rattle.std.specs.Prelude.{ℕ, List, [], ◌∷◌, Option, Some, None, option_map, if◌then◌else◌}
 use Rattle.std.specs.List.{filter_map}
-use Rattle.lg_rules.specs.declared.addr.Addr.{Addr}
 use Rattle.lg_rules.specs.declared.claim.Claim.{Claim}
 use Rattle.lg_rules.specs.declared.claim.Status.{Status}
 use Rattle.lg_rules.specs.declared.claim.Status.TheVariants.{Suspect, Failed, Left}
 use Rattle.lg_rules.specs.Meaning.Claim.{name_of}
 use Rattle.lg_rules.specs.Meaning.Rows.{name_cmp, row_at}
-use Rattle.lg_packet.specs.declared.packet.Body.TheVariants.{Ping, PingReq, Nack}
+use Rattle.lg_packet.specs.declared.packet.Body.TheVariants.{Ping, PingReq}
 use Rattle.lg_timers.specs.declared.timer.Timer.{Timer}
 use Rattle.lg_timers.specs.declared.timer.TimerId.{TimerId}
 use Rattle.lg_timers.specs.declared.timer.TimerId.TheVariants.{RoundEnd, Suspicion, Direct, RelayNack, RoundStart}
+use Rattle.lg_probe.specs.declared.relays.Asker.{Asker}
 use Rattle.lg_probe.specs.Meaning.Relays.{asker_at}
 use Rattle.lg_probe.specs.Meaning.Round.{RoundValue}
 use Rattle.lg_membership.specs.declared.origin.Origin.TheVariants.{Group}
@@ -22,6 +22,7 @@ use Rattle.lg_detector.specs.declared.reply.Outgoing.{Outgoing}
 use Rattle.lg_detector.specs.Meaning.Log.{Log, group_log}
 use Rattle.lg_detector.specs.Meaning.Timing.{due}
 use Rattle.lg_detector.specs.Meaning.Apply.{come, apply_all, fire}
+use Rattle.lg_detector.specs.Meaning.Hear.{nack_of}
 use Rattle.lg_detector.specs.Meaning.Probing.{chosen, helpers, number, round}
 use Rattle.lg_detector.specs.Meaning.Relaying.{relays}
 use Rattle.lg_detector.specs.Meaning.Send.{send_all, packets}
@@ -63,7 +64,7 @@ claims_said id log =
 
 -- The packets that a timer sends. A start of a round pings the chosen member at the address of its record. If no Ack
 -- came in time, the helpers are asked to ping the target (PingReq), in the order in which they were picked. A relay
--- sends its asker a Nack with the asker's number, since no Ack came.
+-- sends its asker a Nack with the asker's number and name, since no Ack came.
 abbrev pub ping_at : ℕ → Option Claim → List Message
 ping_at k None = []
 ping_at k (Some r) = record { to = r.addr; body = Ping k r.name } ∷ []
@@ -83,9 +84,9 @@ abbrev pub requests : Option RoundValue → List Claim → List (List ℕ) → L
 requests None rows names = []
 requests (Some r) rows names = requests_of r.number (found r.target rows) rows names
 
-abbrev pub nack_to : Option (Addr × ℕ) → List Message
+abbrev pub nack_to : Option Asker → List Message
 nack_to None = []
-nack_to (Some asker) = record { to = asker.0; body = Nack asker.1 } ∷ []
+nack_to (Some asker) = nack_of asker
 
 abbrev pub messages : TimerId → List ℕ → Log → List Message
 messages RoundStart words log = ping_to (number log) (group_view (group_log log)) (chosen words log)

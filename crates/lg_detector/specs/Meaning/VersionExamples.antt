@@ -1,17 +1,17 @@
--- Worked packets of both versions: what a member sends has the version of its own `wire`, and what it hears in one
+-- Worked packets of versions 1 and 2: what a member sends has the version of its own `wire`, and what it hears in one
 -- version is taken as in the other.
 use Rattle.std.specs.Prelude.{◌≡◌, ℕ, List, [], ◌∷◌, Some, None, refl}
 use Rattle.lg_timing.specs.Meaning.Config.{defaults}
 use Rattle.lg_packet.specs.declared.packet.Body.TheVariants.{Ping, PingReq, Ack, Nack, Pull, Page}
 use Rattle.lg_packet.specs.declared.packet.Packet.{Packet}
-use Rattle.lg_packet.specs.declared.packet.Version.{Version}
-use Rattle.lg_packet.specs.declared.packet.Version.TheVariants.{One, Two}
+use Rattle.lg_rules.specs.declared.version.Version.{Version}
+use Rattle.lg_rules.specs.declared.version.Version.TheVariants.{One, Two}
 use Rattle.lg_packet.specs.Meaning.Spelling.{spelling}
 use Rattle.lg_timers.specs.declared.timer.TimerId.TheVariants.{Direct, RelayNack}
+use Rattle.lg_membership.specs.Meaning.Gossip.{version_sent}
 use Rattle.lg_detector.specs.declared.event.Event.{Event}
 use Rattle.lg_detector.specs.declared.event.Event.TheVariants.{Open, Pull as Pulls}
 use Rattle.lg_detector.specs.declared.reply.Reply.{Reply}
-use Rattle.lg_detector.specs.Meaning.Send.{version_sent}
 use Rattle.lg_detector.specs.Meaning.Step.{reply_after}
 use Rattle.lg_detector.specs.Meaning.Examples.{by_computing, a, b, c, d, at, alive, says, says_in, ticks}
 use Rattle.lg_detector.specs.Meaning.Examples.{timer_of, start_of_round, nothing, sent_in}
@@ -38,7 +38,13 @@ opening_of_a =
     })
 
 abbrev its_ping : Packet
-its_ping = record { version = Two; sender = a ∷ []; body = Ping 1 (b ∷ []); claims = record { items = [] } }
+its_ping = record {
+  version = Two;
+  group = None;
+  sender = a ∷ [];
+  body = Ping 1 (b ∷ []);
+  claims = record { items = [] };
+}
 
 it_pings_in_version_two :
     reply_after (opening_of_a ∷ []) (ticks 0)
@@ -58,7 +64,7 @@ its_bytes = refl
 abbrev acks_in : Version → Reply
 acks_in version =
     record (nothing 0) {
-      sends = record { items = sent_in version 1 (Ack 8) (alive c 0 ∷ []) };
+      sends = record { items = sent_in version 1 (Ack 8 None) (alive c 0 ∷ []) };
       changed = record { items = alive c 0 ∷ [] };
     }
 
@@ -91,14 +97,14 @@ a_nack_in_two :
     reply_after (opening_of 2 ∷ requests_a_ping ∷ ticks 910 ∷ []) (ticks 910)
     ≡ record (nothing 1510) {
       fired = Some (timer_of 910 (RelayNack 1));
-      sends = record { items = sent_in Two 1 (Nack 1) [] };
+      sends = record { items = sent_in Two 1 (Nack 1 None) [] };
     }
 unfolding by_computing
 a_nack_in_two = refl
 
 -- b has pinged c, and asks d to do so.
 abbrev two_others : List Event
-two_others = opening_of 2 ∷ says 0 (Ack 7) (alive c 0 ∷ alive d 0 ∷ []) ∷ ticks 0 ∷ []
+two_others = opening_of 2 ∷ says 0 (Ack 7 None) (alive c 0 ∷ alive d 0 ∷ []) ∷ ticks 0 ∷ []
 
 a_request_in_two :
     reply_after two_others (ticks 500)

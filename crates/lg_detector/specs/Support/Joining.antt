@@ -4,26 +4,26 @@ use Rattle.lg_rules.specs.declared.addr.Addr.{Addr}
 use Rattle.lg_rules.specs.declared.claim.Claim.{Claim}
 use Rattle.lg_rules.specs.Meaning.Own.{own_record}
 use Rattle.lg_packet.specs.declared.packet.Body.TheVariants.{Pull, Page}
+use Rattle.lg_membership.specs.Meaning.Gossip.{version_sent}
 use Rattle.lg_membership.specs.Meaning.Pages.{page_of}
 use Rattle.lg_membership.specs.Support.State.{shown}
 use Rattle.lg_detector.specs.declared.reply.Outgoing.{Outgoing}
-use Rattle.lg_detector.specs.Meaning.Joining.{with_claims}
-use Rattle.lg_detector.specs.Meaning.Send.{version_sent}
+use Rattle.lg_detector.specs.Meaning.Joining.{own_told, with_claims}
 use Rattle.lg_detector.specs.Support.State.{State, come_state}
 
 abbrev pub pull_after_state : Addr → Option (List ℕ) → State → Outgoing
 pull_after_state to after s =
     let version = version_sent s.membership.config in
-    with_claims to version s.membership.own.name (Pull after) (own_record s.membership.own ∷ [])
+    with_claims to version s.membership.own.name (Pull after) (own_told version (own_record s.membership.own))
 
 abbrev pub page_behind_state : Addr → Option (List ℕ) → State → Outgoing
 page_behind_state to after s =
     let version = version_sent s.membership.config in
-    with_claims to version s.membership.own.name Page (page_of after (shown s.membership))
+    with_claims to version s.membership.own.name Page (page_of version after (shown s.membership))
 
 abbrev pub next_pull_state : Addr → Option Claim → State → List Outgoing
 next_pull_state to None s = []
-next_pull_state to (Some sixth) s = pull_after_state to (Some sixth.name) s ∷ []
+next_pull_state to (Some last) s = pull_after_state to (Some last.name) s ∷ []
 
 abbrev pub pull_state : ℕ → State → State
 pull_state now s = come_state now s

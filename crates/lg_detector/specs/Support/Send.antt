@@ -2,20 +2,22 @@
 use Rattle.std.specs.Prelude.{List, [], ◌∷◌, Some, None}
 use Rattle.lg_rules.specs.declared.claim.Claim.{Claim}
 use Rattle.lg_packet.specs.declared.packet.Body.{Body}
-use Rattle.lg_packet.specs.declared.packet.Body.TheVariants.{Ping, PingReq, Ack, Nack, Pull, Page}
+use Rattle.lg_packet.specs.declared.packet.Body.TheVariants.{Ping, PingReq, Ack, Nack, Pull, Page, Gossip}
+use Rattle.lg_membership.specs.Meaning.Gossip.{version_sent}
 use Rattle.lg_membership.specs.Support.State.{taken_in, fill_in}
 use Rattle.lg_detector.specs.declared.reply.Outgoing.{Outgoing}
 use Rattle.lg_detector.specs.declared.message.Message.{Message}
-use Rattle.lg_detector.specs.Meaning.Send.{version_sent}
+use Rattle.lg_detector.specs.Meaning.Send.{body_told}
 use Rattle.lg_detector.specs.Support.State.{State, send_taken}
 
 abbrev pub claims_of_state : Body → State → List Claim
 claims_of_state (Ping number target) s = fill_in (Some target) s.membership
 claims_of_state (PingReq number target addr) s = fill_in None s.membership
-claims_of_state (Ack number) s = fill_in None s.membership
-claims_of_state (Nack number) s = []
+claims_of_state (Ack number receiver) s = fill_in None s.membership
+claims_of_state (Nack number receiver) s = []
 claims_of_state (Pull after) s = []
 claims_of_state Page s = []
+claims_of_state Gossip s = []
 
 abbrev pub outgoing_state : Message → State → Outgoing
 outgoing_state message s =
@@ -24,16 +26,23 @@ outgoing_state message s =
     let sender = s.membership.own.name in
     record {
       to = message.to;
-      packet = record { version = version; sender = sender; body = message.body; claims = record { items = claims } };
+      packet = record {
+        version = version;
+        group = None;
+        sender = sender;
+        body = body_told version message.body;
+        claims = record { items = claims };
+      };
     }
 
 abbrev pub send_state : Body → State → State
 send_state (Ping number target) s = send_taken (taken_in (Some target) s.membership) s
 send_state (PingReq number target addr) s = send_taken (taken_in None s.membership) s
-send_state (Ack number) s = send_taken (taken_in None s.membership) s
-send_state (Nack number) s = s
+send_state (Ack number receiver) s = send_taken (taken_in None s.membership) s
+send_state (Nack number receiver) s = s
 send_state (Pull after) s = s
 send_state Page s = s
+send_state Gossip s = s
 
 abbrev pub send_all_state : List Message → State → State
 send_all_state [] s = s

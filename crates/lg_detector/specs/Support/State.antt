@@ -1,7 +1,6 @@
 -- The state of a detector as plain data, and what each fact does to it.
 use Rattle.std.specs.Prelude.{ℕ, ◌+◌, max, pos, negsuc, Bool, true, false, List, [], ◌∷◌}
 use Rattle.std.specs.Prelude.{Option, Some, None, option_map, is_some, if◌then◌else◌}
-use Rattle.lg_rules.specs.declared.addr.Addr.{Addr}
 use Rattle.lg_rules.specs.declared.claim.Claim.{Claim}
 use Rattle.lg_rules.specs.Meaning.Rows.{name_cmp, in_order}
 use Rattle.lg_timing.specs.declared.config.Config.{Config}
@@ -11,6 +10,7 @@ use Rattle.lg_timers.specs.declared.timer.TimerId.{TimerId}
 use Rattle.lg_timers.specs.declared.timer.TimerId.TheVariants.{RoundEnd, Suspicion, Direct}
 use Rattle.lg_timers.specs.declared.timer.TimerId.TheVariants.{RelayNack, RelayEnd, RoundStart}
 use Rattle.lg_timers.specs.Meaning.Timers.{with_timer, without_timer}
+use Rattle.lg_probe.specs.declared.relays.Asker.{Asker}
 use Rattle.lg_probe.specs.declared.relays.Relay.{Relay}
 use Rattle.lg_probe.specs.Meaning.Order.{OrderValue, Joined, Left, Chose, choice, order_with}
 use Rattle.lg_probe.specs.Meaning.Relays.{Opened, TargetAcked, Closed, ended_asker}
@@ -21,11 +21,12 @@ use Rattle.lg_membership.specs.declared.applied.Deadline.TheVariants.{Stays, End
 use Rattle.lg_membership.specs.declared.applied.Presence.{Presence}
 use Rattle.lg_membership.specs.declared.applied.Presence.TheVariants as presence
 use Rattle.lg_membership.specs.declared.origin.Origin.{Origin}
+use Rattle.lg_membership.specs.Meaning.Gossip.{version_sent}
 use Rattle.lg_membership.specs.Support.State as group
 use Rattle.lg_membership.specs.Support.State.{GroupState, apply_to_group, group_state_of, open_group, send_from_group}
 use Rattle.lg_detector.specs.Meaning.Log.{Log, event_count, moment, group_log}
 use Rattle.lg_detector.specs.Meaning.Probing as probing
-use Rattle.lg_detector.specs.Meaning.Probing.{first_number, first_word, indirect_in, helpers_of}
+use Rattle.lg_detector.specs.Meaning.Probing.{asked_about, first_number, first_word, indirect_in, helpers_of}
 use Rattle.lg_detector.specs.Meaning.Relaying as relaying
 use Rattle.lg_detector.specs.Meaning.Relaying.{new_relay}
 use Rattle.lg_detector.specs.Meaning.Timing.{score, pending, scaled_interval, scaled_timeout, nack_time, relay_time}
@@ -152,7 +153,9 @@ start_round words s =
 -- helpers are asked
 abbrev pub helpers_state : List ℕ → State → List (List ℕ)
 helpers_state words s =
-    helpers_of (indirect_in s.membership.config) words s.order.names (option_map (λ r. r.target) s.round)
+    let target = option_map (λ r. r.target) s.round in
+    let told = asked_about (version_sent s.membership.config) (group.shown s.membership) target in
+    helpers_of (indirect_in s.membership.config) words s.order.names told
 
 abbrev pub ask_helpers : List ℕ → State → State
 ask_helpers words s = record s {
@@ -237,9 +240,9 @@ with_relay nack end k timers =
     with_timer (nack_timer nack k) (
     without_timer (RelayNack k) (with_timer (relay_timer end k) (without_timer (RelayEnd k) timers)))
 
-unfoldable pub open_relay : List ℕ → Addr → ℕ → State → State
-open_relay target asker asked s = record s {
-  relays = relays_with s.relays (Opened (new_relay s.number target asker asked));
+unfoldable pub open_relay : List ℕ → Asker → State → State
+open_relay target asker s = record s {
+  relays = relays_with s.relays (Opened (new_relay s.number target asker));
   number = s.number + 1;
   timers = with_relay (nack_later s) (relay_later s) s.number s.timers;
 }

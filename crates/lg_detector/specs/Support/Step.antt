@@ -54,7 +54,7 @@ fired_by_state s _ = None
 
 abbrev pub sends_by_state : State → Event → List Outgoing
 sends_by_state s (Heard now source packet) =
-    sends_to_state source packet.sender packet.body packet.claims.items (hear_claims_state now packet s)
+    sends_to_state source packet (hear_claims_state now packet s)
 sends_by_state s (Tick now words) = sends_at_state now words s
 sends_by_state s (Pull now peer) = pulls_state now peer s
 sends_by_state s _ = []

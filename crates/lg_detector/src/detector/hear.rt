@@ -9,20 +9,25 @@
 //! - An Ack counts for the probe that runs, by its number and its sender. It counts for a relay in the same way: the
 //!   relay is closed, and its asker gets an Ack with the asker's number.
 //! - A Nack counts for the probe that runs, once for each helper that was asked.
+//! - An Ack and a Nack name their receiver in version 3. One for another receiver does nothing, but its claims count.
 //! - A Pull is answered by a Page, and a full Page by the next Pull: `joining.rt`.
+//! - Nothing answers a Gossip: only its claims count.
+//! - Nothing is heard of a packet that names a group, since this member has none (this project's choice).
 //!
 //! Defined in: `specs/Meaning/Hear.antt`, `specs/Support/Hear.antt`, `specs/Meaning/Joining.antt`.
 //! Tested in: `lg_detector_tests/src/detector/hear.rt`, `lg_detector_tests/src/detector/acks.rt`.
 ghost use Rattle.std.specs.Prelude.{◌≡◌, ◌<◌, ◌≤◌, [], ◌∷◌};
-ghost use Rattle.std.specs.Prelude.{◌==◌, None, Some, length, option_map};
+ghost use Rattle.std.specs.Prelude.{◌==◌, ◌&&◌, None, Some, length, option_map};
 ghost use Rattle.std.specs.Option.{option_to_list};
 ghost use Rattle.lg_rules.specs.Meaning.Rows.{name_cmp, is_same};
 ghost use Rattle.lg_rules.specs.Meaning.View.{changed};
-ghost use Rattle.lg_packet.specs.declared.packet.Body.TheVariants.{Ack, Ping, PingReq};
+ghost use Rattle.lg_packet.specs.declared.packet.Body.TheVariants.{Ping, PingReq};
 ghost use Rattle.lg_probe.specs.Meaning.Relays.{ended_asker};
+ghost use Rattle.lg_detector.specs.Meaning.Hear.{asker_from, claims_heard, has_no_group, is_for, is_meant};
 ghost use Rattle.lg_detector.specs.Meaning.Hear.{pass_on};
-ghost use Rattle.lg_detector.specs.Support.Hear.{hear_state, hear_claims_state, note_state, respond_state};
-ghost use Rattle.lg_detector.specs.Support.Hear.{response_state, sends_to_state};
+ghost use Rattle.lg_detector.specs.Support.Hear.{answer_state, hear_state, hear_claims_state, note_state};
+ghost use Rattle.lg_detector.specs.Support.Hear.{respond_state};
+ghost use Rattle.lg_detector.specs.Support.Hear.{response_state, sends_of_state, sends_to_state};
 ghost use Rattle.lg_detector.specs.Support.State.{hear_ack, hear_nack};
 ghost use Rattle.lg_detector.specs.Support.Step.{view_state};
 
@@ -31,17 +36,29 @@ use crate::message::Message;
 use crate::reply::{MAX_SENDS, Outgoing, Reply};
 use arrayvec::ArrayVec;
 use lg_packet::{Body, Packet};
-use lg_probe::MAX_RELAYS;
-use lg_rules::{Addr, Name};
+use lg_probe::{Asker, MAX_RELAYS};
+use lg_rules::{Addr, Claim, MAX_CLAIMS, Name};
 use lg_timing::Moment;
 
-/// An Ack with this number, to where a packet came from.
-fn ack(to: Addr, number: u32) -> Message
-    ensures { result ≡ record { to = to; body = Ack number } }
+/// Who asks by a packet: its sender, where it came from, and the number in it.
+fn asker_from(sender: &Name, source: Addr, number: u32) -> Asker
+    ensures { result ≡ asker_from sender.now source number }
 {
-    Message {
-        to,
-        body: Body::Ack { number },
+    Asker {
+        name: *sender,
+        addr: source,
+        number,
+    }
+}
+
+/// The claims of a packet that are heard: none of one that names a group.
+fn claims_heard(packet: &Packet) -> &[Claim]
+    ensures claims { result.now ≡ claims_heard packet.now }
+    ensures few { length result.now ≤ MAX_CLAIMS }
+{
+    match packet.group {
+        None => packet.claims.as_slice(),
+        Some(_) => &[],
     }
 }
 
@@ -52,8 +69,7 @@ impl Detector {
         ensures state { self.new ≡ hear_state now source packet.now self.old }
         ensures fired { reply.new.fired ≡ None }
         ensures sends { reply.new.sends.items
-            ≡ sends_to_state source packet.now.sender packet.now.body packet.now.claims.items
-            (hear_claims_state now packet.now self.old) }
+            ≡ sends_to_state source packet.now (hear_claims_state now packet.now self.old) }
         ensures differing { reply.new.changed.items
             ≡ changed (view_state self.old) (view_state (hear_claims_state now packet.now self.old)) }
         ensures answer { reply.new.answer ≡ None }
@@ -62,17 +78,59 @@ impl Detector {
         reply.fired = None;
         reply.answer = None;
         self.come(now);
-        self.say(packet.claims.as_slice(), &mut reply.changed);
+        self.say(claims_heard(packet), &mut reply.changed);
         self.answer(source, packet, &mut reply.sends);
     }
 
-    /// Handles the body of a packet. A Pull is answered by a Page, and a full Page by the next Pull. For any other
-    /// body, notes what it means for the probe that runs and for the relays, and sends the packet that responds to it.
+    /// Handles the body of a packet, if this member is to hear it.
     fn answer(&mut self, source: Addr, packet: &Packet, sends: &mut ArrayVec<Outgoing, MAX_SENDS>)
         requires { self.old.number ≤ self.old.events }
+        ensures state { self.new ≡ answer_state source packet.now self.old }
+        ensures sends { sends.new.items ≡ sends_to_state source packet.now self.old }
+    {
+        if packet.group.is_none() && self.is_meant(&packet.body) {
+            self.answer_body(source, packet, sends);
+        } else {
+            sends.clear();
+        }
+    }
+
+    /// Whether a body is meant for this member: an Ack or a Nack for another receiver isn't.
+    fn is_meant(&self, body: &Body) -> bool
+        ensures { result ≡ is_meant self.now.membership.own.name body.now }
+    {
+        match body {
+            Body::Ack { receiver, .. } | Body::Nack { receiver, .. } => self.is_for(receiver),
+            Body::Ping { .. }
+            | Body::PingReq { .. }
+            | Body::Pull { .. }
+            | Body::Page
+            | Body::Gossip => true,
+        }
+    }
+
+    /// Whether this member is the receiver of a packet, if that names one.
+    fn is_for(&self, receiver: &Option<Name>) -> bool
+        ensures { result ≡ is_for self.now.membership.own.name receiver.now }
+    {
+        match receiver {
+            Some(receiver) => self.is_own(receiver),
+            None => true,
+        }
+    }
+
+    /// Handles the body of a packet. A Pull is answered by a Page, and a full Page by the next Pull. Nothing answers a
+    /// Gossip. For any other body, notes what it means for the probe that runs and for the relays, and sends the
+    /// packet that responds to it.
+    fn answer_body(
+        &mut self,
+        source: Addr,
+        packet: &Packet,
+        sends: &mut ArrayVec<Outgoing, MAX_SENDS>,
+    )
+        requires { self.old.number ≤ self.old.events }
         ensures state { self.new ≡ respond_state source packet.now.sender packet.now.body self.old }
-        ensures sends { sends.new.items
-            ≡ sends_to_state source packet.now.sender packet.now.body packet.now.claims.items self.old }
+        ensures sends { sends.new.items ≡ sends_of_state source packet.now packet.now.body self.old }
     {
         match &packet.body {
             Body::Ping { .. } | Body::PingReq { .. } | Body::Ack { .. } | Body::Nack { .. } => {
@@ -80,7 +138,10 @@ impl Detector {
                 self.send_one(&message, sends);
             }
             Body::Pull { after } => self.send_page(source, after, sends),
-            Body::Page => self.send_next_pull(source, packet.claims.as_slice(), sends),
+            Body::Page => {
+                self.send_next_pull(source, packet.version, packet.claims.as_slice(), sends)
+            }
+            Body::Gossip => sends.clear(),
         }
     }
 
@@ -92,18 +153,20 @@ impl Detector {
         ensures message { option_to_list result ≡ response_state source sender.now body.now self.old }
     {
         match body {
-            Body::Ping { number, target } => self.hear_ping(source, *number, target),
+            Body::Ping { number, target } => {
+                self.hear_ping(&asker_from(sender, source, *number), target)
+            }
             Body::PingReq {
                 number,
                 target,
                 addr,
-            } => self.hear_request(source, *number, target, *addr),
-            Body::Ack { number } => self.hear_ack(*number, sender),
-            Body::Nack { number } => {
+            } => self.hear_request(&asker_from(sender, source, *number), target, *addr),
+            Body::Ack { number, .. } => self.hear_ack(*number, sender),
+            Body::Nack { number, .. } => {
                 self.hear_nack(*number, sender);
                 None
             }
-            Body::Pull { .. } | Body::Page => None,
+            Body::Pull { .. } | Body::Page | Body::Gossip => None,
         }
     }
 
@@ -115,11 +178,12 @@ impl Detector {
     }
 
     /// Acks a Ping for this member.
-    fn hear_ping(&self, source: Addr, number: u32, target: &Name) -> Option<Message>
-        ensures { option_to_list result ≡ response_state source [] (Ping number target.now) self.now }
+    fn hear_ping(&self, asker: &Asker, target: &Name) -> Option<Message>
+        ensures { let asker = asker.now in option_to_list result
+            ≡ response_state asker.addr asker.name (Ping asker.number target.now) self.now }
     {
         if self.is_own(target) {
-            Some(ack(source, number))
+            Some(relay::ack_to(asker))
         } else {
             None
         }
@@ -127,28 +191,21 @@ impl Detector {
 
     /// Acks a PingReq for this member. One for another member is relayed, or refused if as many relays are open as
     /// are allowed.
-    fn hear_request(
-        &mut self,
-        source: Addr,
-        number: u32,
-        target: &Name,
-        addr: Addr,
-    ) -> Option<Message>
+    fn hear_request(&mut self, asker: &Asker, target: &Name, addr: Addr) -> Option<Message>
         requires { self.old.number ≤ self.old.events }
-        ensures state { self.new ≡ note_state source [] (PingReq number target.now addr) self.old }
-        ensures message { option_to_list result ≡ response_state source [] (PingReq number target.now addr) self.old }
+        ensures state { let asker = asker.now in self.new
+            ≡ note_state asker.addr asker.name (PingReq asker.number target.now addr) self.old }
+        ensures message { let asker = asker.now in option_to_list result
+            ≡ response_state asker.addr asker.name (PingReq asker.number target.now addr) self.old }
     {
         if self.is_own(target) {
-            return Some(ack(source, number));
+            return Some(relay::ack_to(asker));
         }
         if self.parts.relays.len() == MAX_RELAYS {
-            return Some(Message {
-                to: source,
-                body: Body::Nack { number },
-            });
+            return Some(relay::nack_of(asker));
         }
         let relayed = self.parts.number;
-        self.open_relay(target, source, number);
+        self.open_relay(target, asker);
         Some(Message {
             to: addr,
             body: Body::Ping {
@@ -172,7 +229,7 @@ impl Detector {
             number,
             sender,
         );
-        relay::pass_on(relay::take_ack(&mut parts.relays, &mut parts.timers, number, sender))
+        relay::pass_on(&relay::take_ack(&mut parts.relays, &mut parts.timers, number, sender))
     }
 
     /// Takes a Nack, for the probe that runs.

@@ -1,12 +1,13 @@
 //! Joining, by a form of anti-entropy (push-pull): a member asks another for its table by a Pull, which carries the
-//! asker's own record. The answers are Pages of records, in the order of names. A Page is full if it has `MAX_CLAIMS`
-//! records. A full Page is answered by a Pull for the records after its last claim, and so the whole table comes.
+//! asker's own record. The answers are Pages of records, in the order of names. A Page is full if it has as many
+//! records as a packet of its version has room for. A full Page is answered by a Pull for the records after its last
+//! claim, and so the whole table comes.
 //! Pulls and Pages take no claims of the queue (this project's choice).
 //!
 //! Defined in: `specs/Meaning/Joining.antt`, `specs/Support/Joining.antt`.
 //! Tested in: `lg_detector_tests/src/detector/joining.rt`.
 ghost use Rattle.std.specs.Prelude.{◌≡◌, ◌<◌, [], ◌∷◌, None};
-ghost use Rattle.lg_detector.specs.Meaning.Joining.{sixth_of};
+ghost use Rattle.lg_detector.specs.Meaning.Joining.{last_of_full};
 ghost use Rattle.lg_detector.specs.Support.Joining.{next_pull_state, page_behind_state, pull_state, pull_after_state};
 ghost use Rattle.lg_detector.specs.Support.Joining.{pulls_state};
 
@@ -15,7 +16,7 @@ use super::{Detector, MAX_EVENTS};
 use crate::reply::{MAX_SENDS, Outgoing, Reply};
 use arrayvec::ArrayVec;
 use lg_packet::Body;
-use lg_rules::{Addr, Claim, MAX_CLAIMS, Name, Record};
+use lg_rules::{Addr, Claim, Name, Record, Version};
 use lg_timing::Moment;
 
 impl Detector {
@@ -46,17 +47,18 @@ impl Detector {
         self.write_page(to, after, &mut sends[0]);
     }
 
-    /// Answers a Page if it is full: asks for the records after its last claim.
+    /// Answers a Page of a version if it is full: asks for the records after its last claim.
     pub(super) fn send_next_pull(
         &self,
         to: Addr,
+        version: Version,
         claims: &[Claim],
         sends: &mut ArrayVec<Outgoing, MAX_SENDS>,
     )
-        ensures { sends.new.items ≡ next_pull_state to (sixth_of claims.now) self.now }
+        ensures { sends.new.items ≡ next_pull_state to (last_of_full version claims.now) self.now }
     {
-        match claims.get(MAX_CLAIMS - 1) {
-            Some(sixth) => self.send_pull(to, Some(sixth.name), sends),
+        match claims.get(version.most_claims() - 1) {
+            Some(last) => self.send_pull(to, Some(last.name), sends),
             None => sends.clear(),
         }
     }
@@ -75,6 +77,7 @@ impl Detector {
     {
         place.to = to;
         place.packet.version = self.version();
+        place.packet.group = None;
         place.packet.sender = self.name();
         place.packet.body = Body::Page;
         self.parts
@@ -82,12 +85,15 @@ impl Detector {
             .put_page(after.as_ref(), &mut place.packet.claims);
     }
 
-    /// Overwrites a packet with a Pull, whose only claim is this member's record.
+    /// Overwrites a packet with a Pull, whose only claim is this member's record. It has none if its version can't tell
+    /// this member's address.
     fn write_pull(&self, to: Addr, after: Option<Name>, place: &mut Outgoing)
         ensures { place.new ≡ pull_after_state to after self.now }
     {
+        let version = self.version();
         place.to = to;
-        place.packet.version = self.version();
+        place.packet.version = version;
+        place.packet.group = None;
         place.packet.sender = self.name();
         place.packet.body = Body::Pull { after };
         let claims = &mut place.packet.claims;
@@ -99,11 +105,13 @@ impl Detector {
             status,
             incarnation,
         } = self.parts.membership.own_record();
-        claims.push(Record {
-            name,
-            addr,
-            status,
-            incarnation,
-        });
+        if version.tells(&addr) {
+            claims.push(Record {
+                name,
+                addr,
+                status,
+                incarnation,
+            });
+        }
     }
 }

@@ -10,22 +10,22 @@
 //! Tested in: `lg_detector_tests/src/detector/relaying.rt`.
 ghost use Rattle.std.specs.Prelude.{◌≡◌, ◌<◌, ◌≤◌, ◌+◌};
 ghost use Rattle.std.specs.Option.{option_to_list};
-ghost use Rattle.std.specs.Prelude.{◌∷◌, length, option_copied, is_some};
+ghost use Rattle.std.specs.Prelude.{[], ◌∷◌, length, option_copied, is_some};
 ghost use Rattle.lg_timers.specs.Meaning.Timers.{with_timer, without_timer};
 ghost use Rattle.lg_probe.specs.Meaning.Relays.{asker_at, ended_asker, TargetAcked};
 ghost use Rattle.lg_probe.specs.Support.Relays.{relays_with};
 ghost use Rattle.lg_membership.specs.Support.Reached.{IsGood};
 ghost use Rattle.lg_detector.specs.Meaning.Timing.{nack_time, relay_time};
 ghost use Rattle.lg_detector.specs.Meaning.Tick.{nack_to};
-ghost use Rattle.lg_detector.specs.Meaning.Hear.{pass_on};
+ghost use Rattle.lg_detector.specs.Meaning.Hear.{ack_to, nack_of, pass_on};
 ghost use Rattle.lg_detector.specs.Support.State.{close_relay, open_relay, with_relay, without_relay, without_ended};
 ghost use Rattle.lg_detector.specs.Support.State.{nack_relay};
 
 use super::Detector;
 use crate::message::Message;
 use lg_packet::Body;
-use lg_probe::{MAX_RELAYS, Relays};
-use lg_rules::{Addr, Name};
+use lg_probe::{Asker, MAX_RELAYS, Relays};
+use lg_rules::Name;
 use lg_timers::{MAX_TIMERS, Timer, TimerId, Timers};
 use lg_timing::{Config, MAX_INTERVAL_MS};
 
@@ -76,14 +76,13 @@ fn cancel_relay(timers: &mut Timers, number: u32)
     timers.cancel(&TimerId::RelayNack(number));
 }
 
-/// Takes an Ack for the relays: the Ack of a relay's target closes the relay. Returns the asker of that relay, and
-/// the number that it asked by.
+/// Takes an Ack for the relays: the Ack of a relay's target closes the relay. Returns the asker of that relay.
 pub(super) fn take_ack(
     relays: &mut Relays,
     timers: &mut Timers,
     number: u32,
     sender: &Name,
-) -> Option<(Addr, u32)>
+) -> Option<Asker>
     ensures asker { result ≡ ended_asker number sender.now relays.old }
     ensures relays { relays.new ≡ relays_with relays.old (TargetAcked number sender.now) }
     ensures timers { timers.new
@@ -96,46 +95,66 @@ pub(super) fn take_ack(
     asker
 }
 
-/// The Ack that is passed on to an asker when its target acked, with the asker's number.
-pub(super) fn pass_on(asker: Option<(Addr, u32)>) -> Option<Message>
-    ensures { option_to_list result ≡ pass_on asker }
+/// The Ack for one that asked, with its number.
+pub(super) fn ack_to(asker: &Asker) -> Message
+    ensures { result ∷ [] ≡ ack_to asker.now }
+{
+    Message {
+        to: asker.addr,
+        body: Body::Ack {
+            number: asker.number,
+            receiver: Some(asker.name),
+        },
+    }
+}
+
+/// The Nack for one that asked, with its number.
+pub(super) fn nack_of(asker: &Asker) -> Message
+    ensures { result ∷ [] ≡ nack_of asker.now }
+{
+    Message {
+        to: asker.addr,
+        body: Body::Nack {
+            number: asker.number,
+            receiver: Some(asker.name),
+        },
+    }
+}
+
+/// The Ack that is passed on to an asker when its target acked.
+pub(super) fn pass_on(asker: &Option<Asker>) -> Option<Message>
+    ensures { option_to_list result ≡ pass_on asker.now }
 {
     match asker {
-        Some((to, number)) => Some(Message {
-            to,
-            body: Body::Ack { number },
-        }),
+        Some(asker) => Some(ack_to(asker)),
         None => None,
     }
 }
 
-/// The Nack that an asker gets when no Ack has come so far, with the asker's number.
-fn nack_to(asker: Option<(Addr, u32)>) -> Option<Message>
-    ensures { option_to_list result ≡ nack_to asker }
+/// The Nack that an asker gets when no Ack has come so far.
+fn nack_to(asker: &Option<Asker>) -> Option<Message>
+    ensures { option_to_list result ≡ nack_to asker.now }
 {
     match asker {
-        Some((to, number)) => Some(Message {
-            to,
-            body: Body::Nack { number },
-        }),
+        Some(asker) => Some(nack_of(asker)),
         None => None,
     }
 }
 
 impl Detector {
-    /// Opens a relay to a target, for an asker that asks by a number.
+    /// Opens a relay to a target, for an asker.
     #[tactic(auto, unfolding(crate::specs::Support::State::open_relay))]
-    pub(super) fn open_relay(&mut self, target: &Name, asker: Addr, asked: u32)
+    pub(super) fn open_relay(&mut self, target: &Name, asker: &Asker)
         requires numbered { self.old.number ≤ self.old.events }
         requires room { length self.old.relays < MAX_RELAYS }
-        ensures { self.new ≡ open_relay target.now asker asked self.old }
+        ensures { self.new ≡ open_relay target.now asker.now self.old }
     {
         let parts = &mut *self.parts;
         let now = parts.moment.milliseconds();
         let config = parts.membership.config();
         let nack = now + nack_time(config);
         let end = now + relay_time(config);
-        parts.relays.add(parts.number, target, asker, asked);
+        parts.relays.add(parts.number, target, *asker);
         set_relay(&mut parts.timers, nack, end, parts.number);
         parts.number += 1;
     }
@@ -147,7 +166,7 @@ impl Detector {
     {
         let parts = &mut *self.parts;
         parts.timers.cancel(&TimerId::RelayNack(number));
-        nack_to(parts.relays.get(number))
+        nack_to(&parts.relays.get(number))
     }
 
     /// Closes a relay.

@@ -16,9 +16,10 @@ ghost use Rattle.std.specs.Prelude.{◌∷◌, Some, length, option_copied, opti
 ghost use Rattle.std.specs.Option.{option_to_list};
 ghost use Rattle.lg_probe.specs.Meaning.Round.{Asked, Acked, Nacked, round_with};
 ghost use Rattle.lg_timers.specs.declared.timer.TimerId.TheVariants.{Direct};
+ghost use Rattle.lg_membership.specs.Meaning.Gossip.{version_sent};
 ghost use Rattle.lg_membership.specs.Support.Reached.{IsGood};
 ghost use Rattle.lg_detector.specs.Meaning.Timing.{scaled_interval, scaled_timeout, is_first};
-ghost use Rattle.lg_detector.specs.Meaning.Probing.{indirect_in};
+ghost use Rattle.lg_detector.specs.Meaning.Probing.{asked_about, indirect_in};
 ghost use Rattle.lg_detector.specs.Meaning.Tick.{ping_at, ping_to, request_to, requests, requests_of};
 ghost use Rattle.lg_detector.specs.Meaning.Tick.{failure_of, suspect_of, accusation, found};
 ghost use Rattle.lg_detector.specs.Support.State.{start_round, ask_helpers, end_round, chosen_state, helpers_state};
@@ -317,11 +318,27 @@ impl Detector {
         ensures { result ≡ helpers_state words.now self.now }
     {
         let mut helpers = Helpers::new();
-        if let Some(round) = &self.parts.round {
+        if let Some(target) = self.asked_about() {
             let count = indirect(self.parts.membership.config());
-            helpers.pick(&self.parts.order, &round.target(), count, words);
+            helpers.pick(&self.parts.order, &target, count, words);
         }
         helpers
+    }
+
+    /// The target of the round that runs, if helpers can be asked to ping it. They can't if it has no record, or if
+    /// the version that is sent can't tell its address.
+    fn asked_about(&self) -> Option<Name>
+        ensures { result ≡ asked_about (version_sent self.now.membership.config) (view_state self.now)
+            (option_map (λ r. r.target) self.now.round) }
+    {
+        let Some(round) = &self.parts.round else {
+            return None;
+        };
+        let target = round.target();
+        match self.record_of(&target) {
+            Some(record) if self.version().tells(&record.addr) => Some(target),
+            _ => None,
+        }
     }
 
     /// Sends helpers the PingReqs of the round that runs. Each asks its helper to ping the target at the address of

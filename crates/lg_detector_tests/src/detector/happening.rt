@@ -1,5 +1,5 @@
 //! What happens to a detector, as plain data.
-use crate::says::{Member, Said, claims_of, named};
+use crate::says::{Member, Said, claims_of, far, named};
 use lg_detector::Event;
 use lg_packet::{Body, Packet, Version};
 use lg_testing::{at, local};
@@ -12,16 +12,24 @@ pub(crate) enum Says {
     Ping(u32, Member),
     /// A request, by its number, to ping a member at a port.
     Request(u32, Member, u16),
-    /// An Ack.
+    /// A request, by its number, to ping a member at port 7 of ::1.
+    RequestFar(u32, Member),
+    /// An Ack that names no receiver.
     Ack(u32),
-    /// A Nack.
+    /// An Ack for a receiver.
+    AckFor(u32, Member),
+    /// A Nack that names no receiver.
     Nack(u32),
+    /// A Nack for a receiver.
+    NackFor(u32, Member),
     /// A Pull for the first records.
     PullFirst,
     /// A Pull for the records after a member.
     PullAfter(Member),
     /// A Page.
     Page,
+    /// A Gossip.
+    Gossip,
 }
 
 /// What an opening sets in addition to the default numbers.
@@ -41,6 +49,10 @@ pub(crate) enum Setting {
     Timeout(u64),
     /// The factor of the least suspicion timeout.
     Alpha(u64),
+    /// How many packets carry a claim at most, for each decimal digit of the number of live members.
+    Lambda(u64),
+    /// The version of what b sends.
+    Wire(u64),
 }
 
 /// What happens to the detector, at a moment.
@@ -56,6 +68,10 @@ pub(crate) enum Happens<'a> {
     TickBy(u64, [u32; 8]),
     /// A packet of a member comes from a port.
     From(u64, Member, u16, Says, &'a [Said]),
+    /// A packet of a version, of a member, comes from port 1.
+    In(u64, Version, Member, Says, &'a [Said]),
+    /// A packet of version three that names a group, of a member, comes from port 1.
+    OfGroup(u64, Member, Member, Says, &'a [Said]),
     /// A Ping of a, from port 1, for a member.
     Ping(u64, u32, Member, &'a [Said]),
     /// An Ack of a member, from port 7000, by its number.
@@ -70,6 +86,22 @@ pub(crate) enum Happens<'a> {
     Pull(u64),
 }
 
+/// An Ack, for a receiver if one is given.
+fn ack_of(number: u32, receiver: Option<Member>) -> Body {
+    Body::Ack {
+        number,
+        receiver: receiver.map(named),
+    }
+}
+
+/// A Nack, for a receiver if one is given.
+fn nack_of(number: u32, receiver: Option<Member>) -> Body {
+    Body::Nack {
+        number,
+        receiver: receiver.map(named),
+    }
+}
+
 /// The body of a packet.
 pub(super) fn body_of(says: &Says) -> Body {
     match says {
@@ -82,13 +114,21 @@ pub(super) fn body_of(says: &Says) -> Body {
             target: named(member),
             addr: local(*port),
         },
-        Says::Ack(number) => Body::Ack { number: *number },
-        Says::Nack(number) => Body::Nack { number: *number },
+        Says::RequestFar(number, member) => Body::PingReq {
+            number: *number,
+            target: named(member),
+            addr: far(),
+        },
+        Says::Ack(number) => ack_of(*number, None),
+        Says::AckFor(number, receiver) => ack_of(*number, Some(receiver)),
+        Says::Nack(number) => nack_of(*number, None),
+        Says::NackFor(number, receiver) => nack_of(*number, Some(receiver)),
         Says::PullFirst => Body::Pull { after: None },
         Says::PullAfter(member) => Body::Pull {
             after: Some(named(member)),
         },
         Says::Page => Body::Page,
+        Says::Gossip => Body::Gossip,
     }
 }
 
@@ -112,6 +152,8 @@ fn set(config: &mut Config, setting: &Setting) {
         Setting::MaxScore(score) => config.max_score = *score,
         Setting::Timeout(timeout) => config.timeout_ms = *timeout,
         Setting::Alpha(alpha) => config.alpha = *alpha,
+        Setting::Lambda(lambda) => config.lambda = *lambda,
+        Setting::Wire(wire) => config.wire = *wire,
     }
 }
 
@@ -124,10 +166,11 @@ fn config_of(settings: &[Setting]) -> Config {
     config
 }
 
-/// A packet of version 1 of a member, with the first six of some claims.
+/// A packet of version 1 of a member, with the first twelve of some claims.
 pub(crate) fn packet_of(sender: Member, says: &Says, said: &[Said]) -> Packet {
     Packet {
         version: Version::One,
+        group: None,
         sender: named(sender),
         body: body_of(says),
         claims: claims_of(said),
@@ -140,6 +183,25 @@ fn heard(now: u64, sender: Member, port: u16, says: &Says, said: &[Said]) -> Eve
         now: at(now),
         source: local(port),
         packet: packet_of(sender, says, said),
+    }
+}
+
+/// A packet of a version and perhaps of a group, of a member, that comes from port 1.
+fn heard_in(
+    now: u64,
+    version: Version,
+    group: Option<Member>,
+    sender: Member,
+    says: &Says,
+    said: &[Said],
+) -> Event {
+    let mut packet = packet_of(sender, says, said);
+    packet.version = version;
+    packet.group = group.map(named);
+    Event::Heard {
+        now: at(now),
+        source: local(1),
+        packet,
     }
 }
 
@@ -162,6 +224,12 @@ pub(super) fn event_of(happens: &Happens<'_>) -> Event {
         Happens::First(now) => ticked(*now, [0; 8]),
         Happens::TickBy(now, words) => ticked(*now, *words),
         Happens::From(now, sender, port, says, said) => heard(*now, sender, *port, says, said),
+        Happens::In(now, version, sender, says, said) => {
+            heard_in(*now, *version, None, sender, says, said)
+        }
+        Happens::OfGroup(now, group, sender, says, said) => {
+            heard_in(*now, Version::Three, Some(group), sender, says, said)
+        }
         Happens::Ping(now, number, target, said) => {
             heard(*now, "a", 1, &Says::Ping(*number, *target), said)
         }

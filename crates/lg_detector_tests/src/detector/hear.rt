@@ -1,15 +1,13 @@
 //! Packets that are heard: what their claims change, and the Acks to them.
-use super::happening::Happens::{self, From, Opens, Ping, Tick};
-use super::happening::Says::{Ack, Request};
+use super::happening::Happens::{From, Health, Opens, Ping, Tick};
+use super::happening::Says::Ack;
 use super::playing::Due::Suspicion;
 use super::playing::Step::{
-    self, Acks, Changed, Changes, Events, Fired, Hears, Known, Next, Ousted, Sends, Table, Takes,
-    Tells,
+    self, Acks, AnswersHealth, Changed, Changes, Events, Fired, Hears, Known, Next, Ousted, Sends,
+    Table, Takes, Tells,
 };
 use super::playing::{Case, opened, play, play_blank, play_on};
-use super::versions::{VersionCase, play_versions};
-use crate::says::Said::{Accused, Alive, Failed, Suspect, SuspectAt};
-use lg_packet::Version::{One, Two};
+use crate::says::Said::{Accused, Alive, Failed, Left, Suspect, SuspectAt};
 
 /// A Ping for another isn't acked, and neither is an Ack. What both said is gossiped.
 const GOSSIP: &[Case] = &[
@@ -116,7 +114,7 @@ const REFUTED: &[Case] = &[
 ];
 
 /// A claim about b, whose incarnation is 0, in a Ping. Then b's record, what of it changes and is sent, and whether b
-/// is ousted. The first seven claims raise b's incarnation, and the others don't.
+/// is ousted. The first nine claims raise b's incarnation, and the others don't.
 const OF_ITSELF: &[Case] = &[
     (
         "alive",
@@ -189,6 +187,30 @@ const OF_ITSELF: &[Case] = &[
         ],
     ),
     (
+        "left",
+        &[
+            Takes(Ping(0, 3, "b", &[Left("b", 0)])),
+            Known("b", Some(Alive("b", 1))),
+            Changed(&[Alive("b", 1)]),
+            Ousted(false),
+            Acks(3, &[Alive("b", 1)]),
+            Takes(Health(0)),
+            AnswersHealth(0, 1, 1),
+            Takes(Ping(0, 4, "b", &[Left("b", 0)])),
+            Changed(&[]),
+        ],
+    ),
+    (
+        "left at a greater number",
+        &[
+            Takes(Ping(0, 1, "b", &[Left("b", 7)])),
+            Known("b", Some(Alive("b", 8))),
+            Changed(&[Alive("b", 8)]),
+            Ousted(false),
+            Acks(1, &[Alive("b", 8)]),
+        ],
+    ),
+    (
         "alive at its number",
         &[
             Takes(Ping(0, 1, "b", &[Alive("b", 0)])),
@@ -202,6 +224,16 @@ const OF_ITSELF: &[Case] = &[
         "alive at the last number",
         &[
             Takes(Ping(0, 1, "b", &[Alive("b", 1_000_000_000)])),
+            Known("b", Some(Alive("b", 0))),
+            Changed(&[]),
+            Ousted(true),
+            Acks(1, &[]),
+        ],
+    ),
+    (
+        "left at the last number",
+        &[
+            Takes(Ping(0, 1, "b", &[Left("b", 1_000_000_000)])),
             Known("b", Some(Alive("b", 0))),
             Changed(&[]),
             Ousted(true),
@@ -288,57 +320,4 @@ fn hears_packets(rt: HostRuntime) {
     for cases in PLAYED {
         play(&rt, rt.alloc(), cases);
     }
-}
-
-/// A Ping for b that tells of c.
-const PINGED: &[Happens<'static>] = &[Ping(0, 7, "b", &[Alive("c", 0)])];
-
-/// A request to ping c, and b's first round. At 910 b's Nack is due.
-const NACKS: &[Happens<'static>] = &[
-    From(510, "a", 1, Request(1, "c", 7003), &[]),
-    Tick(910),
-    Tick(910),
-];
-
-/// A request to ping c, and c's Ack.
-const PASSES_ON: &[Happens<'static>] = &[
-    From(510, "a", 1, Request(1, "c", 7003), &[]),
-    From(600, "c", 7003, Ack(1), &[]),
-];
-
-/// A round in which c is pinged. At 500 b asks d to help.
-const ASKS_A_HELPER: &[Happens<'static>] = &[
-    Ping(0, 1, "z", &[Alive("c", 0), Alive("d", 0)]),
-    Tick(0),
-    Tick(500),
-];
-
-/// What b sends has the version of its own `wire`, whichever version it answers.
-const VERSIONS: &[VersionCase] = &[
-    ("an Ack of version one", 1, One, PINGED, One),
-    ("an Ack of version one to version two", 1, Two, PINGED, One),
-    ("an Ack of version two to version one", 2, One, PINGED, Two),
-    ("an Ack of version two", 2, Two, PINGED, Two),
-    ("a Nack to version one", 2, One, NACKS, Two),
-    ("a Nack to version two", 1, Two, NACKS, One),
-    (
-        "an Ack that is passed on to version one",
-        2,
-        One,
-        PASSES_ON,
-        Two,
-    ),
-    (
-        "an Ack that is passed on to version two",
-        1,
-        Two,
-        PASSES_ON,
-        One,
-    ),
-    ("a request", 2, One, ASKS_A_HELPER, Two),
-];
-
-#[test]
-fn sends_its_own_version(rt: HostRuntime) {
-    play_versions(&rt, rt.alloc(), VERSIONS);
 }

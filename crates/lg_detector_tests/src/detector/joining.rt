@@ -1,12 +1,15 @@
 //! Joining: the Pull that an event sends, the Page that answers a Pull, and the Pull that answers a Page of six.
-use super::happening::Happens::{self, From, Ping, Pull};
-use super::happening::Says::{Page, PullAfter, PullFirst};
+use super::happening::Happens::{From, In, Opens, Ping, Pull};
+use super::happening::Says::{Gossip, Page, PullAfter, PullFirst};
+use super::happening::Setting::Wire;
 use super::playing::Due::Nothing;
-use super::playing::Step::{self, Acks, Changed, Fired, Hears, Known, Next, Sends, Sent, Takes};
-use super::playing::{Case, play};
-use super::versions::{VersionCase, play_versions};
-use crate::says::Said::{Alive, Failed, Suspect};
-use lg_packet::Version::{One, Two};
+use super::playing::Step::{
+    self, Acks, Changed, Fired, Hears, Known, Next, Sends, Sent, SentIn, Takes,
+};
+use super::playing::{Case, play, play_blank};
+use super::resuming::resume_each;
+use crate::says::Said::{self, Alive, Failed, Numbered, Suspect};
+use lg_packet::Version::{One, Three, Two};
 
 /// b asks the member at port 7002 for its first records, and tells of itself.
 const ASKS: Case = (
@@ -210,35 +213,124 @@ fn joins(rt: HostRuntime) {
     }
 }
 
-/// b is asked for its table.
-const PULLED: &[Happens<'static>] = &[From(0, "a", 1, PullFirst, &[])];
-
-/// A Page of six claims comes.
-const PAGED: &[Happens<'static>] = &[From(
-    0,
-    "a",
-    1,
-    Page,
-    &[
-        Alive("a", 0),
-        Alive("c", 0),
-        Alive("d", 0),
-        Alive("e", 0),
-        Alive("f", 0),
-        Alive("g", 0),
-    ],
-)];
-
-/// Pulls and Pages have the version of b's own `wire`, whichever version they answer.
-const VERSIONS: &[VersionCase] = &[
-    ("a Pull", 2, One, &[Pull(5)], Two),
-    ("a Page to version one", 2, One, PULLED, Two),
-    ("a Page to version two", 1, Two, PULLED, One),
-    ("the next Pull to version one", 2, One, PAGED, Two),
-    ("the next Pull to version two", 1, Two, PAGED, One),
+/// The first six of twelve members.
+const SIX: &[Said] = &[
+    Numbered(0),
+    Numbered(1),
+    Numbered(2),
+    Numbered(3),
+    Numbered(4),
+    Numbered(5),
 ];
 
+/// Twelve members.
+const TWELVE: &[Said] = &[
+    Numbered(0),
+    Numbered(1),
+    Numbered(2),
+    Numbered(3),
+    Numbered(4),
+    Numbered(5),
+    Numbered(6),
+    Numbered(7),
+    Numbered(8),
+    Numbered(9),
+    Numbered(10),
+    Numbered(11),
+];
+
+/// Pages of version 3 with six and with twelve claims.
+const PAGED_SIX: Step<'static> = Takes(In(0, Three, "a", Page, SIX));
+
+const PAGED_TWELVE: Step<'static> = Takes(In(0, Three, "a", Page, TWELVE));
+
+/// With each `wire` a Page of version 3 is full with twelve claims, and one of another version with six.
+const FULL_PAGES: &[Case] = &[
+    (
+        "wire 1",
+        &[
+            Takes(Opens(0, &[Wire(1)])),
+            PAGED_SIX,
+            Sends(0),
+            PAGED_TWELVE,
+            Sends(1),
+            SentIn(One, 1, PullAfter("m011"), &[Alive("b", 0)]),
+        ],
+    ),
+    (
+        "wire 2",
+        &[
+            Takes(Opens(0, &[Wire(2)])),
+            PAGED_SIX,
+            Sends(0),
+            PAGED_TWELVE,
+            SentIn(Two, 1, PullAfter("m011"), &[Alive("b", 0)]),
+        ],
+    ),
+    (
+        "wire 3",
+        &[
+            Takes(Opens(0, &[Wire(3)])),
+            PAGED_SIX,
+            Sends(0),
+            PAGED_TWELVE,
+            SentIn(Three, 1, PullAfter("m011"), &[Alive("b", 0)]),
+            Takes(In(0, Two, "a", Page, SIX)),
+            SentIn(Three, 1, PullAfter("m005"), &[Alive("b", 0)]),
+            Takes(In(0, One, "a", Page, SIX)),
+            SentIn(Three, 1, PullAfter("m005"), &[Alive("b", 0)]),
+        ],
+    ),
+];
+
+/// b knows twelve others. With `wire` 3 its first Page has twelve records, in whichever version it is asked.
+const LONG_PAGES: &[Case] = &[
+    (
+        "thirteen members",
+        &[
+            Takes(Opens(0, &[Wire(3)])),
+            Takes(In(0, Three, "a", Gossip, TWELVE)),
+            Sends(0),
+            Takes(In(0, One, "a", PullFirst, &[])),
+            SentIn(
+                Three,
+                1,
+                Page,
+                &[
+                    Alive("b", 0),
+                    Numbered(0),
+                    Numbered(1),
+                    Numbered(2),
+                    Numbered(3),
+                    Numbered(4),
+                    Numbered(5),
+                    Numbered(6),
+                    Numbered(7),
+                    Numbered(8),
+                    Numbered(9),
+                    Numbered(10),
+                ],
+            ),
+            Takes(In(0, Two, "a", PullAfter("m010"), &[])),
+            SentIn(Three, 1, Page, &[Numbered(11)]),
+        ],
+    ),
+    (
+        "thirteen members in version 2",
+        &[
+            Takes(Opens(0, &[Wire(2)])),
+            Takes(In(0, Three, "a", Gossip, TWELVE)),
+            Takes(In(0, Three, "a", PullAfter("b"), &[])),
+            SentIn(Two, 1, Page, SIX),
+        ],
+    ),
+];
+
+/// Each case of Pages of six and of twelve records, resumed at each place.
 #[test]
-fn joins_in_its_own_version(rt: HostRuntime) {
-    play_versions(&rt, rt.alloc(), VERSIONS);
+fn joins_by_pages_of_each_version(rt: HostRuntime) {
+    for cases in [FULL_PAGES, LONG_PAGES] {
+        play_blank(&rt, rt.alloc(), cases);
+        resume_each(&rt, rt.alloc(), &None, cases);
+    }
 }

@@ -2,11 +2,11 @@
 //! each assert is a branch that the check proves. Its message names the case and the step, counted from 0.
 use super::happening::{Happens, Says, body_of, event_of};
 use super::resuming::resume_each;
-use crate::says::{Member, Said, are_said, claim_of, is_said, named};
+use crate::says::{Member, Said, are_said, claim_of, far, is_said, named};
 use arrayvec::ArrayVec;
 use lg_detector::{Answer, Detector, Event, MAX_MEMBERS, Outgoing, Reply, Timer, TimerId};
 use lg_packet::Version;
-use lg_rules::Record;
+use lg_rules::{Addr, Record};
 use lg_testing::{at, incarnation, local};
 use std::alloc::Global;
 use std::process::Abort;
@@ -50,6 +50,10 @@ pub(crate) enum Step<'a> {
     Acks(u32, &'a [Said]),
     /// The packet at an index goes to a port, and has this body and these claims.
     Sent(usize, u16, Says, &'a [Said]),
+    /// The first packet has a version, goes to a port, and has this body and these claims.
+    SentIn(Version, u16, Says, &'a [Said]),
+    /// The first packet has a version, goes to port 7 of ::1, and has this body and these claims.
+    SentFar(Version, Says, &'a [Said]),
     /// The first packet is a Ping of a member, with this number.
     Pings(u32, Member),
     /// The member that the start of a round chose.
@@ -98,19 +102,28 @@ pub(crate) fn timer_of(due: &Due) -> Option<Timer> {
     Some(Timer { deadline, id })
 }
 
-/// Whether a packet is one of b to a port, in version 1, with this body and these claims.
-fn is_sent(sent: &Outgoing, port: u16, says: &Says, said: &[Said]) -> bool {
-    sent.to == local(port)
-        && sent.packet.version == Version::One
+/// Whether a packet is one of b to an address, in a version and without a group, with this body and these claims.
+fn is_sent(sent: &Outgoing, version: Version, to: Addr, says: &Says, said: &[Said]) -> bool {
+    sent.to == to
+        && sent.packet.version == version
+        && sent.packet.group == None
         && sent.packet.sender == named("b")
         && sent.packet.body == body_of(says)
         && are_said(sent.packet.claims.as_slice(), said)
 }
 
-/// Whether the packet at an index is what is said.
+/// Whether the packet at an index is what is said, in version 1.
 fn sends(reply: &Reply, index: usize, port: u16, says: &Says, said: &[Said]) -> bool {
     match reply.sends.get(index) {
-        Some(sent) => is_sent(sent, port, says, said),
+        Some(sent) => is_sent(sent, Version::One, local(port), says, said),
+        None => false,
+    }
+}
+
+/// Whether the first packet is what is said.
+fn begins(reply: &Reply, version: Version, to: Addr, says: &Says, said: &[Said]) -> bool {
+    match reply.sends.first() {
+        Some(sent) => is_sent(sent, version, to, says, said),
         None => false,
     }
 }
@@ -183,6 +196,10 @@ fn is_replied(step: &Step<'_>, reply: &Reply) -> bool {
             reply.sends.len() == 1 && sends(reply, 0, 1, &Says::Ack(*number), said)
         }
         Step::Sent(index, port, says, said) => sends(reply, *index, *port, says, said),
+        Step::SentIn(version, port, says, said) => {
+            begins(reply, *version, local(*port), says, said)
+        }
+        Step::SentFar(version, says, said) => begins(reply, *version, far(), says, said),
         Step::Pings(number, member) => pings(reply, *number, *member),
         Step::Chose(member) => reply.chosen() == member.map(named),
         Step::Tells(member, said) => is_said(told_of(reply, *member), said),

@@ -3,8 +3,9 @@ use super::comparing::is_same_reply;
 use super::happening::Happens::{self, Opens};
 use super::happening::event_of;
 use super::playing::{blank, takes};
+use crate::says::named;
 use lg_detector::{Detector, Event, Reply};
-use lg_packet::Version;
+use lg_packet::{Body, Version};
 use std::alloc::Global;
 use std::process::Abort;
 
@@ -45,18 +46,45 @@ fn plays(
     accepted
 }
 
-/// Whether packets are sent, and each has this version. Gives each version 1.
+/// Whether an Ack or a Nack names `a` as its receiver in version 3, and none in another version.
+fn is_for_a(body: &Body, version: Version) -> bool {
+    let told = (version == Version::Three).then_some(named("a"));
+    match body {
+        Body::Ack { receiver, .. } | Body::Nack { receiver, .. } => *receiver == told,
+        _ => true,
+    }
+}
+
+/// The body without its receiver.
+fn without_receiver(body: Body) -> Body {
+    match body {
+        Body::Ack { number, .. } => Body::Ack {
+            number,
+            receiver: None,
+        },
+        Body::Nack { number, .. } => Body::Nack {
+            number,
+            receiver: None,
+        },
+        _ => body,
+    }
+}
+
+/// Whether packets are sent, and each has this version, and is for `a` if it is an Ack or a Nack. Gives each version 1
+/// and no receiver.
 fn were_sent_in(reply: &mut Reply, version: Version) -> bool {
     let mut all = reply.sends.len() > 0;
     for sent in reply.sends.iter_mut() {
-        all = sent.packet.version == version && all;
-        sent.packet.version = Version::One;
+        let packet = &mut sent.packet;
+        all = packet.version == version && is_for_a(&packet.body, version) && all;
+        packet.version = Version::One;
+        packet.body = without_receiver(packet.body);
     }
     all
 }
 
-/// Plays each case on its own b. But for the version, the last reply is that of a b with the default `wire` which
-/// hears the same in version 1.
+/// Plays each case on its own b. But for the version and the receivers, the last reply is that of a b with the default
+/// `wire` which hears the same in version 1.
 pub(super) fn play_versions(rt: &impl Abort, alloc: Global, cases: &[VersionCase]) {
     for (case, wire, heard, happens, sent) in cases {
         let (mut reply, mut plain) = (Reply::default(), Reply::default());

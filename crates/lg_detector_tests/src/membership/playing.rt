@@ -13,6 +13,8 @@ use std::process::Abort;
 pub(super) enum Step {
     /// A member opens it at port 7000, with the default numbers.
     Opens(Member),
+    /// A member opens it at port 7000, with a `wire`.
+    OpensIn(Member, u64),
     /// These are said as seeds.
     Seeds(&'static [Said]),
     /// The group says a claim at a moment. This is what the claim does.
@@ -82,9 +84,10 @@ pub(super) const JOINED: Did = Did {
     ..NOTHING
 };
 
-/// Opens a membership with the default numbers.
-fn open(membership: &mut Membership, member: Member) -> bool {
-    let config = Config::new(named(member), local(7000));
+/// Opens a membership with a `wire` and otherwise the default numbers.
+fn open(membership: &mut Membership, member: Member, wire: u64) -> bool {
+    let mut config = Config::new(named(member), local(7000));
+    config.wire = wire;
     let is_good = config.check().is_ok();
     if is_good {
         membership.open_with(&config);
@@ -141,7 +144,8 @@ fn page_of(membership: &Membership, after: Option<&Name>) -> ArrayVec<Record, MA
 /// Plays a step that changes the membership. Returns whether it went as the step says.
 fn plays(step: &Step, membership: &mut Membership) -> bool {
     match *step {
-        Step::Opens(member) => open(membership, member),
+        Step::Opens(member) => open(membership, member, 1),
+        Step::OpensIn(member, wire) => open(membership, member, wire),
         Step::Seeds(said) => {
             seed(membership, said);
             true

@@ -1,7 +1,7 @@
 //! The claims that packets take with them.
-use super::playing::Step::{Hears, Known, Live, Opens, Pings, Says, Seeds, Sends};
+use super::playing::Step::{Hears, Known, Live, Opens, OpensIn, Pings, Says, Seeds, Sends};
 use super::playing::{Case, NOTHING, play};
-use crate::says::Said::{Alive, Numbered, Suspect};
+use crate::says::Said::{Alive, AliveFar, Numbered, Suspect, SuspectFar};
 
 /// A seed is known and not queued. A claim is sent four times for each digit of the number of members. An accuser is
 /// queued if it counts.
@@ -95,8 +95,46 @@ const BUDDIES: &[Case] = &[
     ),
 ];
 
+/// With `wire` 1 and 2 a claim at an address of sixteen bytes rides on no packet, and is no buddy.
+const FAR: &[Case] = &[
+    (
+        "wire 1",
+        &[
+            OpensIn("b", 1),
+            Says(0, SuspectFar("c", "a")),
+            Says(0, AliveFar("d")),
+            Says(0, Alive("e", 0)),
+            Pings("c", &[Alive("e", 0)]),
+            Sends(&[Alive("e", 0)]),
+            Known("c", Some(SuspectFar("c", "a"))),
+            Known("d", Some(AliveFar("d"))),
+        ],
+    ),
+    (
+        "wire 2",
+        &[
+            OpensIn("b", 2),
+            Says(0, SuspectFar("c", "a")),
+            Says(0, AliveFar("d")),
+            Pings("c", &[]),
+            Sends(&[]),
+        ],
+    ),
+    (
+        "wire 3",
+        &[
+            OpensIn("b", 3),
+            Says(0, SuspectFar("c", "a")),
+            Says(0, AliveFar("d")),
+            Says(0, Alive("e", 0)),
+            Pings("c", &[SuspectFar("c", "a"), AliveFar("d"), Alive("e", 0)]),
+            Sends(&[SuspectFar("c", "a"), AliveFar("d"), Alive("e", 0)]),
+        ],
+    ),
+];
+
 /// Each case of packets.
-const PLAYED: &[&[Case]] = &[QUEUED, BUDDIES];
+const PLAYED: &[&[Case]] = &[QUEUED, BUDDIES, FAR];
 
 #[test]
 fn packets_take_what_is_queued(rt: HostRuntime) {

@@ -1,12 +1,15 @@
 -- The queue of claims that ride on packets (piggyback; SWIM, section 4.1), and the buddy (Lifeguard's buddy system).
 --
--- A packet that takes claims has at most 6. If it pings a member whose record is Suspect, it begins with that record,
--- its buddy. The buddy takes one of the 6 places, and doesn't count as sent. The other claims are from the queue, and
--- none of them is about the buddy's member. They are claims that were sent fewer times than the retransmit limit:
--- lambda times for each decimal digit of the number of live members, which are those that aren't gone, this member
--- included. Claims sent least often come first, and of those sent equally often the one about the lesser name by its
--- bytes. Each claim that is taken counts as sent once more, and stays in the queue. A claim that is put replaces the
--- one about its member, and has no sends. Lambda is set by the configuration, 4 by default.
+-- A packet that takes claims has at most 6, or 12 in version 3. If it pings a member whose record is Suspect, it begins
+-- with that record, its buddy. The buddy takes one of these places, and doesn't count as sent. The other claims are
+-- from the queue, and none of them is about the buddy's member. They are claims that were sent fewer times than the
+-- retransmit limit: lambda times for each decimal digit of the number of live members, which are those that aren't
+-- gone, this member included. Claims sent least often come first, and of those sent equally often the one about the
+-- lesser name by its bytes. Each claim that is taken counts as sent once more, and stays in the queue. A claim that is
+-- put replaces the one about its member, and has no sends. Lambda is set by the configuration, 4 by default.
+--
+-- A claim whose address the version can't tell, one of IPv6 in versions 1 and 2, is passed over: it takes no place, is
+-- no buddy, and no send is counted. For this it is queued as one that was sent as often as any claim may be.
 use Rattle.std.specs.Prelude.{ℕ, ◌+◌, ◌-◌, ◌*◌, Bool, true, false, ◌&&◌}
 use Rattle.std.specs.Prelude.{◌||◌, not, Option, Some, None, nat_lt, ◌==◌}
 use Rattle.std.specs.Prelude.{List, [], ◌∷◌, ◌++◌, length, map, filter, take, if◌then◌else◌, decimal}
@@ -15,15 +18,17 @@ use Rattle.std.specs.Ordering.{is_lt}
 use Rattle.lg_rules.specs.declared.claim.Claim.{Claim}
 use Rattle.lg_rules.specs.declared.claim.Status.{Status}
 use Rattle.lg_rules.specs.declared.claim.Status.TheVariants.{Alive, Suspect, Failed, Left}
-use Rattle.lg_rules.specs.Meaning.Bounds.{most_claims}
+use Rattle.lg_rules.specs.declared.version.Version.{Version}
 use Rattle.lg_rules.specs.Meaning.Claim.{name_of}
 use Rattle.lg_rules.specs.Meaning.Rows.{name_cmp, is_same, is_among, put_row}
+use Rattle.lg_rules.specs.Meaning.Version.{most_claims_of, tells}
 use Rattle.lg_gossip.specs.declared.queued.Queued.{Queued}
 
--- How often a claim may be sent for each decimal digit of the number of members (lambda), and the claims that wait.
--- These are in the order of the names of the members that they are about.
+-- How often a claim may be sent for each decimal digit of the number of members (lambda), the version of the packets
+-- that take claims, and the claims that wait. These are in the order of the names of the members that they are about.
 pub record QueueValue : Type 0 where
   pub lambda : ℕ
+  pub version : Version
   pub rows : List Queued
 
 -- the claim of a row
@@ -34,13 +39,26 @@ queued_claim q = q.claim
 abbrev pub queued_name : Queued → List ℕ
 queued_name q = q.claim.name
 
+-- the most packets that take a claim from a queue: lambda is at most 10, and a number of members has at most 20 digits
+abbrev pub most_times_sent : ℕ
+most_times_sent = 200
+
+-- The sends of a claim that no packet has taken yet. One whose address the version can't tell has as many as any claim
+-- may have, so that it is never below the retransmit limit.
+abbrev pub first_sends : Version → Claim → ℕ
+first_sends v c = if tells v c.addr then 0 else most_times_sent
+
 -- a claim that no packet has taken yet
-abbrev pub fresh : Claim → Queued
-fresh c = record { claim = c; sends = 0 }
+abbrev pub fresh : Version → Claim → Queued
+fresh v c = record { claim = c; sends = first_sends v c }
 
 -- a queue once a claim was put, which replaces an older one about its member
 abbrev pub put_of : Claim → QueueValue → QueueValue
-put_of c queue = record { lambda = queue.lambda; rows = put_row name_cmp queued_name (fresh c) queue.rows }
+put_of c queue = record {
+  lambda = queue.lambda;
+  version = queue.version;
+  rows = put_row name_cmp queued_name (fresh queue.version c) queue.rows;
+}
 
 -- how many decimal digits a number has
 abbrev pub decimal_digits : ℕ → ℕ
@@ -70,15 +88,16 @@ is_suspect (Suspect accuser) = true
 is_suspect Failed = false
 is_suspect Left = false
 
--- The buddy of a packet is the record of the member that it pings, if that record is Suspect.
-abbrev pub buddy_of : Option Claim → Option Claim
-buddy_of None = None
-buddy_of (Some to) = if is_suspect to.status then Some to else None
+-- The buddy of a packet is the record of the member that it pings, if that record is Suspect and the version can tell
+-- its address.
+abbrev pub buddy_of : Version → Option Claim → Option Claim
+buddy_of v None = None
+buddy_of v (Some to) = if is_suspect to.status && tells v to.addr then Some to else None
 
 -- A packet with a buddy takes one claim fewer from the queue, and none about the buddy's member.
-abbrev pub room_beside : Option Claim → ℕ
-room_beside None = most_claims
-room_beside (Some buddy) = most_claims - 1
+abbrev pub room_beside : Version → Option Claim → ℕ
+room_beside v None = most_claims_of v
+room_beside v (Some buddy) = most_claims_of v - 1
 
 abbrev pub is_beside : Option Claim → Queued → Bool
 is_beside None q = true
@@ -89,17 +108,19 @@ abbrev pub may_go : Option Claim → ℕ → Queued → Bool
 may_go buddy limit q = nat_lt q.sends limit && is_beside buddy q
 
 -- the rows that it takes: the first in the order of sends
-abbrev pub rows_taken : Option Claim → ℕ → List Queued → List Queued
-rows_taken buddy limit rows = take (room_beside buddy) (by_sends (filter (may_go buddy limit) rows))
+abbrev pub rows_taken : Version → Option Claim → ℕ → List Queued → List Queued
+rows_taken v buddy limit rows = take (room_beside v buddy) (by_sends (filter (may_go buddy limit) rows))
 
 -- The claims that a packet takes from the queue among n live members. The record is that of the member that it pings,
 -- if it pings one.
 unfoldable pub taken_of : QueueValue → Option Claim → ℕ → List Claim
-taken_of queue to n = map queued_claim (rows_taken (buddy_of to) (limit_of queue.lambda n) queue.rows)
+taken_of queue to n =
+    let buddy = buddy_of queue.version to in
+    map queued_claim (rows_taken queue.version buddy (limit_of queue.lambda n) queue.rows)
 
 -- all claims of that packet: its buddy, if it has one, and then those taken
 abbrev pub fill_of : QueueValue → Option Claim → ℕ → List Claim
-fill_of queue to n = option_to_list (buddy_of to) ++ taken_of queue to n
+fill_of queue to n = option_to_list (buddy_of queue.version to) ++ taken_of queue to n
 
 -- a row after a packet that took these claims: one more send if its claim is among them
 abbrev pub sent_once : List Claim → Queued → Queued
@@ -109,4 +130,8 @@ sent_once taken q =
 
 -- the queue after that packet
 abbrev pub filled : QueueValue → Option Claim → ℕ → QueueValue
-filled queue to n = record { lambda = queue.lambda; rows = map (sent_once (taken_of queue to n)) queue.rows }
+filled queue to n = record {
+  lambda = queue.lambda;
+  version = queue.version;
+  rows = map (sent_once (taken_of queue to n)) queue.rows;
+}

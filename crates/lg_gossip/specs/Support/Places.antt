@@ -2,6 +2,7 @@
 use Rattle.std.specs.Prelude.{◌≡◌, ℕ, List, Option, Some, slice_get, filter_map}
 use Rattle.std.specs.List.{AllByRecursion}
 use Rattle.lg_rules.specs.declared.claim.Claim.{Claim}
+use Rattle.lg_rules.specs.declared.version.Version.{Version}
 use Rattle.lg_gossip.specs.declared.choice.TakenRow.{TakenRow}
 use Rattle.lg_gossip.specs.declared.queued.Queued.{Queued}
 use Rattle.lg_gossip.specs.Meaning.Queue.{rows_taken}
@@ -16,7 +17,8 @@ pub record IsRowOf (rows : List Queued) (taken : TakenRow) : Type 0 where
 abbrev pub rows_at : List Queued → List TakenRow → List Queued
 rows_at rows taken = filter_map (λ t. slice_get rows t.index) taken
 
--- these are the places of the rows that a packet takes of a queue
-pub record HasTaken (buddy : Option Claim) (limit : ℕ) (rows : List Queued) (taken : List TakenRow) : Type 0 where
+-- these are the places of the rows that a packet of a version takes of a queue
+pub record HasTaken (v : Version) (buddy : Option Claim) (limit : ℕ) (rows : List Queued)
+    (taken : List TakenRow) : Type 0 where
   pub places : AllByRecursion (IsRowOf rows) taken
-  pub chosen : rows_at rows taken ≡ rows_taken buddy limit rows
+  pub chosen : rows_at rows taken ≡ rows_taken v buddy limit rows

@@ -1,20 +1,19 @@
 -- What holds of every queue.
-use Rattle.std.specs.Prelude.{ℕ, ◌*◌, ◌≤◌, Bool, List, map}
+use Rattle.std.specs.Prelude.{ℕ, ◌≤◌, Bool, List, map}
 use Rattle.std.specs.List.{AllByRecursion}
 use Rattle.lg_rules.specs.Meaning.Rows.{name_cmp, Rises}
-use Rattle.lg_gossip.specs.declared.limit.TheConstants.{MAX_DIGITS}
 use Rattle.lg_rules.specs.declared.claim.TheConstants.{MAX_LAMBDA}
 use Rattle.lg_gossip.specs.declared.queued.Queued.{Queued}
-use Rattle.lg_gossip.specs.Meaning.Queue.{queued_name}
+use Rattle.lg_gossip.specs.Meaning.Queue.{queued_name, most_times_sent}
 use Rattle.lg_gossip.specs.Support.Sets.{AreSets}
 
 -- its claims are in the order of the names of their members, at most one about each
 abbrev pub AreInOrder : List Queued → Type 0
 AreInOrder rows = Rises name_cmp (map queued_name rows)
 
--- no claim was sent more often than the retransmit limit can be for any number of members
-abbrev pub AreWithin : ℕ → List Queued → Type 0
-AreWithin lambda rows = AllByRecursion (λ q. q.sends ≤ lambda * MAX_DIGITS) rows
+-- no claim was sent more often than any claim may be
+abbrev pub AreWithin : List Queued → Type 0
+AreWithin rows = AllByRecursion (λ q. q.sends ≤ most_times_sent) rows
 
 -- each of these was sent so often, or more often
 abbrev pub AreSent : ℕ → List Queued → Type 0
@@ -23,6 +22,6 @@ AreSent fewest rows = AllByRecursion (λ q. fewest ≤ q.sends) rows
 pub record IsSound (lambda fewest : ℕ) (sent : List (List Bool)) (rows : List Queued) : Type 0 where
   pub often : lambda ≤ MAX_LAMBDA
   pub in_order : AreInOrder rows
-  pub within : AreWithin lambda rows
+  pub within : AreWithin rows
   pub least : AreSent fewest rows
   pub sets : AreSets sent rows

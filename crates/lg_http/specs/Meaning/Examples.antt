@@ -1,5 +1,5 @@
 -- Worked rows.
-use Rattle.std.specs.Prelude.{◌≡◌, ℕ, [], ◌∷◌, Some, None, codes, refl, true, false, length}
+use Rattle.std.specs.Prelude.{◌≡◌, ℕ, [], ◌∷◌, ◌++◌, Some, None, codes, refl, true, false, length}
 use Rattle.http1.specs.declared.error.ReadError.TheVariants.{UriTooLong, TooLarge, Host}
 use Rattle.http_server.specs.declared.state.State.TheVariants.{Open, Closing}
 use Rattle.http_server.specs.declared.state.Reason.TheVariants.{Asked, Refused}
@@ -32,7 +32,8 @@ last-says-close : closing true ≡ (codes "connection", codes "close") ∷ []
 last-says-close = refl
 
 text-of-400 : own_text Own.BadRequest
-    ≡ codes "HTTP/1.1 400 Bad Request\r\nconnection: close\r\ncontent-type: application/json\r\ncontent-length: 23\r\n\r\n{\"error\":\"bad request\"}"
+    ≡ codes "HTTP/1.1 400 Bad Request\r\nconnection: close\r\n"
+    ++ codes "content-type: application/json\r\ncontent-length: 23\r\n\r\n{\"error\":\"bad request\"}"
 text-of-400 = refl
 
 length-400 : length (own_body Own.BadRequest) ≡ 23

@@ -12,7 +12,7 @@ use Rattle.lg_timers.specs.declared.timer.TimerId.TheVariants.{RoundEnd, Suspici
 use Rattle.lg_timers.specs.declared.timer.TimerId.TheVariants.{RelayNack, RelayEnd, RoundStart}
 use Rattle.lg_packet.specs.declared.packet.Body.{Body}
 use Rattle.lg_packet.specs.declared.packet.Body.TheVariants.{Ping, PingReq, Ack, Nack}
-use Rattle.lg_packet.specs.declared.packet.Version.TheVariants.{One}
+use Rattle.lg_rules.specs.declared.version.Version.TheVariants.{One}
 use Rattle.lg_packet.specs.Meaning.Spelling.{spelling}
 use Rattle.lg_detector.specs.declared.event.Event.TheVariants.{Ask, Health}
 use Rattle.lg_detector.specs.declared.reply.Answer.TheVariants.{Status as OfStatus, Health as OfHealth}
@@ -41,7 +41,13 @@ abbrev sent : ℕ → ℕ → Body → List Claim → Outgoing
 sent sender port body claims =
     record {
       to = at port;
-      packet = record { version = One; sender = sender ∷ []; body = body; claims = record { items = claims } };
+      packet = record {
+        version = One;
+        group = None;
+        sender = sender ∷ [];
+        body = body;
+        claims = record { items = claims };
+      };
     }
 
 -- a reply that sends one packet
@@ -66,17 +72,23 @@ starts_a_round : reply_text (ticks 0) 1
 unfolding by_computing
 starts_a_round = refl
 
-acks : reply_text (says 10 (Ping 1 (b ∷ [])) []) 2 (sends (sent b 7001 (Ack 1) []) 0)
+acks : reply_text (says 10 (Ping 1 (b ∷ [])) []) 2 (sends (sent b 7001 (Ack 1 None) []) 0)
     ≡ lines (codes "send 2 127.0.0.1:7001 534c010301620000000100" ∷ codes "next 0" ∷ [])
 unfolding by_computing
 acks = refl
 
-hears_an_ack : reply_text (says 20 (Ack 1) []) 3 (nothing 1000) ≡ lines (codes "next 1000" ∷ [])
+hears_an_ack : reply_text (says 20 (Ack 1 None) []) 3 (nothing 1000) ≡ lines (codes "next 1000" ∷ [])
 unfolding by_computing
 hears_an_ack = refl
 
 -- an Ack of b, numbered 7
-acked : packet_text record { version = One; sender = 98 ∷ []; body = Ack 7; claims = record { items = [] } }
+acked : packet_text record {
+  version = One;
+  group = None;
+  sender = 98 ∷ [];
+  body = Ack 7 None;
+  claims = record { items = [] };
+}
     ≡ codes "534c010301620000000700"
 unfolding by_computing
 acked = refl
@@ -106,7 +118,7 @@ unfolding by_computing
 sends_the_buddy = refl
 
 refutes : reply_text (says 1010 (Ping 2 (b ∷ [])) (claimed b 7002 (Suspect (a ∷ [])) 0 ∷ [])) 3
-    (record (sends (sent b 7001 (Ack 2) (claimed b 7002 Alive 1 ∷ [])) 0) {
+    (record (sends (sent b 7001 (Ack 2 None) (claimed b 7002 Alive 1 ∷ [])) 0) {
       changed = record { items = claimed b 7002 Alive 1 ∷ [] };
     })
     ≡ lines (codes "send 3 127.0.0.1:7001 534c0103016200000002010101627f0000011b5a00000001"
@@ -126,7 +138,7 @@ unfolding by_computing
 asks_a_helper = refl
 
 sends_a_nack : reply_text (ticks 910) 4
-    (record (sends (sent b 7001 (Nack 1) []) 1510) { fired = Some (timer_of 910 (RelayNack 1)) })
+    (record (sends (sent b 7001 (Nack 1 None) []) 1510) { fired = Some (timer_of 910 (RelayNack 1)) })
     ≡ lines (codes "fired relay-nack 1"
     ∷ codes "send 4 127.0.0.1:7001 534c010401620000000100"
     ∷ codes "next 1510" ∷ [])
@@ -169,7 +181,7 @@ knows_a_suspect = refl
 -- the packets of an event are numbered one after another
 asks_two_helpers : reply_text (ticks 500) 9
     (record (fires Direct 1000)
-    { sends = record { items = sent a 7002 (Nack 1) [] ∷ sent a 7003 (Nack 2) [] ∷ [] } })
+    { sends = record { items = sent a 7002 (Nack 1 None) [] ∷ sent a 7003 (Nack 2 None) [] ∷ [] } })
     ≡ lines (codes "fired direct"
     ∷ codes "send 9 127.0.0.1:7002 534c010401610000000100"
     ∷ codes "send 10 127.0.0.1:7003 534c010401610000000200"
@@ -179,7 +191,7 @@ asks_two_helpers = refl
 
 -- all that a reply can say, in order
 says_all : reply_text (ticks 500) 1
-    (record (sends (sent a 7002 (Ack 1) []) 600) {
+    (record (sends (sent a 7002 (Ack 1 None) []) 600) {
       fired = Some (timer_of 0 RoundStart);
       answer = Some (OfStatus None);
       changed = record { items = claimed b 7002 Alive 0 ∷ [] };

@@ -5,7 +5,7 @@ use Rattle.std.proofs.Common.{lit≤, lit<, inr}
 use Rattle.std.proofs.lemmas.List.Elements.{All-nil, All-cons}
 use Rattle.lg_packet.specs.declared.packet.Body.TheVariants.{Ping}
 use Rattle.lg_packet.specs.declared.packet.Packet.{Packet}
-use Rattle.lg_packet.specs.declared.packet.Version.TheVariants.{One}
+use Rattle.lg_rules.specs.declared.version.Version.TheVariants.{One}
 use Rattle.lg_packet.specs.Meaning.Reading.{name_at, head_at, body_at, claims_at, packet_at, packet_of}
 use Rattle.lg_packet.specs.Meaning.Spelling.{spelling}
 use Rattle.lg_packet.specs.declared.fault.Fault.TheVariants.{Short}
@@ -27,7 +27,7 @@ use Rattle.lg_loops.specs.Meaning.Turns.Turn.{Quiet, Broken, Dropped, Heard, Unh
 
 -- a Ping of a for b, numbered 7, and the Ack to it
 abbrev ping : Packet
-ping = record { version = One; sender = a ∷ []; body = Ping 7 (b ∷ []); claims = record { items = [] } }
+ping = record { version = One; group = None; sender = a ∷ []; body = Ping 7 (b ∷ []); claims = record { items = [] } }
 
 abbrev ping_bytes : List ℕ
 ping_bytes = 0x53 ∷ 0x4c ∷ 1 ∷ 1 ∷ 1 ∷ 97 ∷ 0 ∷ 0 ∷ 0 ∷ 7 ∷ 1 ∷ 98 ∷ 0 ∷ []

@@ -1,11 +1,12 @@
 -- Worked logs of b, which is at 127.0.0.1:7000.
-use Rattle.std.specs.Prelude.{◌≡◌, ℕ, false, List, [], ◌∷◌, map, Option, Some, None, refl}
+use Rattle.std.specs.Prelude.{◌≡◌, ℕ, false, List, [], ◌∷◌, ◌++◌, map, replicate, Option, Some, None, refl}
 use Rattle.std.specs.Fmt.{digits}
 use Rattle.lg_rules.specs.declared.addr.Addr.{Addr}
-use Rattle.lg_rules.specs.declared.addr.Ip.TheVariants.{V4}
+use Rattle.lg_rules.specs.declared.addr.Ip.TheVariants.{V4, V6}
 use Rattle.lg_rules.specs.declared.claim.Claim.{Claim}
 use Rattle.lg_rules.specs.declared.claim.Status.{Status}
 use Rattle.lg_rules.specs.declared.claim.Status.TheVariants.{Alive, Suspect, Failed}
+use Rattle.lg_rules.specs.declared.version.Version.TheVariants.{One, Three}
 use Rattle.lg_rules.specs.Meaning.Own.{own_of}
 use Rattle.lg_rules.specs.Meaning.Table.{record_of, roster, table_of, takes}
 use Rattle.lg_timing.specs.Meaning.Config.{defaults}
@@ -23,7 +24,6 @@ use Rattle.lg_membership.specs.Meaning.Log.{group_view}
 use Rattle.lg_membership.specs.Meaning.Suspicions.{SuspectedValue, suspicions, suspected}
 use Rattle.lg_membership.specs.Meaning.Gossip.{put_by, queued, queue_rows, queue, target_record, taken, fill}
 use Rattle.lg_membership.specs.Meaning.Applied.{is_live, presence_of}
-use Rattle.lg_membership.specs.Meaning.Pages.{page_of}
 
 -- the letters that name the members
 abbrev a : ℕ
@@ -181,7 +181,8 @@ own_number : own refuted ≡ record { name = b ∷ []; addr = here; number = 1; 
 unfolding own_of
 own_number = refl
 
-refutation_is_queued : queue refuted ≡ record { lambda = 4; rows = record { claim = on b Alive 1; sends = 0 } ∷ [] }
+refutation_is_queued :
+    queue refuted ≡ record { lambda = 4; version = One; rows = record { claim = on b Alive 1; sends = 0 } ∷ [] }
 unfolding own_of table_of record_of roster takes put_by queued queue_rows suspicions
 refutation_is_queued = refl
 
@@ -194,7 +195,8 @@ unfolding own_of
 number_after_failing = refl
 
 raised_number_is_queued :
-    queue raised_by_failing ≡ record { lambda = 4; rows = record { claim = on b Alive 1; sends = 0 } ∷ [] }
+    queue raised_by_failing
+    ≡ record { lambda = 4; version = One; rows = record { claim = on b Alive 1; sends = 0 } ∷ [] }
 unfolding own_of table_of record_of roster takes put_by queued queue_rows suspicions
 raised_number_is_queued = refl
 
@@ -316,35 +318,47 @@ repetition_is_not_queued :
 unfolding table_of record_of roster takes put_by queued suspicions suspected range_of log10_of counted_accusers
 repetition_is_not_queued = refl
 
--- A table of seven records: a to e, g (103) and h (104). Its first page has six, and the page after the sixth has
--- one. The status of a record doesn't matter.
-abbrev seven : List Claim
-seven =
-    on a Alive 0 ∷ on b Alive 3 ∷ on c (accused_by a) 2 ∷ on d Failed 1 ∷ on e Alive 0 ∷ on 103 Failed 7
-    ∷ on 104 Alive 0
-    ∷ []
+-- c is at 2001:db8::1, an address of IPv6, which version 1 can't tell. The claim about it is known and queued, with 200
+-- sends, and no packet takes it. In version 3 it is queued with none, and taken.
+abbrev far : Addr
+far = record { ip = V6 (0x20 ∷ 0x01 ∷ 0x0d ∷ 0xb8 ∷ replicate 11 0 ++ 1 ∷ []); port = 7000 }
 
-first_page_has_six :
-    page_of None seven
-    ≡ on a Alive 0 ∷ on b Alive 3 ∷ on c (accused_by a) 2 ∷ on d Failed 1 ∷ on e Alive 0 ∷ on 103 Failed 7
-    ∷ []
-first_page_has_six = refl
+abbrev far-c : Claim
+far-c = record { name = c ∷ []; addr = far; status = accused_by a; incarnation = 2 }
 
-page_behind_the_sixth : page_of (Some (103 ∷ [])) seven ≡ on 104 Alive 0 ∷ []
-page_behind_the_sixth = refl
+abbrev far_heard : GroupFact → GroupLog
+far_heard opening = says 0 far-c ∷ opening ∷ []
 
-page_behind_the_last : page_of (Some (104 ∷ [])) seven ≡ []
-page_behind_the_last = refl
+abbrev opened_in_three : GroupFact
+opened_in_three = Opened (record (defaults (b ∷ []) here) { wire = 3 })
 
--- Nobody is called f (102) or dd.
-page_behind_f : page_of (Some (102 ∷ [])) seven ≡ on 103 Failed 7 ∷ on 104 Alive 0 ∷ []
-page_behind_f = refl
+far_is_known : group_view (far_heard opened) ≡ on b Alive 0 ∷ far-c ∷ []
+unfolding own_of table_of record_of roster
+far_is_known = refl
 
-page_behind_dd : page_of (Some (d ∷ d ∷ [])) seven ≡ on e Alive 0 ∷ on 103 Failed 7 ∷ on 104 Alive 0 ∷ []
-page_behind_dd = refl
+far_has_200_sends :
+    queue (far_heard opened) ≡ record { lambda = 4; version = One; rows = record { claim = far-c; sends = 200 } ∷ [] }
+unfolding table_of record_of roster takes put_by queued queue_rows suspicions
+far_has_200_sends = refl
 
-no_page_of_none : page_of None [] ≡ []
-no_page_of_none = refl
+far_is_not_taken : taken None (far_heard opened) ≡ []
+unfolding table_of record_of roster takes put_by queued queue_rows suspicions taken_of digits
+far_is_not_taken = refl
 
-none_behind_a_name : page_of (Some (c ∷ [])) [] ≡ []
-none_behind_a_name = refl
+far_is_no_buddy : fill (Some (c ∷ [])) (far_heard opened) ≡ []
+unfolding table_of record_of roster takes put_by queued queue_rows suspicions taken_of digits
+far_is_no_buddy = refl
+
+far_has_no_sends_in_three :
+    queue (far_heard opened_in_three)
+    ≡ record { lambda = 4; version = Three; rows = record { claim = far-c; sends = 0 } ∷ [] }
+unfolding table_of record_of roster takes put_by queued queue_rows suspicions
+far_has_no_sends_in_three = refl
+
+far_is_taken_in_three : taken None (far_heard opened_in_three) ≡ far-c ∷ []
+unfolding table_of record_of roster takes put_by queued queue_rows suspicions taken_of digits
+far_is_taken_in_three = refl
+
+far_is_a_buddy_in_three : fill (Some (c ∷ [])) (far_heard opened_in_three) ≡ far-c ∷ []
+unfolding table_of record_of roster takes put_by queued queue_rows suspicions taken_of digits
+far_is_a_buddy_in_three = refl

@@ -8,10 +8,13 @@ use Rattle.lg_rules.specs.Meaning.Rows.{name_cmp, is_same, is_among, row_at}
 use Rattle.lg_rules.specs.Meaning.Table.{takes}
 use Rattle.lg_rules.specs.declared.own.OwnHeard.{OwnHeard}
 use Rattle.lg_rules.specs.declared.own.OwnHeard.TheVariants.{Refuted, Raised, Ousted, Ignored}
+use Rattle.lg_rules.specs.declared.version.Version.{Version}
+use Rattle.lg_rules.specs.declared.version.Version.TheVariants.{One}
 use Rattle.lg_rules.specs.Meaning.Own.{OwnValue, own_hearing, own_heard, own_record}
 use Rattle.lg_timing.specs.declared.config.Config.{Config}
+use Rattle.lg_timing.specs.Meaning.Config.{version_of}
 use Rattle.lg_gossip.specs.declared.queued.Queued.{Queued}
-use Rattle.lg_gossip.specs.Meaning.Queue.{QueueValue, taken_of, fill_of}
+use Rattle.lg_gossip.specs.Meaning.Queue.{QueueValue, first_sends, taken_of, fill_of}
 use Rattle.lg_membership.specs.declared.origin.Origin.{Origin}
 use Rattle.lg_membership.specs.declared.origin.Origin.TheVariants.{Seed, Group}
 use Rattle.lg_membership.specs.Meaning.Log.{GroupLog, Opened, Said, Sent, config, me, own, table, live, known}
@@ -50,15 +53,27 @@ put_last (Opened opening ∷ log) m = None
 put_last (Said now origin c ∷ log) m = put_or (put_by origin log c) m (put_last log m)
 put_last (Sent taken ∷ log) m = put_last log m
 
--- how many packets have taken it since
-abbrev pub since_put : Option Claim → List ℕ → ℕ → ℕ
-since_put None m before = before
-since_put (Some c) m before = if is_same name_cmp c.name m then 0 else before
+-- how often a claim may be sent for each decimal digit of the number of members that aren't gone
+abbrev pub lambda_in : Option Config → ℕ
+lambda_in None = 1
+lambda_in (Some opening) = opening.lambda
+
+-- The version of all that a member sends: that of the key `wire` of its configuration. Nothing is sent before the
+-- opening.
+abbrev pub version_sent : Option Config → Version
+version_sent None = One
+version_sent (Some opening) = version_of opening
+
+-- The sends of the claim that was put last: those that it begins with, and one for each packet that has taken it since.
+-- It begins with none, or with 200 if the version can't tell its address, so that no packet takes it.
+abbrev pub since_put : Version → Option Claim → List ℕ → ℕ → ℕ
+since_put v None m before = before
+since_put v (Some c) m before = if is_same name_cmp c.name m then first_sends v c else before
 
 abbrev pub sends : GroupLog → List ℕ → ℕ
 sends [] m = 0
 sends (Opened opening ∷ log) m = 0
-sends (Said now origin c ∷ log) m = since_put (put_by origin log c) m (sends log m)
+sends (Said now origin c ∷ log) m = since_put (version_sent (config log)) (put_by origin log c) m (sends log m)
 sends (Sent taken ∷ log) m = if is_among name_cmp m (map name_of taken) then sends log m + 1 else sends log m
 
 -- the claim about a member that is queued, with its sends; and the queue, in the order of names
@@ -68,15 +83,16 @@ queued log m = option_map (λ c. record { claim = c; sends = sends log m }) (put
 unfoldable pub queue_rows : GroupLog → List Queued
 queue_rows log = filter_map (queued log) (known log)
 
-abbrev pub lambda_in : Option Config → ℕ
-lambda_in None = 1
-lambda_in (Some opening) = opening.lambda
-
 abbrev pub queue : GroupLog → QueueValue
-queue log = record { lambda = lambda_in (config log); rows = queue_rows log }
+queue log = record {
+  lambda = lambda_in (config log);
+  version = version_sent (config log);
+  rows = queue_rows log;
+}
 
--- The record of the member that a Ping goes to, if that is another member that is known. If the record is Suspect, it
--- is the packet's buddy (Lifeguard, buddy system). Any packet but a Ping has no such member.
+-- The record of the member that a Ping goes to, if that is another member that is known. If the record is Suspect, and
+-- the version can tell its address, it is the packet's buddy (Lifeguard, buddy system). Any packet but a Ping has no
+-- such member.
 abbrev pub target_record : Option (List ℕ) → List Claim → Option Claim
 target_record None rows = None
 target_record (Some target) rows = row_at name_cmp name_of target rows

@@ -2,12 +2,14 @@
 use Rattle.std.specs.Prelude.{ℕ, Bool, false, List, [], ◌∷◌, map, Option, Some, None, if◌then◌else◌}
 use Rattle.lg_rules.specs.declared.claim.Claim.{Claim}
 use Rattle.lg_rules.specs.declared.own.OwnHeard.{OwnHeard}
+use Rattle.lg_rules.specs.declared.version.Version.{Version}
 use Rattle.lg_rules.specs.Meaning.Claim.{name_of}
 use Rattle.lg_rules.specs.Meaning.Own.{OwnValue, own_of, own_hearing, own_heard}
 use Rattle.lg_rules.specs.Meaning.Rows.{name_cmp, is_same, put_row}
 use Rattle.lg_rules.specs.Meaning.Table.{MembersValue, known_of, takes, heard, names_heard, live_in}
 use Rattle.lg_rules.specs.Support.Standing.{Standing}
 use Rattle.lg_timing.specs.declared.config.Config.{Config}
+use Rattle.lg_timing.specs.Meaning.Config.{version_of}
 use Rattle.lg_gossip.specs.Meaning.Queue.{QueueValue, put_of, sent_once, taken_of, fill_of}
 use Rattle.lg_membership.specs.declared.applied.Applied.{Applied}
 use Rattle.lg_membership.specs.declared.applied.Deadline.TheVariants.{Stays}
@@ -17,7 +19,7 @@ use Rattle.lg_membership.specs.Meaning.Log.{GroupLog, config, me, said, own, liv
 use Rattle.lg_membership.specs.Meaning.Suspicions.{SuspectedValue, suspicions}
 use Rattle.lg_membership.specs.Meaning.Gossip.{queue, put_of_own, put_of_other, target_record}
 use Rattle.lg_membership.specs.Meaning.Applied.{is_refuted}
-use Rattle.lg_membership.specs.Meaning.Pages.{is_behind}
+use Rattle.lg_membership.specs.Meaning.Pages.{is_in_page}
 use Rattle.lg_membership.specs.Support.Changes.{Change, change_of, suspicions_after, deadline_of_change, presence_heard}
 
 pub record GroupState : Type 0 where
@@ -44,7 +46,7 @@ open_group opening s = record {
   own = own_of opening.name opening.addr [];
   members = known_of opening.name [];
   suspicions = [];
-  queue = record { lambda = opening.lambda; rows = [] };
+  queue = record { lambda = opening.lambda; version = version_of opening; rows = [] };
 }
 
 -- what this member knows of itself, and the records of the others
@@ -64,9 +66,9 @@ abbrev pub with_found : Option Claim → List Claim → List Claim
 with_found None rows = rows
 with_found (Some r) rows = put_row name_cmp name_of r rows
 
--- the records with one more, if that one comes after a name
-abbrev pub with_behind : Option (List ℕ) → Claim → List Claim → List Claim
-with_behind after r rows = if is_behind after r then put_row name_cmp name_of r rows else rows
+-- the records with one more, if that one can be on the pages after a name
+abbrev pub with_paged : Version → Option (List ℕ) → Claim → List Claim → List Claim
+with_paged v after r rows = if is_in_page v after r then put_row name_cmp name_of r rows else rows
 
 -- what a claim at a moment changes of the suspicions
 abbrev pub change_in : ℕ → Claim → GroupState → Change
@@ -149,4 +151,5 @@ fill_in target s = fill_of s.queue (target_record target s.members.table) (live_
 -- the state once a packet was sent that took these claims from the queue
 abbrev pub send_from_group : List Claim → GroupState → GroupState
 send_from_group taken s =
-    record s { queue = record { lambda = s.queue.lambda; rows = map (sent_once taken) s.queue.rows } }
+    let rows = map (sent_once taken) s.queue.rows in
+    record s { queue = record { lambda = s.queue.lambda; version = s.queue.version; rows = rows } }

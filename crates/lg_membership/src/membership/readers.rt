@@ -1,18 +1,20 @@
 //! What a member can be asked about its group.
 //!
-//! Defined in: `specs/Meaning/Log.antt`, `lg_rules/specs/Meaning/Table.antt`, `lg_rules/specs/Meaning/Own.antt`.
+//! Defined in: `specs/Meaning/Log.antt`, `specs/Meaning/Gossip.antt`, `lg_rules/specs/Meaning/Table.antt`,
+//! `lg_rules/specs/Meaning/Own.antt`.
 //! Tested in: `lg_detector_tests/src/membership/claims.rt`.
 ghost use Rattle.std.specs.Prelude.{◌≡◌, ◌≤◌, [], length, option_copied};
 ghost use Rattle.lg_rules.specs.Meaning.Claim.{name_of};
 ghost use Rattle.lg_rules.specs.Meaning.Own.{own_record};
 ghost use Rattle.lg_rules.specs.Meaning.Rows.{name_cmp, row_at};
 ghost use Rattle.lg_rules.specs.Meaning.Table.{live_in};
+ghost use Rattle.lg_membership.specs.Meaning.Gossip.{version_sent};
 ghost use Rattle.lg_membership.specs.Meaning.Log.{GroupLog, config, own, group_view, live};
 ghost use Rattle.lg_membership.specs.Support.State.{group_state_of, shown};
 
 use super::{Membership, is_same_name};
 use arrayvec::ArrayVec;
-use lg_rules::{Incarnation, MAX_MEMBERS, MAX_OTHERS, Name, Record, put_row};
+use lg_rules::{Incarnation, MAX_MEMBERS, MAX_OTHERS, Name, Record, Version, put_row};
 use lg_timing::Config;
 
 impl Membership {
@@ -22,6 +24,16 @@ impl Membership {
         ensures log { (log : GroupLog) → self.now ≡ group_state_of log → option_copied result ≡ config log }
     {
         self.config.as_ref()
+    }
+
+    /// The version of the format in which this member sends; version 1 before the opening.
+    pub fn version(&self) -> Version
+        ensures { result ≡ version_sent self.now.config }
+    {
+        match &self.config {
+            Some(config) => config.version(),
+            None => Version::One,
+        }
     }
 
     /// This member's name. Before the opening it is a placeholder.

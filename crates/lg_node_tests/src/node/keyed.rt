@@ -24,9 +24,9 @@ use std::sync::atomic::AtomicBool;
 const SEALED_ACK: &[u8] = b"LK\x01SL\x01\x03\x01b\x00\x00\x00\x07\x00\
     \xc8\xf6\x0a\xf9\x5e\xe4\xcc\x3d\x3b\x29\xf0\xf5\x8c\xb4\xcc\x6b";
 
-/// The tag under the first key of 543 letters `a` behind the head.
+/// The tag under the first key of 1,207 letters `a` behind the head.
 const TAG_OF_LETTERS: &[u8; TAG_LEN] =
-    b"\x0f\x6d\xa1\x42\x31\x84\x55\xf8\xcd\xfd\xb4\xae\x7b\xdd\xa8\x39";
+    b"\xd6\x49\xe7\x5d\xbb\x94\xc6\x5f\x2b\x52\x2e\x5d\xb4\x81\xb6\x06";
 
 /// The bytes of the head of a sealed datagram.
 const HEAD_LEN: usize = SEAL_LEN - TAG_LEN;

@@ -9,22 +9,22 @@ use Rattle.lg_packet.specs.declared.fault.Fault.{Fault}
 use Rattle.lg_packet.specs.declared.fault.Fault.TheVariants as faults
 use Rattle.lg_packet.specs.declared.packet.Body.TheVariants.{Ping, PingReq, Ack, Nack, Pull, Page}
 use Rattle.lg_packet.specs.declared.packet.Packet.{Packet}
-use Rattle.lg_packet.specs.declared.packet.Version.TheVariants.{One}
+use Rattle.lg_rules.specs.declared.version.Version.TheVariants.{One}
 use Rattle.lg_packet.specs.Meaning.Spelling.{spelled_body, spelling}
 use Rattle.lg_packet.specs.Meaning.Reading.{name_at, head_at, body_at, claims_at, packet_at, packet_of}
-use Rattle.lg_packet.specs.Meaning.Reading.{addr_at, incarnation_at, status_at, claim_at, some_name_at, after_at}
+use Rattle.lg_packet.specs.Meaning.Reading.{addr_at, incarnation_at, status_at, claim_at, some_name_at, name_or_none_at}
 use Rattle.lg_packet.specs.Meaning.Fault.{fault_of, first_fault, fault_behind}
 
 -- a Ping from a for b, numbered 7
 abbrev ping : Packet
-ping = record { version = One; sender = 97 ∷ []; body = Ping 7 (98 ∷ []); claims = record { items = [] } }
+ping = record { version = One; group = None; sender = 97 ∷ []; body = Ping 7 (98 ∷ []); claims = record { items = [] } }
 
 abbrev ping_bytes : List ℕ
 ping_bytes = 0x53 ∷ 0x4c ∷ 1 ∷ 1 ∷ 1 ∷ 97 ∷ 0 ∷ 0 ∷ 0 ∷ 7 ∷ 1 ∷ 98 ∷ 0 ∷ []
 
 -- an Ack of b, numbered 7
 abbrev ack : Packet
-ack = record { version = One; sender = 98 ∷ []; body = Ack 7; claims = record { items = [] } }
+ack = record { version = One; group = None; sender = 98 ∷ []; body = Ack 7 None; claims = record { items = [] } }
 
 abbrev ack_bytes : List ℕ
 ack_bytes = 0x53 ∷ 0x4c ∷ 1 ∷ 3 ∷ 1 ∷ 98 ∷ 0 ∷ 0 ∷ 0 ∷ 7 ∷ 0 ∷ []
@@ -115,7 +115,7 @@ at_port port = record { ip = V4 (127 ∷ 0 ∷ 0 ∷ 1 ∷ []); port = port }
 abbrev ping_req : Packet
 ping_req =
     let asks = PingReq 1 (99 ∷ []) (at_port 7003) in
-    record { version = One; sender = 97 ∷ []; body = asks; claims = record { items = [] } }
+    record { version = One; group = None; sender = 97 ∷ []; body = asks; claims = record { items = [] } }
 
 abbrev ping_req_bytes : List ℕ
 ping_req_bytes =
@@ -124,7 +124,7 @@ ping_req_bytes =
 
 -- the helper b has no Ack for the probe numbered 1 so far
 abbrev nack : Packet
-nack = record { version = One; sender = 98 ∷ []; body = Nack 1; claims = record { items = [] } }
+nack = record { version = One; group = None; sender = 98 ∷ []; body = Nack 1 None; claims = record { items = [] } }
 
 abbrev nack_bytes : List ℕ
 nack_bytes = 0x53 ∷ 0x4c ∷ 1 ∷ 4 ∷ 1 ∷ 98 ∷ 0 ∷ 0 ∷ 0 ∷ 1 ∷ 0 ∷ []
@@ -146,7 +146,7 @@ unfolding packet_of packet_at head_at name_at body_at claims_at
 read_nack = refl
 
 -- the longest body and the longest packet
-longest_body : length (spelled_body (PingReq 4294967295 (replicate 32 99) (at_port 65535))) ≡ 43
+longest_body : length (spelled_body One [] (PingReq 4294967295 (replicate 32 99) (at_port 65535))) ≡ 43
 longest_body = refl
 
 abbrev longest : Packet
@@ -154,7 +154,7 @@ longest =
     let name = replicate 32 99 in
     let claim : Claim = record { name = name; addr = at_port 65535; status = Suspect name; incarnation = 1000000000 } in
     let asks = PingReq 4294967295 name (at_port 65535) in
-    record { version = One; sender = name; body = asks; claims = record { items = replicate 6 claim } }
+    record { version = One; group = None; sender = name; body = asks; claims = record { items = replicate 6 claim } }
 
 longest_packet : length (spelling longest) ≡ 543
 unfolding spelling
@@ -205,7 +205,8 @@ longer_nack = record { read = refl; placed = refl }
 abbrev alive : Packet
 alive =
     let claim : Claim = record { name = 99 ∷ []; addr = at_port 7003; status = Alive; incarnation = 0 } in
-    record { version = One; sender = 97 ∷ []; body = Ping 7 (98 ∷ []); claims = record { items = claim ∷ [] } }
+    let asks = Ping 7 (98 ∷ []) in
+    record { version = One; group = None; sender = 97 ∷ []; body = asks; claims = record { items = claim ∷ [] } }
 
 abbrev alive_bytes : List ℕ
 alive_bytes =
@@ -225,7 +226,8 @@ abbrev suspect : Packet
 suspect =
     let accused = Suspect (97 ∷ []) in
     let claim : Claim = record { name = 98 ∷ []; addr = at_port 7000; status = accused; incarnation = 1000000000 } in
-    record { version = One; sender = 97 ∷ []; body = Ping 1 (98 ∷ []); claims = record { items = claim ∷ [] } }
+    let asks = Ping 1 (98 ∷ []) in
+    record { version = One; group = None; sender = 97 ∷ []; body = asks; claims = record { items = claim ∷ [] } }
 
 abbrev suspect_bytes : List ℕ
 suspect_bytes =
@@ -272,7 +274,9 @@ there name port = record { name = name ∷ []; addr = at_port port; status = Ali
 
 -- a asks for the first records, and says that a is alive
 abbrev pull : Packet
-pull = record { version = One; sender = 97 ∷ []; body = Pull None; claims = record { items = there 97 7001 ∷ [] } }
+pull =
+    let own = there 97 7001 in
+    record { version = One; group = None; sender = 97 ∷ []; body = Pull None; claims = record { items = own ∷ [] } }
 
 abbrev pull_bytes : List ℕ
 pull_bytes =
@@ -283,7 +287,7 @@ pull_bytes =
 abbrev page : Packet
 page =
     let records = there 97 7001 ∷ there 98 7002 ∷ there 99 7003 ∷ [] in
-    record { version = One; sender = 98 ∷ []; body = Page; claims = record { items = records } }
+    record { version = One; group = None; sender = 98 ∷ []; body = Page; claims = record { items = records } }
 
 abbrev page_bytes : List ℕ
 page_bytes =
@@ -295,7 +299,8 @@ page_bytes =
 abbrev pull_after : Packet
 pull_after =
     let asks = Pull (Some (102 ∷ [])) in
-    record { version = One; sender = 97 ∷ []; body = asks; claims = record { items = there 97 7001 ∷ [] } }
+    let own = there 97 7001 in
+    record { version = One; group = None; sender = 97 ∷ []; body = asks; claims = record { items = own ∷ [] } }
 
 abbrev pull_after_bytes : List ℕ
 pull_after_bytes =
@@ -315,61 +320,62 @@ unfolding spelling
 spelled_pull_after = refl
 
 read_pull : packet_of pull_bytes ≡ Ok pull
-unfolding packet_of packet_at head_at name_at some_name_at after_at body_at claims_at claim_at addr_at incarnation_at
-    status_at
+unfolding packet_of packet_at head_at name_at some_name_at name_or_none_at body_at claims_at claim_at addr_at
+    incarnation_at status_at
 read_pull = refl
 
 read_page : packet_of page_bytes ≡ Ok page
-unfolding packet_of packet_at head_at name_at some_name_at after_at body_at claims_at claim_at addr_at incarnation_at
-    status_at
+unfolding packet_of packet_at head_at name_at some_name_at name_or_none_at body_at claims_at claim_at addr_at
+    incarnation_at status_at
 read_page = refl
 
 read_pull_after : packet_of pull_after_bytes ≡ Ok pull_after
-unfolding packet_of packet_at head_at name_at some_name_at after_at body_at claims_at claim_at addr_at incarnation_at
-    status_at
+unfolding packet_of packet_at head_at name_at some_name_at name_or_none_at body_at claims_at claim_at addr_at
+    incarnation_at status_at
 read_pull_after = refl
 
 -- a Pull that ends before the length of its name, within its name, and before its count
 no_length : Fails (take 6 pull_bytes) faults.Short
-unfolding packet_of packet_at head_at name_at some_name_at after_at body_at claims_at fault_of first_fault fault_behind
+unfolding packet_of packet_at head_at name_at some_name_at name_or_none_at body_at fault_of first_fault fault_behind
 no_length = record { read = refl; placed = refl }
 
 short_after : Fails (take 7 pull_after_bytes) faults.Short
-unfolding packet_of packet_at head_at name_at some_name_at after_at body_at claims_at fault_of first_fault fault_behind
+unfolding packet_of packet_at head_at name_at some_name_at name_or_none_at body_at fault_of first_fault fault_behind
 short_after = record { read = refl; placed = refl }
 
 no_count : Fails (take 7 pull_bytes) faults.Short
-unfolding packet_of packet_at head_at name_at some_name_at after_at body_at claims_at fault_of first_fault fault_behind
+unfolding packet_of packet_at head_at name_at some_name_at name_or_none_at body_at fault_of first_fault fault_behind
 no_count = record { read = refl; placed = refl }
 
 -- a Pull whose name has 32 bytes, one whose name would have 33, and one whose name has two bytes, of which one is bad
 longest_after : packet_of (take 6 pull_bytes ++ 32 ∷ replicate 32 99 ++ 0 ∷ [])
     ≡ Ok (record {
       version = One;
+      group = None;
       sender = 97 ∷ [];
       body = Pull (Some (replicate 32 99));
       claims = record { items = [] };
     })
-unfolding packet_of packet_at head_at name_at some_name_at after_at body_at claims_at
+unfolding packet_of packet_at head_at name_at some_name_at name_or_none_at body_at claims_at
 longest_after = refl
 
 long_after : Fails (0x53 ∷ 0x4c ∷ 1 ∷ 5 ∷ 1 ∷ 97 ∷ 0x21 ∷ []) faults.Name
-unfolding packet_of packet_at head_at name_at some_name_at after_at body_at claims_at fault_of first_fault fault_behind
+unfolding packet_of packet_at head_at name_at some_name_at name_or_none_at body_at fault_of first_fault fault_behind
 long_after = record { read = refl; placed = refl }
 
 bad_after : Fails (0x53 ∷ 0x4c ∷ 1 ∷ 5 ∷ 1 ∷ 97 ∷ 2 ∷ 32 ∷ []) faults.Name
-unfolding packet_of packet_at head_at name_at some_name_at after_at body_at claims_at fault_of first_fault fault_behind
+unfolding packet_of packet_at head_at name_at some_name_at name_or_none_at body_at fault_of first_fault fault_behind
 bad_after = record { read = refl; placed = refl }
 
 -- a Page that ends before its count, one with seven records, and one with a byte too many
 short_page : Fails (take 6 page_bytes) faults.Short
-unfolding packet_of packet_at head_at name_at some_name_at after_at body_at claims_at fault_of first_fault fault_behind
+unfolding packet_of packet_at head_at name_at body_at fault_of first_fault fault_behind
 short_page = record { read = refl; placed = refl }
 
 seven_records : Fails (0x53 ∷ 0x4c ∷ 1 ∷ 6 ∷ 1 ∷ 98 ∷ 7 ∷ []) faults.Count
-unfolding packet_of packet_at head_at name_at some_name_at after_at body_at claims_at fault_of first_fault fault_behind
+unfolding packet_of packet_at head_at name_at body_at fault_of first_fault fault_behind
 seven_records = record { read = refl; placed = refl }
 
 longer_page : Fails (0x53 ∷ 0x4c ∷ 1 ∷ 6 ∷ 1 ∷ 98 ∷ 0 ∷ 0 ∷ []) faults.Trailing
-unfolding packet_of packet_at head_at name_at some_name_at after_at body_at claims_at fault_of first_fault fault_behind
+unfolding packet_of packet_at head_at name_at body_at claims_at fault_of first_fault fault_behind
 longer_page = record { read = refl; placed = refl }

@@ -5,36 +5,49 @@ use Rattle.std.specs.Prelude.{nat_lt, nat_le, ◌==◌, if◌then◌else◌}
 use Rattle.std.specs.Prelude.{List, [], ◌∷◌, ◌++◌, length, take, replicate, Option, Some, None, unwrap_or}
 use Rattle.std.specs.Int.{w32, from_be_bytes}
 use Rattle.lg_rules.specs.Meaning.Name.{is_name_byte}
-use Rattle.lg_rules.specs.Meaning.Bounds.{greatest_incarnation, most_claims, most_name_bytes}
+use Rattle.lg_rules.specs.Meaning.Bounds.{greatest_incarnation, most_name_bytes}
 use Rattle.lg_packet.specs.Meaning.Bytes.{first_magic, second_magic}
 use Rattle.lg_packet.specs.declared.fault.Fault.{Fault}
 use Rattle.lg_packet.specs.declared.fault.Fault.TheVariants as faults
 
--- What can be due at a place. AfterLengthByte is the length of the name of a Pull, which is 0 if the Pull has no
--- name. IncarnationByte has those bytes of the incarnation that are there already.
+-- What can be due at a place. If what can stand there depends on the version, the part has the version byte.
+-- MaybeLengthByte is the length of a name that may be missing, and is 0 if it is: the group, and the name of a Pull.
+-- IncarnationByte has those bytes of the incarnation that are there already.
 pub data Part : Type 0 where
   MagicByte : ℕ → Part
   VersionByte : Part
-  KindByte : Part
+  KindByte : ℕ → Part
   LengthByte : Part
-  AfterLengthByte : Part
+  MaybeLengthByte : Part
   NameByte : Part
   NumberByte : Part
-  CountByte : Part
-  ClaimKindByte : Part
+  FamilyByte : Part
+  CountByte : ℕ → Part
+  ClaimKindByte : ℕ → Part
   IncarnationByte : List ℕ → Part
+
+-- of the version that a byte stands for: the greatest kind of a packet, the most claims, the greatest kind of a claim
+abbrev pub most_kind : ℕ → ℕ
+most_kind version = if version == 3 then 7 else 6
+
+abbrev pub most_count : ℕ → ℕ
+most_count version = if version == 3 then 12 else 6
+
+abbrev pub most_claim_kind : ℕ → ℕ
+most_claim_kind version = if version == 3 then 4 else 3
 
 -- whether a byte can stand at a place where this is due
 abbrev pub is_allowed : Part → ℕ → Bool
 is_allowed (MagicByte magic) b = b == magic
-is_allowed VersionByte b = nat_le 1 b && nat_le b 2
-is_allowed KindByte b = nat_le 1 b && nat_le b 6
+is_allowed VersionByte b = nat_le 1 b && nat_le b 3
+is_allowed (KindByte version) b = nat_le 1 b && nat_le b (most_kind version)
 is_allowed LengthByte b = nat_le 1 b && nat_le b most_name_bytes
-is_allowed AfterLengthByte b = nat_le b most_name_bytes
+is_allowed MaybeLengthByte b = nat_le b most_name_bytes
 is_allowed NameByte b = is_name_byte b
 is_allowed NumberByte b = true
-is_allowed CountByte b = nat_le b most_claims
-is_allowed ClaimKindByte b = nat_le 1 b && nat_le b 3
+is_allowed FamilyByte b = b == 4 || b == 6
+is_allowed (CountByte version) b = nat_le b (most_count version)
+is_allowed (ClaimKindByte version) b = nat_le 1 b && nat_le b (most_claim_kind version)
 is_allowed (IncarnationByte before) b =
     nat_lt (length before) 3 || nat_le (from_be_bytes w32 (before ++ b ∷ [])) greatest_incarnation
 
@@ -42,49 +55,60 @@ is_allowed (IncarnationByte before) b =
 abbrev pub fault_at : Part → Fault
 fault_at (MagicByte magic) = faults.Magic
 fault_at VersionByte = faults.Version
-fault_at KindByte = faults.Kind
+fault_at (KindByte version) = faults.Kind
 fault_at LengthByte = faults.Name
-fault_at AfterLengthByte = faults.Name
+fault_at MaybeLengthByte = faults.Name
 fault_at NameByte = faults.Name
 fault_at NumberByte = faults.Short
-fault_at CountByte = faults.Count
-fault_at ClaimKindByte = faults.ClaimKind
+fault_at FamilyByte = faults.Family
+fault_at (CountByte version) = faults.Count
+fault_at (ClaimKindByte version) = faults.ClaimKind
 fault_at (IncarnationByte before) = faults.Incarnation
 
--- what is due of a number, of an address, and of the body of a packet of this kind
+-- what is due of a number, of an address, of a group, of a receiver, and of the body of a packet of this kind
 abbrev pub number_parts : List Part
 number_parts = replicate 4 NumberByte
 
-abbrev pub addr_parts : List Part
-addr_parts = replicate 6 NumberByte
+abbrev pub addr_parts : ℕ → List Part
+addr_parts version = if version == 3 then FamilyByte ∷ NumberByte ∷ NumberByte ∷ [] else replicate 6 NumberByte
 
-abbrev pub body_parts : ℕ → List Part
-body_parts kind =
+abbrev pub group_parts : ℕ → List Part
+group_parts version = if version == 3 then MaybeLengthByte ∷ [] else []
+
+abbrev pub receiver_parts : ℕ → List Part
+receiver_parts version = if version == 3 then LengthByte ∷ [] else []
+
+abbrev pub body_parts : ℕ → ℕ → List Part
+body_parts version kind =
     if kind == 1 then number_parts ++ LengthByte ∷ []
-    else if kind == 2 then number_parts ++ LengthByte ∷ addr_parts
-    else if kind == 5 then AfterLengthByte ∷ [] else if kind == 6 then [] else number_parts
+    else if kind == 2 then number_parts ++ LengthByte ∷ addr_parts version
+    else if kind == 5 then MaybeLengthByte ∷ []
+    else if nat_lt 5 kind then [] else number_parts ++ receiver_parts version
 
 -- What is due of a claim after its kind. Of a Suspect, the accuser comes last.
 abbrev pub accuser_parts : ℕ → List Part
 accuser_parts kind = if kind == 2 then LengthByte ∷ [] else []
 
-abbrev pub claim_parts : ℕ → List Part
-claim_parts kind = LengthByte ∷ addr_parts ++ IncarnationByte [] ∷ accuser_parts kind
+abbrev pub claim_parts : ℕ → ℕ → List Part
+claim_parts version kind = LengthByte ∷ addr_parts version ++ IncarnationByte [] ∷ accuser_parts kind
 
 -- what a byte makes due right after it, as the length of a name makes its bytes due
 abbrev pub brought : Part → ℕ → List Part
-brought KindByte kind = LengthByte ∷ body_parts kind ++ CountByte ∷ []
+brought VersionByte version = KindByte version ∷ []
+brought (KindByte version) kind =
+    group_parts version ++ LengthByte ∷ body_parts version kind ++ CountByte version ∷ []
 brought LengthByte n = replicate n NameByte
-brought AfterLengthByte n = replicate n NameByte
-brought CountByte n = replicate n ClaimKindByte
-brought ClaimKindByte kind = claim_parts kind
+brought MaybeLengthByte n = replicate n NameByte
+brought FamilyByte family = replicate (if family == 4 then 4 else 16) NumberByte
+brought (CountByte version) n = replicate n (ClaimKindByte version)
+brought (ClaimKindByte version) kind = claim_parts version kind
 brought (IncarnationByte before) b =
     if nat_lt (length before) 3 then IncarnationByte (before ++ b ∷ []) ∷ [] else []
 brought _ b = []
 
 -- what is due at the beginning of a packet
 abbrev pub packet_parts : List Part
-packet_parts = MagicByte first_magic ∷ MagicByte second_magic ∷ VersionByte ∷ KindByte ∷ []
+packet_parts = MagicByte first_magic ∷ MagicByte second_magic ∷ VersionByte ∷ []
 
 -- what is still due after one more byte, and after a front
 abbrev pub due_behind : List Part → ℕ → List Part

@@ -4,7 +4,7 @@ use Rattle.std.proofs.Common.{sym, ◌∙◌, arith}
 use Rattle.lg_packet.specs.declared.fault.Fault.TheVariants as faults
 use Rattle.lg_packet.specs.declared.packet.Body.TheVariants.{Ping}
 use Rattle.lg_packet.specs.declared.packet.Packet.{Packet}
-use Rattle.lg_packet.specs.declared.packet.Version.TheVariants.{One}
+use Rattle.lg_rules.specs.declared.version.Version.TheVariants.{One}
 use Rattle.lg_packet.specs.Meaning.Spelling.{spelling, IsPacket, BeginsSpelling}
 use Rattle.lg_packet.specs.Meaning.Fault.{fault_behind, packet_parts, due_after, Stands}
 use Rattle.lg_packet.specs.Meaning.Fault.{begun_incarnation, least_number, IncarnationFits}
@@ -17,34 +17,35 @@ magic_stands = (refl, refl)
 
 -- a Ping from a for b, numbered 7, and what comes after the magic in its spelling
 abbrev ping : Packet
-ping = record { version = One; sender = 97 ∷ []; body = Ping 7 (98 ∷ []); claims = record { items = [] } }
+ping = record { version = One; group = None; sender = 97 ∷ []; body = Ping 7 (98 ∷ []); claims = record { items = [] } }
 
 abbrev behind_magic : List ℕ
 behind_magic = 1 ∷ 1 ∷ 1 ∷ 97 ∷ 0 ∷ 0 ∷ 0 ∷ 7 ∷ 1 ∷ 98 ∷ 0 ∷ []
 
 is_packet : IsPacket ping
 is_packet =
-    record { sender = refl; body = (omega arith, refl); claims = record { few = omega arith; each = tt } }
+    record { group = refl; sender = refl; body = (omega arith, refl); claims = record { few = omega arith; each = tt } }
 
 magic_begins : BeginsSpelling (0x53 ∷ 0x4c ∷ [])
 unfolding spelling
 magic_begins = (ping, behind_magic, (is_packet, refl))
 
--- a version of 1 or of 2 can stand, and no other
+-- a version of 1, of 2 or of 3 can stand, and no other
 version_stands : (fault_behind (0x53 ∷ 0x4c ∷ []) 1 ≡ None) × (fault_behind (0x53 ∷ 0x4c ∷ []) 2 ≡ None)
+    × (fault_behind (0x53 ∷ 0x4c ∷ []) 3 ≡ None)
 unfolding fault_behind
-version_stands = (refl, refl)
+version_stands = (refl, refl, refl)
 
 no_version : fault_behind (0x53 ∷ 0x4c ∷ []) 0 ≡ Some faults.Version
 unfolding fault_behind
 no_version = refl
 
-third_version : fault_behind (0x53 ∷ 0x4c ∷ []) 3 ≡ Some faults.Version
+fourth_version : fault_behind (0x53 ∷ 0x4c ∷ []) 4 ≡ Some faults.Version
 unfolding fault_behind
-third_version = refl
+fourth_version = refl
 
-no_third_version : ¬ (Stands (0x53 ∷ 0x4c ∷ 3 ∷ []))
-no_third_version stands = none (sym third_version ∙ stands (0x53 ∷ 0x4c ∷ []) [] 3 refl)
+no_fourth_version : ¬ (Stands (0x53 ∷ 0x4c ∷ 4 ∷ []))
+no_fourth_version stands = none (sym fourth_version ∙ stands (0x53 ∷ 0x4c ∷ []) [] 4 refl)
   where
     none : Some faults.Version ≡ None → ⊥
     none e = cc
@@ -52,7 +53,7 @@ no_third_version stands = none (sym third_version ∙ stands (0x53 ∷ 0x4c ∷ 
 -- each front of the Ping in version 2
 second_is_packet : IsPacket second
 second_is_packet =
-    record { sender = refl; body = (omega arith, refl); claims = record { few = omega arith; each = tt } }
+    record { group = refl; sender = refl; body = (omega arith, refl); claims = record { few = omega arith; each = tt } }
 
 second_begins : (front rest : List ℕ) → front ++ rest ≡ second_bytes → BeginsSpelling front
 unfolding spelling

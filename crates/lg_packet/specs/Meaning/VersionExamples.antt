@@ -1,9 +1,9 @@
--- Worked rows of the version: a packet of version 2 with its bytes, and bytes that are no version.
-use Rattle.std.specs.Prelude.{◌≡◌, ℕ, List, [], ◌∷◌, drop, Ok, refl}
+-- Worked rows of the version: a packet of version two with its bytes, and bytes that are no version.
+use Rattle.std.specs.Prelude.{◌≡◌, ℕ, List, [], ◌∷◌, drop, None, Ok, refl}
 use Rattle.lg_packet.specs.declared.fault.Fault.TheVariants as faults
 use Rattle.lg_packet.specs.declared.packet.Body.TheVariants.{Ping}
 use Rattle.lg_packet.specs.declared.packet.Packet.{Packet}
-use Rattle.lg_packet.specs.declared.packet.Version.TheVariants.{One, Two}
+use Rattle.lg_rules.specs.declared.version.Version.TheVariants.{One, Two}
 use Rattle.lg_packet.specs.Meaning.Spelling.{spelling}
 use Rattle.lg_packet.specs.Meaning.Reading.{name_at, head_at, body_at, claims_at, packet_at, packet_of}
 use Rattle.lg_packet.specs.Meaning.Fault.{fault_of, first_fault, fault_behind}
@@ -11,7 +11,9 @@ use Rattle.lg_packet.specs.Meaning.Examples.{Fails}
 
 -- a Ping from a for b in version 2, numbered 1
 abbrev pub second : Packet
-second = record { version = Two; sender = 97 ∷ []; body = Ping 1 (98 ∷ []); claims = record { items = [] } }
+second =
+    let asks = Ping 1 (98 ∷ []) in
+    record { version = Two; group = None; sender = 97 ∷ []; body = asks; claims = record { items = [] } }
 
 abbrev pub second_bytes : List ℕ
 second_bytes = 0x53 ∷ 0x4c ∷ 2 ∷ 1 ∷ 1 ∷ 97 ∷ 0 ∷ 0 ∷ 0 ∷ 1 ∷ 1 ∷ 98 ∷ 0 ∷ []
@@ -30,14 +32,14 @@ both_versions : (p : Packet)
 unfolding spelling
 both_versions p = refl
 
--- a version is 1 or 2
+-- a version is 1, 2 or 3
 no_version : Fails (0x53 ∷ 0x4c ∷ 0 ∷ []) faults.Version
 unfolding packet_of packet_at head_at name_at body_at claims_at fault_of first_fault fault_behind
 no_version = record { read = refl; placed = refl }
 
-third_version : Fails (0x53 ∷ 0x4c ∷ 3 ∷ []) faults.Version
+fourth_version : Fails (0x53 ∷ 0x4c ∷ 4 ∷ []) faults.Version
 unfolding packet_of packet_at head_at name_at body_at claims_at fault_of first_fault fault_behind
-third_version = record { read = refl; placed = refl }
+fourth_version = record { read = refl; placed = refl }
 
 other_version : Fails (0x53 ∷ 0x4c ∷ 0xff ∷ []) faults.Version
 unfolding packet_of packet_at head_at name_at body_at claims_at fault_of first_fault fault_behind

@@ -12,12 +12,15 @@ first_magic-is = refl
 second_magic-is : SECOND_MAGIC ≡ second_magic
 second_magic-is = refl
 
--- the most bytes of a name with its length, and the bytes of an address: four, and its port
+-- the most bytes of a name with its length, of an IP address with its family, and of that with its port
 abbrev pub name_room : ℕ
 name_room = 1 + most_name_bytes
 
+abbrev pub ip_room : ℕ
+ip_room = 1 + 16
+
 abbrev pub addr_room : ℕ
-addr_room = 4 + 2
+addr_room = ip_room + 2
 
 -- the bytes of the head, and of a number or an incarnation
 abbrev pub head_room : ℕ
@@ -41,10 +44,10 @@ claim_room = 1 + name_room + addr_room + number_room + name_room
 abbrev pub claims_room : ℕ
 claims_room = 1 + most_claims * claim_room
 
--- the most bytes of a packet: its head, the sender's name, a body, and the claims with their count
-packet_room-is : MAX_PACKET ≡ head_room + name_room + body_room + claims_room
+-- the most bytes of a packet: its head, its group, the sender's name, a body, and the claims with their count
+packet_room-is : MAX_PACKET ≡ head_room + name_room + name_room + body_room + claims_room
 packet_room-is = refl
 
--- the same in numbers, whose sum is 543
-packet_room-sum : MAX_PACKET ≡ 4 + 33 + 43 + 463
+-- the same in numbers, whose sum is 1207
+packet_room-sum : MAX_PACKET ≡ 4 + 33 + 33 + 56 + 1081
 packet_room-sum = refl

@@ -2,6 +2,7 @@
 use Rattle.std.specs.Prelude.{◌≡◌, ◌≤◌, ℕ, ℤ, pos, true, false, List, [], ◌∷◌, Some, None, refl}
 use Rattle.lg_rules.specs.declared.addr.Addr.{Addr}
 use Rattle.lg_rules.specs.declared.addr.Ip.TheVariants.{V4}
+use Rattle.lg_probe.specs.declared.relays.Asker.{Asker}
 use Rattle.lg_probe.specs.declared.relays.Relay.{Relay}
 use Rattle.lg_probe.specs.Meaning.Helpers.{picked}
 use Rattle.lg_probe.specs.Meaning.Relays.{Opened, TargetAcked, Closed, asker_at, ended_asker, ends, is_open, relay_at}
@@ -197,17 +198,24 @@ nack_of_another_number = refl
 second_nack : nack_counts record asking { silent = d ∷ [] } 3 c ≡ false
 second_nack = refl
 
--- a asks for a probe of c, for its own probe numbered 9. The probe of the relay is numbered 4.
+-- a asks for a probe of c, for its own probe numbered 9. The probe of the relay is numbered 4. And b asks for a probe
+-- of d, for its own probe numbered 2. The probe of that relay is numbered 5.
 abbrev at_port : ℕ → Addr
 at_port port = record { ip = V4 (127 ∷ 0 ∷ 0 ∷ 1 ∷ []); port = port }
 
+abbrev by_a : Asker
+by_a = record { name = a; addr = at_port 7000; number = 9 }
+
+abbrev by_b : Asker
+by_b = record { name = b; addr = at_port 7001; number = 2 }
+
 abbrev to_c : Relay
-to_c = record { number = 4; target = c; asker = at_port 7000; asked = 9 }
+to_c = record { number = 4; target = c; asker = by_a }
 
 abbrev to_d : Relay
-to_d = record { number = 5; target = d; asker = at_port 7001; asked = 2 }
+to_d = record { number = 5; target = d; asker = by_b }
 
-ends_one : ended_asker 4 c (relays_after (Opened to_d ∷ Opened to_c ∷ [])) ≡ Some (at_port 7000, 9)
+ends_one : ended_asker 4 c (relays_after (Opened to_d ∷ Opened to_c ∷ [])) ≡ Some by_a
 ends_one = refl
 
 another_sender : ended_asker 4 d (relays_after (Opened to_d ∷ Opened to_c ∷ [])) ≡ None
@@ -257,7 +265,7 @@ the_second = refl
 no_sixth : relay_at 6 (to_c ∷ to_d ∷ []) ≡ None
 no_sixth = refl
 
-asker_of_first : asker_at 4 (to_c ∷ to_d ∷ []) ≡ Some (at_port 7000, 9)
+asker_of_first : asker_at 4 (to_c ∷ to_d ∷ []) ≡ Some by_a
 asker_of_first = refl
 
 asker_of_none : asker_at 9 (to_c ∷ to_d ∷ []) ≡ None

@@ -4,13 +4,13 @@ use Rattle.std.specs.Prelude.{ℕ, ⊤, ◌≡◌, Bool, false, ◌&&◌, ◌==�
 use Rattle.std.specs.Prelude.{[], ◌∷◌, ◌++◌, find, Option, if◌then◌else◌}
 use Rattle.std.specs.List.{AllByRecursion, list_any}
 use Rattle.std.specs.Option.{option_map}
-use Rattle.lg_rules.specs.declared.addr.Addr.{Addr}
 use Rattle.lg_rules.specs.Meaning.Rows.{name_cmp, is_same}
+use Rattle.lg_probe.specs.declared.relays.Asker.{Asker}
 use Rattle.lg_probe.specs.declared.relays.Relay.{Relay}
 
--- the asker of a relay, and the number of the asker's own probe
-abbrev pub asker_of : Relay → Addr × ℕ
-asker_of r = (r.asker, r.asked)
+-- the asker of a relay: the member that asked for it, where it is reached, and the number of its own probe
+abbrev pub asker_of : Relay → Asker
+asker_of r = r.asker
 
 -- whether a relay has this number
 abbrev pub has_number : ℕ → Relay → Bool
@@ -24,8 +24,8 @@ is_ended number sender r = r.number == number && is_same name_cmp r.target sende
 abbrev pub relay_at : ℕ → List Relay → Option Relay
 relay_at number relays = find (has_number number) relays
 
--- its asker, and the number of the asker's own probe
-abbrev pub asker_at : ℕ → List Relay → Option (Addr × ℕ)
+-- its asker
+abbrev pub asker_at : ℕ → List Relay → Option Asker
 asker_at number relays = option_map asker_of (relay_at number relays)
 
 -- no two relays have the same number
@@ -37,9 +37,8 @@ AreApart (r ∷ rs) = AllByRecursion (λ s. (r.number == s.number) ≡ false) rs
 abbrev pub is_open : ℕ → List Relay → Bool
 is_open number relays = list_any (has_number number) relays
 
--- the asker of the open relay that an ack with this number from this sender ends, and the number of the asker's own
--- probe
-abbrev pub ended_asker : ℕ → List ℕ → List Relay → Option (Addr × ℕ)
+-- the asker of the open relay that an ack with this number from this sender ends
+abbrev pub ended_asker : ℕ → List ℕ → List Relay → Option Asker
 ended_asker number sender relays = option_map asker_of (find (is_ended number sender) relays)
 
 -- what happens to relays: one is opened, an ack with a number comes from a sender, or the relay with a number is

@@ -16,6 +16,6 @@ most_others = 255
 abbrev pub most_members : ℕ
 most_members = most_others + 1
 
--- the most claims of a packet
+-- the most claims of a packet of any version
 abbrev pub most_claims : ℕ
-most_claims = 6
+most_claims = 12

@@ -6,7 +6,7 @@ use Rattle.lg_timing.specs.Meaning.Config.{check_of}
 use Rattle.lg_timing.specs.declared.config.Seed.{Seed}
 use Rattle.lg_packet.specs.declared.packet.Body.TheVariants.{Ack, Ping}
 use Rattle.lg_packet.specs.declared.packet.Packet.{Packet}
-use Rattle.lg_packet.specs.declared.packet.Version.TheVariants.{One}
+use Rattle.lg_rules.specs.declared.version.Version.TheVariants.{One}
 use Rattle.lg_detector.specs.Meaning.Examples.{by_computing as detecting}
 use Rattle.lg_detector.specs.declared.event.Event.TheVariants as event
 use Rattle.lg_lines.specs.Meaning.Examples.{by_computing as reporting}
@@ -106,10 +106,10 @@ pull-by-a = refl
 
 -- a Ping of a to b, and b's Ack
 pinged : Packet
-pinged = record { version = One; sender = a; body = Ping 1 b; claims = record { items = [] } }
+pinged = record { version = One; group = None; sender = a; body = Ping 1 b; claims = record { items = [] } }
 
 acked : Packet
-acked = record { version = One; sender = b; body = Ack 1; claims = record { items = [] } }
+acked = record { version = One; group = None; sender = b; body = Ack 1 None; claims = record { items = [] } }
 
 ping : SentPacket
 ping = record { from = local 7001; outgoing = record { to = local 7002; packet = pinged } }

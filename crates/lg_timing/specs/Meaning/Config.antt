@@ -10,6 +10,7 @@ use Rattle.std.specs.Prelude.{
   not,
   nat_le,
   nat_eq,
+  ◌==◌,
   List,
   [],
   ◌∷◌,
@@ -25,6 +26,8 @@ use Rattle.std.specs.Prelude.{
 }
 use Rattle.std.specs.List.{list_any}
 use Rattle.std.specs.Cmp.Lexicographic.{pointwise}
+use Rattle.lg_rules.specs.declared.version.Version.{Version}
+use Rattle.lg_rules.specs.declared.version.Version.TheVariants.{One, Two, Three}
 use Rattle.lg_timing.specs.declared.config.Seed.{Seed}
 use Rattle.lg_timing.specs.declared.config.Config.{Config}
 use Rattle.lg_timing.specs.declared.config.ConfigFault.{ConfigFault}
@@ -66,6 +69,10 @@ fault_checked (Some key) false = if is_before_seeds key then Err (row_of key).fa
 -- what checking a configuration returns
 unfoldable pub check_of : Config → Result (Unit {0}) ConfigFault
 check_of c = fault_checked (first_broken c) (are_good_seeds c.name c.seeds.items)
+
+-- the version of the format in which a member with this configuration writes its packets
+abbrev pub version_of : Config → Version
+version_of c = if c.wire == 2 then Two else if c.wire == 3 then Three else One
 
 -- a configuration that passes its check
 abbrev pub IsChecked : Config → Type 0

@@ -69,8 +69,8 @@ checked wire limit seed =
     })
 
 versions :
-    map (λ wire. checked wire 20000 (99 ∷ [])) (0 ∷ 1 ∷ 2 ∷ 3 ∷ [])
-    ≡ Err Wire ∷ Ok tt ∷ Ok tt ∷ Err Wire ∷ []
+    map (λ wire. checked wire 20000 (99 ∷ [])) (0 ∷ 1 ∷ 2 ∷ 3 ∷ 4 ∷ [])
+    ≡ Err Wire ∷ Ok tt ∷ Ok tt ∷ Ok tt ∷ Err Wire ∷ []
 unfolding check_of
 versions = refl
 

@@ -68,7 +68,7 @@ row_of Confirmations = row 0 most_confirmations 3 fault.Confirmations
 row_of Lambda = row 1 10 4 fault.Lambda
 row_of NackThousandths = row 1 999 800 fault.Nack
 row_of HistoryLimit = row 2 1000000 20000 fault.History
-row_of Wire = row 1 2 1 fault.Wire
+row_of Wire = row 1 3 1 fault.Wire
 
 -- the number of a key
 abbrev pub number_of_key : Key → Config → ℕ

@@ -11,8 +11,8 @@ use Rattle.lg_gossip.proofs.choice.rows_by_sets.Goals as goal
 
 pub loop-sends-init : goal.loop-sends-init
 loop-sends-init c = record {
-  taken = taken_none c.args.buddy.now c.args.fewest c.args.rows.now c.new-taken.result.items c.new-taken.ensures
-      c.requires.least;
+  taken = taken_none c.args.version c.args.buddy.now c.args.fewest c.args.rows.now c.new-taken.result.items
+      c.new-taken.ensures c.requires.least;
   few = omega (arith, ap length c.new-taken.ensures);
 }
 
@@ -31,7 +31,7 @@ loop-sends-preserved c =
     let found = places_of sends c.without-set.result in
     let within : sends < SETS = omega (arith, c.loop-sends-test.true, c.requires.few) in
     record {
-      taken = takes_beside c.args.buddy.now c.args.rows.now c.requires.order sends room
+      taken = takes_beside c.args.version c.args.buddy.now c.args.rows.now c.requires.order sends room
           c.index_of_buddy-passed_over.result taken c.take_sent.new.taken.items c.args.sent.now
           c.index-sent-sends.result c.without-set.result c.room_beside-room.ensures.room within c.requires.sets
           c.index_of_buddy-passed_over.ensures c.loop-sends.invariant.taken c.without-set.ensures
@@ -47,13 +47,14 @@ returns-then-len-room-clause-taken c =
     let sends = c.loop-sends.sends in
     let now = c.take_sent.new.taken.items in
     let within : sends < SETS = omega (arith, c.loop-sends-test.true, c.requires.few) in
-    let full : length now ≡ room_beside buddy =
+    let full : length now ≡ room_beside c.args.version buddy =
     omega (arith, c.len.ensures.value, c.if-len-room.true, c.room_beside-room.ensures.room) in
     let here =
-    takes_beside buddy rows c.requires.order sends c.room_beside-room.result c.index_of_buddy-passed_over.result
-    c.loop-sends.taken.items now c.args.sent.now c.index-sent-sends.result c.without-set.result
+    takes_beside c.args.version buddy rows c.requires.order sends c.room_beside-room.result
+    c.index_of_buddy-passed_over.result c.loop-sends.taken.items now c.args.sent.now c.index-sent-sends.result
+    c.without-set.result
     c.room_beside-room.ensures.room within c.requires.sets c.index_of_buddy-passed_over.ensures
     c.loop-sends.invariant.taken c.without-set.ensures c.take_sent.ensures in
     let whole : c.args.limit - (sends + 1) + (sends + 1) ≡ c.args.limit = omega (arith, c.loop-sends-test.true) in
-    subst (λ n. HasTaken buddy n rows now) whole
-    (takes_no_more buddy rows c.requires.order (c.args.limit - (sends + 1)) (sends + 1) now full here)
+    subst (λ n. HasTaken c.args.version buddy n rows now) whole
+    (takes_no_more c.args.version buddy rows c.requires.order (c.args.limit - (sends + 1)) (sends + 1) now full here)

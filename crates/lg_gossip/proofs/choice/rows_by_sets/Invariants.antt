@@ -4,6 +4,6 @@ use Rattle.lg_gossip.proofs.choice.rows_by_sets.Given as goal
 
 abbrev pub invariant-loop-sends : goal.invariant-loop-sends
 invariant-loop-sends l = record {
-  taken : HasTaken l.buddy l.sends l.rows l.taken.items;
+  taken : HasTaken l.fn.version l.buddy l.sends l.rows l.taken.items;
   few : length l.taken.items ≤ l.room;
 }

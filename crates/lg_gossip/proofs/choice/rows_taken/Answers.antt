@@ -4,5 +4,5 @@ use Rattle.lg_gossip.proofs.choice.rows_taken.Goals as goal
 
 pub returns-then-limit-fewest-clause-taken : goal.returns-then-limit-fewest-clause-taken
 returns-then-limit-fewest-clause-taken c =
-    taken_none c.args.buddy.now c.args.limit c.args.rows.now _ c.new.ensures
+    taken_none c.args.version c.args.buddy.now c.args.limit c.args.rows.now _ c.new.ensures
     (sent-weaker c.args.limit c.args.fewest c.args.rows.now c.if-limit-fewest.true c.requires.least)

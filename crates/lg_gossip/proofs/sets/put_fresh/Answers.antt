@@ -13,7 +13,7 @@ returns-in-Ok-clause-sets c =
     let rows = c.args.rows.now.items in
     let index = c.in-Ok.index in
     let row = c.index-deref-index.result in
-    let next = c.fresh.result in
+    let next = c.fresh-row.result in
     let within : index < length rows = omega (arith, c.in-Ok.ensures.within, ap length c.as_slice.ensures.value) in
     let read : row ≡ get_or rows index row =
     c.index-deref-index.is ∙ ap (λ qs. get_or qs index row) c.deref.ensures.0 in
@@ -22,7 +22,7 @@ returns-in-Ok-clause-sets c =
     (length-set c.deref_mut.result.now index next ∙ ap length c.deref_mut.ensures.value) in
     subst (AreSets c.move_row.new.sent) (sym (whole ∙ ap (λ qs. slice_set qs index next) c.deref_mut.ensures.value))
     (c.move_row.ensures rows row next c.requires.sets (slice_get_read rows (length rows) index row refl within read)
-    (λ n. absurd (n (ap (λ q. q.sends) c.index-deref-index.is))) (ap (λ q. q.sends) c.fresh.ensures))
+    (λ n. absurd (n (ap (λ q. q.sends) c.index-deref-index.is))) refl)
 
 pub returns-in-Err-clause-sets : goal.returns-in-Err-clause-sets
 returns-in-Err-clause-sets c =
@@ -30,6 +30,6 @@ returns-in-Err-clause-sets c =
     let missing =
     ap (λ qs. row_at name_cmp queued_name c.args.claim.name qs) (sym read) ∙ c.in-Err.ensures.missing in
     subst (AreSets c.open_row.new.sent) (sym c.insert.ensures.items)
-    (c.open_row.ensures c.args.rows.now.items c.fresh-in-Err.result c.requires.sets (c.requires.room missing)
+    (c.open_row.ensures c.args.rows.now.items c.fresh-row.result c.requires.sets (c.requires.room missing)
     (omega (arith, c.in-Err.ensures.within, ap length read))
-    (ap (λ q. q.sends) c.fresh-in-Err.ensures))
+    refl)

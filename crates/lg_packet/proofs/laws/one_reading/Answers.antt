@@ -1,5 +1,5 @@
 use Rattle.std.proofs.Common.{refl}
-use Rattle.lg_packet.proofs.Decoding.{are_bytes, decodes, one_result}
+use Rattle.lg_packet.proofs.DecodingLaws.{are_bytes, decodes, one_result}
 use Rattle.lg_packet.specs.Meaning.Reading.{packet_of}
 use Rattle.lg_packet.proofs.laws.one_reading.Goals as goal
 

@@ -9,6 +9,6 @@ answer-requires c =
     omega (
       arith,
       c.come.ensures.numbered,
-      ap (λ (s : State). s.number) c.say.ensures.state ∙ number-apply_all Group c.as_slice.result.now c.come.new.self,
-      ap (λ (s : State). s.events) c.say.ensures.state ∙ events-apply_all Group c.as_slice.result.now c.come.new.self,
+      ap (λ (s : State). s.number) c.say.ensures.state ∙ number-apply_all Group c.claims_heard.result.now c.come.new.self,
+      ap (λ (s : State). s.events) c.say.ensures.state ∙ events-apply_all Group c.claims_heard.result.now c.come.new.self,
     )

@@ -39,7 +39,7 @@ invariant_of-self c =
     let end : c.milliseconds-now.result + c.relay_time.result ≡ parts.moment + relay_time parts.membership.config =
     λ i. c.milliseconds-now.ensures.milliseconds i + (c.relay_time.ensures.time ∙ ap (λ (o : Option Config). relay_time o) c.config-config.ensures.state) i in
     let timers = c.set_relay.ensures ∙ (λ i. with_relay (nack i) (end i) parts.number parts.timers) in
-    reached-open (state_in parts) _ c.args.target.now c.args.asker c.args.asked
+    reached-open (state_in parts) _ c.args.target.now c.args.asker.now
     (λ i. record {
       events = parts.events;
       moment = parts.moment;

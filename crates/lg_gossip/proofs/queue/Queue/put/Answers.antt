@@ -9,5 +9,5 @@ invariant_of-self c =
     let rows = c.put_fresh.ensures.rows in
     let sets = subst (AreSets c.put_fresh.new.sent) rows c.put_fresh.ensures.sets in
     subst (λ qs. IsSound c.self.inside.lambda 0 c.put_fresh.new.sent qs) (sym rows)
-    (sound-put c.self.inside.lambda c.self.inside.fewest c.args.claim c.self.inside.sent c.put_fresh.new.sent
-    c.self.inside.rows.items c.self.invariant sets)
+    (sound-put c.self.inside.lambda c.self.inside.fewest c.self.inside.version c.args.claim c.self.inside.sent
+    c.put_fresh.new.sent c.self.inside.rows.items c.self.invariant sets)

@@ -1,5 +1,6 @@
 use Rattle.std.proofs.Common.{◌≡◌, List, [], ◌∷◌, ℕ, None, sym, subst, ◌∙◌, ap}
 use Rattle.lg_rules.specs.declared.addr.Addr.{Addr}
+use Rattle.lg_rules.specs.declared.version.Version.TheVariants.{One}
 use Rattle.lg_rules.specs.Meaning.Own.{own_of}
 use Rattle.lg_rules.specs.Meaning.Table.{known_of}
 use Rattle.lg_membership.specs.Support.Rows.{rows_by, AreKnownTo}
@@ -24,7 +25,7 @@ is_blank c =
     ∙ ap (λ (a : Addr). own_of (97 ∷ []) a []) c.v4.ensures in
     let members = c.new-2.ensures ∙ ap (λ (n : List ℕ). known_of n []) c.default-name.ensures in
     let suspicions = ap (rows_by c.new-2.result.names) c.new-3.ensures ∙ sym suspicions-nil in
-    let queue = c.new-4.ensures ∙ (λ i. record { lambda = 1; rows = sym queue-nil i }) in
+    let queue = c.new-4.ensures ∙ (λ i. record { lambda = 1; version = One; rows = sym queue-nil i }) in
     λ i. record { config = None; own = own i; members = members i; suspicions = suspicions i; queue = queue i }
 
 pub invariant_of-result : goal.invariant_of-result

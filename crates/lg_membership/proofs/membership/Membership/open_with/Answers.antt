@@ -1,15 +1,21 @@
-use Rattle.std.proofs.Common.{Some, sym, subst, ◌∙◌}
+use Rattle.std.proofs.Common.{ℕ, [], Some, ap, sym, subst, ◌∙◌}
+use Rattle.lg_rules.specs.declared.version.Version.{Version}
 use Rattle.lg_timing.proofs.ConfigLemmas.{ranges}
+use Rattle.lg_gossip.specs.Meaning.Queue.{QueueValue}
 use Rattle.lg_membership.specs.Support.Rows.{rows_by, AreKnownTo}
 use Rattle.lg_membership.proofs.FactLaws.{open-state}
 use Rattle.lg_membership.proofs.Reaching.{reached-open}
 use Rattle.lg_membership.proofs.membership.Membership.open_with.Goals as goal
+
+abbrev opened_queue : ℕ → Version → QueueValue
+opened_queue lambda v = record { lambda = lambda; version = v; rows = [] }
 
 pub restart-requires-2 : goal.restart-requires-2
 restart-requires-2 c = (ranges c.args.config.now c.requires).lambda_most
 
 pub invariant_of-self : goal.invariant_of-self
 invariant_of-self c =
+    let queue = c.restart-2.ensures ∙ ap (λ (v : Version). opened_queue c.args.config.now.lambda v) c.version.ensures in
     record {
       reached =
           reached-open _ _ c.args.config.now
@@ -18,7 +24,7 @@ invariant_of-self c =
             own = c.new-self-inside.ensures i;
             members = c.restart.ensures i;
             suspicions = rows_by (c.restart.ensures i).names (c.clear.ensures i);
-            queue = c.restart-2.ensures i;
+            queue = queue i;
           })
           c.requires c.self.invariant.reached;
       known = subst (AreKnownTo c.restart.new.self.names) (sym c.clear.ensures) tt;
@@ -26,11 +32,12 @@ invariant_of-self c =
 
 pub returns-clause-log : goal.returns-clause-log
 returns-clause-log c = λ log is.
+    let queue = c.restart-2.ensures ∙ ap (λ (v : Version). opened_queue c.args.config.now.lambda v) c.version.ensures in
     (λ i. record {
       config = Some (c.copy.ensures i);
       own = c.new-self-inside.ensures i;
       members = c.restart.ensures i;
       suspicions = rows_by (c.restart.ensures i).names (c.clear.ensures i);
-      queue = c.restart-2.ensures i;
+      queue = queue i;
     })
     ∙ open-state c.args.config.now log

@@ -22,7 +22,9 @@ returns-in_err-place-clause-relays c = sym (none c).others
 pub returns-in_err-place-clause-past : goal.returns-in_err-place-clause-past
 returns-in_err-place-clause-past c = λ past e. sym (none c).others ∙ ap (filter (λ (r : Relay). not (is_ended c.args.number c.args.sender.now r))) e ∙ sym (relays_after-push (TargetAcked c.args.number c.args.sender.now) past)
 
-one : (c : goal.After-result-1) → HasOne (is_ended c.args.number c.args.sender.now) c.self.inside.open.items c.in_ok-place.place
+one :
+    (c : goal.After-remove-relay)
+    → HasOne (is_ended c.args.number c.args.sender.now) c.self.inside.open.items c.in_ok-place.place
 one c =
     let p = is_ended c.args.number c.args.sender.now in
     has_one p c.args.number c.self.inside.open.items c.in_ok-place.place (ended_number c.args.number c.args.sender.now) c.self.invariant (ap (position p) (sym c.as_slice.ensures.value) ∙ sym c.place_ended.ensures ∙ c.in_ok-place.was)

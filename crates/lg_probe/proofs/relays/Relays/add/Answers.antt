@@ -7,11 +7,11 @@ use Rattle.lg_probe.proofs.relays.Relays.add.Goals as goal
 
 pub invariant_of-self : goal.invariant_of-self
 invariant_of-self c =
-    let relay : Relay = record { number = c.args.number; target = c.args.target.now; asker = c.args.asker; asked = c.args.asked } in
+    let relay : Relay = record { number = c.args.number; target = c.args.target.now; asker = c.args.asker } in
     let free = subst (λ (rs : List Relay). asker_at c.args.number rs ≡ None) (sym c.self.view_is) c.requires.apart in
     subst AreApart (sym c.push.ensures.items) (apart-opened c.self.inside.open.items relay (none_open c.args.number c.self.inside.open.items free) c.self.invariant)
 
 pub returns-clause-past : goal.returns-clause-past
 returns-clause-past c = λ past e.
-    let relay : Relay = record { number = c.args.number; target = c.args.target.now; asker = c.args.asker; asked = c.args.asked } in
+    let relay : Relay = record { number = c.args.number; target = c.args.target.now; asker = c.args.asker } in
     c.push.ensures.items ∙ ap (λ rs. rs ++ relay ∷ []) (c.self.view_is ∙ e) ∙ sym (relays_after-push (Opened relay) past)

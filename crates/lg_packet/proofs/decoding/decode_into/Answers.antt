@@ -1,6 +1,6 @@
 use Rattle.std.proofs.Common.{arith}
-use Rattle.lg_packet.proofs.Decoding.{found, refused}
-use Rattle.lg_packet.proofs.reading.decode_into.Goals as goal
+use Rattle.lg_packet.proofs.DecodingLaws.{found, refused}
+use Rattle.lg_packet.proofs.decoding.decode_into.Goals as goal
 
 pub returns-then-is_err-clause-refused : goal.returns-then-is_err-clause-refused
 returns-then-is_err-clause-refused c =

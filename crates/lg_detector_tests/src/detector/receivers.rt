@@ -1,0 +1,209 @@
+//! Acks and Nacks name their receiver in version 3. One for another receiver does nothing, but its claims are heard.
+use super::answers::{are_sent, comes};
+use super::happening::Happens::{First, Health, In, Opens, TickBy};
+use super::happening::Says::{Ack, AckFor, NackFor, Ping, Request};
+use super::happening::Setting::{self, Own, Seed, Wire};
+use super::happening::event_of;
+use super::playing::Due::{Direct, RoundEnd};
+use super::playing::Step::{AnswersHealth, Changed, Fired, Known, Sends, SentIn, Takes};
+use super::playing::{Case, blank, play_blank, takes};
+use super::resuming::resume_each;
+use crate::says::Member;
+use crate::says::Said::{Alive, Suspect};
+use lg_detector::{Detector, Reply};
+use lg_packet::Version::{Three, Two};
+use lg_testing::local;
+
+/// d helps b, which probes c. What both answer is for x, so it doesn't count for b, and no Nack came either.
+const FOR_ANOTHER: Case = (
+    "for another",
+    &[
+        Takes(Opens(0, &[Wire(3), Seed("c", 7000), Seed("d", 7000)])),
+        Takes(First(0)),
+        SentIn(Three, 7000, Ping(1, "c"), &[]),
+        Takes(First(500)),
+        Fired(Direct(500)),
+        SentIn(Three, 7000, Request(1, "c", 7000), &[]),
+        Takes(In(600, Three, "d", NackFor(1, "x"), &[])),
+        Takes(In(600, Three, "d", AckFor(1, "x"), &[])),
+        Takes(In(600, Three, "c", AckFor(1, "x"), &[Alive("e", 0)])),
+        Sends(0),
+        Changed(&[Alive("e", 0)]),
+        Known("e", Some(Alive("e", 0))),
+        Takes(First(1000)),
+        Fired(RoundEnd(1000)),
+        Changed(&[Suspect("c", 0, "b")]),
+        Takes(Health(1000)),
+        AnswersHealth(2, 0, 4),
+    ],
+);
+
+/// The same answers for b count: the Nack of d, and then the Ack of c.
+const FOR_B: &[Case] = &[
+    (
+        "a Nack",
+        &[
+            Takes(Opens(0, &[Wire(3), Seed("c", 7000), Seed("d", 7000)])),
+            Takes(First(0)),
+            Takes(First(500)),
+            Takes(In(600, Three, "d", NackFor(1, "b"), &[])),
+            Takes(First(1000)),
+            Fired(RoundEnd(1000)),
+            Changed(&[Suspect("c", 0, "b")]),
+            Takes(Health(1000)),
+            AnswersHealth(1, 0, 3),
+        ],
+    ),
+    (
+        "an Ack",
+        &[
+            Takes(Opens(0, &[Wire(3), Seed("c", 7000), Seed("d", 7000)])),
+            Takes(First(0)),
+            Takes(First(500)),
+            Takes(In(600, Three, "c", AckFor(1, "b"), &[])),
+            Takes(First(1000)),
+            Fired(RoundEnd(1000)),
+            Changed(&[]),
+            Takes(Health(1000)),
+            AnswersHealth(0, 0, 3),
+        ],
+    ),
+];
+
+/// With each `wire` an Ack of version 3 for another ends no relay, and one for b does.
+const RELAYED: &[Case] = &[
+    (
+        "a relay, wire 2",
+        &[
+            Takes(Opens(0, &[Wire(2)])),
+            Takes(In(0, Three, "a", Request(9, "c", 7003), &[])),
+            Sends(1),
+            Takes(In(10, Three, "c", AckFor(1, "x"), &[])),
+            Sends(0),
+            Takes(In(10, Three, "c", AckFor(1, "b"), &[])),
+            Sends(1),
+            SentIn(Two, 1, Ack(9), &[]),
+        ],
+    ),
+    (
+        "a relay, wire 3",
+        &[
+            Takes(Opens(0, &[Wire(3)])),
+            Takes(In(0, Three, "a", Request(9, "c", 7003), &[])),
+            SentIn(Three, 7003, Ping(1, "c"), &[]),
+            Takes(In(10, Three, "c", AckFor(1, "x"), &[])),
+            Sends(0),
+            Takes(In(10, Three, "c", AckFor(1, "b"), &[])),
+            Sends(1),
+            SentIn(Three, 1, AckFor(9, "a"), &[]),
+        ],
+    ),
+];
+
+/// Each case, resumed at each place.
+#[test]
+fn hears_what_is_for_it(rt: HostRuntime) {
+    for cases in [&[FOR_ANOTHER], FOR_B, RELAYED] {
+        play_blank(&rt, rt.alloc(), cases);
+        resume_each(&rt, rt.alloc(), &None, cases);
+    }
+}
+
+/// a at port 7001 pings c at port 7003.
+const PING: &[u8] = b"SL\x03\x01\x00\x01a\x00\x00\x00\x01\x01c\x00";
+
+/// a asks b at port 7002 to ping c.
+const REQUEST: &[u8] = b"SL\x03\x02\x00\x01a\x00\x00\x00\x01\x01c\x04\x7f\x00\x00\x01\x1b\x5b\x00";
+
+/// b pings c for a.
+const RELAYED_PING: &[u8] = b"SL\x03\x01\x00\x01b\x00\x00\x00\x01\x01c\x00";
+
+/// b has no Ack for a so far.
+const NACK: &[u8] = b"SL\x03\x04\x00\x01b\x00\x00\x00\x01\x01a\x00";
+
+/// c acks the Ping of b.
+const ACK: &[u8] = b"SL\x03\x03\x00\x01c\x00\x00\x00\x01\x01b\x00";
+
+/// b passes the Ack on to a.
+const PASSED_ON: &[u8] = b"SL\x03\x03\x00\x01b\x00\x00\x00\x01\x01a\x00";
+
+/// What comes to a member, or happens to it: nothing but a tick, or bytes from a port.
+#[derive(Clone, Copy)]
+enum Comes {
+    /// A tick, whose first word is this.
+    Ticks(u64, u32),
+    /// Bytes at a moment, from a port.
+    Bytes(u64, u16, &'static [u8]),
+}
+
+/// A member, and how it is opened. Then what comes to it, one after another, each with the port to which one packet is
+/// sent then, and its bytes. There are none if nothing is sent.
+type Played = (
+    Member,
+    &'static [Setting],
+    &'static [(Comes, u16, &'static [u8])],
+);
+
+/// a probes c, with the help of b, whose Nack and Ack say that they are for a. The Ack of c says that it is for b.
+const PLAYED: &[Played] = &[
+    (
+        "a",
+        &[Own("a", 7001), Wire(3), Seed("b", 7002), Seed("c", 7003)],
+        &[
+            (Comes::Ticks(0, 1), 7003, PING),
+            (Comes::Ticks(500, 0), 7002, REQUEST),
+            (Comes::Bytes(920, 7002, NACK), 0, b""),
+            (Comes::Bytes(935, 7002, PASSED_ON), 0, b""),
+            (Comes::Ticks(1000, 0), 0, b""),
+        ],
+    ),
+    (
+        "b",
+        &[Own("b", 7002), Wire(3)],
+        &[
+            (Comes::Bytes(510, 7001, REQUEST), 7003, RELAYED_PING),
+            (Comes::Ticks(510, 0), 0, b""),
+            (Comes::Ticks(910, 0), 7001, NACK),
+            (Comes::Bytes(930, 7003, ACK), 7001, PASSED_ON),
+            (Comes::Bytes(931, 7003, ACK), 0, b""),
+        ],
+    ),
+    (
+        "c",
+        &[Own("c", 7003), Wire(3)],
+        &[(Comes::Bytes(920, 7002, RELAYED_PING), 7002, ACK)],
+    ),
+];
+
+/// Lets something come to a member. Returns whether it was accepted.
+fn come(detector: &mut Detector, what: &Comes, reply: &mut Reply) -> bool {
+    match what {
+        Comes::Ticks(now, word) => {
+            let words = [*word, 0, 0, 0, 0, 0, 0, 0];
+            takes(detector, &event_of(&TickBy(*now, words)), reply)
+        }
+        Comes::Bytes(now, port, bytes) => comes(detector, *now, *port, bytes, reply),
+    }
+}
+
+/// Whether each packet goes to a port.
+fn go_to(reply: &Reply, port: u16) -> bool {
+    reply.sends.iter().all(|sent| sent.to == local(port))
+}
+
+/// Three members tell one another for whom their answers are. What one sends is what comes to the other.
+#[test]
+fn names_its_receivers(rt: HostRuntime) {
+    for (member, settings, rows) in PLAYED {
+        let mut detector = blank(&rt, rt.alloc());
+        let mut reply = Reply::default();
+        detector.absorb(&event_of(&Opens(0, settings)));
+        for (number, (what, port, bytes)) in rows.iter().enumerate() {
+            let met = come(&mut detector, what, &mut reply)
+                && are_sent(&reply, bytes)
+                && go_to(&reply, *port)
+                && reply.changed.is_empty();
+            assert!(rt; met, "{member}, row {number}: {reply:?}");
+        }
+    }
+}
