@@ -46,9 +46,9 @@ def pull(after=""):
     return packet(PULL, name_bytes(after))
 
 
-def claim(kind, member, port, incarnation, accuser=b""):
+def claim(kind, member, port, incarnation, accuser=b"", version=1):
     """A claim about a member at a port of 127.0.0.1: 1 Alive, 2 Suspect, which has an accuser, or 3 Failed."""
-    place = socket.inet_aton(HOST) + port.to_bytes(2, "big")
+    place = (b"\x04" if version == 3 else b"") + socket.inet_aton(HOST) + port.to_bytes(2, "big")
     return bytes([kind]) + name_bytes(member) + place + incarnation.to_bytes(4, "big") + accuser
 
 

@@ -61,7 +61,8 @@ def config_of(dice, size):
     return {"interval_ms": interval, "timeout_ms": interval // dice.choice([2, 2, 3, 4]), "alpha": dice.choice(factors),
             "beta": dice.choice(factors), "indirect": dice.choice([0, 1, 3, 8]), "max_score": dice.choice([0, 2, 8]),
             "confirmations": dice.choice([0, 1, 3, 5]), "lambda": dice.choice([1, 4, 10]),
-            "nack_thousandths": dice.choice([1, 500, 800, 999]), "wire": dice.choice([ONE, ONE, TWO, THREE])}
+            "nack_thousandths": dice.choice([1, 500, 800, 999]), "wire": dice.choice([ONE, TWO, THREE, THREE]),
+            "gossip_ms": dice.choice([0, 10, interval // 5, interval]), "gossip_to": dice.choice([1, 3, 8])}
 
 
 def troubles_of(dice, names, length, may_restart):

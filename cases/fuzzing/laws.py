@@ -1,6 +1,6 @@
 """What has to hold of any group, by what its members wrote. Nothing here is taken from the model of a detector."""
 
-from fuzzing.wire import ACK, PING_REQ, STATUS_WORDS, read
+from fuzzing.wire import ACK, GOSSIP, PING_REQ, STATUS_WORDS, read
 
 
 def events_of(script, output):
@@ -104,6 +104,8 @@ class Witness:
         probe = self.probes.get(name)
         if probe and packet.kind == PING_REQ and packet.number == probe[0] and to in self.names:
             probe[2].add(self.names[to])
+        if packet.kind == GOSSIP and self.known[name].get(self.names.get(to), (0, ""))[1] in ("failed", "left"):
+            self.note(f"{name} gossips to {self.names[to]}, which is gone")
         for claim in packet.claims:
             accuser = claim.accuser.decode() if claim.accuser else None
             self.judge(name, claim.member.decode(), STATUS_WORDS[claim.status], claim.incarnation, accuser)

@@ -5,18 +5,14 @@ It keeps plain lists and dictionaries, and looks through all of them each time.
 
 from dataclasses import dataclass, field, replace
 
-from fuzzing.numbers import MOST_OTHERS, suspicion_range, timeout
+from fuzzing.known import DIRECT, GONE, NEWS, RELAY_END, RELAY_NACK, ROUND_END, ROUND_START, SUSPICION, Known
 from fuzzing.wire import (
-    ACK, ALIVE, FAILED, LEFT, MOST_CLAIMS, MOST_INCARNATION, NACK, PAGE, PING, PING_REQ, PULL, SUSPECT, THREE, Claim,
-    Packet, is_told)
+    ACK, ALIVE, FAILED, GOSSIP, MOST_CLAIMS, NACK, PAGE, PING, PING_REQ, PULL, SUSPECT, THREE, Claim, Packet)
 
-ROUND_END, SUSPICION, DIRECT, RELAY_NACK, RELAY_END, ROUND_START = range(1, 7)
-TIMER_WORDS = {ROUND_END: "round-end", SUSPICION: "suspicion", DIRECT: "direct", RELAY_NACK: "relay-nack",
-               RELAY_END: "relay-end", ROUND_START: "round-start"}
 MOST_RELAYS = 64
 WORDS = 8
-# The statuses of a member that is gone.
-GONE = (FAILED, LEFT)
+# With whose record an Ack to such a member begins, in version three.
+ACK_BUDDIES = (SUSPECT, FAILED)
 
 
 @dataclass
@@ -31,20 +27,6 @@ class Probe:
 
 
 @dataclass
-class Suspicion:
-    """When a suspicion was raised, its least and greatest timeout, and the accusers that count."""
-
-    raised: int
-    least: int
-    most: int
-    counted: int
-    accusers: list
-
-    def deadline(self):
-        return self.raised + timeout(self.least, self.most, self.counted, len(self.accusers) - 1)
-
-
-@dataclass
 class Reply:
     """What an event gives. A timer that fired is its kind and whom it is about; an answer is its words."""
 
@@ -56,119 +38,26 @@ class Reply:
     next: int = 0
 
 
-class Member:
+def picked(words, names):
+    """Those of some names that random words pick, each of those that are left. They are as many as there are words, or
+    all."""
+    left = list(names)
+    return [left.pop(word % len(left)) for word in words[:len(left)]]
+
+
+class Member(Known):
     """A detector that was opened. Seeds are pairs of a name and an address."""
 
     def __init__(self, name, address, now, config, seeds=()):
-        self.name, self.address, self.config, self.now = name, address, config, now
-        self.number = self.score = self.sequence = 0
-        self.ousted, self.probe = False, None
-        self.records, self.queue, self.suspicions, self.relays, self.chosen = {}, {}, {}, {}, set()
-        # The deadline of each timer that is set, by its kind and by whom it is about.
-        self.timers = {(ROUND_START, 0): now}
+        super().__init__(name, address, now, config)
+        self.sequence, self.probe, self.relays, self.chosen = 0, None, {}, set()
         for seed, place in seeds:
             self.take(Claim(ALIVE, seed, place, 0), is_told=False)
+        self.tell_arrival()
+        self.set_news()
         self.reply = Reply()
 
-    # ---- What is known
-
-    def own(self):
-        return Claim(ALIVE, self.name, self.address, self.number)
-
-    def view(self):
-        """All records, in the order of names."""
-        return sorted([self.own(), *self.records.values()], key=lambda it: it.member)
-
-    def others(self):
-        """The names of the others that aren't gone, in order."""
-        return sorted(name for name, record in self.records.items() if record.status not in GONE)
-
-    def live(self):
-        return 1 + sum(record.status not in GONE for record in self.records.values())
-
-    def mark(self, points):
-        self.score = max(0, min(self.config["max_score"], self.score + points))
-
-    def least_deadline(self):
-        return min(self.timers.values())
-
-    # ---- Claims
-
-    def tell(self, claim):
-        """Queues a claim with no sends."""
-        self.queue[claim.member] = (claim, 0)
-
-    def take(self, claim, is_told=True):
-        """Hears a claim."""
-        if claim.member == self.name:
-            return self.take_own(claim)
-        record = self.records.get(claim.member)
-        if record is None and len(self.records) == MOST_OTHERS:
-            return None
-        if record and claim.rank() <= record.rank():
-            return self.accuse(claim, record)
-        self.records[claim.member] = claim
-        if is_told:
-            self.tell(claim)
-        self.suspicions.pop(claim.member, None)
-        self.timers.pop((SUSPICION, claim.member), None)
-        if claim.status == SUSPECT:
-            bounds = suspicion_range(self.config, self.live())
-            self.suspicions[claim.member] = Suspicion(self.now, *bounds, [claim.accuser])
-            self.set_suspicion(claim.member)
-        return None
-
-    def accuse(self, claim, record):
-        """Hears a claim that doesn't override: it may be a further accusation."""
-        if claim.status != SUSPECT or claim.rank() != record.rank():
-            return
-        suspicion = self.suspicions[claim.member]
-        if claim.accuser not in suspicion.accusers and len(suspicion.accusers) <= suspicion.counted:
-            suspicion.accusers.append(claim.accuser)
-            self.tell(claim)
-            self.set_suspicion(claim.member)
-
-    def set_suspicion(self, name):
-        self.timers[SUSPICION, name] = self.suspicions[name].deadline()
-
-    def take_own(self, claim):
-        """Hears a claim about this member."""
-        is_older = claim.incarnation <= self.number if claim.status == ALIVE else claim.incarnation < self.number
-        if is_older:
-            return
-        if claim.incarnation == MOST_INCARNATION:
-            self.ousted = True
-            return
-        self.number = claim.incarnation + 1
-        self.tell(self.own())
-        if claim.status == SUSPECT:
-            self.mark(1)
-
     # ---- Packets
-
-    def room(self):
-        """How many claims a packet of this member has at most."""
-        return MOST_CLAIMS[self.config["wire"]]
-
-    def can_tell(self, address):
-        """Whether an address has a spelling in the version in which this member sends."""
-        return is_told(self.config["wire"], address)
-
-    def as_told(self, claim):
-        """A claim as this member tells it: the first two versions say that one who left has failed."""
-        is_left = claim.status == LEFT and self.config["wire"] != THREE
-        return replace(claim, status=FAILED) if is_left else claim
-
-    def queued(self, room=None, without=None):
-        """The claims that a packet takes of the queue, which are counted as sent."""
-        bound = self.config["lambda"] * len(str(self.live()))
-        ready = sorted((sends, name) for name, (claim, sends) in self.queue.items()
-                       if sends < bound and name != without and self.can_tell(claim.address))
-        taken = [name for _, name in ready[:room or self.room()]]
-        for name in taken:
-            claim, sends = self.queue[name]
-            self.queue[name] = claim, sends + 1
-        return tuple(self.queue[name][0] for name in taken)
 
     def send(self, to, kind, number=0, target=b"", address=b"", claims=(), receiver=b""):
         """Sends a packet. It names no group, and in version three alone it names a receiver."""
@@ -178,16 +67,11 @@ class Member:
         self.reply.sends.append((to, packet))
 
     def send_ping(self, to, number, target):
-        """A Ping, which begins with the record of a target that is suspected (Lifeguard's buddy system)."""
-        record = self.records.get(target)
-        if record and record.status == SUSPECT and self.can_tell(record.address):
-            claims = (record, *self.queued(self.room() - 1, target))
-        else:
-            claims = self.queued()
-        self.send(to, PING, number, target, claims=claims)
+        self.send(to, PING, number, target, claims=self.claims_for(target, (SUSPECT,)))
 
     def send_ack(self, to, number, receiver):
-        self.send(to, ACK, number, claims=self.queued(), receiver=receiver)
+        buddies = ACK_BUDDIES if self.has_version_three() else ()
+        self.send(to, ACK, number, claims=self.claims_for(receiver, buddies), receiver=receiver)
 
     def send_pull(self, to, after):
         own = self.own()
@@ -199,11 +83,15 @@ class Member:
 
     # ---- Events
 
+    def least_deadline(self):
+        return min(self.timers.values())
+
     def event(self, now, does, *words):
         """Takes an event of this moment, and gives the reply."""
         self.now = max(self.now, now)
         self.reply, before, own = Reply(), dict(self.records), self.own()
         does(*words)
+        self.set_news()
         changed = [record for name, record in self.records.items() if before.get(name) is not record]
         changed += [self.own()] if self.own() != own else []
         self.reply.changed = sorted(changed, key=lambda it: it.member)
@@ -243,7 +131,8 @@ class Member:
         del self.timers[kind, subject]
         self.reply.fired = kind, subject
         {ROUND_START: self.start_round, DIRECT: self.ask_helpers, ROUND_END: self.end_round,
-         SUSPICION: self.end_suspicion, RELAY_NACK: self.send_nack, RELAY_END: self.end_relay}[kind](subject, words)
+         SUSPICION: self.end_suspicion, RELAY_NACK: self.send_nack, RELAY_END: self.end_relay,
+         NEWS: self.tell_news}[kind](subject, words)
 
     def scaled(self, key):
         return self.config[key] * (self.score + 1)
@@ -267,10 +156,8 @@ class Member:
     def ask_helpers(self, _, words):
         """Asks helpers about the target, and nobody if a PingReq can't tell where that is."""
         target = self.records[self.probe.target]
-        left = [name for name in self.others() if name != target.member] if self.can_tell(target.address) else []
-        for word in words[:self.config["indirect"]]:
-            if left:
-                self.probe.helpers.append(left.pop(word % len(left)))
+        others = [name for name in self.others() if name != target.member] if self.can_tell(target.address) else []
+        self.probe.helpers = picked(words[:self.config["indirect"]], others)
         for helper in self.probe.helpers:
             to = self.records[helper].address
             self.send(to, PING_REQ, self.probe.number, target.member, target.address, self.queued())
@@ -296,6 +183,26 @@ class Member:
         del self.relays[relay]
         self.timers.pop((RELAY_NACK, relay), None)
         self.timers.pop((RELAY_END, relay), None)
+
+    # ---- News
+
+    def hearers(self):
+        """Who may be sent news."""
+        return self.others()
+
+    def set_news(self):
+        """Sets the timer of news, unless it is set, if there is any and somebody to hear it."""
+        wait = self.config["gossip_ms"] if self.has_version_three() else 0
+        if wait and (NEWS, 0) not in self.timers and self.others() and self.has_news():
+            self.timers[NEWS, 0] = self.now + wait
+
+    def tell_news(self, _, words):
+        """Sends news to some members, one after another, as long as there is any."""
+        for name in picked(words[:self.config["gossip_to"]], self.hearers()):
+            claims = self.queued()
+            if not claims:
+                break
+            self.send(self.records[name].address, GOSSIP, claims=claims)
 
     # ---- Hearing
 

@@ -5,8 +5,10 @@ NUMBERS = {
     "interval_ms": (10, 60_000, 1000, 1), "timeout_ms": (1, 59_999, 500, 2), "indirect": (0, 8, 3, 3),
     "max_score": (0, 20, 8, 4), "alpha": (1, 20, 5, 5), "beta": (1, 20, 6, 6), "confirmations": (0, 5, 3, 7),
     "lambda": (1, 10, 4, 8), "nack_thousandths": (1, 999, 800, 9), "history_limit": (2, 1_000_000, 20_000, 10),
-    "wire": (1, 3, 1, 15),
+    "wire": (1, 3, 1, 15), "gossip_ms": (10, 60_000, 200, 23), "gossip_to": (1, 8, 3, 24),
 }
+# The numbers that may be 0 too, which turns off what they are about.
+MAY_BE_OFF = ("gossip_ms",)
 DEFAULTS = {key: row[2] for key, row in NUMBERS.items()}
 SEEDS_FAULT = 11
 MOST_SEEDS = 16
@@ -20,10 +22,11 @@ RATIOS = [[1000], [0, 1000], [0, 630, 1000], [0, 500, 792, 1000], [0, 430, 682, 
 
 
 def is_in_range(config, key):
-    """Whether a number of a configuration is in its range. A timeout is shorter than the interval."""
+    """Whether a number of a configuration is in its range, or is the 0 that turns something off. A timeout is shorter
+    than the interval."""
     least, most, _, _ = NUMBERS[key]
     most = config["interval_ms"] - 1 if key == "timeout_ms" else most
-    return least <= config[key] <= most
+    return least <= config[key] <= most or config[key] == 0 and key in MAY_BE_OFF
 
 
 def fault_of(config, name, seeds):

@@ -43,7 +43,8 @@ def whole_number(dice, number):
 def number_near(dice, row):
     """A number in a range, or just outside."""
     least, most = row[:2]
-    return dice.choice([least, most, least - 1, most + 1, (least + most) // 2, dice.randint(least, most), row[2]])
+    between = [(least + most) // 2, dice.randint(least, most)]
+    return dice.choice([least, most, least - 1, most + 1, *between, row[2], 0])
 
 
 def address(dice):
@@ -111,7 +112,8 @@ class Files(RunKind):
         (files, "SHOWN_MEMBERS", (4, 16, 32, 256)), (files, "STATUS_NOT_LOOPBACK", 19),
         (files, "KEY_FILE", 20),
         (files, "OWN_NUMBERS", files.OWN_NUMBERS | {"pull_ms": (1, 3_600_000, 30_000, 16)}),
-        (numbers, "MOST_SEEDS", 15), (numbers, "RATIOS", [[900], [0, 1000], *numbers.RATIOS[2:]]))
+        (numbers, "MOST_SEEDS", 15), (numbers, "MAY_BE_OFF", ()),
+        (numbers, "RATIOS", [[900], [0, 1000], *numbers.RATIOS[2:]]))
 
     def make(self, dice):
         keys = ["name"] if dice.random() < 0.97 else []

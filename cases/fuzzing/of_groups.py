@@ -2,7 +2,7 @@
 
 from dataclasses import dataclass, replace
 
-from fuzzing import group, member, numbers, wire
+from fuzzing import group, known, member, numbers, wire
 from fuzzing.kinds import RunKind
 from fuzzing.laws import broken_laws
 from fuzzing.runs import Case, Outcome, first_difference, test_of, text_of
@@ -46,18 +46,20 @@ class Groups(RunKind):
     name = "groups"
     has_small_lines = False
     wrong_rules = (
-        (member.Member, "live", lambda it: 1 + len(it.records)), (member, "MOST_CLAIMS", MOST_CLAIMS | {ONE: 5}),
-        (member, "MOST_CLAIMS", MOST_CLAIMS | {THREE: 6}),
+        (member.Member, "live", lambda it: 1 + len(it.records)), (known, "MOST_CLAIMS", MOST_CLAIMS | {ONE: 5}),
+        (known, "MOST_CLAIMS", MOST_CLAIMS | {THREE: 6}),
         (member.Member, "mark", lambda *_: None), (member.Member, "accuse", lambda *_: None),
-        (member.Member, "hear_nack", lambda *_: None), (numbers, "LOGARITHMS", numbers.LOGARITHMS | {10: 999}))
+        (member.Member, "hear_nack", lambda *_: None), (numbers, "LOGARITHMS", numbers.LOGARITHMS | {10: 999}),
+        (member.Member, "has_news", lambda *_: True), (member.Member, "tell_arrival", lambda *_: None))
     # Detectors that break a law: the self-test runs small groups of them, and looks at the laws alone. One goes by
-    # the status before the incarnation, one hears no Ack, one takes each suspect as failed at once, and one refutes
-    # nothing.
+    # the status before the incarnation, one hears no Ack, one takes each suspect as failed at once, one refutes
+    # nothing, and one gossips to those who are gone.
     lawless = (
         (wire.Claim, "rank", lambda it: (it.status, it.incarnation)),
         (member.Member, "hear_ack", lambda *_: None),
         (member.Member, "set_suspicion", lambda it, name: it.end_suspicion(name, None)),
-        (member.Member, "take_own", lambda *_: None))
+        (member.Member, "take_own", lambda *_: None),
+        (member.Member, "hearers", lambda it: sorted(it.records)))
 
     def __init__(self, has_player=False):
         self.has_player = has_player

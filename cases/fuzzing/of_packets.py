@@ -1,6 +1,6 @@
 """Cases of packets: many lines of hex for `lg answer`, of which the detector hears those that are packets."""
 
-from fuzzing import answering, member, wire
+from fuzzing import answering, known, member, wire
 from fuzzing.kinds import RunKind
 from fuzzing.making import NAMES, damaged_packet, names_of
 from fuzzing.runs import Case, Outcome, text_of
@@ -34,7 +34,7 @@ class Packets(RunKind):
         (wire, "NAME_BYTES", wire.NAME_BYTES - set(b"_")), (wire, "TRAILING", 1), (wire, "FAMILY", 9),
         (wire, "KINDS", wire.KINDS | {THREE: wire.KINDS[ONE]}),
         (wire, "CLAIM_KINDS", wire.CLAIM_KINDS | {THREE: wire.CLAIM_KINDS[ONE]}), (member, "MOST_RELAYS", 65),
-        (member, "MOST_OTHERS", 254), (member, "GONE", (FAILED,)), (member.Member, "accuse", lambda *_: None),
+        (known, "MOST_OTHERS", 254), (known, "GONE", (FAILED,)), (member.Member, "accuse", lambda *_: None),
         (member.Member, "as_told", lambda it, claim: claim), (member.Member, "can_tell", lambda *_: True),
         (member.Member, "drops", lambda *_: False), (member.Member, "is_meant", lambda *_: True),
         (member, "MOST_CLAIMS", MOST_CLAIMS | {THREE: 6}),

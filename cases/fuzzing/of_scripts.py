@@ -1,10 +1,10 @@
 """Cases of scripts, for `lg sim`: random lines over a few members, of which one is often damaged."""
 
-from fuzzing import member, numbers, script
+from fuzzing import known, member, numbers, script
 from fuzzing.kinds import RunKind
 from fuzzing.making import NAMES, damaged
 from fuzzing.runs import Case, Outcome, text_of
-from fuzzing.wire import MOST_CLAIMS, ONE, THREE, TWO, VERSIONS
+from fuzzing.wire import ALIVE, FAILED, MOST_CLAIMS, ONE, SUSPECT, THREE, TWO, VERSIONS
 
 MOST_LINES = 150
 CROWD = [b"m%02d" % number for number in range(20)]
@@ -47,13 +47,14 @@ class Maker:
     def set(self):
         key = self.dice.choice(sorted(numbers.NUMBERS))
         least, most, default, _ = numbers.NUMBERS[key]
-        value = self.dice.choice([least, most, default, self.dice.randint(least, min(most, 3 * default))])
+        values = [least, most, default, self.dice.randint(least, min(most, 3 * default))]
+        value = self.dice.choice(values + [0] * (key in numbers.MAY_BE_OFF))
         value = self.dice.choice([least - 1 if least else most + 1, most + 1]) if self.dice.random() < 0.01 else value
         return f"set {key} {value}"
 
     def set_wire(self):
         """The version of the packets of those that are opened later."""
-        return f"set wire {self.dice.choice(VERSIONS)}"
+        return f"set wire {self.dice.choice([*VERSIONS, THREE])}"
 
     def open(self):
         """An opening, seldom of a name that is open, which is a fault."""
@@ -94,7 +95,7 @@ class Maker:
             opened = len(self.cluster.members)
             is_early = opened < self.early and self.dice.random() < 0.8
             if is_early or opened < len(self.names) and self.dice.random() < 0.03:
-                if self.dice.random() < 0.3:
+                if self.dice.random() < 0.5:
                     self.add(self.set_wire().encode())
                 line = self.open()
             elif self.cluster.sent or self.dice.random() < 0.01:
@@ -124,17 +125,29 @@ def with_damage(dice, lines):
     return [*lines[:place], line, *lines[place + 1:]]
 
 
+def doubts_itself(it, claim):
+    """What is no doubt, but to be refuted: a member is suspected or has failed at its own incarnation."""
+    return claim.status in (SUSPECT, FAILED) and claim.incarnation <= it.number
+
+
 class Scripts(RunKind):
     """Each script is a case."""
 
     name = "scripts"
+    # The last ones are about news: it is waited for though there is none, and goes to those who are gone; an arrival
+    # isn't told, nor is a doubt opposed, or one at the own incarnation is; and an Ack begins with a record that is
+    # alive, or with none.
     wrong_rules = (
         (script, "MOST_MEMBERS", 17), (script, "MOST_WORD", 2**32), (script, "MOST_MOMENT", 10**15 + 1),
-        (script, "MOST_SEEDS", 15), (member, "MOST_CLAIMS", MOST_CLAIMS | {ONE: 5, TWO: 5}),
-        (member, "MOST_CLAIMS", MOST_CLAIMS | {THREE: 6}), (member.Member, "live", lambda it: 1 + len(it.records)),
+        (script, "MOST_SEEDS", 15), (known, "MOST_CLAIMS", MOST_CLAIMS | {ONE: 5, TWO: 5}),
+        (known, "MOST_CLAIMS", MOST_CLAIMS | {THREE: 6}), (member.Member, "live", lambda it: 1 + len(it.records)),
         (member.Member, "mark", lambda *_: None), (member.Member, "accuse", lambda *_: None),
         (numbers, "RATIOS", [[900], [0, 1000], *numbers.RATIOS[2:]]),
-        (numbers, "LOGARITHMS", numbers.LOGARITHMS | {10: 999}))
+        (numbers, "LOGARITHMS", numbers.LOGARITHMS | {10: 999}),
+        (member.Member, "has_news", lambda *_: True), (member.Member, "hearers", lambda it: sorted(it.records)),
+        (member.Member, "tell_arrival", lambda *_: None), (member.Member, "oppose", lambda *_: None),
+        (member.Member, "doubts", doubts_itself), (member, "ACK_BUDDIES", (ALIVE, SUSPECT, FAILED)),
+        (member, "ACK_BUDDIES", ()))
 
     def make(self, dice):
         maker = Maker(dice)

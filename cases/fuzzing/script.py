@@ -2,7 +2,8 @@
 
 import re
 
-from fuzzing.member import TIMER_WORDS, WORDS, Member
+from fuzzing.known import TIMER_WORDS
+from fuzzing.member import WORDS, Member
 from fuzzing.numbers import DEFAULTS, MOST_SEEDS, NUMBERS, fault_of
 from fuzzing.wire import address_text, is_name, spelled
 

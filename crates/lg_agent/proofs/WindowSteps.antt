@@ -7,7 +7,7 @@ use Rattle.lg_timers.specs.declared.timer.Timer.{Timer}
 use Rattle.lg_probe.specs.Meaning.Order.{window}
 use Rattle.lg_detector.specs.declared.event.Event.{Event}
 use Rattle.lg_detector.specs.Meaning.Choice.{targets_after}
-use Rattle.lg_detector.specs.Meaning.Log.{Log, Came, Fired, AckHeard, NackHeard, Relayed, OfGroup}
+use Rattle.lg_detector.specs.Meaning.Log.{Log, Came, Fired, AckHeard, NackHeard, Relayed, Ended, OfGroup}
 use Rattle.lg_detector.specs.Meaning.Probing.{is_round_start, others, chosen}
 use Rattle.lg_detector.specs.Meaning.Step.{log_of}
 use Rattle.lg_detector.specs.Meaning.Window.{targets}
@@ -37,6 +37,7 @@ targets-split (Fired timer words ∷ stretch) log = fired-split timer words stre
 targets-split (AckHeard k sender ∷ stretch) log = targets-split stretch log
 targets-split (NackHeard k sender ∷ stretch) log = targets-split stretch log
 targets-split (Relayed target asker ∷ stretch) log = targets-split stretch log
+targets-split (Ended ∷ stretch) log = targets-split stretch log
 targets-split (OfGroup fact ∷ stretch) log = targets-split stretch log
 
 names_are : (before whole : List Event) (names : List (List ℕ)) (stretch : Log) → targets_after whole ≡ targets_after before ++ names

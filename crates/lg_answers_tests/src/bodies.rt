@@ -94,7 +94,7 @@ const MISSED: &str =
 const CONFIG: &str =
     "{\"name\":\"b\",\"address\":\"127.0.0.1\",\"port\":7102,\"interval_ms\":2000,\"timeout_ms\":500,\
     \"indirect\":3,\"max_score\":8,\"alpha\":5,\"beta\":6,\"confirmations\":3,\"lambda\":4,\"nack_thousandths\":800,\
-    \"history_limit\":20000,\"wire\":1,\"dice\":1,\"pull_ms\":30000,\"stall_ms\":100,\
+    \"history_limit\":20000,\"wire\":1,\"gossip_ms\":200,\"gossip_to\":3,\"dice\":1,\"pull_ms\":30000,\"stall_ms\":100,\
     \"status\":\"127.0.0.1:8946\",\"status_open\":false,\"seeds\":[\
     {\"name\":\"a\",\"address\":\"127.0.0.1\",\"port\":7101},\
     {\"name\":\"d\",\"address\":\"127.0.0.1\",\"port\":7104}]}";
@@ -102,7 +102,7 @@ const CONFIG: &str =
 const OUSTED_CONFIG: &str =
     "{\"name\":\"b\",\"address\":\"127.0.0.1\",\"port\":7102,\"interval_ms\":2000,\"timeout_ms\":500,\
     \"indirect\":3,\"max_score\":8,\"alpha\":5,\"beta\":6,\"confirmations\":3,\"lambda\":4,\"nack_thousandths\":800,\
-    \"history_limit\":20000,\"wire\":1,\"dice\":1,\"pull_ms\":30000,\"stall_ms\":100,\
+    \"history_limit\":20000,\"wire\":1,\"gossip_ms\":200,\"gossip_to\":3,\"dice\":1,\"pull_ms\":30000,\"stall_ms\":100,\
     \"status\":null,\"status_open\":true,\"seeds\":[\
     {\"name\":\"a\",\"address\":\"127.0.0.1\",\"port\":7101},\
     {\"name\":\"d\",\"address\":\"127.0.0.1\",\"port\":7104}]}";

@@ -54,7 +54,7 @@ fn put_groups(config: &Config, text: &mut String) -> Result<(), AllocError>
 /// local health aware suspicion). The forms are this project's choice.
 ///
 /// The configuration has to be checked. The only error is that memory was refused. Memory is allocated for the text,
-/// which has 25 lines.
+/// which has 27 lines.
 #[tactic(auto, unfolding(crate::specs::Meaning::Checks::check_text))]
 pub fn check_text(alloc: Global, node: &NodeConfig) -> Result<String, AllocError>
     requires { IsChecked node.now.config }

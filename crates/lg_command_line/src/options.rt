@@ -64,8 +64,9 @@ pub(crate) fn number_option<'a>(
         .action(ArgAction::Set)
 }
 
-/// The option `--ID N` of a number of the configuration, with its help. The range is that of the key. The default is
-/// that of the key too: the parser wants it as a text, which is written at the call and proved to be the key's.
+/// The option `--ID N` of a number of the configuration, with its help. The range is that of the key. A 0 below it is
+/// refused, so no option is of a key whose 0 turns something off. The default is that of the key too: the parser wants
+/// it as a text, which is written at the call and proved to be the key's.
 pub(crate) fn key_option<'a>(
     alloc: Global,
     id: &'a str,

@@ -18,8 +18,8 @@ struct Row {
     dice: u64,
     /// `pull_ms` and `stall_ms`.
     own: [u64; 2],
-    /// The numbers, in the order of the keys: from `interval_ms` to `history_limit`, and `wire`.
-    numbers: [u64; 11],
+    /// The numbers, in the order of the keys: from `interval_ms` to `history_limit`, `wire`, `gossip_ms`, `gossip_to`.
+    numbers: [u64; 13],
     seeds: &'static [Known],
     /// Where the status server listens, and `status_open`.
     status: (Option<Addr>, bool),
@@ -28,7 +28,7 @@ struct Row {
 }
 
 /// The numbers of a file that gives none.
-const USUAL: [u64; 11] = [1000, 500, 3, 8, 5, 6, 3, 4, 800, 20_000, 1];
+const USUAL: [u64; 13] = [1000, 500, 3, 8, 5, 6, 3, 4, 800, 20_000, 1, 200, 3];
 
 /// A file with all keys.
 const ALL: &str = "\
@@ -47,6 +47,8 @@ lambda = 5
 nack_thousandths = 6
 history_limit = 7
 wire = 2
+gossip_ms = 0
+gossip_to = 8
 pull_ms = 3600000
 stall_ms = 0
 status = \"10.1.2.3:8946\"
@@ -78,6 +80,8 @@ fn is_of(node: &NodeConfig, row: &Row) -> bool {
         config.nack_thousandths,
         config.history_limit,
         config.wire,
+        config.gossip_ms,
+        config.gossip_to,
     ];
     config.name == name(b"b")
         && (config.addr, node.dice) == (Addr::v4(row.octets, row.port), row.dice)
@@ -119,7 +123,7 @@ fn each_value(rt: HostRuntime) {
             port: 7001,
             dice: 42,
             own: [3_600_000, 0],
-            numbers: [200, 50, 0, 1, 2, 3, 4, 5, 6, 7, 2],
+            numbers: [200, 50, 0, 1, 2, 3, 4, 5, 6, 7, 2, 0, 8],
             seeds: &[(b"c", [127, 0, 0, 1], 7002), (b"a", [1, 2, 3, 4], 5)],
             status: (Some(Addr::v4([10, 1, 2, 3], 8946)), true),
             key_file: Some("/etc/lg/group.key"),

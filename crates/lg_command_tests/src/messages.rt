@@ -44,6 +44,11 @@ const CONFIGS: &[(ConfigFault, &str)] = &[
         "seeds may be at most 16, with different names, none of them the member's own",
     ),
     (ConfigFault::Wire, "wire has to be 1 to 3"),
+    (
+        ConfigFault::GossipMs,
+        "gossip_ms has to be 0 or 10 to 60000",
+    ),
+    (ConfigFault::GossipTo, "gossip_to has to be 1 to 8"),
 ];
 
 const PACKETS: &[(Fault, &str)] = &[

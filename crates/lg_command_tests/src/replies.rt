@@ -46,7 +46,7 @@ fn full() -> Reply {
 fn sending() -> Reply {
     let mut reply = changes(TimerId::RelayEnd(4_294_967_295), &[], 7);
     for number in 0..MAX_SENDS as u32 {
-        if !reply.sends.is_full() {
+        if reply.sends.len() < MAX_SENDS {
             reply.sends.push(Outgoing {
                 to: local(9),
                 packet: packet(b'a', ack(number), &[]),

@@ -16,4 +16,5 @@ pub mod Reasons
 pub mod Settings
 pub mod Status
 pub mod StatusReasons
+pub mod TextExamples
 pub mod Texts

@@ -14,7 +14,7 @@ use strsim::generic_levenshtein;
 const MAX_EDITS: usize = 3;
 
 /// All known keys, in the order in which `docs/FORMATS.md` has them.
-const KNOWN_KEYS: [&str; 21] = [
+const KNOWN_KEYS: [&str; 23] = [
     "name",
     "address",
     "port",
@@ -36,6 +36,8 @@ const KNOWN_KEYS: [&str; 21] = [
     "nack_thousandths",
     "history_limit",
     "wire",
+    "gossip_ms",
+    "gossip_to",
 ];
 
 /// How many edits lead from one key to another: a byte is put in, taken out, or changed into another.

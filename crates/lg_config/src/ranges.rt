@@ -5,7 +5,7 @@
 ghost use Rattle.std.specs.Prelude.{◌≡◌, IfOk, string_bytes};
 ghost use Rattle.toml.specs.View.{table_view};
 ghost use Rattle.lg_config.specs.Meaning.Ranges.{dice_reason, given_text, member_reason, most_allowed, own_reason};
-ghost use Rattle.lg_config.specs.Meaning.Ranges.{port_reason, range_reason};
+ghost use Rattle.lg_config.specs.Meaning.Ranges.{port_reason, range_reason, zero_words};
 
 use crate::lookup::{integer_at, number_at};
 use crate::node_keys::NodeKey;
@@ -26,6 +26,8 @@ pub(crate) struct Allowed {
     most: u64,
     /// The number of a file that lacks the key.
     default: u64,
+    /// Whether 0 is allowed too, and turns off what the key is about.
+    off: bool,
 }
 
 /// A number as its file gives it, or else its default.
@@ -36,6 +38,13 @@ fn given_text(alloc: Global, given: Option<i64>, default: u64) -> Result<String,
         Some(number) => format!(in alloc; "{number}"),
         None => format!(in alloc; "{default} by default"),
     }
+}
+
+/// The words before a range: they say that 0 is allowed too, if it turns off what the key is about.
+fn zero_words(off: bool) -> &'static str
+    ensures { result.now ≡ zero_words off }
+{
+    if off { "0 or " } else { "" }
 }
 
 /// The reason of a number that is out of its range.
@@ -49,7 +58,8 @@ fn range_reason(
 {
     let given = given_text(alloc, integer_at(table, key), allowed.default)?;
     let (least, most) = (allowed.least, allowed.most);
-    format!(in alloc; "{key} is {given}, and has to be from {least} to {most}\n")
+    let zero = zero_words(allowed.off);
+    format!(in alloc; "{key} is {given}, and has to be {zero}from {least} to {most}\n")
 }
 
 /// The greatest number that a table allows for a key of the member's.
@@ -74,6 +84,7 @@ pub(crate) fn member_reason(alloc: Global, key: Key, table: &Table) -> Result<St
         least: row.least,
         most: most_allowed(key, table),
         default: row.default,
+        off: row.off,
     };
     range_reason(alloc, key.name(), allowed, table)
 }
@@ -87,6 +98,7 @@ pub(crate) fn own_reason(alloc: Global, key: NodeKey, table: &Table) -> Result<S
         least: row.least,
         most: row.most,
         default: row.default,
+        off: false,
     };
     range_reason(alloc, key.name(), allowed, table)
 }
@@ -99,6 +111,7 @@ pub(crate) fn port_reason(alloc: Global, table: &Table) -> Result<String, AllocE
         least: 1,
         most: u64::from(u16::MAX),
         default: u64::from(DEFAULT_PORT),
+        off: false,
     };
     range_reason(alloc, "port", allowed, table)
 }
@@ -111,6 +124,7 @@ pub(crate) fn dice_reason(alloc: Global, table: &Table) -> Result<String, AllocE
         least: 0,
         most: MAX_DICE,
         default: DEFAULT_DICE,
+        off: false,
     };
     range_reason(alloc, "dice", allowed, table)
 }

@@ -18,7 +18,7 @@ use Rattle.lg_rules.proofs.Views.{rises-table}
 use Rattle.lg_timing.specs.declared.config.Config.{Config}
 use Rattle.lg_timers.specs.declared.timer.Timer.{Timer}
 use Rattle.lg_timers.specs.declared.timer.TimerId.{TimerId}
-use Rattle.lg_timers.specs.declared.timer.TimerId.TheVariants.{RoundEnd, Suspicion, Direct, RelayNack, RelayEnd, RoundStart}
+use Rattle.lg_timers.specs.declared.timer.TimerId.TheVariants.{RoundEnd, Suspicion, Direct, RelayNack, RelayEnd, RoundStart, Gossip}
 use Rattle.lg_timers.specs.Meaning.Timers.{is_due, least_of}
 use Rattle.lg_timers.proofs.Pending.{any-turned}
 use Rattle.lg_probe.specs.Meaning.Order.{current_cycle}
@@ -38,7 +38,7 @@ use Rattle.lg_detector.specs.Meaning.Probing.{Probe, is_round_start, others, cyc
 use Rattle.lg_detector.specs.Meaning.Relaying.{relays, opened_at, relay_has_nacked}
 use Rattle.lg_detector.specs.Meaning.Window.{targets}
 use Rattle.lg_detector.specs.Meaning.Timing.{start_timers, probe_timers, start_by, round_start, end_at, direct_at, nack_timer, relay_timer, suspicion_timer, nack_time, relay_time}
-use Rattle.lg_detector.specs.Meaning.Timing.{round_timers, nack_timers, relay_timers, suspicion_timers, pending, due}
+use Rattle.lg_detector.specs.Meaning.Timing.{gossip_at, gossip_timers, round_timers, nack_timers, relay_timers, suspicion_timers, pending, due}
 use Rattle.lg_detector.specs.Meaning.Apply.{apply_all}
 use Rattle.lg_detector.specs.Meaning.Send.{packets}
 use Rattle.lg_detector.specs.Meaning.Tick.{found, ping_to, messages, claims_said, expire, expire_sends}
@@ -94,6 +94,7 @@ is_of_round Direct = false
 is_of_round (RelayNack k) = false
 is_of_round (RelayEnd k) = false
 is_of_round RoundStart = true
+is_of_round Gossip = false
 
 abbrev moves_round : Timer → Bool
 moves_round timer = is_of_round timer.id
@@ -108,6 +109,14 @@ none_in_round end direct None past None untimed = refl
 none_in_round end direct None past (Some d) untimed = absurd cc
 none_in_round end direct (Some p) past start untimed = absurd cc
 
+-- nor in those with the next gossip's
+none_in_ours : (A : List Timer) (gossip : Option ℕ) → list_any moves_round A ≡ false → list_any moves_round (A ++ gossip_timers gossip) ≡ false
+none_in_ours A gossip none = list_any-append moves_round A (gossip_timers gossip) ∙ rw none (gone gossip)
+  where
+    gone : (gossip : Option ℕ) → list_any moves_round (gossip_timers gossip) ≡ false
+    gone None = refl
+    gone (Some d) = refl
+
 none_of_four : (A B C D : List Timer) → list_any moves_round A ≡ false → list_any moves_round B ≡ false → list_any moves_round C ≡ false → list_any moves_round D ≡ false
     → list_any moves_round (A ++ (B ++ (C ++ D))) ≡ false
 none_of_four A B C D a b c d =
@@ -118,9 +127,10 @@ none_pending : (log : Log) → is_timed log ≡ false → list_any moves_round (
 none_pending log untimed =
     let later = nack_time (group.config (group_log log)) in
     let end = relay_time (group.config (group_log log)) in
-    any-turned moves_round (round_timers log ++ (nack_timers log ++ (relay_timers log ++ suspicion_timers log)))
-    ∙ none_of_four (round_timers log) (nack_timers log) (relay_timers log) (suspicion_timers log)
-    (none_in_round (end_at log) (direct_at log) (probe log) (since_start log) (round_start log) untimed)
+    let ours = round_timers log ++ gossip_timers (gossip_at log) in
+    any-turned moves_round (ours ++ (nack_timers log ++ (relay_timers log ++ suspicion_timers log)))
+    ∙ none_of_four ours (nack_timers log) (relay_timers log) (suspicion_timers log)
+    (none_in_ours (round_timers log) (gossip_at log) (none_in_round (end_at log) (direct_at log) (probe log) (since_start log) (round_start log) untimed))
     (none_in_map (λ r. nack_timer (opened_at log r.number + later) r.number) (filter (λ r. not (relay_has_nacked log r.number)) (relays log)) (λ r. refl))
     (none_in_map (λ r. relay_timer (opened_at log r.number + end) r.number) (relays log) (λ r. refl))
     (none_in_map suspicion_timer (suspicions (group_log log)) (λ r. refl))
@@ -157,6 +167,7 @@ untimed-by Direct words log none = refl
 untimed-by (RelayNack k) words log none = refl
 untimed-by (RelayEnd k) words log none = refl
 untimed-by RoundStart words log none = absurd cc
+untimed-by Gossip words log none = refl
 
 untimed-expire : (o : Option Timer) (words : List ℕ) (log : Log) → is_timed log ≡ false → due log ≡ o → is_timed (expire o words log) ≡ false
 untimed-expire None words log untimed first = untimed
@@ -207,6 +218,7 @@ gained-by (Suspicion m) words log sent opened = nothing_gained (all_targets log)
 gained-by Direct words log sent opened = nothing_gained (all_targets log)
 gained-by (RelayNack k) words log sent opened = nothing_gained (all_targets log)
 gained-by (RelayEnd k) words log sent opened = nothing_gained (all_targets log)
+gained-by Gossip words log sent opened = nothing_gained (all_targets log)
 gained-by RoundStart words log sent opened =
     let rows = group_view (group_log log) in
     let there : chosen words (log ++ []) ≡ chosen words log = ap (λ (past : Log). chosen words past) (append-nil log) in

@@ -1,11 +1,11 @@
 -- After a list of events that begins with an opening, a timer is always set: the next round's start, or the end of the
 -- round whose probe runs.
-use Rattle.std.proofs.Common.{◌≡◌, ℕ, Bool, true, ◌||◌, List, [], ◌∷◌, ◌++◌, reverse, Option, Some, None, refl, ◌∙◌, ap}
+use Rattle.std.proofs.Common.{◌≡◌, ℕ, Bool, true, ◌||◌, List, [], ◌∷◌, ◌++◌, reverse, Option, Some, None, refl, ◌∙◌, ap, append_assoc}
 use Rattle.std.specs.Prelude.{is_some}
 use Rattle.std.proofs.lemmas.List.{reverse-append}
 use Rattle.lg_timers.specs.declared.timer.Timer.{Timer}
 use Rattle.lg_timers.specs.declared.timer.TimerId.{TimerId}
-use Rattle.lg_timers.specs.declared.timer.TimerId.TheVariants.{RoundEnd, Suspicion, Direct, RelayNack, RelayEnd, RoundStart}
+use Rattle.lg_timers.specs.declared.timer.TimerId.TheVariants.{RoundEnd, Suspicion, Direct, RelayNack, RelayEnd, RoundStart, Gossip}
 use Rattle.lg_timers.specs.Meaning.Timers.{in_turn}
 use Rattle.lg_timers.proofs.TurnLaws.{least-with_timer}
 use Rattle.lg_probe.specs.Meaning.Round.{RoundFact}
@@ -13,9 +13,9 @@ use Rattle.lg_timing.specs.declared.config.Config.{Config}
 use Rattle.lg_membership.specs.Meaning.Log as group
 use Rattle.lg_detector.specs.declared.event.Event.{Event}
 use Rattle.lg_detector.specs.declared.event.Event.TheVariants.{Open, Tick, Heard, Ask, Health, Pull}
-use Rattle.lg_detector.specs.Meaning.Log.{Log, Came, Fired, AckHeard, NackHeard, Relayed, OfGroup, group_log}
+use Rattle.lg_detector.specs.Meaning.Log.{Log, Came, Fired, AckHeard, NackHeard, Relayed, Ended, OfGroup, group_log}
 use Rattle.lg_detector.specs.Meaning.Probing.{Probe, chosen, number, new_probe, probe, probe_by, since_start}
-use Rattle.lg_detector.specs.Meaning.Timing.{start_timer, end_timer, start_timers, direct_timers, probe_timers, start_unless, start_by, round_start, end_at, direct_at, interval_later}
+use Rattle.lg_detector.specs.Meaning.Timing.{gossip_at, gossip_timers, round_timers, start_timer, end_timer, start_timers, direct_timers, probe_timers, start_unless, start_by, round_start, end_at, direct_at, interval_later}
 use Rattle.lg_detector.specs.Meaning.Timing.{nack_timers, relay_timers, suspicion_timers, deadline_in, due}
 use Rattle.lg_detector.specs.Meaning.Tick.{expire}
 use Rattle.lg_detector.specs.Meaning.Step.{step, log_of, is_open_event, begins_open, deadline_after}
@@ -76,6 +76,7 @@ timed-by (Suspicion m) words log timed = timed
 timed-by Direct words log timed = timed
 timed-by (RelayNack k) words log timed = timed
 timed-by (RelayEnd k) words log timed = timed
+timed-by Gossip words log timed = timed
 timed-by RoundStart words log timed = timed-start (number log) (interval_later log) (chosen words log)
 
 pub timed : (log : Log) → was_opened log ≡ true → is_timed log ≡ true
@@ -85,6 +86,7 @@ timed (Fired timer words ∷ log) opened = timed-by timer.id words log (timed lo
 timed (AckHeard k sender ∷ log) opened = timed log opened
 timed (NackHeard k sender ∷ log) opened = timed log opened
 timed (Relayed target asker ∷ log) opened = timed log opened
+timed (Ended ∷ log) opened = timed log opened
 timed (OfGroup (group.Opened opening) ∷ log) opened = refl
 timed (OfGroup (group.Said now origin c) ∷ log) opened = timed log opened
 timed (OfGroup (group.Sent taken) ∷ log) opened = timed log opened
@@ -103,7 +105,10 @@ deadline_is_set x f opens =
     let log : Log = log_of (reverse (x ∷ f)) in
     let back : reverse (x ∷ f) ≡ reverse f ++ x ∷ [] = reverse-append (x ∷ []) f in
     let opened : was_opened log ≡ true = ap (λ (past : List Event). was_opened (log_of past)) back ∙ opened-past (reverse f) x opens in
-    some_least (end_at log) (direct_at log) (probe log) (since_start log) (round_start log) (nack_timers log ++ (relay_timers log ++ suspicion_timers log)) (timed log opened)
+    let others = nack_timers log ++ (relay_timers log ++ suspicion_timers log) in
+    let gossip = gossip_timers (gossip_at log) in
+    ap (λ ts. is_some (deadline_in (in_turn ts))) (append_assoc (round_timers log) gossip others)
+    ∙ some_least (end_at log) (direct_at log) (probe log) (since_start log) (round_start log) (gossip ++ others) (timed log opened)
 
 pub deadline_is_begun : (f : List Event) → begins_open f ≡ true → is_some (deadline_after f) ≡ true
 deadline_is_begun [] opens = absurd cc

@@ -1,6 +1,6 @@
 -- Each fact of the group changes the state as its definitions do, and so does an event that comes. Those of probing are
 -- in ProbeLaws.
-use Rattle.std.proofs.Common.{◌≡◌, ◌≢◌, ℕ, ◌+◌, not, List, [], ◌∷◌, map, filter, None, inl, inr, refl, sym, ◌∙◌, ap}
+use Rattle.std.proofs.Common.{◌≡◌, ◌≢◌, ℕ, ◌+◌, not, List, [], ◌∷◌, ◌++◌, map, filter, None, inl, inr, refl, sym, ◌∙◌, ap}
 use Rattle.std.specs.Prelude.{ℤ}
 use Rattle.lg_rules.specs.declared.claim.Claim.{Claim}
 use Rattle.lg_rules.specs.declared.own.OwnHeard.{OwnHeard}
@@ -30,7 +30,7 @@ use Rattle.lg_detector.specs.Meaning.Probing.{number, round, probe, since_start}
 use Rattle.lg_detector.specs.Meaning.Relaying.{relays, relay_has_nacked, opened_at}
 use Rattle.lg_detector.specs.Meaning.Timing.{marks_of_hearing, earned, max_in, score, round_start, round_timers}
 use Rattle.lg_detector.specs.Meaning.Timing.{nack_timers, relay_timers, pending, nack_time, relay_time, end_at}
-use Rattle.lg_detector.specs.Meaning.Timing.{direct_at, start_timer, suspicion_timer}
+use Rattle.lg_detector.specs.Meaning.Timing.{direct_at, gossip_at, gossip_timers, start_timer, suspicion_timer}
 use Rattle.lg_detector.specs.Meaning.Apply as log_of_it
 use Rattle.lg_detector.specs.Support.State.{state_of, order_of, come_state, begin, marked_if, follow, apply_state}
 use Rattle.lg_detector.specs.Support.State.{send_taken}
@@ -49,6 +49,7 @@ begin-state opening log = λ i. record {
   order = record { names = sym (live-opened opening (group_log log)) i; chosen = [] };
   number = 1;
   round = None;
+  gossip = None;
   relays = [];
   membership = member-open opening (group_log log) i;
 }
@@ -71,12 +72,15 @@ applied-other : (now : ℕ) (c : Claim) (s : GroupState) → c.name ≢ s.own.na
 unfolding known.applied
 applied-other now c s other = rw (other_key names_order c.name s.own.name other) refl
 
--- the timers of a log, by its suspicions
-abbrev parts : Log → List SuspectedValue → List Timer
-parts log rows = turned (round_timers log) (nack_timers log) (relay_timers log) (map suspicion_timer rows)
+-- the timers of a log: those of the round with that of the next gossip, and all of them by its suspicions
+abbrev ours : Log → List Timer
+ours log = round_timers log ++ gossip_timers (gossip_at log)
 
-rounds_apart : (log : Log) → NoSuspicion (round_timers log)
-rounds_apart log = (are_round (end_at log) (direct_at log) (probe log) (since_start log) (round_start log)).apart
+abbrev parts : Log → List SuspectedValue → List Timer
+parts log rows = turned (ours log) (nack_timers log) (relay_timers log) (map suspicion_timer rows)
+
+rounds_apart : (log : Log) → NoSuspicion (ours log)
+rounds_apart log = (are_round (end_at log) (direct_at log) (probe log) (since_start log) (round_start log) (gossip_at log)).apart
 
 nacks_apart : (log : Log) → NoSuspicion (nack_timers log)
 nacks_apart log =
@@ -111,6 +115,7 @@ own-said origin c log same =
       order = order-said origin c log i;
       number = number log;
       round = round log;
+      gossip = gossip_at log;
       relays = relays log;
       membership = member i;
     }
@@ -130,7 +135,7 @@ other-said origin c log other =
     let marks = ap (λ (a : Applied). marked_if a.refuted (score log)) to_other
     ∙ ap (λ (h : OwnHeard). with_marks max (marks_of_hearing h (earned log))) (sym (own_hearing-other (group.own g) c apart)) in
     let times = ap (λ (a : Applied). follow c.name a.deadline (pending log)) to_other
-    ∙ pending-after (round_timers log) (nack_timers log) (relay_timers log) c.name change (suspicions g) (rounds_apart log) (nacks_apart log) (ends_apart log) (change_about (moment log) c s) (rises-suspicions g)
+    ∙ pending-after (ours log) (nack_timers log) (relay_timers log) c.name change (suspicions g) (rounds_apart log) (nacks_apart log) (ends_apart log) (change_about (moment log) c s) (rises-suspicions g)
     ∙ ap (parts log) rows in
     λ i. record {
       events = event_count log;
@@ -140,6 +145,7 @@ other-said origin c log other =
       order = order-said origin c log i;
       number = number log;
       round = round log;
+      gossip = gossip_at log;
       relays = relays log;
       membership = member i;
     }
@@ -161,6 +167,7 @@ send-state taken log =
       order = order_of log;
       number = number log;
       round = round log;
+      gossip = gossip_at log;
       relays = relays log;
       membership = member i;
     }

@@ -40,7 +40,7 @@ module _ {X : Type 0} (read : Log → X) (left : IsLeft read) where
   left-send (Nack number receiver) log = refl
   left-send (Pull after) log = refl
   left-send Page log = refl
-  left-send Gossip log = refl
+  left-send Gossip log = left.sent _ log
 
   left-send_all : (ms : List Message) (log : Log) → read (send_all ms log) ≡ read log
   left-send_all [] log = refl

@@ -9,6 +9,7 @@ pub mod Reaching
 pub mod Applying
 pub mod Ticking
 pub mod Sending
+pub mod Telling
 pub mod StepLaws
 pub mod WindowLaws
 pub mod Leaving

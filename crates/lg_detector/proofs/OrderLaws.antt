@@ -24,7 +24,7 @@ use Rattle.lg_membership.proofs.LiveOthers.{live_known}
 use Rattle.lg_membership.specs.declared.origin.Origin.{Origin}
 use Rattle.lg_membership.specs.Support.State as known
 use Rattle.lg_membership.specs.Support.State.{group_state_of}
-use Rattle.lg_detector.specs.Meaning.Log.{Log, Came, Fired, AckHeard, NackHeard, Relayed, OfGroup, moment, group_log}
+use Rattle.lg_detector.specs.Meaning.Log.{Log, Came, Fired, AckHeard, NackHeard, Relayed, Ended, OfGroup, moment, group_log}
 use Rattle.lg_detector.specs.Meaning.Apply as to_log
 use Rattle.lg_detector.specs.Meaning.Probing as probing
 use Rattle.lg_detector.specs.Meaning.Probing.{others, cycle_names, first_word}
@@ -105,6 +105,7 @@ cycle-known (Fired timer words ∷ log) k a = elim (cases_Bool (probing.is_round
 cycle-known (AckHeard j sender ∷ log) k a = cycle-known log k a
 cycle-known (NackHeard j sender ∷ log) k a = cycle-known log k a
 cycle-known (Relayed target asker ∷ log) k a = cycle-known log k a
+cycle-known (Ended ∷ log) k a = cycle-known log k a
 cycle-known (OfGroup (group.Opened opening) ∷ log) k a = absurd cc
 cycle-known (OfGroup (group.Said now origin c) ∷ log) k a = roster-grows (group.me (group_log log)) c (group.said (group_log log)) k (cycle-known log k a)
 cycle-known (OfGroup (group.Sent taken) ∷ log) k a = cycle-known log k a

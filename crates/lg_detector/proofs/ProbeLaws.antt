@@ -5,9 +5,10 @@ use Rattle.std.specs.Prelude.{ℤ, filter, is_some, ◌==◌}
 use Rattle.std.proofs.lemmas.Bool.{cases_Bool}
 use Rattle.lg_timing.specs.Meaning.Score.{ScoreValue, score_of}
 use Rattle.lg_timers.specs.declared.timer.Timer.{Timer}
+use Rattle.lg_timers.specs.Meaning.Timers.{without_timer}
 use Rattle.lg_timers.specs.declared.timer.TimerId.{TimerId}
 use Rattle.lg_timers.specs.declared.timer.TimerId.TheVariants.{RoundEnd, Suspicion, Direct}
-use Rattle.lg_timers.specs.declared.timer.TimerId.TheVariants.{RelayNack, RelayEnd, RoundStart}
+use Rattle.lg_timers.specs.declared.timer.TimerId.TheVariants.{RelayNack, RelayEnd, RoundStart, Gossip}
 use Rattle.lg_probe.specs.declared.relays.Asker.{Asker}
 use Rattle.lg_probe.specs.declared.relays.Relay.{Relay}
 use Rattle.lg_probe.specs.Meaning.Order.{OrderValue, Chose, order_with}
@@ -19,19 +20,19 @@ use Rattle.lg_membership.specs.Meaning.Log as group
 use Rattle.lg_membership.specs.Meaning.Log.{group_view}
 use Rattle.lg_membership.specs.Meaning.Suspicions.{SuspectedValue, suspicions}
 use Rattle.lg_membership.specs.Support.State.{group_state_of}
-use Rattle.lg_detector.specs.Meaning.Log.{Log, Fired, AckHeard, NackHeard, Relayed, event_count, moment, group_log}
+use Rattle.lg_detector.specs.Meaning.Log.{Log, Fired, AckHeard, NackHeard, Relayed, Ended, event_count, moment, group_log}
 use Rattle.lg_detector.specs.Meaning.Probing as probing
 use Rattle.lg_detector.specs.Meaning.Probing.{Probe, number, probe, since_start, round, round_at, new_probe, first_word, target, helpers_of, asked_about}
 use Rattle.lg_detector.specs.Meaning.Relaying.{relays, relay_has_nacked, opened_at}
 use Rattle.lg_detector.specs.Meaning.Timing as timing
-use Rattle.lg_detector.specs.Meaning.Timing.{earned, max_in, score, round_start, round_timers, nack_timers, relay_timers, pending, nack_time, relay_time, end_at, direct_at, is_first, mark_of_end, mark_of_ack}
+use Rattle.lg_detector.specs.Meaning.Timing.{gossip_at, gossip_by, gossip_delay, gossip_timers, has_to_tell, earned, max_in, score, round_start, round_timers, nack_timers, relay_timers, pending, nack_time, relay_time, end_at, direct_at, is_first, mark_of_end, mark_of_ack}
 use Rattle.lg_detector.specs.Support.State as state
 use Rattle.lg_detector.specs.Support.State.{helpers_state}
 use Rattle.lg_detector.specs.Support.State.{State, state_of, order_of, fire_state, fire_id, start_probe, marked_end}
 use Rattle.lg_detector.specs.Support.State.{marked_ack, hear_ack, hear_nack, open_relay}
 use Rattle.lg_detector.proofs.OrderLaws.{order-chose, chosen-is}
 use Rattle.lg_detector.proofs.RelayLaws.{numbered, nacked-timers, closed-timers, ended-timers, opened-timers, nacks-opened, ends-opened, relays-opened, relays-acked, relays-closed}
-use Rattle.lg_detector.proofs.TimerLaws.{turned, nacks, ends, runs, AreRound, are_round, start-set, probe-set, without-direct, first-direct, asked-timers, acked-timers}
+use Rattle.lg_detector.proofs.TimerLaws.{kept_or, gossip-set, gossip-fired, round_parts, turned, nacks, ends, runs, AreRound, are_round, start-set, probe-set, without-direct, first-direct, asked-timers, acked-timers}
 
 -- what gives the deadlines of the relays of a log, and which of them sent no Nack
 abbrev nack_at : Log → ℕ → ℕ
@@ -46,8 +47,15 @@ is_silent log r = not (relay_has_nacked log r.number)
 abbrev rows : Log → List SuspectedValue
 rows log = suspicions (group_log log)
 
-are : (log : Log) → AreRound (round_timers log)
-are log = are_round (end_at log) (direct_at log) (probe log) (since_start log) (round_start log)
+-- the timers of the round, with that of the next gossip
+abbrev pub ours : Log → List Timer
+ours log = round_timers log ++ gossip_timers (gossip_at log)
+
+abbrev rest : Log → List Timer
+rest log = gossip_timers (gossip_at log)
+
+are : (log : Log) → AreRound (rest log) (ours log)
+are log = are_round (end_at log) (direct_at log) (probe log) (since_start log) (round_start log) (gossip_at log)
 
 -- A probe runs, or none does, by the last start of a round.
 target-is : (p : Option Probe) (past : List RoundFact) → option_map (λ r. r.target) (round_at past p) ≡ option_map (λ p. p.target) p
@@ -62,10 +70,11 @@ after_start log o order =
       events = event_count log;
       moment = moment log;
       score = score log;
-      timers = turned (timing.probe_timers later (timing.timeout_later log) (new_probe (number log) o) [] ++ timing.start_timers (timing.start_unless later o)) (nack_timers log) (relay_timers log) (runs (rows log));
+      timers = turned ((timing.probe_timers later (timing.timeout_later log) (new_probe (number log) o) [] ++ timing.start_timers (timing.start_unless later o)) ++ rest log) (nack_timers log) (relay_timers log) (runs (rows log));
       order = order;
       number = cond (is_some o) (number log + 1) (number log);
       round = round_at [] (new_probe (number log) o);
+      gossip = gossip_at log;
       relays = relays log;
       membership = group_state_of (group_log log);
     }
@@ -75,10 +84,11 @@ start-by log None order = λ i. record {
   events = event_count log;
   moment = moment log;
   score = score log;
-  timers = start-set (nack_at log) (relay_at log) (filter (is_silent log) (relays log)) (relays log) (rows log) (timing.interval_later log) (round_timers log) (are log) i;
+  timers = start-set (nack_at log) (relay_at log) (filter (is_silent log) (relays log)) (relays log) (rows log) (timing.interval_later log) (rest log) (ours log) (are log) i;
   order = order;
   number = number log;
   round = None;
+  gossip = gossip_at log;
   relays = relays log;
   membership = group_state_of (group_log log);
 }
@@ -86,10 +96,11 @@ start-by log (Some m) order = λ i. record {
   events = event_count log;
   moment = moment log;
   score = score log;
-  timers = probe-set (nack_at log) (relay_at log) (filter (is_silent log) (relays log)) (relays log) (rows log) (timing.interval_later log) (timing.timeout_later log) (round_timers log) (are log) i;
+  timers = probe-set (nack_at log) (relay_at log) (filter (is_silent log) (relays log)) (relays log) (rows log) (timing.interval_later log) (timing.timeout_later log) (rest log) (ours log) (are log) i;
   order = order;
   number = number log + 1;
   round = Some (round_of (number log) m []);
+  gossip = gossip_at log;
   relays = relays log;
   membership = group_state_of (group_log log);
 }
@@ -115,9 +126,9 @@ asked-round (Some p) past helpers = ap Some (asked_after p.number p.target past 
 direct-state : (d : ℕ) (words : List ℕ) (log : Log) → state.ask_helpers words (state_of log) ≡ state_of (Fired (record { deadline = d; id = Direct }) words ∷ log)
 direct-state d words log =
     let silent = filter (is_silent log) (relays log) in
-    let timers = without-direct (nack_at log) (relay_at log) silent (relays log) (rows log) (round_timers log)
+    let timers = without-direct (nack_at log) (relay_at log) silent (relays log) (rows log) (ours log)
     ∙ ap (λ ts. turned ts (nack_timers log) (relay_timers log) (runs (rows log)))
-    (asked-timers (end_at log) (direct_at log) (probe log) (since_start log) (probing.helpers words log) (round_start log)) in
+    (asked-timers (end_at log) (direct_at log) (probe log) (since_start log) (probing.helpers words log) (round_start log) (gossip_at log)) in
     let asked = ap (λ h. option_map (λ r. round_with r (Asked h)) (round log)) (helpers-is words log)
     ∙ asked-round (probe log) (since_start log) (probing.helpers words log) in
     λ i. record {
@@ -128,6 +139,7 @@ direct-state d words log =
       order = order_of log;
       number = number log;
       round = asked i;
+      gossip = gossip_at log;
       relays = relays log;
       membership = group_state_of (group_log log);
     }
@@ -144,7 +156,7 @@ end-state : (d : ℕ) (words : List ℕ) (log : Log) → state.end_round (state_
 end-state d words log =
     let silent = filter (is_silent log) (relays log) in
     let score = end-mark (round log) (max_in (group.config (group_log log))) (earned log) in
-    let timers = start-set (nack_at log) (relay_at log) silent (relays log) (rows log) (moment log) (round_timers log) (are log) in
+    let timers = start-set (nack_at log) (relay_at log) silent (relays log) (rows log) (moment log) (rest log) (ours log) (are log) in
     λ i. record {
       events = event_count log;
       moment = moment log;
@@ -153,6 +165,7 @@ end-state d words log =
       order = order_of log;
       number = number log;
       round = None;
+      gossip = gossip_at log;
       relays = relays log;
       membership = group_state_of (group_log log);
     }
@@ -164,7 +177,7 @@ neither false b = refl
 
 nack-state : (d k : ℕ) (words : List ℕ) (log : Log) → state.nack_relay k (state_of log) ≡ state_of (Fired (record { deadline = d; id = RelayNack k }) words ∷ log)
 nack-state d k words log =
-    let timers = nacked-timers (round_timers log) (are log) (nack_at log) (relay_at log) (rows log) k (is_silent log)
+    let timers = nacked-timers (rest log) (ours log) (are log) (nack_at log) (relay_at log) (rows log) k (is_silent log)
     (λ r. not ((r.number == k) || relay_has_nacked log r.number)) (relays log) (λ r. neither (r.number == k) (relay_has_nacked log r.number)) in
     λ i. record {
       events = event_count log;
@@ -174,6 +187,7 @@ nack-state d k words log =
       order = order_of log;
       number = number log;
       round = round log;
+      gossip = gossip_at log;
       relays = relays log;
       membership = group_state_of (group_log log);
     }
@@ -181,8 +195,8 @@ nack-state d k words log =
 close-state : (d k : ℕ) (words : List ℕ) (log : Log) → state.close_relay k (state_of log) ≡ state_of (Fired (record { deadline = d; id = RelayEnd k }) words ∷ log)
 close-state d k words log =
     let open_then = sym (relays-closed d k words log) in
-    let timers = closed-timers (round_timers log) (are log) (nack_at log) (relay_at log) (rows log) k (is_silent log) (relays log)
-    ∙ ap (λ rs. turned (round_timers log) (nacks (nack_at log) (filter (is_silent log) rs)) (ends (relay_at log) rs) (runs (rows log))) open_then in
+    let timers = closed-timers (rest log) (ours log) (are log) (nack_at log) (relay_at log) (rows log) k (is_silent log) (relays log)
+    ∙ ap (λ rs. turned (ours log) (nacks (nack_at log) (filter (is_silent log) rs)) (ends (relay_at log) rs) (runs (rows log))) open_then in
     λ i. record {
       events = event_count log;
       moment = moment log;
@@ -191,7 +205,68 @@ close-state d k words log =
       order = order_of log;
       number = number log;
       round = round log;
+      gossip = gossip_at log;
       relays = open_then i;
+      membership = group_state_of (group_log log);
+    }
+
+-- news is gossiped
+no_gossip : (end direct : ℕ) (p : Option Probe) (past : List RoundFact) (start : Option ℕ)
+    → without_timer Gossip (timing.probe_timers end direct p past ++ timing.start_timers start) ≡ timing.probe_timers end direct p past ++ timing.start_timers start
+no_gossip end direct None past None = refl
+no_gossip end direct None past (Some d) = refl
+no_gossip end direct (Some p) past start = step (timing.is_waiting p past) start
+  where
+    step : (waiting : Bool) (start : Option ℕ) → without_timer Gossip (round_parts end direct waiting ++ timing.start_timers start) ≡ round_parts end direct waiting ++ timing.start_timers start
+    step true None = refl
+    step true (Some d) = refl
+    step false None = refl
+    step false (Some d) = refl
+
+gossip-state : (d : ℕ) (words : List ℕ) (log : Log) → state.gossip_fired (state_of log) ≡ state_of (Fired (record { deadline = d; id = Gossip }) words ∷ log)
+gossip-state d words log =
+    let silent = filter (is_silent log) (relays log) in
+    let timers = gossip-fired (nack_at log) (relay_at log) silent (relays log) (rows log) (gossip_at log) (round_timers log)
+    (no_gossip (end_at log) (direct_at log) (probe log) (since_start log) (round_start log)) in
+    λ i. record {
+      events = event_count log;
+      moment = moment log;
+      score = score log;
+      timers = timers i;
+      order = order_of log;
+      number = number log;
+      round = round log;
+      gossip = None;
+      relays = relays log;
+      membership = group_state_of (group_log log);
+    }
+
+-- an event ends
+kept : (tells : Bool) (delay : Option ℕ) (now : ℕ) (gossip : Option ℕ) → gossip_by tells delay now gossip ≡ kept_or gossip (gossip_by tells delay now None)
+kept tells delay now None = refl
+kept tells delay now (Some d) = refl
+
+pub ended-state : (log : Log) → state.end_event (state_of log) ≡ state_of (Ended ∷ log)
+unfolding state.end_event
+ended-state log =
+    let silent = filter (is_silent log) (relays log) in
+    let delay = gossip_delay (group.config (group_log log)) in
+    let next = gossip_by (has_to_tell log) delay (moment log) None in
+    let is = kept (has_to_tell log) delay (moment log) (gossip_at log) in
+    let timers = ap (λ o. state.with_gossip (gossip_at log) o (pending log)) is
+    ∙ gossip-set (nack_at log) (relay_at log) silent (relays log) (rows log) (gossip_at log) next (round_timers log)
+    (no_gossip (end_at log) (direct_at log) (probe log) (since_start log) (round_start log))
+    ∙ ap (λ o. turned (round_timers log ++ gossip_timers o) (nack_timers log) (relay_timers log) (runs (rows log))) (sym is) in
+    λ i. record {
+      events = event_count log;
+      moment = moment log;
+      score = score log;
+      timers = timers i;
+      order = order_of log;
+      number = number log;
+      round = round log;
+      gossip = gossip_at (Ended ∷ log);
+      relays = relays log;
       membership = group_state_of (group_log log);
     }
 
@@ -202,6 +277,7 @@ fired d Direct words log = direct-state d words log
 fired d (RelayNack k) words log = nack-state d k words log
 fired d (RelayEnd k) words log = close-state d k words log
 fired d RoundStart words log = start-state d words log
+fired d Gossip words log = gossip-state d words log
 
 pub fire-state : (timer : Timer) (words : List ℕ) (log : Log) → fire_state timer words (state_of log) ≡ state_of (Fired timer words ∷ log)
 unfolding fire_state
@@ -230,15 +306,15 @@ unfolding hear_ack
 ack-state k sender log =
     let silent = filter (is_silent log) (relays log) in
     let first = is_first k sender (round log) in
-    let A = timing.probe_timers (end_at log) (direct_at log) (probe log) (Acked k sender ∷ since_start log) ++ timing.start_timers (round_start log) in
+    let A = (timing.probe_timers (end_at log) (direct_at log) (probe log) (Acked k sender ∷ since_start log) ++ timing.start_timers (round_start log)) ++ rest log in
     let score = ack-mark first (max_in (group.config (group_log log))) (earned log) in
     let open_then = sym (relays-acked k sender log) in
     let direct : state.without_direct first (pending log) ≡ turned A (nack_timers log) (relay_timers log) (runs (rows log)) =
-    first-direct (nack_at log) (relay_at log) silent (relays log) (rows log) first (round_timers log)
+    first-direct (nack_at log) (relay_at log) silent (relays log) (rows log) first (ours log)
     ∙ ap (λ ts. turned ts (nack_timers log) (relay_timers log) (runs (rows log)))
-    (acked-timers (end_at log) (direct_at log) (probe log) (since_start log) k sender (round_start log)) in
+    (acked-timers (end_at log) (direct_at log) (probe log) (since_start log) k sender (round_start log) (gossip_at log)) in
     let timers = ap (state.without_ended (is_some (ended_asker k sender (relays log))) k) direct
-    ∙ ended-timers A (are_round (end_at log) (direct_at log) (probe log) (Acked k sender ∷ since_start log) (round_start log)) (nack_at log) (relay_at log) (rows log) k sender (is_silent log) (relays log)
+    ∙ ended-timers (rest log) A (are_round (end_at log) (direct_at log) (probe log) (Acked k sender ∷ since_start log) (round_start log) (gossip_at log)) (nack_at log) (relay_at log) (rows log) k sender (is_silent log) (relays log)
     (numbered log).apart
     ∙ ap (λ rs. turned A (nacks (nack_at log) (filter (is_silent log) rs)) (ends (relay_at log) rs) (runs (rows log))) open_then in
     λ i. record {
@@ -249,6 +325,7 @@ ack-state k sender log =
       order = order_of log;
       number = number log;
       round = acked-round (probe log) (since_start log) k sender i;
+      gossip = gossip_at log;
       relays = open_then i;
       membership = group_state_of (group_log log);
     }
@@ -258,15 +335,16 @@ nacked-round : (p : Option Probe) (past : List RoundFact) (k : ℕ) (sender : Li
 nacked-round None past k sender = refl
 nacked-round (Some p) past k sender = ap Some (nacked_after p.number p.target past k sender)
 
-nack-timers : (e d : ℕ) (p : Option Probe) (past : List RoundFact) (k : ℕ) (sender : List ℕ) (start : Option ℕ)
-    → timing.probe_timers e d p past ++ timing.start_timers start ≡ timing.probe_timers e d p (Nacked k sender ∷ past) ++ timing.start_timers start
-nack-timers e d None past k sender start = refl
-nack-timers e d (Some p) past k sender start = refl
+nack-timers : (e d : ℕ) (p : Option Probe) (past : List RoundFact) (k : ℕ) (sender : List ℕ) (start gossip : Option ℕ)
+    → (timing.probe_timers e d p past ++ timing.start_timers start) ++ gossip_timers gossip
+    ≡ (timing.probe_timers e d p (Nacked k sender ∷ past) ++ timing.start_timers start) ++ gossip_timers gossip
+nack-timers e d None past k sender start gossip = refl
+nack-timers e d (Some p) past k sender start gossip = refl
 
 pub nack-heard : (k : ℕ) (sender : List ℕ) (log : Log) → hear_nack k sender (state_of log) ≡ state_of (NackHeard k sender ∷ log)
 unfolding hear_nack
 nack-heard k sender log =
-    let timers = ap (λ ts. turned ts (nack_timers log) (relay_timers log) (runs (rows log))) (nack-timers (end_at log) (direct_at log) (probe log) (since_start log) k sender (round_start log)) in
+    let timers = ap (λ ts. turned ts (nack_timers log) (relay_timers log) (runs (rows log))) (nack-timers (end_at log) (direct_at log) (probe log) (since_start log) k sender (round_start log) (gossip_at log)) in
     λ i. record {
       events = event_count log;
       moment = moment log;
@@ -275,6 +353,7 @@ nack-heard k sender log =
       order = order_of log;
       number = number log;
       round = nacked-round (probe log) (since_start log) k sender i;
+      gossip = gossip_at log;
       relays = relays log;
       membership = group_state_of (group_log log);
     }
@@ -284,9 +363,9 @@ pub relayed-state : (target : List ℕ) (asker : Asker) (log : Log) → open_rel
 unfolding open_relay
 relayed-state target asker log =
     let open_then = sym (relays-opened target asker log) in
-    let timers = opened-timers (round_timers log) (are log) (nack_at log) (relay_at log) (rows log) (number log) (state.nack_later (state_of log)) (state.relay_later (state_of log)) (is_silent log) (relays log)
+    let timers = opened-timers (rest log) (ours log) (are log) (nack_at log) (relay_at log) (rows log) (number log) (state.nack_later (state_of log)) (state.relay_later (state_of log)) (is_silent log) (relays log)
     (numbered log).below
-    ∙ (λ i. turned (round_timers log) (nacks-opened target asker log i) (ends-opened target asker log i) (runs (rows log))) in
+    ∙ (λ i. turned (ours log) (nacks-opened target asker log i) (ends-opened target asker log i) (runs (rows log))) in
     λ i. record {
       events = event_count log;
       moment = moment log;
@@ -295,6 +374,7 @@ relayed-state target asker log =
       order = order_of log;
       number = number log + 1;
       round = round log;
+      gossip = gossip_at log;
       relays = open_then i;
       membership = group_state_of (group_log log);
     }

@@ -1,5 +1,5 @@
 -- What each fact makes of a state that some log has is such a state again; and few timers are set in it.
-use Rattle.std.proofs.Common.{◌≡◌, ℕ, ◌+◌, ◌<◌, ◌≤◌, Bool, not, List, [], ◌∷◌, length, Option, Some, None, refl, sym, ◌∙◌, ap, subst, arith, length-append}
+use Rattle.std.proofs.Common.{◌≡◌, ℕ, ◌+◌, ◌<◌, ◌≤◌, Bool, not, List, [], ◌∷◌, ◌++◌, length, Option, Some, None, refl, sym, ◌∙◌, ap, subst, arith, length-append}
 use Rattle.std.specs.Prelude.{filter}
 use Rattle.lg_rules.specs.declared.claim.Claim.{Claim}
 use Rattle.lg_timing.specs.declared.config.Config.{Config}
@@ -7,7 +7,7 @@ use Rattle.lg_timing.specs.Meaning.Config.{IsChecked}
 use Rattle.lg_timers.specs.declared.timer.Timer.{Timer}
 use Rattle.lg_timers.specs.declared.timer.TimerId.{TimerId}
 use Rattle.lg_timers.specs.declared.timer.TimerId.TheVariants.{RoundEnd, Suspicion, Direct}
-use Rattle.lg_timers.specs.declared.timer.TimerId.TheVariants.{RelayNack, RelayEnd, RoundStart}
+use Rattle.lg_timers.specs.declared.timer.TimerId.TheVariants.{RelayNack, RelayEnd, RoundStart, Gossip}
 use Rattle.lg_timers.specs.declared.timers.TheConstants.{MAX_TIMERS}
 use Rattle.lg_probe.specs.declared.relays.Asker.{Asker}
 use Rattle.lg_probe.specs.declared.relays.Relay.{Relay}
@@ -21,30 +21,30 @@ use Rattle.lg_membership.specs.Support.Reached.{IsGroupReached}
 use Rattle.lg_membership.proofs.Reaching.{config-apply}
 use Rattle.lg_membership.proofs.SuspicionLaws.{length-suspicions}
 use Rattle.lg_detector.specs.declared.detector.TheConstants.{MAX_EVENTS}
-use Rattle.lg_detector.specs.Meaning.Log.{Log, Came, Fired, AckHeard, NackHeard, Relayed, OfGroup, group_log}
+use Rattle.lg_detector.specs.Meaning.Log.{Log, Came, Fired, AckHeard, NackHeard, Relayed, Ended, OfGroup, group_log}
 use Rattle.lg_detector.specs.Meaning.Probing.{probe, since_start}
 use Rattle.lg_detector.specs.Meaning.Relaying.{relays, relay_has_nacked, opened_at, new_relay}
-use Rattle.lg_detector.specs.Meaning.Timing.{round_start, round_timers, pending, nack_time, relay_time, end_at, direct_at}
+use Rattle.lg_detector.specs.Meaning.Timing.{gossip_at, gossip_timers, round_start, round_timers, pending, nack_time, relay_time, end_at, direct_at}
 use Rattle.lg_detector.specs.Meaning.Apply as to_log
 use Rattle.lg_detector.specs.Support.State.{State, come_state, begin, apply_state, apply_all_state, send_taken}
 use Rattle.lg_detector.specs.Support.State.{fire_state, fire_id, start_round, chosen_state, number_after, state_of}
-use Rattle.lg_detector.specs.Support.State.{ask_helpers, end_round, nack_relay, close_relay, hear_ack, hear_nack}
+use Rattle.lg_detector.specs.Support.State.{ask_helpers, end_event, end_round, gossip_fired, nack_relay, close_relay, hear_ack, hear_nack}
 use Rattle.lg_detector.specs.Support.State.{open_relay}
 use Rattle.lg_detector.specs.Support.Reached.{IsReached}
 use Rattle.lg_detector.proofs.FactLaws.{come-state, begin-state, apply-state, send-state}
-use Rattle.lg_detector.proofs.ProbeLaws.{fire-state, ack-state, nack-heard, relayed-state}
+use Rattle.lg_detector.proofs.ProbeLaws.{fire-state, ack-state, ended-state, nack-heard, relayed-state}
 use Rattle.lg_detector.proofs.RelayLaws.{numbered, none_at}
 use Rattle.lg_detector.proofs.TimerLaws.{length-turned, length-round, length-filter}
 
--- at most 386: three of the round, two a relay, and one for each suspicion
+-- at most 387: three of the round, one of the next gossip, two a relay, and one for each suspicion
 few : (log : Log) → length (relays log) ≤ MAX_RELAYS → length (pending log) + 2 < MAX_TIMERS
 few log le =
     let g = group_log log in
     omega (
       arith,
       le,
-      length-turned (round_timers log) (λ k. opened_at log k + nack_time (group.config g)) (λ k. opened_at log k + relay_time (group.config g)) (λ r. not (relay_has_nacked log r.number)) (relays log) (suspicions g),
-      length-round (end_at log) (direct_at log) (probe log) (since_start log) (round_start log),
+      length-turned (round_timers log ++ gossip_timers (gossip_at log)) (λ k. opened_at log k + nack_time (group.config g)) (λ k. opened_at log k + relay_time (group.config g)) (λ r. not (relay_has_nacked log r.number)) (relays log) (suspicions g),
+      length-round (end_at log) (direct_at log) (probe log) (since_start log) (round_start log) (gossip_at log),
       length-suspicions g,
     )
 
@@ -120,6 +120,7 @@ membership-fire_id Direct words s = refl
 membership-fire_id (RelayNack k) words s = refl
 membership-fire_id (RelayEnd k) words s = refl
 membership-fire_id RoundStart words s = refl
+membership-fire_id Gossip words s = refl
 
 pub membership-fire : (timer : Timer) (words : List ℕ) (s : State) → (fire_state timer words s).membership ≡ s.membership
 unfolding fire_state
@@ -149,6 +150,15 @@ reached-end s after e r =
 pub reached-nack_relay : (s after : State) (k : ℕ) → after ≡ nack_relay k s → IsReached s → IsReached after
 reached-nack_relay s after k e r =
     leads (nack_relay k s) after (Fired (record { deadline = 0; id = RelayNack k }) [] ∷ r.log) e (fired-state (RelayNack k) [] s r) r.good r.few_events r.numbered r.few_relays
+
+pub reached-gossip : (s after : State) → after ≡ gossip_fired s → IsReached s → IsReached after
+reached-gossip s after e r =
+    leads (gossip_fired s) after (Fired (record { deadline = 0; id = Gossip }) [] ∷ r.log) e (fired-state Gossip [] s r) r.good r.few_events r.numbered r.few_relays
+
+pub reached-ended : (s after : State) → after ≡ end_event s → IsReached s → IsReached after
+unfolding end_event
+reached-ended s after e r =
+    leads (end_event s) after (Ended ∷ r.log) e (ap end_event r.is ∙ ended-state r.log) r.good r.few_events r.numbered r.few_relays
 
 pub reached-close : (s after : State) (k : ℕ) → after ≡ close_relay k s → IsReached s → IsReached after
 reached-close s after k e r =

@@ -9,7 +9,7 @@ use mathlib.Core.List.{map-append}
 use Rattle.lg_timers.specs.declared.timer.Timer.{Timer}
 use Rattle.lg_timers.specs.declared.timer.TimerId.{TimerId}
 use Rattle.lg_timers.specs.declared.timer.TimerId.TheVariants.{RoundEnd, Suspicion, Direct}
-use Rattle.lg_timers.specs.declared.timer.TimerId.TheVariants.{RelayNack, RelayEnd, RoundStart}
+use Rattle.lg_timers.specs.declared.timer.TimerId.TheVariants.{RelayNack, RelayEnd, RoundStart, Gossip}
 use Rattle.lg_timers.specs.Meaning.Timers.{has_id, with_timer, without_timer}
 use Rattle.lg_timers.proofs.Parts.{without-parts, with-second, with-third, without-map, without-nacks, without-ends, filter-swap, filter-both}
 use Rattle.lg_probe.specs.declared.relays.Asker.{Asker}
@@ -19,7 +19,7 @@ use Rattle.lg_probe.proofs.OpenRelays.{relays_after-push}
 use Rattle.lg_probe.proofs.RelayLaws.{apart-opened, apart-fewer}
 use Rattle.lg_membership.specs.Meaning.Suspicions.{SuspectedValue}
 use Rattle.lg_membership.specs.Meaning.Log as group
-use Rattle.lg_detector.specs.Meaning.Log.{Log, Came, Fired, AckHeard, NackHeard, Relayed, OfGroup, moment, group_log}
+use Rattle.lg_detector.specs.Meaning.Log.{Log, Came, Fired, AckHeard, NackHeard, Relayed, Ended, OfGroup, moment, group_log}
 use Rattle.lg_detector.specs.Meaning.Probing.{number, starts}
 use Rattle.lg_detector.specs.Meaning.Relaying.{relay_past, relays, new_relay, opened_at, relay_has_nacked}
 use Rattle.lg_detector.specs.Meaning.Timing.{nack_timer, relay_timer, suspicion_timer, nack_timers, relay_timers, nack_time, relay_time}
@@ -94,11 +94,13 @@ fired-numbered d (RelayEnd k) words log n =
       below = subst (Below (number after)) are (fired-below (RelayEnd k) words log (filter p (relays log)) (below-fewer _ p (relays log) n.below));
       apart = subst AreApart are (apart-fewer p (relays log) n.apart);
     }
+fired-numbered d Gossip words log n = record { below = fired-below Gossip words log (relays log) n.below; apart = n.apart }
 fired-numbered d RoundStart words log n = record { below = fired-below RoundStart words log (relays log) n.below; apart = n.apart }
 
 pub numbered : (log : Log) → IsNumbered log
 numbered [] = record { below = tt; apart = tt }
 numbered (Came now ∷ log) = record { below = (numbered log).below; apart = (numbered log).apart }
+numbered (Ended ∷ log) = record { below = (numbered log).below; apart = (numbered log).apart }
 numbered (Fired timer words ∷ log) = fired-numbered timer.deadline timer.id words log (numbered log)
 numbered (AckHeard k sender ∷ log) =
     let p : Relay → Bool = λ r. not (is_ended k sender r) in
@@ -124,7 +126,7 @@ fresh n [] b = refl
 fresh n (r ∷ rs) b = rw (other_number r.number n (λ e. omega (arith, e, b.0))) (ap (λ xs. r ∷ xs) (fresh n rs b.1))
 
 -- The timers of relays are cancelled and set between those of the round and of the suspicions.
-module _ (A : List Timer) (are : AreRound A) (nack_at end_at : ℕ → ℕ) (rows : List SuspectedValue) where
+module _ (rest A : List Timer) (are : AreRound rest A) (nack_at end_at : ℕ → ℕ) (rows : List SuspectedValue) where
   without-nack : (k : ℕ) (silent relays : List Relay)
       → without_timer (RelayNack k) (turned A (nacks nack_at silent) (ends end_at relays) (runs rows))
       ≡ turned A (nacks nack_at (filter (λ r. not (has_number k r)) silent)) (ends end_at relays) (runs rows)

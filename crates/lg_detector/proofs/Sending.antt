@@ -19,4 +19,4 @@ pub record HaveRequested (k : ℕ) (target : Claim) (first now : State) (names :
   pub sent : take count sends ++ packets_state (requests_from i k target (view_state first) names) now ≡ packets_state (requests_from 0 k target (view_state first) names) first
   pub rows : view_state now ≡ view_state first
   pub few : count ≤ i
-  pub places : length sends ≡ length names
+  pub places : length names ≤ length sends

@@ -13,10 +13,11 @@ use Rattle.lg_timers.specs.declared.timer.Timer.{Timer}
 use Rattle.lg_timers.specs.declared.timer.TimerId.{TimerId}
 use Rattle.lg_timers.specs.declared.timer.TimerId.TheVariants.{RoundEnd, Suspicion, Direct}
 use Rattle.lg_timers.specs.declared.timer.TimerId.TheVariants.{RelayNack, RelayEnd, RoundStart}
+use Rattle.lg_timers.specs.declared.timer.TimerId.TheVariants as ids
 use Rattle.lg_probe.specs.declared.relays.Asker.{Asker}
 use Rattle.lg_membership.specs.declared.origin.Origin.{Origin}
 use Rattle.lg_membership.specs.declared.origin.Origin.TheVariants.{Seed, Group}
-use Rattle.lg_membership.specs.Meaning.Gossip.{version_sent}
+use Rattle.lg_membership.specs.Meaning.Gossip.{news, version_sent}
 use Rattle.lg_membership.specs.Meaning.Log as group
 use Rattle.lg_membership.specs.Meaning.Log.{group_view}
 use Rattle.lg_membership.specs.Meaning.Pages.{page_of}
@@ -25,7 +26,7 @@ use Rattle.lg_detector.specs.declared.event.Event.{Event}
 use Rattle.lg_detector.specs.declared.event.Event.TheVariants.{Open, Tick, Heard, Ask, Health, Pull as Pulls}
 use Rattle.lg_detector.specs.declared.message.Message.{Message}
 use Rattle.lg_detector.specs.Meaning.Log.{Log, Came, Fired, Relayed, OfGroup, group_log}
-use Rattle.lg_detector.specs.Meaning.Probing.{number, round}
+use Rattle.lg_detector.specs.Meaning.Probing.{number, round, told_by}
 use Rattle.lg_detector.specs.Meaning.Relaying.{relays}
 use Rattle.lg_detector.specs.Meaning.Timing.{due, or_zero}
 use Rattle.lg_detector.specs.Meaning.Apply as to_log
@@ -35,7 +36,7 @@ use Rattle.lg_detector.specs.Meaning.Tick as tick_log
 use Rattle.lg_detector.specs.Meaning.Send as send_log
 use Rattle.lg_detector.specs.Meaning.Joining as join_log
 use Rattle.lg_detector.specs.Meaning.Step as step_log
-use Rattle.lg_detector.specs.Support.State.{State, state_of, begin, apply_all_state, open_relay}
+use Rattle.lg_detector.specs.Support.State.{State, state_of, begin, end_event, apply_all_state, open_relay}
 use Rattle.lg_detector.specs.Support.Send.{claims_of_state, outgoing_state, packets_state, send_all_state, send_state}
 use Rattle.lg_detector.specs.Support.Open.{open_with_state}
 use Rattle.lg_detector.specs.Support.Hear.{answer_state, body_meant_state, hear_claims_state, hear_state, note_state, respond_state}
@@ -43,12 +44,12 @@ use Rattle.lg_detector.specs.Support.Hear.{response_state, sends_of_state, sends
 use Rattle.lg_detector.specs.Support.Joining.{next_pull_state, page_behind_state, pull_after_state}
 use Rattle.lg_detector.specs.Support.Tick as tick_state
 use Rattle.lg_detector.specs.Support.Tick.{claims_said_state, due_state, expire_sends_state, expire_state}
-use Rattle.lg_detector.specs.Support.Tick.{messages_state, tick_state}
-use Rattle.lg_detector.specs.Support.Step.{state_after, accepts_of, view_state, advance, step_state, deadline_state}
+use Rattle.lg_detector.specs.Support.Tick.{messages_state, tick_state, while_news_state}
+use Rattle.lg_detector.specs.Support.Step.{state_after, accepts_of, view_state, advance, happen_state, step_state, deadline_state}
 use Rattle.lg_detector.specs.Support.Step.{reply_state}
 use Rattle.lg_detector.proofs.FactLaws.{come-state, begin-state, apply-state, send-state}
 use Rattle.lg_detector.proofs.OrderLaws.{chosen-is}
-use Rattle.lg_detector.proofs.ProbeLaws.{fire-state, ack-state, nack-heard, relayed-state, helpers-is}
+use Rattle.lg_detector.proofs.ProbeLaws.{fire-state, ack-state, ended-state, nack-heard, relayed-state, helpers-is}
 
 pub apply_all-state : (origin : Origin) (cs : List Claim) (log : Log) → apply_all_state origin cs (state_of log) ≡ state_of (to_log.apply_all origin cs log)
 apply_all-state origin [] log = refl
@@ -74,7 +75,7 @@ send-body (Ack number receiver) log = send-state _ log
 send-body (Nack number receiver) log = refl
 send-body (Pull after) log = refl
 send-body Page log = refl
-send-body Gossip log = refl
+send-body Gossip log = send-state _ log
 
 pub send_all-state : (ms : List Message) (log : Log) → send_all_state ms (state_of log) ≡ state_of (send_log.send_all ms log)
 send_all-state [] log = refl
@@ -188,11 +189,18 @@ sends_to-log source packet log =
 said-log : (id : TimerId) (log : Log) → claims_said_state id (state_of log) ≡ tick_log.claims_said id log
 said-log id log = ap (λ me. tick_log.fired_claims id me (round log) (group_view (group_log log))) (own_name (group_log log))
 
+while_news-log : (ms : List Message) (log : Log) → while_news_state ms (state_of log) ≡ tick_log.while_news ms log
+while_news-log [] log = refl
+while_news-log (m ∷ ms) log =
+    let rest = ap (while_news_state ms) (send-body m.body log) ∙ while_news-log ms (send_log.send m.body log) in
+    ap (λ l. cond (news (group_log log)) (m ∷ l) []) rest
+
 messages-log : (id : TimerId) (words : List ℕ) (log : Log) → messages_state id words (state_of log) ≡ tick_log.messages id words log
 messages-log RoundEnd words log = refl
 messages-log (Suspicion m) words log = refl
 messages-log Direct words log = ap (tick_log.requests (round log) (group_view (group_log log))) (helpers-is words log)
 messages-log (RelayNack k) words log = refl
+messages-log ids.Gossip words log = while_news-log (tick_log.gossips_for (group_view (group_log log)) (told_by words log)) log
 messages-log (RelayEnd k) words log = refl
 messages-log RoundStart words log = ap (tick_log.ping_to (number log) (group_view (group_log log))) (chosen-is words log)
 
@@ -216,14 +224,17 @@ expire_sends-log (Some timer) words log =
 tick-state : (now : ℕ) (words : List ℕ) (log : Log) → tick_state now words (state_of log) ≡ state_of (tick_log.tick now words log)
 tick-state now words log = expire-state (due (Came now ∷ log)) words (Came now ∷ log)
 
+happen-state : (log : Log) (e : Event) → happen_state (state_of log) e ≡ state_of (step_log.happen e log)
+unfolding happen_state
+happen-state log (Open now opening) = open-state now opening log
+happen-state log (Heard now source packet) = hear-state now source packet log
+happen-state log (Tick now words) = tick-state now words log
+happen-state log (Ask now name) = come-state now log
+happen-state log (Health now) = come-state now log
+happen-state log (Pulls now peer) = come-state now log
+
 pub advance-state : (log : Log) (e : Event) → advance (state_of log) e ≡ state_of (step_log.step e log)
-unfolding advance
-advance-state log (Open now opening) = open-state now opening log
-advance-state log (Heard now source packet) = hear-state now source packet log
-advance-state log (Tick now words) = tick-state now words log
-advance-state log (Ask now name) = come-state now log
-advance-state log (Health now) = come-state now log
-advance-state log (Pulls now peer) = come-state now log
+advance-state log e = ap end_event (happen-state log e) ∙ ended-state (step_log.happen e log)
 
 pub reply-state : (log : Log) (e : Event) → reply_state (state_of log) e ≡ step_log.reply e log
 unfolding reply_state

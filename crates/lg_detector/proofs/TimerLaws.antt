@@ -1,28 +1,35 @@
--- The timers that are set, in their parts: those of the round, of the relays, and of the suspicions.
-use Rattle.std.proofs.Common.{◌≡◌, ℕ, ◌+◌, ◌≤◌, Bool, true, false, not, ◌&&◌, ◌||◌, cond, List, [], ◌∷◌, ◌++◌, length, map, Option, Some, None, inl, inr, refl, sym, ◌∙◌, ap, subst, arith}
+-- The timers that are set, in their parts: those of the round with that of the next gossip, of the relays, and of the
+-- suspicions.
+use Rattle.std.proofs.Common.{◌≡◌, ℕ, ◌+◌, ◌≤◌, Bool, true, false, not, ◌&&◌, ◌||◌, cond, List, [], ◌∷◌, ◌++◌, append-nil, length, map, Option, Some, None, inl, inr, refl, sym, ◌∙◌, ap, subst, arith}
 use Rattle.std.specs.Prelude.{filter}
 use Rattle.std.specs.List.{list_any}
 use Rattle.std.proofs.lemmas.Bool.{cases_Bool}
+use Rattle.std.proofs.lemmas.List.Elements.{filter-append}
 use Rattle.lg_rules.specs.Meaning.Rows.{name_cmp, Rises}
 use Rattle.lg_timers.specs.declared.timer.Timer.{Timer}
 use Rattle.lg_timers.specs.declared.timer.TimerId.{TimerId}
 use Rattle.lg_timers.specs.declared.timer.TimerId.TheVariants.{RoundEnd, Direct}
-use Rattle.lg_timers.specs.declared.timer.TimerId.TheVariants.{RelayNack, RelayEnd, RoundStart}
+use Rattle.lg_timers.specs.declared.timer.TimerId.TheVariants.{RelayNack, RelayEnd, RoundStart, Gossip}
 use Rattle.lg_timers.specs.Meaning.Timers.{has_id, with_timer, without_timer, in_turn}
 use Rattle.lg_timers.proofs.Pending.{NoSuspicion}
-use Rattle.lg_timers.proofs.Parts.{without-parts, with-first, without-map, parts-put, parts-without, no_suspicion-map, length-parts}
+use Rattle.lg_timers.proofs.Parts.{without-parts, with-first, with-last, without-map, parts-put, parts-without, no_suspicion-map, length-parts}
 use Rattle.lg_probe.specs.declared.relays.Relay.{Relay}
 use Rattle.lg_probe.specs.Meaning.Round.{RoundFact, Asked, Acked, asked_in, is_acked, ack_counts}
 use Rattle.lg_membership.specs.Meaning.Suspicions.{SuspectedValue, suspected_name}
 use Rattle.lg_membership.specs.Support.Changes.{Change, Nothing, Ending, Putting, IsAbout, suspicions_after}
 use Rattle.lg_membership.specs.Support.Changes.{deadline_of_change}
 use Rattle.lg_detector.specs.Meaning.Probing.{Probe, round_at}
-use Rattle.lg_detector.specs.Meaning.Timing.{start_timer, end_timer, direct_timer, start_timers, probe_timers, is_asking, is_waiting, nack_timer, relay_timer, suspicion_timer, is_first}
-use Rattle.lg_detector.specs.Support.State.{follow, with_start, with_probe, without_direct}
+use Rattle.lg_detector.specs.Meaning.Timing.{start_timer, end_timer, direct_timer, start_timers, probe_timers, is_asking, is_waiting, gossip_timer, gossip_timers, nack_timer, relay_timer, suspicion_timer, is_first}
+use Rattle.lg_detector.specs.Support.State.{follow, with_gossip, with_start, with_probe, without_direct}
 
 -- timers of four parts, in turn
 abbrev pub turned : List Timer → List Timer → List Timer → List Timer → List Timer
 turned A B C D = in_turn (A ++ (B ++ (C ++ D)))
+
+-- a deadline that is set, or another one
+abbrev pub kept_or : Option ℕ → Option ℕ → Option ℕ
+kept_or None next = next
+kept_or (Some deadline) next = Some deadline
 
 -- those of relays and of suspicions, by what gives their deadlines
 abbrev pub nacks : (ℕ → ℕ) → List Relay → List Timer
@@ -34,10 +41,10 @@ ends at rows = map (λ r. relay_timer (at r.number) r.number) rows
 abbrev pub runs : List SuspectedValue → List Timer
 runs rows = map suspicion_timer rows
 
--- what holds of the timers of a round
-pub record AreRound (timers : List Timer) : Type 0 where
-  pub cleared : without_timer RoundEnd (without_timer Direct (without_timer RoundStart timers)) ≡ []
-  pub started : without_timer RoundStart (without_timer Direct (without_timer RoundEnd timers)) ≡ []
+-- what holds of the timers of a round, with those of a gossip behind them
+pub record AreRound (rest timers : List Timer) : Type 0 where
+  pub cleared : without_timer RoundEnd (without_timer Direct (without_timer RoundStart timers)) ≡ rest
+  pub started : without_timer RoundStart (without_timer Direct (without_timer RoundEnd timers)) ≡ rest
   pub apart : NoSuspicion timers
   pub no_nack : (k : ℕ) → without_timer (RelayNack k) timers ≡ timers
   pub no_end : (k : ℕ) → without_timer (RelayEnd k) timers ≡ timers
@@ -46,16 +53,22 @@ pub record AreRound (timers : List Timer) : Type 0 where
 abbrev pub round_parts : ℕ → ℕ → Bool → List Timer
 round_parts end direct waiting = end_timer end ∷ cond waiting (direct_timer direct ∷ []) []
 
-are_parts : (end direct : ℕ) (waiting : Bool) (start : Option ℕ) → AreRound (round_parts end direct waiting ++ start_timers start)
-are_parts end direct true None = record { cleared = refl; started = refl; apart = λ m. refl; no_nack = λ k. refl; no_end = λ k. refl }
-are_parts end direct true (Some d) = record { cleared = refl; started = refl; apart = λ m. refl; no_nack = λ k. refl; no_end = λ k. refl }
-are_parts end direct false None = record { cleared = refl; started = refl; apart = λ m. refl; no_nack = λ k. refl; no_end = λ k. refl }
-are_parts end direct false (Some d) = record { cleared = refl; started = refl; apart = λ m. refl; no_nack = λ k. refl; no_end = λ k. refl }
+are_parts : (end direct : ℕ) (waiting : Bool) (start gossip : Option ℕ) → AreRound (gossip_timers gossip) ((round_parts end direct waiting ++ start_timers start) ++ gossip_timers gossip)
+are_parts end direct true None None = record { cleared = refl; started = refl; apart = λ m. refl; no_nack = λ k. refl; no_end = λ k. refl }
+are_parts end direct true None (Some t) = record { cleared = refl; started = refl; apart = λ m. refl; no_nack = λ k. refl; no_end = λ k. refl }
+are_parts end direct true (Some d) None = record { cleared = refl; started = refl; apart = λ m. refl; no_nack = λ k. refl; no_end = λ k. refl }
+are_parts end direct true (Some d) (Some t) = record { cleared = refl; started = refl; apart = λ m. refl; no_nack = λ k. refl; no_end = λ k. refl }
+are_parts end direct false None None = record { cleared = refl; started = refl; apart = λ m. refl; no_nack = λ k. refl; no_end = λ k. refl }
+are_parts end direct false None (Some t) = record { cleared = refl; started = refl; apart = λ m. refl; no_nack = λ k. refl; no_end = λ k. refl }
+are_parts end direct false (Some d) None = record { cleared = refl; started = refl; apart = λ m. refl; no_nack = λ k. refl; no_end = λ k. refl }
+are_parts end direct false (Some d) (Some t) = record { cleared = refl; started = refl; apart = λ m. refl; no_nack = λ k. refl; no_end = λ k. refl }
 
-pub are_round : (end direct : ℕ) (p : Option Probe) (past : List RoundFact) (start : Option ℕ) → AreRound (probe_timers end direct p past ++ start_timers start)
-are_round end direct None past None = record { cleared = refl; started = refl; apart = λ m. refl; no_nack = λ k. refl; no_end = λ k. refl }
-are_round end direct None past (Some d) = record { cleared = refl; started = refl; apart = λ m. refl; no_nack = λ k. refl; no_end = λ k. refl }
-are_round end direct (Some p) past start = are_parts end direct (is_waiting p past) start
+pub are_round : (end direct : ℕ) (p : Option Probe) (past : List RoundFact) (start gossip : Option ℕ) → AreRound (gossip_timers gossip) ((probe_timers end direct p past ++ start_timers start) ++ gossip_timers gossip)
+are_round end direct None past None None = record { cleared = refl; started = refl; apart = λ m. refl; no_nack = λ k. refl; no_end = λ k. refl }
+are_round end direct None past None (Some t) = record { cleared = refl; started = refl; apart = λ m. refl; no_nack = λ k. refl; no_end = λ k. refl }
+are_round end direct None past (Some d) None = record { cleared = refl; started = refl; apart = λ m. refl; no_nack = λ k. refl; no_end = λ k. refl }
+are_round end direct None past (Some d) (Some t) = record { cleared = refl; started = refl; apart = λ m. refl; no_nack = λ k. refl; no_end = λ k. refl }
+are_round end direct (Some p) past start gossip = are_parts end direct (is_waiting p past) start gossip
 
 -- The timers of the round are set and cancelled behind those of the others.
 module _ (nack_at end_at : ℕ → ℕ) (silent relays : List Relay) (rows : List SuspectedValue) where
@@ -77,6 +90,32 @@ module _ (nack_at end_at : ℕ → ℕ) (silent relays : List Relay) (rows : Lis
   pub without-direct : (A : List Timer) → without_timer Direct (turned A (nacks nack_at silent) (ends end_at relays) (runs rows)) ≡ turned (without_timer Direct A) (nacks nack_at silent) (ends end_at relays) (runs rows)
   without-direct A = without-round Direct A _ refl (λ d k. refl) (λ d k. refl) (λ r. refl)
 
+  -- the timer of the next gossip is set behind those of the round, or has fired
+  pub gossip-set : (gossip next : Option ℕ) (A : List Timer) → without_timer Gossip A ≡ A
+      → with_gossip gossip (kept_or gossip next) (turned (A ++ gossip_timers gossip) (nacks nack_at silent) (ends end_at relays) (runs rows))
+      ≡ turned (A ++ gossip_timers (kept_or gossip next)) (nacks nack_at silent) (ends end_at relays) (runs rows)
+  gossip-set (Some d) next A none = refl
+  gossip-set None None A none = refl
+  gossip-set None (Some d) A none =
+      let B = nacks nack_at silent in
+      let C = ends end_at relays in
+      let D = runs rows in
+      let whole : A ++ [] ≡ A = append-nil A in
+      ap (λ ts. with_timer (gossip_timer d) (without_timer Gossip (turned ts B C D))) whole
+      ∙ ap (with_timer (gossip_timer d)) (without-round Gossip A A none (λ d k. refl) (λ d k. refl) (λ r. refl))
+      ∙ with-last (gossip_timer d) A B C D
+
+  pub gossip-fired : (gossip : Option ℕ) (A : List Timer) → without_timer Gossip A ≡ A
+      → without_timer Gossip (turned (A ++ gossip_timers gossip) (nacks nack_at silent) (ends end_at relays) (runs rows))
+      ≡ turned (A ++ []) (nacks nack_at silent) (ends end_at relays) (runs rows)
+  gossip-fired gossip A none =
+      without-round Gossip (A ++ gossip_timers gossip) (A ++ [])
+      (filter-append (λ t. not (has_id Gossip t)) A (gossip_timers gossip) ∙ (λ i. none i ++ gone gossip i)) (λ d k. refl) (λ d k. refl) (λ r. refl)
+    where
+      gone : (gossip : Option ℕ) → without_timer Gossip (gossip_timers gossip) ≡ []
+      gone None = refl
+      gone (Some d) = refl
+
   -- where an Ack is the first that counts
   pub first-direct : (first : Bool) (A : List Timer)
       → without_direct first (turned A (nacks nack_at silent) (ends end_at relays) (runs rows)) ≡ turned (without_direct first A) (nacks nack_at silent) (ends end_at relays) (runs rows)
@@ -84,8 +123,8 @@ module _ (nack_at end_at : ℕ → ℕ) (silent relays : List Relay) (rows : Lis
   first-direct false A = refl
 
   -- nobody is probed, and the next round starts
-  pub start-set : (d : ℕ) (A : List Timer) → AreRound A → with_start d (turned A (nacks nack_at silent) (ends end_at relays) (runs rows)) ≡ turned (start_timer d ∷ []) (nacks nack_at silent) (ends end_at relays) (runs rows)
-  start-set d A are =
+  pub start-set : (d : ℕ) (rest A : List Timer) → AreRound rest A → with_start d (turned A (nacks nack_at silent) (ends end_at relays) (runs rows)) ≡ turned (start_timer d ∷ rest) (nacks nack_at silent) (ends end_at relays) (runs rows)
+  start-set d rest A are =
       let B = nacks nack_at silent in
       let C = ends end_at relays in
       let D = runs rows in
@@ -94,12 +133,12 @@ module _ (nack_at end_at : ℕ → ℕ) (silent relays : List Relay) (rows : Lis
       ∙ ap (without_timer RoundStart) (without-direct (without_timer RoundEnd A))
       ∙ without-start (without_timer Direct (without_timer RoundEnd A))
       ∙ ap (λ ts. turned ts B C D) are.started)
-      ∙ with-first (start_timer d) [] B C D
+      ∙ with-first (start_timer d) rest B C D
 
   -- a probe runs
-  pub probe-set : (end direct : ℕ) (A : List Timer) → AreRound A
-      → with_probe end direct (turned A (nacks nack_at silent) (ends end_at relays) (runs rows)) ≡ turned (end_timer end ∷ direct_timer direct ∷ []) (nacks nack_at silent) (ends end_at relays) (runs rows)
-  probe-set end direct A are =
+  pub probe-set : (end direct : ℕ) (rest A : List Timer) → AreRound rest A
+      → with_probe end direct (turned A (nacks nack_at silent) (ends end_at relays) (runs rows)) ≡ turned (end_timer end ∷ direct_timer direct ∷ rest) (nacks nack_at silent) (ends end_at relays) (runs rows)
+  probe-set end direct rest A are =
       let B = nacks nack_at silent in
       let C = ends end_at relays in
       let D = runs rows in
@@ -108,42 +147,57 @@ module _ (nack_at end_at : ℕ → ℕ) (silent relays : List Relay) (rows : Lis
       (ap (without_timer Direct) (without-start A) ∙ without-direct (without_timer RoundStart A))
       ∙ ap (λ ts. with_timer (end_timer end) (without_timer RoundEnd ts)) (with-first (direct_timer direct) left B C D)
       ∙ ap (with_timer (end_timer end)) (without-end (direct_timer direct ∷ left) ∙ ap (λ ts. turned (direct_timer direct ∷ ts) B C D) are.cleared)
-      ∙ with-first (end_timer end) (direct_timer direct ∷ []) B C D
+      ∙ with-first (end_timer end) (direct_timer direct ∷ rest) B C D
 
 -- helpers were asked
-asked-waiting : (end direct : ℕ) (acked asked : Bool) (start : Option ℕ)
-    → without_timer Direct (round_parts end direct (not acked && not asked) ++ start_timers start) ≡ round_parts end direct (not acked && false) ++ start_timers start
-asked-waiting end direct true asked None = refl
-asked-waiting end direct true asked (Some d) = refl
-asked-waiting end direct false true None = refl
-asked-waiting end direct false true (Some d) = refl
-asked-waiting end direct false false None = refl
-asked-waiting end direct false false (Some d) = refl
+asked-waiting : (end direct : ℕ) (acked asked : Bool) (start gossip : Option ℕ)
+    → without_timer Direct ((round_parts end direct (not acked && not asked) ++ start_timers start) ++ gossip_timers gossip)
+    ≡ (round_parts end direct (not acked && false) ++ start_timers start) ++ gossip_timers gossip
+asked-waiting end direct true asked None None = refl
+asked-waiting end direct true asked None (Some t) = refl
+asked-waiting end direct true asked (Some d) None = refl
+asked-waiting end direct true asked (Some d) (Some t) = refl
+asked-waiting end direct false true None None = refl
+asked-waiting end direct false true None (Some t) = refl
+asked-waiting end direct false true (Some d) None = refl
+asked-waiting end direct false true (Some d) (Some t) = refl
+asked-waiting end direct false false None None = refl
+asked-waiting end direct false false None (Some t) = refl
+asked-waiting end direct false false (Some d) None = refl
+asked-waiting end direct false false (Some d) (Some t) = refl
 
-pub asked-timers : (end direct : ℕ) (p : Option Probe) (past : List RoundFact) (helpers : List (List ℕ)) (start : Option ℕ)
-    → without_timer Direct (probe_timers end direct p past ++ start_timers start) ≡ probe_timers end direct p (Asked helpers ∷ past) ++ start_timers start
-asked-timers end direct None past helpers None = refl
-asked-timers end direct None past helpers (Some d) = refl
-asked-timers end direct (Some p) past helpers start = asked-waiting end direct (is_acked p.number p.target past) (list_any is_asking past) start
+pub asked-timers : (end direct : ℕ) (p : Option Probe) (past : List RoundFact) (helpers : List (List ℕ)) (start gossip : Option ℕ)
+    → without_timer Direct ((probe_timers end direct p past ++ start_timers start) ++ gossip_timers gossip)
+    ≡ (probe_timers end direct p (Asked helpers ∷ past) ++ start_timers start) ++ gossip_timers gossip
+asked-timers end direct None past helpers None None = refl
+asked-timers end direct None past helpers None (Some t) = refl
+asked-timers end direct None past helpers (Some d) None = refl
+asked-timers end direct None past helpers (Some d) (Some t) = refl
+asked-timers end direct (Some p) past helpers start gossip =
+    asked-waiting end direct (is_acked p.number p.target past) (list_any is_asking past) start gossip
 
 -- an Ack came
-acked-waiting : (end direct : ℕ) (acked counts asked : Bool) (start : Option ℕ)
-    → without_direct (not acked && counts) (round_parts end direct (not acked && not asked) ++ start_timers start)
-    ≡ round_parts end direct (not (counts || acked) && not asked) ++ start_timers start
-acked-waiting end direct true true asked start = refl
-acked-waiting end direct true false asked start = refl
-acked-waiting end direct false false asked start = refl
-acked-waiting end direct false true true None = refl
-acked-waiting end direct false true true (Some d) = refl
-acked-waiting end direct false true false None = refl
-acked-waiting end direct false true false (Some d) = refl
+acked-waiting : (end direct : ℕ) (acked counts asked : Bool) (start gossip : Option ℕ)
+    → without_direct (not acked && counts) ((round_parts end direct (not acked && not asked) ++ start_timers start) ++ gossip_timers gossip)
+    ≡ (round_parts end direct (not (counts || acked) && not asked) ++ start_timers start) ++ gossip_timers gossip
+acked-waiting end direct true true asked start gossip = refl
+acked-waiting end direct true false asked start gossip = refl
+acked-waiting end direct false false asked start gossip = refl
+acked-waiting end direct false true true None None = refl
+acked-waiting end direct false true true None (Some t) = refl
+acked-waiting end direct false true true (Some d) None = refl
+acked-waiting end direct false true true (Some d) (Some t) = refl
+acked-waiting end direct false true false None None = refl
+acked-waiting end direct false true false None (Some t) = refl
+acked-waiting end direct false true false (Some d) None = refl
+acked-waiting end direct false true false (Some d) (Some t) = refl
 
-pub acked-timers : (end direct : ℕ) (p : Option Probe) (past : List RoundFact) (k : ℕ) (sender : List ℕ) (start : Option ℕ)
-    → without_direct (is_first k sender (round_at past p)) (probe_timers end direct p past ++ start_timers start)
-    ≡ probe_timers end direct p (Acked k sender ∷ past) ++ start_timers start
-acked-timers end direct None past k sender start = refl
-acked-timers end direct (Some p) past k sender start =
-    acked-waiting end direct (is_acked p.number p.target past) (ack_counts p.number p.target (asked_in past) k sender) (list_any is_asking past) start
+pub acked-timers : (end direct : ℕ) (p : Option Probe) (past : List RoundFact) (k : ℕ) (sender : List ℕ) (start gossip : Option ℕ)
+    → without_direct (is_first k sender (round_at past p)) ((probe_timers end direct p past ++ start_timers start) ++ gossip_timers gossip)
+    ≡ (probe_timers end direct p (Acked k sender ∷ past) ++ start_timers start) ++ gossip_timers gossip
+acked-timers end direct None past k sender start gossip = refl
+acked-timers end direct (Some p) past k sender start gossip =
+    acked-waiting end direct (is_acked p.number p.target past) (ack_counts p.number p.target (asked_in past) k sender) (list_any is_asking past) start gossip
 
 -- The timers after a change of the suspicions.
 pub pending-after : (A B C : List Timer) (m : List ℕ) (change : Change) (rows : List SuspectedValue) → NoSuspicion A → NoSuspicion B → NoSuspicion C → IsAbout m change → Rises name_cmp (map suspected_name rows)
@@ -176,16 +230,22 @@ length-map : {R : Type 0} (f : R → Timer) (rows : List R) → length (map f ro
 length-map f [] = refl
 length-map f (x ∷ xs) = omega (arith, length-map f xs)
 
-length-parts_of : (end direct : ℕ) (waiting : Bool) (start : Option ℕ) → length (round_parts end direct waiting ++ start_timers start) ≤ 3
-length-parts_of end direct true None = omega arith
-length-parts_of end direct true (Some d) = omega arith
-length-parts_of end direct false None = omega arith
-length-parts_of end direct false (Some d) = omega arith
+length-parts_of : (end direct : ℕ) (waiting : Bool) (start gossip : Option ℕ) → length ((round_parts end direct waiting ++ start_timers start) ++ gossip_timers gossip) ≤ 4
+length-parts_of end direct true None None = omega arith
+length-parts_of end direct true None (Some t) = omega arith
+length-parts_of end direct true (Some d) None = omega arith
+length-parts_of end direct true (Some d) (Some t) = omega arith
+length-parts_of end direct false None None = omega arith
+length-parts_of end direct false None (Some t) = omega arith
+length-parts_of end direct false (Some d) None = omega arith
+length-parts_of end direct false (Some d) (Some t) = omega arith
 
-pub length-round : (end direct : ℕ) (p : Option Probe) (past : List RoundFact) (start : Option ℕ) → length (probe_timers end direct p past ++ start_timers start) ≤ 3
-length-round end direct None past None = omega arith
-length-round end direct None past (Some d) = omega arith
-length-round end direct (Some p) past start = length-parts_of end direct (is_waiting p past) start
+pub length-round : (end direct : ℕ) (p : Option Probe) (past : List RoundFact) (start gossip : Option ℕ) → length ((probe_timers end direct p past ++ start_timers start) ++ gossip_timers gossip) ≤ 4
+length-round end direct None past None None = omega arith
+length-round end direct None past None (Some t) = omega arith
+length-round end direct None past (Some d) None = omega arith
+length-round end direct None past (Some d) (Some t) = omega arith
+length-round end direct (Some p) past start gossip = length-parts_of end direct (is_waiting p past) start gossip
 
 pub length-filter : {R : Type 0} (p : R → Bool) (rows : List R) → length (filter p rows) ≤ length rows
 length-filter p [] = omega arith

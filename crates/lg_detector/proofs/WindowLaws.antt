@@ -9,7 +9,7 @@ use Rattle.lg_probe.specs.Meaning.Order.{choice, next_cycle, window}
 use Rattle.lg_probe.proofs.WindowLaws.{choices, in_window}
 use Rattle.lg_membership.specs.Meaning.Log as group
 use Rattle.lg_membership.proofs.LiveOthers.{live-opened}
-use Rattle.lg_detector.specs.Meaning.Log.{Log, Came, Fired, AckHeard, NackHeard, Relayed, OfGroup, group_log}
+use Rattle.lg_detector.specs.Meaning.Log.{Log, Came, Fired, AckHeard, NackHeard, Relayed, Ended, OfGroup, group_log}
 use Rattle.lg_detector.specs.Meaning.Probing.{is_round_start, others, cycle_names, first_word, chosen}
 use Rattle.lg_detector.specs.Meaning.Window.{targets, AreOthers}
 
@@ -84,6 +84,7 @@ chosen_in names (Fired timer words ∷ stretch) log name named same =
     after_choice names timer words stretch log (others_then names stretch log same.1) (chosen_in names stretch log name named same.1)
 chosen_in names (AckHeard k sender ∷ stretch) log name named same = let c = chosen_in names stretch log name named same.1 in record { words = c.words; are = c.are; cycle = c.cycle }
 chosen_in names (NackHeard k sender ∷ stretch) log name named same = let c = chosen_in names stretch log name named same.1 in record { words = c.words; are = c.are; cycle = c.cycle }
+chosen_in names (Ended ∷ stretch) log name named same = let c = chosen_in names stretch log name named same.1 in record { words = c.words; are = c.are; cycle = c.cycle }
 chosen_in names (Relayed target asker ∷ stretch) log name named same = let c = chosen_in names stretch log name named same.1 in record { words = c.words; are = c.are; cycle = c.cycle }
 chosen_in names (OfGroup (group.Opened opening) ∷ stretch) log name named same =
     let none : names ≡ [] = sym same.0 ∙ live-opened opening (group_log (stretch ++ log)) in
@@ -116,4 +117,5 @@ no_target log (Fired timer words ∷ stretch) same = nobody_then log timer words
 no_target log (AckHeard k sender ∷ stretch) same = no_target log stretch same.1
 no_target log (NackHeard k sender ∷ stretch) same = no_target log stretch same.1
 no_target log (Relayed target asker ∷ stretch) same = no_target log stretch same.1
+no_target log (Ended ∷ stretch) same = no_target log stretch same.1
 no_target log (OfGroup fact ∷ stretch) same = no_target log stretch same.1

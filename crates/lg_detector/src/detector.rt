@@ -22,7 +22,8 @@ ghost use Rattle.lg_detector.specs.Meaning.Step.{is_accepted, is_open_event, ope
 ghost use Rattle.lg_detector.specs.Meaning.Step.{reply_after, deadline_after};
 ghost use Rattle.lg_detector.specs.Meaning.Choice.{choice_of_reply, targets_after};
 ghost use Rattle.lg_detector.specs.Support.Step as state;
-ghost use Rattle.lg_detector.specs.Support.Step.{answer_by_state, changed_by_state, fired_by_state, reply_state};
+ghost use Rattle.lg_detector.specs.Support.Step.{answer_by_state, changed_by_state, fired_by_state, happen_state};
+ghost use Rattle.lg_detector.specs.Support.Step.{reply_state};
 ghost use Rattle.lg_detector.specs.Support.Step.{sends_by_state, step_state};
 ghost use Rattle.lg_detector.specs.Support.Step.{accepts_at, accepts_of, state_after};
 
@@ -37,6 +38,7 @@ use std::marker::Model;
 
 mod ask;
 mod facts;
+mod gossip;
 mod hear;
 mod joining;
 mod open;
@@ -72,7 +74,8 @@ struct Parts {
     moment: Moment,
     /// The health score (Lifeguard's local health multiplier, LHM).
     score: Score,
-    /// The timers that are set: those of the round, one for each suspicion, and at most two for each relay.
+    /// The timers that are set: those of the round, that of the next gossip, one for each suspicion, and at most two
+    /// for each relay.
     timers: Timers,
     /// Whom rounds choose: the other members that aren't gone, and which of them were chosen in the current cycle.
     order: Order,
@@ -80,6 +83,8 @@ struct Parts {
     number: u32,
     /// The probe that runs, if one does.
     round: Option<Round>,
+    /// When news is gossiped next, in milliseconds, if it is.
+    gossip: Option<u64>,
     /// The open relays.
     relays: Relays,
     /// What it knows of its group.
@@ -114,6 +119,7 @@ impl Detector {
                 order: Order::new(),
                 number: FIRST_NUMBER,
                 round: None,
+                gossip: None,
                 relays: Relays::new(),
                 membership: Membership::blank(),
             },
@@ -140,6 +146,7 @@ impl Detector {
                 order: parts.order.copy(),
                 number: parts.number,
                 round,
+                gossip: parts.gossip,
                 relays: parts.relays.copy(),
                 membership: parts.membership.copy(),
             },
@@ -194,6 +201,7 @@ impl Detector {
         ensures reply { reply.new ≡ reply_state self.old event.now }
     {
         self.react(event, reply);
+        self.end_event();
         reply.ousted = self.is_ousted();
         reply.next = self.next();
     }
@@ -203,7 +211,7 @@ impl Detector {
     /// Advances the state by an accepted event, and writes the parts of the reply that the event itself makes.
     fn react(&mut self, event: &Event, reply: &mut Reply)
         requires { IsTrue (accepts_of self.old event.now) }
-        ensures state { self.new ≡ state.advance self.old event.now }
+        ensures state { self.new ≡ happen_state self.old event.now }
         ensures fired { reply.new.fired ≡ fired_by_state self.old event.now }
         ensures sends { reply.new.sends.items ≡ sends_by_state self.old event.now }
         ensures differing { reply.new.changed.items ≡ changed_by_state self.old event.now }

@@ -14,6 +14,7 @@ mod detector;
 mod event;
 mod message;
 mod reply;
+mod sends;
 mod standing;
 mod summary;
 
@@ -24,5 +25,6 @@ pub use event::Event;
 pub use lg_rules::MAX_MEMBERS;
 pub use lg_timers::{Timer, TimerId};
 pub use reply::{Answer, MAX_CHANGED, MAX_SENDS, Outgoing, Reply, choice_by};
+pub use sends::Sends;
 pub use standing::Standing;
 pub use summary::{Summary, summaries_lead_on};

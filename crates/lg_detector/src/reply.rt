@@ -9,6 +9,7 @@ ghost use Rattle.lg_detector.specs.declared.event.Event.{Event as Happened};
 ghost use Rattle.lg_detector.specs.Meaning.Step.{reply_after};
 ghost use Rattle.lg_detector.specs.Meaning.Choice.{choice_of_reply, choice_by, first_body, targets_after};
 
+use crate::sends::Sends;
 use arrayvec::ArrayVec;
 use lg_packet::{Body, Packet};
 use lg_probe::MAX_HELPERS;
@@ -78,7 +79,7 @@ pub struct Reply {
     /// The timer that fired, if one did. Only a tick fires one.
     pub fired: Option<Timer>,
     /// The packets to be sent, in order.
-    pub sends: ArrayVec<Outgoing, MAX_SENDS>,
+    pub sends: Sends,
     /// The records that differ from those before the event, in the order of their names. An opening's reply has none.
     pub changed: ArrayVec<Record, MAX_CHANGED>,
     /// The answer, if the event was a question.
@@ -106,7 +107,7 @@ impl Default for Reply {
     fn default() -> Self {
         Reply {
             fired: None,
-            sends: ArrayVec::new(),
+            sends: Sends::new(),
             changed: ArrayVec::new(),
             answer: None,
             ousted: false,
@@ -116,11 +117,11 @@ impl Default for Reply {
 }
 
 /// Copies of packets to be sent.
-fn copy_sends(sends: &[Outgoing]) -> ArrayVec<Outgoing, MAX_SENDS>
+fn copy_sends(sends: &[Outgoing]) -> Sends
     requires { length sends.now ≤ MAX_SENDS }
     ensures { result.items ≡ sends.now }
 {
-    let mut copies = ArrayVec::new();
+    let mut copies = Sends::new();
     for outgoing in sends {
         copies.push(outgoing.copy());
     }

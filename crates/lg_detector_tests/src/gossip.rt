@@ -3,7 +3,7 @@ use crate::says::far;
 use arrayvec::ArrayVec;
 use lg_gossip::{MAX_QUEUED, Queue};
 use lg_rules::{Claim, Version};
-use lg_testing::{alive, suspect};
+use lg_testing::{alive, letter, suspect};
 use std::process::Abort;
 
 /// A claim at port 7 of ::1.
@@ -68,8 +68,8 @@ fn put(queue: &mut Queue, letters: &[u8]) {
     }
 }
 
-/// One packet of a play: what is put before it, the record of the member that it goes to, if there is one, how many
-/// members are live, and its claims. Then the queue with the sends.
+/// One packet of a play: what is put before it, the record that is to stand first, if there is one, how many members
+/// are live, and its claims. Then the queue with the sends.
 type Turn = (
     &'static [u8],
     Option<u8>,
@@ -80,8 +80,8 @@ type Turn = (
 );
 
 /// The buddy comes first and isn't counted, and the queue's claim about its member is passed over. What is queued
-/// about that member may differ from its record. A record that isn't Suspect is no buddy. Each claim is sent at most
-/// 4 times for a digit.
+/// about that member may differ from its record. The record may have any status: whoever fills the packet chooses it.
+/// Each claim is sent at most 4 times for a digit.
 const BUDDY: &[Turn] = &[
     (b"cd", Some(b'c'), 9, b"cd", b"cd", &[0, 1]),
     (b"", None, 9, b"cd", b"cd", &[1, 2]),
@@ -89,7 +89,7 @@ const BUDDY: &[Turn] = &[
     (b"", Some(b'c'), 9, b"cd", b"cd", &[1, 4]),
     (b"", None, 9, b"c", b"cd", &[2, 4]),
     (b"", Some(b'C'), 99, b"Cd", b"cd", &[2, 5]),
-    (b"", Some(b'0'), 99, b"cd", b"cd", &[3, 6]),
+    (b"", Some(b'0'), 99, b"0d", b"cd", &[2, 6]),
 ];
 
 /// The sends of a claim that is never sent, since the version can't tell its address: as many as any claim may have.
@@ -233,10 +233,31 @@ fn puts_with_no_sends(rt: HostRuntime) {
     assert!(rt; has_queued(&queue, b"0d", &[0, 0]));
 }
 
-/// How many packets take the only claim of a queue before one takes none.
+/// Whether a queue says that its only claim, which is about `c`, may still be sent among a number of members, and that
+/// none about `d` may.
+fn has_news_of_c(queue: &Queue, live: usize) -> bool {
+    queue.has_news(live)
+        && queue.may_send(&letter(b'c'), live)
+        && !queue.may_send(&letter(b'd'), live)
+}
+
+/// Whether a queue says that no claim may be sent any more.
+fn has_no_news(queue: &Queue, live: usize) -> bool {
+    !queue.has_news(live) && !queue.may_send(&letter(b'c'), live)
+}
+
+/// How many packets take the only claim of a queue before one takes none. Before each of them the queue says whether
+/// it may be sent.
 fn packets_until_none(queue: &mut Queue, live: usize) -> Option<u32> {
     for sent in 0..100 {
+        let has_news = has_news_of_c(queue, live);
+        if !has_news && !has_no_news(queue, live) {
+            return None;
+        }
         let claims = queue.fill(None, live);
+        if claims.is_empty() == has_news {
+            return None;
+        }
         if claims.is_empty() {
             return Some(sent);
         }
@@ -258,6 +279,18 @@ const LIMITS: &[(bool, usize, u32)] = &[
     (true, 1_000, 16),
     (true, usize::MAX, 80),
 ];
+
+/// An empty queue has no news. What its version can't tell is no news either, among however many members.
+#[test]
+fn has_news(rt: HostRuntime) {
+    let mut queue = Queue::new(4, Version::Two);
+    let empty = queue.has_news(usize::MAX);
+    put(&mut queue, b"F");
+    let untold = queue.has_news(999) || queue.may_send(&letter(b'f'), 999);
+    put(&mut queue, b"d");
+    let told = queue.has_news(1) && queue.may_send(&letter(b'd'), 1);
+    assert_eq!(rt; [empty, untold, told], [false, false, true]);
+}
 
 /// How often a claim is sent among a number of members, in a new queue or after what was sent before.
 #[test]

@@ -19,6 +19,8 @@ pub(crate) enum Said {
     Left(Member, u32),
     /// A member is alive at incarnation 0, at a port.
     AliveAt(Member, u16),
+    /// A member is alive, at an incarnation and a port.
+    AliveAs(Member, u32, u16),
     /// A member is suspected, at an incarnation, by another, at a port.
     SuspectAt(Member, u32, Member, u16),
     /// A member has failed, at an incarnation and a port.
@@ -94,6 +96,7 @@ pub(crate) fn claim_of(said: &Said) -> Claim {
         Said::Failed(member, number) => at_home(member, Status::Failed, number),
         Said::Left(member, number) => at_home(member, Status::Left, number),
         Said::AliveAt(member, port) => moved(at_home(member, Status::Alive, 0), port),
+        Said::AliveAs(member, number, port) => moved(at_home(member, Status::Alive, number), port),
         Said::SuspectAt(member, number, accuser, port) => {
             moved(suspected(member, number, named(accuser)), port)
         }

@@ -2,7 +2,7 @@
 ghost use Rattle.std.specs.Prelude.{◌≤◌, length};
 
 use crate::detector::Due::{
-    self, Direct, Nothing, RelayEnd, RelayNack, RoundEnd, RoundStart, Suspicion,
+    self, Direct, Gossip, Nothing, RelayEnd, RelayNack, RoundEnd, RoundStart, Suspicion,
 };
 use crate::detector::timer_of;
 use lg_testing::at;
@@ -79,13 +79,14 @@ fn gives_what_is_wanted(timers: &mut Timers, step: &Step) -> bool {
 /// A play: its name, the timers that are set before it, and its steps.
 type Play = (&'static str, &'static [Due], &'static [Step]);
 
-/// Ten timers, set in another order, fire by their deadlines, then by their kinds, then by name or number. None fires
-/// before its deadline.
-const TEN: Play = (
+/// Eleven timers, set in another order, fire by their deadlines, then by their kinds, then by name or number. None
+/// fires before its deadline.
+const ELEVEN: Play = (
     "the order in which they fire",
     &[
         Suspicion(9000, "ca"),
         RelayNack(9000, 10),
+        Gossip(8000),
         RoundStart(8000),
         RelayEnd(9500, 2),
         Direct(9000),
@@ -98,6 +99,7 @@ const TEN: Play = (
     &[
         Step::Take(7999, Nothing),
         Step::Fires(RoundStart(8000)),
+        Step::Fires(Gossip(8000)),
         Step::Fires(RoundEnd(9000)),
         Step::Fires(Suspicion(9000, "c")),
         Step::Fires(Suspicion(9000, "ca")),
@@ -147,7 +149,7 @@ const FEW: &[Play] = &[
 ];
 
 /// Each play.
-const PLAYS: &[&[Play]] = &[&[TEN], FEW];
+const PLAYS: &[&[Play]] = &[&[ELEVEN], FEW];
 
 #[test]
 fn timers_fire_and_are_cancelled(rt: HostRuntime) {
@@ -171,6 +173,7 @@ const KINDS: &[(Due, u8)] = &[
     (RelayNack(0, 9), 4),
     (RelayEnd(0, 9), 5),
     (RoundStart(0), 6),
+    (Gossip(0), 7),
 ];
 
 /// Whether the kind of a timer has this number.

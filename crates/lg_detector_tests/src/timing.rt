@@ -81,6 +81,8 @@ const RANGES: &[(Key, ConfigFault, u8, u64, u64)] = &[
     (Key::NackThousandths, ConfigFault::Nack, 9, 1, 999),
     (Key::HistoryLimit, ConfigFault::History, 10, 2, 1_000_000),
     (Key::Wire, ConfigFault::Wire, 15, 1, 3),
+    (Key::GossipMs, ConfigFault::GossipMs, 23, 10, 60_000),
+    (Key::GossipTo, ConfigFault::GossipTo, 24, 1, 8),
 ];
 
 /// The member `b` with seeds of one letter each, and another number for some keys. It has the default numbers for the
@@ -114,6 +116,9 @@ fn has_edges(key: Key, fault: ConfigFault, least: u64, most: u64) -> bool {
         && is_judged(key, fault, most.wrapping_add(1), false)
 }
 
+/// A delay of 0 turns gossip off. No other number below the range is good.
+const OFF: &[(u64, bool)] = &[(0, true), (1, false), (9, false)];
+
 /// The edges of each range are good, and what is beyond them isn't. Below 0 comes the greatest number of all. Each
 /// fault has its number.
 #[test]
@@ -124,6 +129,10 @@ fn the_edges_of_each_range(rt: HostRuntime) {
             is_numbered && has_edges(*key, *fault, *least, *most),
             "{key:?}"
         );
+    }
+    for (number, is_good) in OFF {
+        let met = is_judged(Key::GossipMs, ConfigFault::GossipMs, *number, *is_good);
+        assert!(rt; met, "gossip_ms {number}");
     }
 }
 
@@ -168,15 +177,29 @@ const FAULTS: &[(&[Key], ConfigFault)] = &[
     ),
     (&[Key::Wire, Key::HistoryLimit], ConfigFault::History),
     (&[Key::Wire], ConfigFault::Seeds),
+    (&[Key::GossipTo, Key::GossipMs], ConfigFault::Seeds),
     (&[], ConfigFault::Seeds),
 ];
 
-/// Numbers are out of their ranges, and a seed has b's name. The fault is the one with the least number.
+/// The same for good seeds.
+const LATE_FAULTS: &[(&[Key], ConfigFault)] = &[
+    (
+        &[Key::GossipTo, Key::GossipMs, Key::Wire],
+        ConfigFault::Wire,
+    ),
+    (&[Key::GossipTo, Key::GossipMs], ConfigFault::GossipMs),
+    (&[Key::GossipTo, Key::HistoryLimit], ConfigFault::History),
+    (&[Key::GossipTo], ConfigFault::GossipTo),
+];
+
+/// Numbers are out of their ranges, and a seed has b's name, or c's. The fault is the one with the least number.
 #[test]
 fn the_first_of_several_faults(rt: HostRuntime) {
-    for (keys, want) in FAULTS {
-        let config = config_of(keys, 2_000_000, b"b");
-        assert!(rt; config.check() == Err(*want), "{keys:?}");
+    for (letters, faults) in [(b"b", FAULTS), (b"c", LATE_FAULTS)] {
+        for (keys, want) in faults {
+            let config = config_of(keys, 2_000_000, letters);
+            assert!(rt; config.check() == Err(*want), "{keys:?}");
+        }
     }
 }
 

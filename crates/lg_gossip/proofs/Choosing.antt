@@ -157,7 +157,7 @@ none_may : (buddy : Option Claim) (limit : ℕ) (rows : List Queued) → AreSent
 none_may buddy limit [] least = refl
 none_may buddy limit (q ∷ qs) least = rw (le-ltb q.sends limit least.0) (none_may buddy limit qs least.1)
 
-takes_none : (v : Version) (buddy : Option Claim) (limit : ℕ) (rows : List Queued) → AreSent limit rows
+pub takes_none : (v : Version) (buddy : Option Claim) (limit : ℕ) (rows : List Queued) → AreSent limit rows
     → rows_taken v buddy limit rows ≡ []
 takes_none v buddy limit rows least =
     ap (λ rs. take (room_beside v buddy) (by_sends rs)) (none_may buddy limit rows least)

@@ -12,6 +12,8 @@ pub mod Soundness
 pub mod Taken
 pub mod BySends
 pub mod BySets
+pub mod InSets
 pub mod Moving
+pub mod News
 pub mod OfSet
 pub mod SetAfterSet

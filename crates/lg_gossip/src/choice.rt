@@ -20,7 +20,7 @@ use crate::queued::Queued;
 use crate::sets::{SETS, move_row, without};
 use arrayvec::ArrayVec;
 use lg_bit_set::BitSet;
-use lg_rules::{Claim, MAX_CLAIMS, Record, Status, Version, index_of};
+use lg_rules::{Claim, MAX_CLAIMS, Record, Version, index_of};
 
 /// A row that a packet takes.
 #[derive(Clone, Copy, Default)]
@@ -31,16 +31,12 @@ pub(crate) struct TakenRow {
     sends: u32,
 }
 
-/// The buddy of a packet: the record of the member that the packet goes to, if that record is Suspect and the version
-/// can tell its address.
-pub(crate) fn buddy_of(version: Version, to: Option<&Record>) -> Option<Claim>
-    ensures { result ≡ buddy_of version (option_copied to.entry) }
+/// The buddy of a packet: the record that is to stand first, if there is one and the version can tell its address.
+pub(crate) fn buddy_of(version: Version, first: Option<&Record>) -> Option<Claim>
+    ensures { result ≡ buddy_of version (option_copied first.entry) }
 {
-    match to {
-        Some(record)
-            if matches!(record.status, Status::Suspect(_)) && version.tells(&record.addr) => Some(
-            *record,
-        ),
+    match first {
+        Some(record) if version.tells(&record.addr) => Some(*record),
         _ => None,
     }
 }

@@ -1,6 +1,7 @@
 //! The claims that ride on the packets that a member sends (piggyback; SWIM, section 4.1; Lifeguard's buddy system).
 #![tactic(auto)]
 
+mod below;
 mod choice;
 mod limit;
 mod queue;

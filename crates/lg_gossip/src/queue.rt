@@ -6,15 +6,16 @@ ghost use Rattle.std.specs.Prelude.{◌≡◌, ◌≤◌, ◌<◌, [], length, m
 ghost use Rattle.std.specs.List.{IsDistinct};
 ghost use Rattle.lg_rules.specs.Meaning.Rows.{name_cmp, is_same, row_at};
 ghost use Rattle.lg_rules.specs.Meaning.Claim.{name_of};
-ghost use Rattle.lg_gossip.specs.Meaning.Queue.{queued_name, put_of, fill_of, filled};
+ghost use Rattle.lg_gossip.specs.Meaning.Queue.{queued_name, put_of, fill_of, filled, has_news, may_send_about};
 
+use crate::below::is_any_below;
 use crate::choice::{buddy_of, count_sends, fewest_after, rows_taken, write_claims};
 use crate::limit::send_limit;
 use crate::queued::Queued;
 use crate::sets::{SETS, clear_sets, put_fresh};
 use arrayvec::ArrayVec;
 use lg_bit_set::BitSet;
-use lg_rules::{Claim, MAX_CLAIMS, MAX_LAMBDA, MAX_MEMBERS, Record, Version};
+use lg_rules::{Claim, MAX_CLAIMS, MAX_LAMBDA, MAX_MEMBERS, Name, Record, Version, index_of};
 use std::marker::Model;
 
 /// The most claims of a queue: 256, one for each member (this project's choice).
@@ -89,6 +90,25 @@ impl Queue {
         self.rows.as_slice()
     }
 
+    /// Whether a claim may still be sent among `live` members, which may be any number: whether it was sent fewer times
+    /// than the retransmit limit. If not, a packet without a buddy has no claim.
+    pub fn has_news(&self, live: usize) -> bool
+        ensures { result ≡ has_news self.now live }
+    {
+        let limit = send_limit(self.lambda, live);
+        is_any_below(self.rows.as_slice(), &self.sent, limit, self.fewest)
+    }
+
+    /// Whether the queue has a claim about the member with this name that may still be sent among `live` members.
+    pub fn may_send(&self, name: &Name, live: usize) -> bool
+        ensures { result ≡ may_send_about name.now self.now live }
+    {
+        match index_of(self.rows.as_slice(), name) {
+            Ok(index) => u64::from(self.rows[index].sends) < send_limit(self.lambda, live),
+            Err(_) => false,
+        }
+    }
+
     /// Forgets all claims, and starts over with another `lambda`, at most 10, and another version.
     pub fn restart(&mut self, lambda: u64, version: Version)
         requires { lambda ≤ MAX_LAMBDA }
@@ -125,22 +145,23 @@ impl Queue {
     /// gone, this member included. It may be any number.
     ///
     /// The packet takes the claims that were sent fewer times than the retransmit limit: the first, as many as a packet
-    /// of its version has room for, by their sends and then by their names. Each of them counts as sent once more. If
-    /// `to` is the record of the member that a Ping goes to, is Suspect, and has an address that the version can tell,
-    /// it stands first (Lifeguard's buddy system). It takes one of the places, and doesn't count as sent. The queue's
-    /// claim about that member is passed over.
+    /// of its version has room for, by their sends and then by their names. Each of them counts as sent once more.
+    ///
+    /// `buddy` is the record that is to stand first, if there is one (Lifeguard's buddy system). It stands first if the
+    /// version can tell its address. It takes one of the places, and doesn't count as sent. The queue's claim about its
+    /// member is passed over.
     pub fn fill_into(
         &mut self,
-        to: Option<&Record>,
+        buddy: Option<&Record>,
         live: usize,
         claims: &mut ArrayVec<Claim, MAX_CLAIMS>,
     )
         ensures apart { IsDistinct (is_same name_cmp) (map name_of claims.new.items) }
-        ensures claims { claims.new.items ≡ fill_of self.old (option_copied to.entry) live }
-        ensures queue { self.new ≡ filled self.old (option_copied to.entry) live }
+        ensures claims { claims.new.items ≡ fill_of self.old (option_copied buddy.entry) live }
+        ensures queue { self.new ≡ filled self.old (option_copied buddy.entry) live }
     {
         let version = self.version;
-        let buddy = buddy_of(version, to);
+        let buddy = buddy_of(version, buddy);
         let limit = send_limit(self.lambda, live);
         let taken = rows_taken(
             self.rows.as_slice(),
@@ -156,13 +177,13 @@ impl Queue {
     }
 
     /// The claims of the next packet, as `fill_into` writes them.
-    pub fn fill(&mut self, to: Option<&Record>, live: usize) -> ArrayVec<Claim, MAX_CLAIMS>
+    pub fn fill(&mut self, buddy: Option<&Record>, live: usize) -> ArrayVec<Claim, MAX_CLAIMS>
         ensures apart { IsDistinct (is_same name_cmp) (map name_of result.items) }
-        ensures claims { result.items ≡ fill_of self.old (option_copied to.entry) live }
-        ensures queue { self.new ≡ filled self.old (option_copied to.entry) live }
+        ensures claims { result.items ≡ fill_of self.old (option_copied buddy.entry) live }
+        ensures queue { self.new ≡ filled self.old (option_copied buddy.entry) live }
     {
         let mut claims = ArrayVec::new();
-        self.fill_into(to, live, &mut claims);
+        self.fill_into(buddy, live, &mut claims);
         claims
     }
 }

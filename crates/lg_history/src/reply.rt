@@ -8,7 +8,7 @@ ghost use Rattle.lg_detector.specs.Meaning.Choice.{choice_of_reply, first_body};
 
 use crate::packet::StoredOutgoing;
 use arrayvec::ArrayVec;
-use lg_detector::{Answer, MAX_SENDS, NoMemory, Outgoing, Reply, Timer, choice_by};
+use lg_detector::{Answer, MAX_SENDS, NoMemory, Outgoing, Reply, Sends, Timer, choice_by};
 use lg_packet::Body;
 use lg_rules::{Name, Record};
 use std::alloc::Global;
@@ -104,11 +104,11 @@ fn store_sends(alloc: Global, sends: &[Outgoing]) -> Result<Vec<StoredOutgoing>,
 }
 
 /// The packets to be sent.
-fn sends_in(stored: &[StoredOutgoing]) -> ArrayVec<Outgoing, MAX_SENDS>
+fn sends_in(stored: &[StoredOutgoing]) -> Sends
     requires { length stored.now ≤ MAX_SENDS }
     ensures { result.items ≡ stored.now }
 {
-    let mut sends = ArrayVec::new();
+    let mut sends = Sends::new();
     for outgoing in stored {
         sends.push(outgoing.outgoing());
     }

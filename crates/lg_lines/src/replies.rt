@@ -24,6 +24,7 @@ fn kind_word(id: &TimerId) -> &'static str
         TimerId::RelayNack(_) => "relay-nack",
         TimerId::RelayEnd(_) => "relay-end",
         TimerId::RoundStart => "round-start",
+        TimerId::Gossip => "gossip",
     }
 }
 
@@ -39,7 +40,7 @@ fn put_subject(id: &TimerId, text: &mut Vec<u8>) -> Result<(), NoMemory>
         }
         TimerId::RelayNack(relay) => put_numbered(" ", u64::from(*relay), text)?,
         TimerId::RelayEnd(relay) => put_numbered(" ", u64::from(*relay), text)?,
-        TimerId::RoundEnd | TimerId::Direct | TimerId::RoundStart => {}
+        TimerId::RoundEnd | TimerId::Direct | TimerId::RoundStart | TimerId::Gossip => {}
     }
     Ok(())
 }

@@ -9,13 +9,12 @@ use Rattle.lg_rules.proofs.OwnLaws.{own-same, own-other, own_of_name}
 use Rattle.lg_rules.proofs.Naming.{heard-names, heard-oneself}
 use Rattle.lg_rules.proofs.Tables.{heard-table}
 use Rattle.lg_timing.specs.declared.config.Config.{Config}
-use Rattle.lg_timing.specs.Meaning.Config.{version_of}
 use Rattle.lg_membership.specs.declared.origin.Origin.{Origin}
 use Rattle.lg_membership.specs.Meaning.Log.{GroupLog, Opened, Said, Sent, config, me, said, own, opening_addr}
-use Rattle.lg_membership.specs.Meaning.Gossip.{lambda_in, version_sent}
+use Rattle.lg_membership.specs.Meaning.Gossip.{lambda_in, version_sent, put_of_oneself, queue}
 use Rattle.lg_membership.specs.Support.State.{group_state_of, open_group, apply_own, apply_other, apply_to_group}
-use Rattle.lg_membership.specs.Support.State.{send_from_group}
-use Rattle.lg_membership.proofs.QueueLaws.{queue-own, queue-other, queue-sent, queue-opened}
+use Rattle.lg_membership.specs.Support.State.{send_from_group, queue_with}
+use Rattle.lg_membership.proofs.QueueLaws.{waits-log, queue-own, queue-other, queue-sent, queue-opened}
 use Rattle.lg_membership.proofs.SuspicionLaws.{suspicions-sent, suspicions-opened, suspicions-own, suspicions-other}
 
 pub open-state : (opening : Config) (log : GroupLog) → open_group opening (group_state_of log) ≡ group_state_of (Opened opening ∷ log)
@@ -24,8 +23,14 @@ open-state opening log = λ i. record {
   own = own_of opening.name opening.addr [];
   members = known_of opening.name [];
   suspicions = sym (suspicions-opened opening log) i;
-  queue = record { lambda = opening.lambda; version = version_of opening; rows = sym (queue-opened opening log) i };
+  queue = queue-opened opening log i;
 }
+
+-- what a claim about oneself puts, by the state
+own-put : (now : ℕ) (origin : Origin) (c : Claim) (log : GroupLog) → c.name ≡ me log → (apply_own c (group_state_of log)).queue ≡ queue (Said now origin c ∷ log)
+own-put now origin c log same =
+    ap (λ w. queue_with (put_of_oneself (version_sent (config log)) w (own log) c) (queue log)) (waits-log log)
+    ∙ queue-own now origin log c same
 
 own-applied : (now : ℕ) (origin : Origin) (c : Claim) (log : GroupLog) → c.name ≡ me log → apply_own c (group_state_of log) ≡ group_state_of (Said now origin c ∷ log)
 own-applied now origin c log same = λ i. record {
@@ -33,7 +38,7 @@ own-applied now origin c log same = λ i. record {
   own = sym (own-same (me log) (opening_addr (config log)) c (said log) same) i;
   members = sym (heard-oneself (me log) (said log) c same) i;
   suspicions = suspicions-own now origin log c same i;
-  queue = queue-own now origin log c same i;
+  queue = own-put now origin c log same i;
 }
 
 other-applied : (now : ℕ) (origin : Origin) (c : Claim) (log : GroupLog) → c.name ≢ me log → apply_other now origin c (group_state_of log) ≡ group_state_of (Said now origin c ∷ log)

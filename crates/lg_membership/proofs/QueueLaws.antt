@@ -1,30 +1,37 @@
 -- The queue, when a claim is said or a packet is sent.
-use Rattle.std.proofs.Common.{◌≡◌, ◌≢◌, ℕ, List, [], ◌∷◌, map, Option, Some, None, inl, inr, refl, sym, ◌∙◌, ap}
+use Rattle.std.proofs.Common.{◌≡◌, ◌≢◌, ℕ, cond, List, [], ◌∷◌, map, Option, Some, None, inl, inr, refl, sym, ◌∙◌, ap}
 use Rattle.std.specs.Prelude.{filter_map, option_map}
 use Rattle.std.proofs.lemmas.Bool.{cases_Bool}
 use Rattle.lg_rules.specs.declared.claim.Claim.{Claim}
-use Rattle.lg_rules.specs.Meaning.Own.{own_hearing, own_heard}
-use Rattle.lg_timing.specs.declared.config.Config.{Config}
-use Rattle.lg_rules.specs.Meaning.Rows.{name_cmp, is_among, put_key, put_row}
+use Rattle.lg_rules.specs.Meaning.Own.{own_of}
+use Rattle.lg_rules.specs.Meaning.Rows.{name_cmp, is_among, put_key, put_row, row_at}
+use Rattle.lg_rules.specs.Meaning.Table.{roster}
 use Rattle.lg_rules.proofs.Cases.{Missing, Holding, held}
 use Rattle.lg_rules.proofs.KeyOrder.{names_order}
+use Rattle.lg_rules.proofs.OwnLaws.{own_of_name}
 use Rattle.lg_rules.proofs.Rises.{put-there}
-use Rattle.lg_rules.proofs.RowLaws.{rows_equal, rows-put, rows-skip}
+use Rattle.lg_rules.proofs.Roster.{rises-roster}
+use Rattle.lg_rules.proofs.RowLaws.{rows_equal, rows-put, rows-skip, row_at-rows}
 use Rattle.lg_rules.proofs.Tables.{Taken, Unbeaten, Out, heard_cases}
-use Rattle.lg_gossip.specs.Meaning.Queue.{fresh, queued_name, sent_once}
+use Rattle.lg_timing.specs.declared.config.Config.{Config}
+use Rattle.lg_timing.specs.Meaning.Config.{version_of}
+use Rattle.lg_gossip.specs.declared.queued.Queued.{Queued}
+use Rattle.lg_gossip.specs.Meaning.Queue.{fresh, is_below, may_send_about, queued_name, sent_once}
 use Rattle.lg_membership.specs.declared.origin.Origin.{Origin}
-use Rattle.lg_membership.specs.Meaning.Log.{GroupLog, Opened, Said, Sent, config, me, said, own, table, known}
+use Rattle.lg_membership.specs.Meaning.Log.{GroupLog, Opened, Said, Sent, config, me, said, own, opening_addr, table, known, live}
 use Rattle.lg_membership.specs.Meaning.Suspicions.{suspicions}
-use Rattle.lg_membership.specs.Meaning.Gossip.{lambda_in, version_sent, put_of_own, put_of_other, put_by, queued, queue_rows, queue}
-use Rattle.lg_membership.specs.Support.State.{queue_with}
-use Rattle.lg_membership.proofs.KnownLaws.{rises-known, known-own, known-taken, known-passed}
-use Rattle.lg_membership.proofs.QueuedLaws.{queued-sent, put_by-own, put_by-other, put_by-grows, queued_keyed, queued_unknown, queued-put, queued-put_other, queued-no_put}
+use Rattle.lg_membership.specs.Meaning.Gossip.{lambda_in, version_sent, own_arrival, put_of_other, queued_by}
+use Rattle.lg_membership.specs.Meaning.Gossip.{send_limit_after, own_waits, queued, queue_rows, queue}
+use Rattle.lg_membership.specs.Support.State.{queue_with, blank_queue, opened_queue}
+use Rattle.lg_membership.proofs.KnownLaws.{rises-known, own_known, known-own, known-taken, known-passed}
+use Rattle.lg_membership.proofs.QueuedLaws.{put_after, put_about_own, arrival_name, queued-sent, put_by-own, put_by-other, put_by-grows}
+use Rattle.lg_membership.proofs.QueuedLaws.{queued_keyed, queued_unknown, by-put, by-put_other, queued-put, queued-put_other, queued-no_put}
 
 abbrev names_after : ℕ → Origin → GroupLog → Claim → List (List ℕ)
 names_after now origin log c = known (Said now origin c ∷ log)
 
 -- a claim is put
-rows-queued : (now : ℕ) (origin : Origin) (log : GroupLog) (c p : Claim) → put_by origin log c ≡ Some p
+rows-queued : (now : ℕ) (origin : Origin) (log : GroupLog) (c p : Claim) → put_after origin log c ≡ Some p
     → put_row name_cmp queued_name (fresh (version_sent (config log)) p) (queue_rows log) ≡ queue_rows (Said now origin c ∷ log)
 unfolding queue_rows
 rows-queued now origin log c p put =
@@ -33,13 +40,13 @@ rows-queued now origin log c p put =
     ∙ ap (filter_map (queued (Said now origin c ∷ log))) (sym (put_by-grows now origin log c p put))
 
 -- none is put, and no name becomes known
-rows-stay : (now : ℕ) (origin : Origin) (log : GroupLog) (c : Claim) → put_by origin log c ≡ None → names_after now origin log c ≡ known log → queue_rows log ≡ queue_rows (Said now origin c ∷ log)
+rows-stay : (now : ℕ) (origin : Origin) (log : GroupLog) (c : Claim) → put_after origin log c ≡ None → names_after now origin log c ≡ known log → queue_rows log ≡ queue_rows (Said now origin c ∷ log)
 unfolding queue_rows
 rows-stay now origin log c none names =
     sym (rows_equal (queued log) (queued (Said now origin c ∷ log)) (known log) (queued-no_put now origin log c none)) ∙ ap (filter_map (queued (Said now origin c ∷ log))) (sym names)
 
 -- none is put, and a name becomes known or was
-rows-join : (now : ℕ) (origin : Origin) (log : GroupLog) (c : Claim) → put_by origin log c ≡ None → names_after now origin log c ≡ put_key name_cmp c.name (known log)
+rows-join : (now : ℕ) (origin : Origin) (log : GroupLog) (c : Claim) → put_after origin log c ≡ None → names_after now origin log c ≡ put_key name_cmp c.name (known log)
     → queue_rows log ≡ queue_rows (Said now origin c ∷ log)
 unfolding queue_rows
 rows-join now origin log c none names = elim (cases_Bool (is_among name_cmp c.name (known log))) [
@@ -60,9 +67,9 @@ queue-by now origin log c (Some p) none some = λ i. record { lambda = lambda_in
 
 -- the queue once a claim about oneself is said
 pub queue-own : (now : ℕ) (origin : Origin) (log : GroupLog) (c : Claim) → c.name ≡ me log
-    → queue_with (put_of_own (own_hearing (own log) c) (own_heard (own log) c)) (queue log) ≡ queue (Said now origin c ∷ log)
+    → queue_with (put_about_own log c) (queue log) ≡ queue (Said now origin c ∷ log)
 queue-own now origin log c same =
-    let put = put_of_own (own_hearing (own log) c) (own_heard (own log) c) in
+    let put = put_about_own log c in
     let says = put_by-own origin log c same in
     queue-by now origin log c put (λ e. rows-stay now origin log c (says ∙ e) (known-own now origin log c same)) (λ p e. rows-queued now origin log c p (says ∙ e))
 
@@ -91,18 +98,52 @@ pub queue-sent : (log : GroupLog) (taken : List Claim) → map (sent_once taken)
 unfolding queue_rows
 queue-sent log taken = rows-map (sent_once taken) (queued log) (queued (Sent taken ∷ log)) (known log) (queued-sent log taken)
 
--- the queue of a member that was just opened
-queued-opened : (opening : Config) (log : GroupLog) (m : List ℕ) → queued (Opened opening ∷ log) m ≡ None
-unfolding queued
-queued-opened opening log m = refl
+-- Whether this member's own record still waits, by the queue.
+own_row : (log : GroupLog) → row_at name_cmp queued_name (own log).name (queue_rows log) ≡ queued log (me log)
+unfolding queue_rows
+own_row log =
+    ap (λ (n : List ℕ). row_at name_cmp queued_name n (queue_rows log)) (own_of_name (me log) (opening_addr (config log)) (said log))
+    ∙ row_at-rows names_order queued_name (queued log) (me log) (known log) (rises-known log) (queued_keyed log)
+    ∙ ap (λ b. cond b (queued log (me log)) None) (own_known log)
+
+pub waits-log : (log : GroupLog) → may_send_about (own log).name (queue log) (live log) ≡ own_waits log
+waits-log log = ap (is_below (send_limit_after log)) (own_row log)
 
 pub none_rows : {K R : Type 0} (f : K → Option R) (ns : List K) → ((n : K) → f n ≡ None) → filter_map f ns ≡ []
 none_rows f [] h = refl
 none_rows f (n ∷ ns) h = rw (h n) (none_rows f ns h)
 
-pub queue-opened : (opening : Config) (log : GroupLog) → queue_rows (Opened opening ∷ log) ≡ []
-unfolding queue_rows
-queue-opened opening log = none_rows (queued (Opened opening ∷ log)) (known (Opened opening ∷ log)) (queued-opened opening log)
+-- the queue of a member that was just opened
+module _ (opening : Config) (log : GroupLog) where
+  queued-opened : (o : Option Claim) → own_arrival (version_of opening) (own_of opening.name opening.addr []) ≡ o → (n : List ℕ)
+      → queued (Opened opening ∷ log) n ≡ queued_by (version_of opening) o n None
+  unfolding queued
+  queued-opened o is n = ap (λ put. queued_by (version_of opening) put n None) is
+
+  rows-opened : (p : Claim) → own_arrival (version_of opening) (own_of opening.name opening.addr []) ≡ Some p
+      → put_row name_cmp queued_name (fresh (version_of opening) p) [] ≡ queue_rows (Opened opening ∷ log)
+  unfolding queue_rows
+  rows-opened p is =
+      let none : List ℕ → Option Queued = λ n. None in
+      let names = roster opening.name [] in
+      ap (put_row name_cmp queued_name (fresh (version_of opening) p)) (sym (none_rows none names (λ n. refl)))
+      ∙ rows-put names_order queued_name none (queued (Opened opening ∷ log)) (fresh (version_of opening) p) names (rises-roster opening.name [])
+      (λ n r bad. absurd cc)
+      (queued-opened (Some p) is p.name ∙ by-put (version_of opening) p None)
+      (λ n other. queued-opened (Some p) is n ∙ by-put_other (version_of opening) p n None other)
+      ∙ ap (λ n. filter_map (queued (Opened opening ∷ log)) (put_key name_cmp n names)) (arrival_name opening p is)
+
+  no_rows-opened : own_arrival (version_of opening) (own_of opening.name opening.addr []) ≡ None → [] ≡ queue_rows (Opened opening ∷ log)
+  unfolding queue_rows
+  no_rows-opened is = sym (none_rows (queued (Opened opening ∷ log)) (known (Opened opening ∷ log)) (queued-opened None is))
+
+  queue-arrived : (o : Option Claim) → own_arrival (version_of opening) (own_of opening.name opening.addr []) ≡ o
+      → queue_with o (blank_queue opening) ≡ queue (Opened opening ∷ log)
+  queue-arrived None is = λ i. record { lambda = opening.lambda; version = version_of opening; rows = no_rows-opened is i }
+  queue-arrived (Some p) is = λ i. record { lambda = opening.lambda; version = version_of opening; rows = rows-opened p is i }
+
+  pub queue-opened : opened_queue opening (own_of opening.name opening.addr []) ≡ queue (Opened opening ∷ log)
+  queue-opened = queue-arrived (own_arrival (version_of opening) (own_of opening.name opening.addr [])) refl
 
 -- the queue before anything happened
 queued-nil : (m : List ℕ) → queued [] m ≡ None

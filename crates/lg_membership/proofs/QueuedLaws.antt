@@ -1,12 +1,13 @@
 -- What is queued about one name, when a claim is said.
-use Rattle.std.proofs.Common.{◌≡◌, ◌≢◌, ℕ, ◌+◌, Bool, true, false, ◌||◌, cond, map, List, [], ◌∷◌, Option, Some, None, inl, inr, refl, sym, ◌∙◌, ap}
+use Rattle.std.proofs.Common.{◌≡◌, ◌≢◌, ℕ, Bool, true, false, ◌||◌, cond, List, [], ◌∷◌, Option, Some, None, inl, inr, refl, sym, ◌∙◌, ap}
 use Rattle.std.specs.Prelude.{option_map}
 use Rattle.std.proofs.lemmas.Bool.{cases_Bool}
 use Rattle.lg_rules.specs.Meaning.Claim.{name_of}
 use Rattle.lg_rules.specs.declared.claim.Claim.{Claim}
 use Rattle.lg_rules.specs.declared.own.OwnHeard.{OwnHeard}
 use Rattle.lg_rules.specs.declared.own.OwnHeard.TheVariants.{Refuted, Raised, Ousted, Ignored}
-use Rattle.lg_rules.specs.Meaning.Own.{OwnValue, own_hearing, own_heard, own_record}
+use Rattle.lg_rules.specs.declared.version.Version.{Version}
+use Rattle.lg_rules.specs.Meaning.Own.{OwnValue, own_hearing, own_heard, own_of, own_record}
 use Rattle.lg_rules.specs.Meaning.Rows.{name_cmp, is_same, is_among, put_key, row_at}
 use Rattle.lg_rules.specs.Meaning.Table.{takes, roster}
 use Rattle.lg_rules.proofs.Cases.{Missing, Holding, held, held_once}
@@ -16,24 +17,34 @@ use Rattle.lg_rules.proofs.Rises.{among-put_same, put-there}
 use Rattle.lg_rules.proofs.RowLaws.{Keyed, AgreeBut}
 use Rattle.lg_rules.proofs.Tables.{Taken, Unbeaten, Out, heard_cases, row_at-table}
 use Rattle.lg_rules.specs.Meaning.Table.{record_of}
+use Rattle.lg_timing.specs.declared.config.Config.{Config}
+use Rattle.lg_timing.specs.Meaning.Config.{version_of}
 use Rattle.lg_gossip.specs.declared.queued.Queued.{Queued}
 use Rattle.lg_gossip.specs.Meaning.Queue.{fresh, queued_name, sent_once}
 use Rattle.lg_membership.specs.declared.origin.Origin.{Origin}
 use Rattle.lg_membership.specs.declared.origin.Origin.TheVariants.{Seed, Group}
 use Rattle.lg_membership.specs.Meaning.Log.{GroupLog, Opened, Said, Sent, config, me, said, own, table, known}
 use Rattle.lg_membership.specs.Meaning.Suspicions.{SuspectedValue, suspicions, confirms}
-use Rattle.lg_membership.specs.Meaning.Gossip.{put_of_own, put_if, put_of_other, put_by, put_or, put_last, version_sent, sends, queued}
+use Rattle.lg_membership.specs.Meaning.Gossip.{tells_news, answers_doubt, own_arrival, put_of_own, put_if_answered, put_of_oneself}
+use Rattle.lg_membership.specs.Meaning.Gossip.{put_if, put_of_other, put_by, queued_by, version_sent, queued, own_waits}
 use Rattle.lg_membership.proofs.KnownLaws.{rises-known, own_known, known-own, known-taken, known-passed, known-grows, roster_known}
 
--- What a claim puts into the queue, about oneself or another.
-pub put_by-own : (origin : Origin) (log : GroupLog) (c : Claim) → c.name ≡ me log
-    → put_by origin log c ≡ put_of_own (own_hearing (own log) c) (own_heard (own log) c)
-unfolding put_by
-put_by-own origin log c same = rw (same_key names_order c.name (me log) same) refl
+-- What a claim puts into the queue, if it is said after a log: about oneself or another.
+abbrev pub put_after : Origin → GroupLog → Claim → Option Claim
+put_after origin log c = put_by origin (own_waits log) log c
 
-pub put_by-other : (origin : Origin) (log : GroupLog) (c : Claim) → c.name ≢ me log → put_by origin log c ≡ put_of_other origin (table log) (suspicions log) c
+abbrev pub put_about_own : GroupLog → Claim → Option Claim
+put_about_own log c = put_of_oneself (version_sent (config log)) (own_waits log) (own log) c
+
+pub put_by-own : (origin : Origin) (log : GroupLog) (c : Claim) → c.name ≡ me log → put_after origin log c ≡ put_about_own log c
 unfolding put_by
-put_by-other origin log c other = rw (other_key names_order c.name (me log) other) refl
+put_by-own origin log c same =
+    ap (λ b. cond b (put_about_own log c) (put_of_other origin (table log) (suspicions log) c)) (same_key names_order c.name (me log) same)
+
+pub put_by-other : (origin : Origin) (log : GroupLog) (c : Claim) → c.name ≢ me log → put_after origin log c ≡ put_of_other origin (table log) (suspicions log) c
+unfolding put_by
+put_by-other origin log c other =
+    ap (λ b. cond b (put_about_own log c) (put_of_other origin (table log) (suspicions log) c)) (other_key names_order c.name (me log) other)
 
 put_own_name : (o : OwnHeard) (oneself : OwnValue) (p : Claim) → put_of_own o oneself ≡ Some p → p.name ≡ oneself.name
 put_own_name Refuted oneself p e = ap (λ (r : Claim). r.name) (sym (held_once (own_record oneself) p e))
@@ -41,35 +52,51 @@ put_own_name Raised oneself p e = ap (λ (r : Claim). r.name) (sym (held_once (o
 put_own_name Ousted oneself p e = absurd cc
 put_own_name Ignored oneself p e = absurd cc
 
+put_answered_name : (b : Bool) (o : OwnHeard) (oneself : OwnValue) (p : Claim) → put_if_answered b o oneself ≡ Some p → p.name ≡ oneself.name
+put_answered_name true o oneself p e = ap (λ (r : Claim). r.name) (sym (held_once (own_record oneself) p e))
+put_answered_name false o oneself p e = put_own_name o oneself p e
+
 -- what a claim about oneself puts is about oneself
-pub own_put_name : (log : GroupLog) (c p : Claim) → put_of_own (own_hearing (own log) c) (own_heard (own log) c) ≡ Some p → p.name ≡ me log
+pub own_put_name : (log : GroupLog) (c p : Claim) → put_about_own log c ≡ Some p → p.name ≡ me log
 own_put_name log c p e =
-    put_own_name (own_hearing (own log) c) (own_heard (own log) c) p e ∙ own_heard_name (own log) c ∙ own_of_name (me log) _ (said log)
+    put_answered_name (answers_doubt (version_sent (config log)) (own_waits log) (own log) c) (own_hearing (own log) c) (own_heard (own log) c) p e
+    ∙ own_heard_name (own log) c
+    ∙ own_of_name (me log) _ (said log)
+
+-- and so is what the opening puts
+if_arrived : (b : Bool) (oneself : OwnValue) (p : Claim) → cond b (Some (own_record oneself)) None ≡ Some p → p.name ≡ oneself.name
+if_arrived true oneself p e = ap (λ (r : Claim). r.name) (sym (held_once (own_record oneself) p e))
+if_arrived false oneself p e = absurd cc
+
+pub arrival_name : (opening : Config) (p : Claim) → own_arrival (version_of opening) (own_of opening.name opening.addr []) ≡ Some p → p.name ≡ opening.name
+arrival_name opening p e =
+    if_arrived (tells_news (version_of opening)) (own_of opening.name opening.addr []) p e ∙ own_of_name opening.name opening.addr []
 
 -- What is queued about a name is about it.
-put_or_name : (o before : Option Claim) (m : List ℕ) (p : Claim) → (before ≡ Some p → p.name ≡ m) → put_or o m before ≡ Some p → p.name ≡ m
-put_or_name None before m p rest e = rest e
-put_or_name (Some q) before m p rest e = elim (cases_Bool (is_same name_cmp q.name m)) [
-  | inl t ↦ ap (λ (r : Claim). r.name) (sym (held_once q p (rw t at e))) ∙ key_is names_order q.name m t
+queued_by_name : (v : Version) (o : Option Claim) (before : Option Queued) (m : List ℕ) (q : Queued) → (before ≡ Some q → queued_name q ≡ m)
+    → queued_by v o m before ≡ Some q → queued_name q ≡ m
+queued_by_name v None before m q rest e = rest e
+queued_by_name v (Some c) before m q rest e = elim (cases_Bool (is_same name_cmp c.name m)) [
+  | inl t ↦ ap queued_name (sym (held_once (fresh v c) q (rw t at e))) ∙ key_is names_order c.name m t
   | inr f ↦ rest (rw f at e)
 ]
 
-last_name : (log : GroupLog) (m : List ℕ) (p : Claim) → put_last log m ≡ Some p → p.name ≡ m
-last_name [] m p e = absurd cc
-last_name (Opened opening ∷ log) m p e = absurd cc
-last_name (Said now origin c ∷ log) m p e = put_or_name (put_by origin log c) (put_last log m) m p (last_name log m p) e
-last_name (Sent taken ∷ log) m p e = last_name log m p e
+sent_name : (taken : List Claim) (o : Option Queued) (m : List ℕ) (q : Queued) → ((r : Queued) → o ≡ Some r → queued_name r ≡ m)
+    → option_map (sent_once taken) o ≡ Some q → queued_name q ≡ m
+sent_name taken None m q rest e = absurd cc
+sent_name taken (Some r) m q rest e = ap queued_name (sym (held_once (sent_once taken r) q e)) ∙ rest r refl
 
-queued_last : (log : GroupLog) (m : List ℕ) → put_last log m ≡ None → queued log m ≡ None
-unfolding queued
-queued_last log m e = rw e refl
+no_row : (q : Queued) (A : Type 0) → None ≡ Some q → A
+no_row q A e = absurd cc
 
 pub queued_keyed : (log : GroupLog) → Keyed queued_name (queued log)
 unfolding queued
-queued_keyed log m r e = elim (held (put_last log m)) [
-  | Missing gap ↦ (let bad : None ≡ Some r = rw gap at e in absurd cc)
-  | Holding p is ↦ ap queued_name (sym (held_once _ r (rw is at e))) ∙ last_name log m p is
-]
+queued_keyed [] m r e = absurd cc
+queued_keyed (Opened opening ∷ log) m r e =
+    queued_by_name (version_of opening) (own_arrival (version_of opening) (own_of opening.name opening.addr [])) None m r (no_row r (queued_name r ≡ m)) e
+queued_keyed (Said now origin c ∷ log) m r e =
+    queued_by_name (version_sent (config log)) (put_after origin log c) (queued log m) m r (queued_keyed log m r) e
+queued_keyed (Sent taken ∷ log) m r e = sent_name taken (queued log m) m r (queued_keyed log m) e
 
 -- What a claim about another puts is the claim.
 if_is : (origin : Origin) (b : Bool) (c p : Claim) → put_if origin b c ≡ Some p → c ≡ p
@@ -107,7 +134,7 @@ put_other_name now origin log c p e other =
           absurd cc)
     ]
 
-pub put_by-grows : (now : ℕ) (origin : Origin) (log : GroupLog) (c p : Claim) → put_by origin log c ≡ Some p → known (Said now origin c ∷ log) ≡ put_key name_cmp p.name (known log)
+pub put_by-grows : (now : ℕ) (origin : Origin) (log : GroupLog) (c p : Claim) → put_after origin log c ≡ Some p → known (Said now origin c ∷ log) ≡ put_key name_cmp p.name (known log)
 put_by-grows now origin log c p e = elim (cases_key names_order c.name (me log)) [
   | inl same ↦ (
       let name = own_put_name log c p (sym (put_by-own origin log c same) ∙ e) in
@@ -117,53 +144,64 @@ put_by-grows now origin log c p e = elim (cases_key names_order c.name (me log))
 ]
 
 -- What is queued is known.
-put_by_known : (now : ℕ) (origin : Origin) (log : GroupLog) (c p : Claim) → put_by origin log c ≡ Some p → is_among name_cmp p.name (known (Said now origin c ∷ log)) ≡ true
+put_by_known : (now : ℕ) (origin : Origin) (log : GroupLog) (c p : Claim) → put_after origin log c ≡ Some p → is_among name_cmp p.name (known (Said now origin c ∷ log)) ≡ true
 put_by_known now origin log c p e = ap (is_among name_cmp p.name) (put_by-grows now origin log c p e) ∙ among-put_same names_order p.name (known log)
 
-or_known : (o before : Option Claim) (m : List ℕ) (p : Claim) (names : List (List ℕ)) → ((q : Claim) → o ≡ Some q → is_among name_cmp q.name names ≡ true)
-    → (before ≡ Some p → is_among name_cmp m names ≡ true) → put_or o m before ≡ Some p → is_among name_cmp m names ≡ true
-or_known None before m p names put rest e = rest e
-or_known (Some q) before m p names put rest e = elim (cases_Bool (is_same name_cmp q.name m)) [
-  | inl t ↦ ap (λ n. is_among name_cmp n names) (sym (key_is names_order q.name m t)) ∙ put q refl
+queued_by_known : (v : Version) (o : Option Claim) (before : Option Queued) (m : List ℕ) (q : Queued) (names : List (List ℕ))
+    → ((p : Claim) → o ≡ Some p → is_among name_cmp p.name names ≡ true) → (before ≡ Some q → is_among name_cmp m names ≡ true)
+    → queued_by v o m before ≡ Some q → is_among name_cmp m names ≡ true
+queued_by_known v None before m q names put rest e = rest e
+queued_by_known v (Some c) before m q names put rest e = elim (cases_Bool (is_same name_cmp c.name m)) [
+  | inl t ↦ ap (λ n. is_among name_cmp n names) (sym (key_is names_order c.name m t)) ∙ put c refl
   | inr f ↦ rest (rw f at e)
 ]
 
-last_known : (log : GroupLog) (m : List ℕ) (p : Claim) → put_last log m ≡ Some p → is_among name_cmp m (known log) ≡ true
-last_known [] m p e = absurd cc
-last_known (Opened opening ∷ log) m p e = absurd cc
-last_known (Said now origin c ∷ log) m p e =
-    or_known (put_by origin log c) (put_last log m) m p (known (Said now origin c ∷ log)) (put_by_known now origin log c) (λ before. known-grows now origin log c m (last_known log m p before)) e
-last_known (Sent taken ∷ log) m p e = last_known log m p e
+sent_known : (taken : List Claim) (o : Option Queued) (A : Type 0) (q : Queued) → ((r : Queued) → o ≡ Some r → A) → option_map (sent_once taken) o ≡ Some q → A
+sent_known taken None A q rest e = absurd cc
+sent_known taken (Some r) A q rest e = rest r refl
+
+queued_known : (log : GroupLog) (m : List ℕ) (q : Queued) → queued log m ≡ Some q → is_among name_cmp m (known log) ≡ true
+unfolding queued
+queued_known [] m q e = absurd cc
+queued_known (Opened opening ∷ log) m q e =
+    let names = known (Opened opening ∷ log) in
+    queued_by_known (version_of opening) (own_arrival (version_of opening) (own_of opening.name opening.addr [])) None m q names
+    (λ p is. ap (λ n. is_among name_cmp n names) (arrival_name opening p is) ∙ own_known (Opened opening ∷ log))
+    (no_row q (is_among name_cmp m names ≡ true)) e
+queued_known (Said now origin c ∷ log) m q e =
+    queued_by_known (version_sent (config log)) (put_after origin log c) (queued log m) m q (known (Said now origin c ∷ log))
+    (put_by_known now origin log c) (λ before. known-grows now origin log c m (queued_known log m q before)) e
+queued_known (Sent taken ∷ log) m q e = sent_known taken (queued log m) (is_among name_cmp m (known log) ≡ true) q (queued_known log m) e
 
 -- so nothing is queued about a name that isn't known
 pub queued_unknown : (log : GroupLog) (m : List ℕ) → is_among name_cmp m (known log) ≡ false → queued log m ≡ None
-queued_unknown log m out = elim (held (put_last log m)) [
-  | Missing gap ↦ queued_last log m gap
-  | Holding p is ↦ (let bad : false ≡ true = sym out ∙ last_known log m p is in absurd cc)
+queued_unknown log m out = elim (held (queued log m)) [
+  | Missing gap ↦ gap
+  | Holding q is ↦ (let bad : false ≡ true = sym out ∙ queued_known log m q is in absurd cc)
 ]
 
 -- A claim that is put is queued afresh; about other names nothing changes.
-pub queued-put : (now : ℕ) (origin : Origin) (log : GroupLog) (c p : Claim) → put_by origin log c ≡ Some p → queued (Said now origin c ∷ log) p.name ≡ Some (fresh (version_sent (config log)) p)
-unfolding queued
-queued-put now origin log c p e = rw (e, same_key names_order p.name p.name refl) refl
+pub by-put : (v : Version) (c : Claim) (before : Option Queued) → queued_by v (Some c) c.name before ≡ Some (fresh v c)
+by-put v c before = ap (λ b. cond b (Some (fresh v c)) before) (same_key names_order c.name c.name refl)
 
-pub queued-put_other : (now : ℕ) (origin : Origin) (log : GroupLog) (c p : Claim) → put_by origin log c ≡ Some p → AgreeBut p.name (queued log) (queued (Said now origin c ∷ log))
-unfolding queued
-queued-put_other now origin log c p e n other = rw (e, other_key names_order p.name n (λ same. other (sym same))) refl
+pub by-put_other : (v : Version) (c : Claim) (n : List ℕ) (before : Option Queued) → n ≢ c.name → queued_by v (Some c) n before ≡ before
+by-put_other v c n before other = ap (λ b. cond b (Some (fresh v c)) before) (other_key names_order c.name n (λ same. other (sym same)))
 
-pub queued-no_put : (now : ℕ) (origin : Origin) (log : GroupLog) (c : Claim) → put_by origin log c ≡ None → (n : List ℕ) → queued (Said now origin c ∷ log) n ≡ queued log n
+queued-by : (now : ℕ) (origin : Origin) (log : GroupLog) (c : Claim) (o : Option Claim) (n : List ℕ) → put_after origin log c ≡ o
+    → queued (Said now origin c ∷ log) n ≡ queued_by (version_sent (config log)) o n (queued log n)
 unfolding queued
-queued-no_put now origin log c e n = rw e refl
+queued-by now origin log c o n e = ap (λ put. queued_by (version_sent (config log)) put n (queued log n)) e
+
+pub queued-put : (now : ℕ) (origin : Origin) (log : GroupLog) (c p : Claim) → put_after origin log c ≡ Some p → queued (Said now origin c ∷ log) p.name ≡ Some (fresh (version_sent (config log)) p)
+queued-put now origin log c p e = queued-by now origin log c (Some p) p.name e ∙ by-put (version_sent (config log)) p (queued log p.name)
+
+pub queued-put_other : (now : ℕ) (origin : Origin) (log : GroupLog) (c p : Claim) → put_after origin log c ≡ Some p → AgreeBut p.name (queued log) (queued (Said now origin c ∷ log))
+queued-put_other now origin log c p e n other = queued-by now origin log c (Some p) n e ∙ by-put_other (version_sent (config log)) p n (queued log n) other
+
+pub queued-no_put : (now : ℕ) (origin : Origin) (log : GroupLog) (c : Claim) → put_after origin log c ≡ None → (n : List ℕ) → queued (Said now origin c ∷ log) n ≡ queued log n
+queued-no_put now origin log c e n = queued-by now origin log c None n e
 
 -- A packet that holds what is queued about a name counts once.
 pub queued-sent : (log : GroupLog) (taken : List Claim) (m : List ℕ) → queued (Sent taken ∷ log) m ≡ option_map (sent_once taken) (queued log m)
 unfolding queued
-queued-sent log taken m = elim (held (put_last log m)) [
-  | Missing gap ↦ rw gap refl
-  | Holding p is ↦ (
-      let name = last_name log m p is in
-      rw is (ap (λ n. counted p (is_among name_cmp n (map name_of taken)) (sends log m)) (sym name)))
-]
-  where
-    counted : Claim → Bool → ℕ → Option Queued
-    counted p holds n = Some record { claim = p; sends = cond holds (n + 1) n }
+queued-sent log taken m = refl

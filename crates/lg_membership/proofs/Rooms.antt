@@ -3,7 +3,6 @@ use Rattle.std.proofs.Common.{◌≡◌, ◌≢◌, ℕ, ◌<◌, ◌≤◌, tru
 use Rattle.lg_rules.specs.declared.claim.Claim.{Claim}
 use Rattle.lg_rules.specs.Meaning.Rows.{name_cmp, is_same, row_at}
 use Rattle.lg_rules.proofs.KeyOrder.{names_order, same_key, other_key}
-use Rattle.lg_rules.specs.Meaning.Own.{own_hearing, own_heard}
 use Rattle.lg_rules.proofs.RowLaws.{rows_room}
 use Rattle.lg_rules.specs.Meaning.Claim.{name_of}
 use Rattle.lg_rules.specs.Meaning.Table.{record_of, takes}
@@ -13,19 +12,20 @@ use Rattle.lg_rules.proofs.Roster.{own_unknown}
 use Rattle.lg_gossip.specs.Meaning.Queue.{queued_name}
 use Rattle.lg_membership.specs.declared.origin.Origin.{Origin}
 use Rattle.lg_membership.specs.declared.origin.Origin.TheVariants.{Group}
-use Rattle.lg_membership.specs.Meaning.Log.{GroupLog, Said, me, said, own, table, known}
+use Rattle.lg_membership.specs.Meaning.Log.{GroupLog, Said, config, me, said, own, table, known}
 use Rattle.lg_membership.specs.Meaning.Suspicions.{suspicions, suspected_name}
-use Rattle.lg_membership.specs.Meaning.Gossip.{put_of_own, put_of_other, put_by, queued, queue_rows, queue}
+use Rattle.lg_membership.specs.Meaning.Gossip.{version_sent, put_of_oneself, put_of_other, put_by, queued, queue_rows, queue}
 use Rattle.lg_membership.specs.Support.Reached.{IsGroupReached}
-use Rattle.lg_membership.specs.Support.State.{GroupState, group_state_of, put_in, own_hearing_in}
+use Rattle.lg_membership.specs.Support.State.{GroupState, group_state_of, put_in, own_put_in}
 use Rattle.lg_membership.specs.Support.Room.{HasPlace, HasSeat, HasRoom, IsOrdered}
 use Rattle.lg_membership.proofs.FactLaws.{own_name}
 use Rattle.lg_membership.proofs.KnownLaws.{rises-known, length-known}
 use Rattle.lg_membership.proofs.SuspicionLaws.{seat_of, rises-suspicions}
-use Rattle.lg_membership.proofs.QueuedLaws.{queued_keyed, put_by-grows}
+use Rattle.lg_membership.proofs.QueueLaws.{waits-log}
+use Rattle.lg_membership.proofs.QueuedLaws.{put_after, queued_keyed, put_by-grows}
 
 -- what a claim puts is about a name that is known then, of which there are at most 256
-place_of : (origin : Origin) (log : GroupLog) (c p : Claim) → put_by origin log c ≡ Some p → row_at name_cmp queued_name p.name (queue_rows log) ≡ None → length (queue_rows log) < 256
+place_of : (origin : Origin) (log : GroupLog) (c p : Claim) → put_after origin log c ≡ Some p → row_at name_cmp queued_name p.name (queue_rows log) ≡ None → length (queue_rows log) < 256
 unfolding queue_rows
 place_of origin log c p put missing =
     rows_room names_order queued_name (queued log) p.name 256 (known log) (rises-known log) (queued_keyed log)
@@ -35,10 +35,12 @@ has_place : (o : Option Claim) (log : GroupLog) → ((p : Claim) → o ≡ Some 
 has_place None log places = tt
 has_place (Some p) log places = places p refl
 
-put_in-log : (origin : Origin) (log : GroupLog) (c : Claim) → put_in origin c (group_state_of log) ≡ put_by origin log c
+put_in-log : (origin : Origin) (log : GroupLog) (c : Claim) → put_in origin c (group_state_of log) ≡ put_after origin log c
 unfolding put_by
 put_in-log origin log c =
-    ap (λ n. cond (is_same name_cmp c.name n) (put_of_own (own_hearing (own log) c) (own_heard (own log) c)) (put_of_other origin (table log) (suspicions log) c)) (own_name log)
+    let put = put_of_other origin (table log) (suspicions log) c in
+    ap (λ n. cond (is_same name_cmp c.name n) (own_put_in c (group_state_of log)) put) (own_name log)
+    ∙ ap (λ w. cond (is_same name_cmp c.name (me log)) (put_of_oneself (version_sent (config log)) w (own log) c) put) (waits-log log)
 
 -- a claim that is taken has a seat for the suspicion of its member
 seat_at : (c : Claim) (log : GroupLog) → c.name ≢ me log → takes (table log) c ≡ true → row_at name_cmp suspected_name c.name (suspicions log) ≡ None → length (suspicions log) < 255
@@ -74,16 +76,16 @@ reached-ordered s r = subst IsOrdered (sym r.is) (is_ordered r.log)
 reached_room : (origin : Origin) (c : Claim) (s : GroupState) → IsGroupReached s → HasRoom origin c s
 reached_room origin c s r = subst (HasRoom origin c) (sym r.is) (has_room origin c r.log)
 
-pub own_place : (c : Claim) (s : GroupState) → IsGroupReached s → c.name ≡ s.own.name → HasPlace (put_of_own (own_hearing_in c s) (own_heard s.own c)) s.queue
+pub own_place : (c : Claim) (s : GroupState) → IsGroupReached s → c.name ≡ s.own.name → HasPlace (own_put_in c s) s.queue
 own_place c s r same =
     let room = reached_room Group c s r in
-    subst (λ b. HasPlace (cond b (put_of_own (own_hearing_in c s) (own_heard s.own c)) (put_of_other Group s.members.table s.suspicions c)) s.queue)
+    subst (λ b. HasPlace (cond b (own_put_in c s) (put_of_other Group s.members.table s.suspicions c)) s.queue)
     (same_key names_order c.name s.own.name same) room.place
 
 pub other_place : (origin : Origin) (c : Claim) (s : GroupState) → IsGroupReached s → c.name ≢ s.own.name → HasPlace (put_of_other origin s.members.table s.suspicions c) s.queue
 other_place origin c s r other =
     let room = reached_room origin c s r in
-    subst (λ b. HasPlace (cond b (put_of_own (own_hearing_in c s) (own_heard s.own c)) (put_of_other origin s.members.table s.suspicions c)) s.queue)
+    subst (λ b. HasPlace (cond b (own_put_in c s) (put_of_other origin s.members.table s.suspicions c)) s.queue)
     (other_key names_order c.name s.own.name other) room.place
 
 pub other_seat : (c : Claim) (s : GroupState) → IsGroupReached s → c.name ≢ s.own.name → takes s.members.table c ≡ true → HasSeat suspected_name c.name s.suspicions

@@ -5,4 +5,5 @@ pub mod Gossip
 pub mod Applied
 pub mod Pages
 pub mod Examples
+pub mod NewsExamples
 pub mod PageExamples

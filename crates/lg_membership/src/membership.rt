@@ -2,30 +2,32 @@
 //!
 //! Defined in: `specs/Meaning/Applied.antt`, `specs/Meaning/Gossip.antt`, `specs/Meaning/Log.antt`.
 //! Tested in: `lg_detector_tests/src/membership/claims.rt`, `lg_detector_tests/src/membership/queue.rt`.
-ghost use Rattle.std.specs.Prelude.{◌≡◌, ◌≢◌, [], ◌∷◌, ◌&&◌, ◌||◌, option_copied};
+ghost use Rattle.std.specs.Prelude.{◌≡◌, ◌≢◌, [], ◌∷◌, ◌&&◌, ◌||◌};
 ghost use Rattle.lg_rules.specs.Meaning.Rows.{name_cmp, is_same};
-ghost use Rattle.lg_rules.specs.Support.Standing.{is_rise};
 ghost use Rattle.lg_timing.specs.Meaning.Config.{IsChecked};
 ghost use Rattle.lg_membership.specs.Meaning.Log.{GroupFact, GroupLog, Opened, Said, Sent};
-ghost use Rattle.lg_membership.specs.Meaning.Gossip.{put_of_own, put_if, target_record, taken, fill};
+ghost use Rattle.lg_membership.specs.Meaning.Gossip.{put_if, taken, fill};
 ghost use Rattle.lg_membership.specs.Meaning.Suspicions.{is_accusation};
-ghost use Rattle.lg_membership.specs.Meaning.Applied.{is_refuted, IsApplied};
+ghost use Rattle.lg_membership.specs.Meaning.Applied.{IsApplied};
 ghost use Rattle.lg_membership.specs.Support.State.{group_state_of, open_group, apply_to_group, apply_own, apply_other};
 ghost use Rattle.lg_membership.specs.Support.State.{applied, applied_own, applied_other, if_open, taken_if};
 ghost use Rattle.lg_membership.specs.Support.State.{send_from_group, queue_with, taken_in, fill_in};
 ghost use Rattle.lg_membership.specs.Support.Changes.{is_override, stands, presence_by};
 ghost use Rattle.lg_membership.specs.Support.Room.{HasPlace};
 
+use crate::addressee::{Addressee, buddy_record};
 use crate::applied::{Applied, Deadline, Presence};
 use crate::origin::Origin;
 use crate::suspicions::{Suspicions, copy_suspicions, suspect};
 use arrayvec::ArrayVec;
 use lg_gossip::Queue;
-use lg_rules::{Addr, Claim, Heard, MAX_CLAIMS, Members, Name, Own, OwnHeard, Record, Version};
+use lg_rules::{Addr, Claim, Heard, MAX_CLAIMS, Members, Name, Own, Record, Version};
 use lg_timing::{Config, Moment};
+use oneself::{is_refuted, own_arrival, put_if_answered, put_of_own};
 use std::cmp::Ordering;
 use std::marker::Model;
 
+mod oneself;
 mod pages;
 mod readers;
 
@@ -89,31 +91,6 @@ fn put(queue: &mut Queue, claim: Option<Claim>)
     }
 }
 
-/// Whether hearing a claim about this member raised its incarnation.
-fn is_rise(heard: OwnHeard) -> bool
-    ensures { result ≡ is_rise heard }
-{
-    matches!(heard, OwnHeard::Refuted | OwnHeard::Raised)
-}
-
-/// Whether hearing a claim about this member refuted a suspicion.
-fn is_refuted(heard: OwnHeard) -> bool
-    ensures { result ≡ is_refuted heard }
-{
-    matches!(heard, OwnHeard::Refuted)
-}
-
-/// What a claim about this member puts into the queue: its own record, if its incarnation was raised.
-fn put_of_own(heard: OwnHeard, own: &Own) -> Option<Claim>
-    ensures { result ≡ put_of_own heard own.now }
-{
-    if is_rise(heard) {
-        Some(own.record())
-    } else {
-        None
-    }
-}
-
 /// A record that a claim changed. Before the opening nobody has one.
 fn if_open(config: &Option<Config>, changed: Option<Record>) -> Option<Record>
     ensures { result ≡ if_open config.now changed }
@@ -165,13 +142,6 @@ fn put_of_other(origin: Origin, counts: bool, claim: &Claim) -> Option<Claim>
     }
 }
 
-/// The record of the member that a Ping goes to, if that is another member that is known.
-fn target_record<'a>(members: &'a Members, target: Option<&Name>) -> Option<&'a Record>
-    ensures { option_copied result ≡ target_record (option_copied target.entry) members.now.table }
-{
-    target.and_then(|name| members.get(name))
-}
-
 /// Whether a claim's member joined those that aren't gone, or left them, by how many there were before the claim
 /// and how many there are after it.
 fn presence_by(before: usize, after: usize) -> Presence
@@ -216,8 +186,8 @@ impl Membership {
         }
     }
 
-    /// Opens the member with a configuration that passed its check. Forgets all that was known. The seeds of the
-    /// configuration are to be applied next.
+    /// Opens the member with a configuration that passed its check. Forgets all that was known. In version 3 this
+    /// member's own record is queued. The seeds of the configuration are to be applied next.
     pub fn open_with(&mut self, config: &Config)
         requires { IsChecked config.now }
         ensures state { self.new ≡ open_group config.now self.old }
@@ -229,6 +199,7 @@ impl Membership {
         self.members.restart(&config.name);
         self.suspicions.clear();
         self.queue.restart(config.lambda, config.version());
+        put(&mut self.queue, own_arrival(config.version(), &self.own));
         self.config = Some(config.copy());
     }
 
@@ -253,14 +224,15 @@ impl Membership {
         }
     }
 
-    /// Applies a claim about this member.
+    /// Applies a claim about this member. A doubt that is answered changes no record.
     fn apply_own(&mut self, claim: &Claim) -> Applied
         requires { claim.now.name ≡ self.old.own.name }
         ensures state { self.new ≡ apply_own claim.now self.old }
         ensures applied { result ≡ applied_own claim.now self.old }
     {
+        let answered = self.is_answered(claim);
         let heard = self.own.hear(claim);
-        put(&mut self.queue, put_of_own(heard, &self.own));
+        put(&mut self.queue, put_if_answered(answered, heard, &self.own));
         Applied {
             changed: if_open(&self.config, put_of_own(heard, &self.own)),
             refuted: is_refuted(heard),
@@ -300,20 +272,19 @@ impl Membership {
     /// queue whose turn it is, which count as sent once more (piggyback; SWIM, section 4.1). A claim whose address the
     /// version can't tell is passed over.
     ///
-    /// `target` is the member that a Ping goes to. Any other packet has none. If the target's record is Suspect, that
-    /// record stands first and doesn't count as sent, and the queue's claim about the target is passed over
-    /// (Lifeguard, buddy system). A record whose address the version can't tell is no buddy. A target that isn't
-    /// known, or is this member itself, adds nothing.
-    pub fn fill_into(&mut self, target: Option<&Name>, claims: &mut ArrayVec<Claim, MAX_CLAIMS>)
-        ensures claims { claims.new.items ≡ fill_in (option_copied target.entry) self.old }
-        ensures state { self.new ≡ send_from_group (taken_in (option_copied target.entry) self.old) self.old }
+    /// `to` is whom the packet goes to. If it pings a member whose record is Suspect, that record stands first and
+    /// doesn't count as sent, and the queue's claim about the member is passed over (Lifeguard, buddy system). In
+    /// version 3 it is the same if it acks a member whose record is Suspect or Failed. A record whose address the
+    /// version can't tell is no buddy. A member that isn't known, or is this member itself, adds nothing.
+    pub fn fill_into(&mut self, to: &Addressee, claims: &mut ArrayVec<Claim, MAX_CLAIMS>)
+        ensures claims { claims.new.items ≡ fill_in to.now self.old }
+        ensures state { self.new ≡ send_from_group (taken_in to.now self.old) self.old }
         // After any log, these are the claims that the log gives, and the packet that took them is added to the log.
-        ensures filled { (log : GroupLog) → self.old ≡ group_state_of log
-            → claims.new.items ≡ fill (option_copied target.entry) log }
+        ensures filled { (log : GroupLog) → self.old ≡ group_state_of log → claims.new.items ≡ fill to.now log }
         ensures log { (log : GroupLog) → self.old ≡ group_state_of log
-            → self.new ≡ group_state_of (Sent (taken (option_copied target.entry) log) ∷ log) }
+            → self.new ≡ group_state_of (Sent (taken to.now log) ∷ log) }
     {
-        let to = target_record(&self.members, target);
-        self.queue.fill_into(to, self.members.live(), claims);
+        let buddy = buddy_record(self.version(), to, &self.members);
+        self.queue.fill_into(buddy, self.members.live(), claims);
     }
 }

@@ -55,6 +55,17 @@ impl Helpers {
         others.pick(target, &words[..k], &mut self.names);
     }
 
+    /// Replaces the helpers by at most `count` new ones. They are picked as `pick` does, from all the names that have
+    /// joined `order` and not left: nobody is left out. `count` is at most 8.
+    ///
+    /// A detector picks by it whom a gossip goes to.
+    pub fn pick_any(&mut self, order: &Order, count: usize, words: &[u32; RANDOM_WORDS])
+        requires { count ≤ MAX_HELPERS }
+        ensures { self.new ≡ picked count words.now order.now.names }
+    {
+        order.pick_any(&words[..count], &mut self.names);
+    }
+
     /// Their names, in the order in which they were picked.
     pub fn names(&self) -> &[Name]
         ensures names { result.now ≡ self.now }

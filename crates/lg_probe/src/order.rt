@@ -2,7 +2,7 @@
 //!
 //! Defined in: `specs/Meaning/Order.antt`, `specs/Meaning/Helpers.antt`.
 //! Tested in: `lg_detector_tests/src/probe.rt`.
-ghost use Rattle.std.specs.Prelude.{◌≡◌, ◌≤◌, true, ℕ, List, [], ◌∷◌, ◌++◌, length};
+ghost use Rattle.std.specs.Prelude.{◌≡◌, ◌≤◌, true, ℕ, List, [], ◌∷◌, ◌++◌, length, ◌==◌};
 ghost use Rattle.std.specs.Prelude.{IfOk, OnOk};
 ghost use Rattle.std.specs.Option.{option_to_list};
 ghost use Rattle.arrayvec.specs.ArrayVec.{array_vec_len};
@@ -79,6 +79,13 @@ impl Order {
         ensures rises { Rises name_cmp result.items }
     {
         entries(self.known.as_slice(), &self.joined)
+    }
+
+    /// Whether it has no names: each that joined has left. This copies no names.
+    pub fn is_empty(&self) -> bool
+        ensures { result ≡ (length self.now.names == 0) }
+    {
+        self.joined.is_empty()
     }
 
     /// The names that were chosen in the current cycle, at most 255, in the order of names (SWIM, section 4.3). This
@@ -182,6 +189,15 @@ impl Order {
     {
         let left = others_than(self.known.as_slice(), &self.joined, target);
         pick_all(self.known.as_slice(), left, words, picked);
+    }
+
+    /// Picks one of the names by each word, as long as any is left, as `pick` does, but leaves nobody out. The picked
+    /// names replace what `picked` held.
+    pub(crate) fn pick_any(&self, words: &[u32], picked: &mut ArrayVec<Name, RANDOM_WORDS>)
+        requires { length words.now ≤ RANDOM_WORDS }
+        ensures { picked.new.items ≡ picked_by words.now self.now.names }
+    {
+        pick_all(self.known.as_slice(), self.joined, words, picked);
     }
 }
 

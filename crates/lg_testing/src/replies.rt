@@ -22,8 +22,9 @@ pub fn is_same_reply(one: &Reply, other: &Reply) -> bool {
         && one.sends.len() == other.sends.len()
         && one
             .sends
+            .as_slice()
             .iter()
-            .zip(other.sends.iter())
+            .zip(other.sends.as_slice().iter())
             .all(|(sent, stored)| is_same_outgoing(sent, stored))
         && one.changed.as_slice() == other.changed.as_slice()
         && one.answer == other.answer

@@ -127,10 +127,13 @@ with_inner t A B C =
     ∙ sym (in_turn-middle t (A ++ B) C)
     ∙ ap in_turn (append_assoc A B (t ∷ C) ∙ ap (λ ts. A ++ ts) (sym (append_assoc B (t ∷ []) C)))
 
--- a timer is set in the first part, the second, or the third
+-- a timer is set at the start of the first part, or at the end of the first, the second, or the third
 pub with-first : (t : Timer) (A B C D : List Timer) → with_timer t (in_turn (A ++ (B ++ (C ++ D)))) ≡ in_turn ((t ∷ A) ++ (B ++ (C ++ D)))
 unfolding in_turn
 with-first t A B C D = refl
+
+pub with-last : (t : Timer) (A B C D : List Timer) → with_timer t (in_turn (A ++ (B ++ (C ++ D)))) ≡ in_turn ((A ++ t ∷ []) ++ (B ++ (C ++ D)))
+with-last t A B C D = with_inner t [] A (B ++ (C ++ D))
 
 pub with-second : (t : Timer) (A B C D : List Timer) → with_timer t (in_turn (A ++ (B ++ (C ++ D)))) ≡ in_turn (A ++ ((B ++ t ∷ []) ++ (C ++ D)))
 with-second t A B C D = with_inner t A B (C ++ D)

@@ -24,6 +24,8 @@ pub enum TimerId {
     RelayEnd(u32),
     /// A round of probing starts (SWIM, section 3.1).
     RoundStart,
+    /// News is gossiped (SWIM, section 4.1, by packets of its own; this project's choice).
+    Gossip,
 }
 
 /// What is to happen, and when. Timers fire in the order of their deadlines, and at one deadline in the order of
@@ -48,7 +50,7 @@ impl TimerId {
         self.cmp(other)
     }
 
-    /// Its kind as a number, 1 to 6 in the order in which the kinds stand above.
+    /// Its kind as a number, 1 to 7 in the order in which the kinds stand above.
     fn kind(&self) -> u8
         ensures { result ≡ kind_number self.now }
     {
@@ -59,6 +61,7 @@ impl TimerId {
             TimerId::RelayNack(_) => 4,
             TimerId::RelayEnd(_) => 5,
             TimerId::RoundStart => 6,
+            TimerId::Gossip => 7,
         }
     }
 }
@@ -69,7 +72,7 @@ impl Timer {
     ghost use Rattle.lg_timers.specs.Meaning.Timers.{kind_number, timer_cmp};
 
     /// Its kind as a number: the end of a round 1, a suspicion 2, asking helpers 3, the nack of a relay 4, the end of
-    /// a relay 5, the start of a round 6.
+    /// a relay 5, the start of a round 6, the gossip 7.
     pub fn kind(&self) -> u8
         ensures { result ≡ kind_number self.now.id }
     {

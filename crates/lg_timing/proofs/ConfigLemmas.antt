@@ -1,7 +1,7 @@
 -- What holds of a checked configuration.
-use Rattle.std.proofs.Common.{◌≡◌, ℕ, ◌-◌, ◌≤◌, ◌<◌, Bool, true, false, not, leb, List, [], ◌∷◌, length, get_or, Option, Some, None, Result, Ok, Err, if◌then◌else◌, refl, find, arith}
+use Rattle.std.proofs.Common.{◌≡◌, ◌==◌, ◌||◌, ℕ, ◌-◌, ◌≤◌, ◌<◌, Bool, true, false, not, leb, List, [], ◌∷◌, length, get_or, Option, Some, None, Result, Ok, Err, if◌then◌else◌, refl, find, arith}
 use Rattle.std.specs.List.{list_all}
-use Rattle.std.proofs.lemmas.Bool.{leb-true}
+use Rattle.std.proofs.lemmas.Bool.{eqb-true, leb-true}
 use Rattle.std.proofs.lemmas.List.Folds.{list_all_at}
 use Rattle.lg_rules.proofs.Tests.{both}
 use Rattle.lg_timing.specs.declared.config.Config.{Config}
@@ -55,6 +55,14 @@ pub is_between : (least most n : ℕ) → is_within least most n ≡ true → Is
 is_between least most n e =
     let p = both (leb least n) (leb n most) e in record { low = leb-true least n p.0; high = leb-true n most p.1 }
 
+-- a number that is 0 or within two others
+zero_or_most : (least most n : ℕ) → (n == 0) || is_within least most n ≡ true → n ≤ most
+zero_or_most least most n e = step (n == 0) refl e
+  where
+    step : (off : Bool) → (n == 0) ≡ off → off || is_within least most n ≡ true → n ≤ most
+    step true k h = omega (arith, eqb-true n 0 k)
+    step false k h = (is_between least most n h).high
+
 pub not_true : (b : Bool) → not b ≡ true → b ≡ false
 not_true true e = absurd cc
 not_true false e = refl
@@ -74,6 +82,7 @@ ranges c e =
     let nack = is_between 1 999 c.nack_thousandths (at 8 (omega arith)) in
     let history = is_between 2 1000000 c.history_limit (at 9 (omega arith)) in
     let wire = is_between 1 3 c.wire (at 10 (omega arith)) in
+    let gossip_to = is_between 1 8 c.gossip_to (at 12 (omega arith)) in
     let seeds = both _ _ whole.1 in
     let names = both _ _ seeds.1 in
     record {
@@ -96,6 +105,9 @@ ranges c e =
       history_most = history.high;
       wire_least = wire.low;
       wire_most = wire.high;
+      gossip_most = zero_or_most 10 60000 c.gossip_ms (at 11 (omega arith));
+      gossip_to_least = gossip_to.low;
+      gossip_to_most = gossip_to.high;
       seeds_most = leb-true (length c.seeds.items) 16 seeds.0;
       seeds_distinct = names.0;
       seeds_others = not_true (is_seed c.name c.seeds.items) names.1;

@@ -46,6 +46,15 @@ pub const MIN_WIRE: u64 = 1;
 /// The newest version of the format of packets: 3 (this project's choice).
 pub const MAX_WIRE: u64 = 3;
 
+/// The shortest time that news waits for its first gossip, in milliseconds: 10 (this project's choice).
+pub const MIN_GOSSIP_MS: u64 = 10;
+
+/// The longest time that news waits for its first gossip, in milliseconds: 60,000 (this project's choice).
+pub const MAX_GOSSIP_MS: u64 = 60_000;
+
+/// The most members that a gossip goes to: 8 (this project's choice).
+pub const MAX_GOSSIP_TO: u64 = 8;
+
 /// The most seeds of a configuration: 16 (this project's choice).
 pub const MAX_SEEDS: usize = 16;
 
@@ -98,12 +107,18 @@ pub enum ConfigFault {
     /// `wire` isn't 1 to 3. The faults of a file that means no configuration have the numbers between.
     #[error("wire has to be {least} to {most}", least = MIN_WIRE, most = MAX_WIRE)]
     Wire = 15,
+    /// `gossip_ms` is neither 0 nor 10 to 60,000.
+    #[error("gossip_ms has to be 0 or {least} to {most}", least = MIN_GOSSIP_MS, most = MAX_GOSSIP_MS)]
+    GossipMs = 23,
+    /// `gossip_to` isn't 1 to 8.
+    #[error("gossip_to has to be 1 to {most}", most = MAX_GOSSIP_TO)]
+    GossipTo = 24,
 }
 
 impl ConfigFault {
     ghost use Rattle.lg_timing.specs.Meaning.Keys.{config_fault_number};
 
-    /// The number of the fault: 1 to 11 and 15. A check looks for the faults in the order of their numbers.
+    /// The number of the fault: 1 to 11, 15, 23 and 24. A check looks for the faults in the order of their numbers.
     pub fn number(self) -> u8
         ensures { result ≡ config_fault_number self }
     {
@@ -143,6 +158,11 @@ pub struct Config {
     pub history_limit: u64,
     /// In which version of the format the member writes its packets: 1 to 3 (this project's choice).
     pub wire: u64,
+    /// How long news waits for its first gossip, in milliseconds: 0 (no gossip) or 10 to 60,000 (this project's
+    /// choice).
+    pub gossip_ms: u64,
+    /// To how many members a gossip goes: 1 to 8 (this project's choice).
+    pub gossip_to: u64,
     /// The members that are known from the start: at most 16, with different names, none of them the member's own.
     pub seeds: ArrayVec<Seed, MAX_SEEDS>,
     /// The member's name.
@@ -205,6 +225,8 @@ impl Config {
             nack_thousandths: Key::NackThousandths.row().default,
             history_limit: Key::HistoryLimit.row().default,
             wire: Key::Wire.row().default,
+            gossip_ms: Key::GossipMs.row().default,
+            gossip_to: Key::GossipTo.row().default,
             seeds: ArrayVec::new(),
             name,
             addr,
@@ -248,6 +270,8 @@ impl Config {
             Key::NackThousandths => self.nack_thousandths,
             Key::HistoryLimit => self.history_limit,
             Key::Wire => self.wire,
+            Key::GossipMs => self.gossip_ms,
+            Key::GossipTo => self.gossip_to,
         }
     }
 
@@ -267,6 +291,8 @@ impl Config {
             Key::NackThousandths => self.nack_thousandths = number,
             Key::HistoryLimit => self.history_limit = number,
             Key::Wire => self.wire = number,
+            Key::GossipMs => self.gossip_ms = number,
+            Key::GossipTo => self.gossip_to = number,
         }
     }
 
@@ -280,11 +306,11 @@ impl Config {
         }
     }
 
-    /// Whether the number of a key is in its range.
+    /// Whether the number of a key is in its range, or is the 0 that turns off what the key is about.
     fn is_in_range(&self, key: Key) -> bool
         ensures { result ≡ is_in_range self.now key }
     {
-        is_within(key.row().least, self.greatest(key), self.number(key))
+        key.row().allows(self.greatest(key), self.number(key))
     }
 
     /// The first of some keys whose number is out of its range, if there is one.

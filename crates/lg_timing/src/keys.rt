@@ -3,13 +3,13 @@
 //! Defined in: `specs/Meaning/Keys.antt`.
 //! Tested in: `lg_detector_tests/src/timing.rt`, `cases/config_probes.case`, `cases/sim_commands.case`.
 ghost use Rattle.std.specs.Prelude.{◌≡◌};
-ghost use Rattle.lg_timing.specs.Meaning.Keys.{has_key_name, allows_number, is_before_seeds};
-ghost use Rattle.lg_timing.specs.Meaning.Keys.{key_named, key_name, row_of};
+ghost use Rattle.lg_timing.specs.Meaning.Keys.{has_key_name, is_allowed_by, allows_number, is_before_seeds};
+ghost use Rattle.lg_timing.specs.Meaning.Keys.{key_named, key_name, row, row_or_off, row_of};
 
 use crate::config::{
-    ConfigFault, MAX_CONFIRMATIONS, MAX_FACTOR, MAX_HISTORY_LIMIT, MAX_INDIRECT, MAX_INTERVAL_MS,
-    MAX_NACK_THOUSANDTHS, MAX_SCORE, MAX_WIRE, MIN_HISTORY_LIMIT, MIN_INTERVAL_MS,
-    MIN_NACK_THOUSANDTHS, MIN_WIRE, is_within,
+    ConfigFault, MAX_CONFIRMATIONS, MAX_FACTOR, MAX_GOSSIP_MS, MAX_GOSSIP_TO, MAX_HISTORY_LIMIT,
+    MAX_INDIRECT, MAX_INTERVAL_MS, MAX_NACK_THOUSANDTHS, MAX_SCORE, MAX_WIRE, MIN_GOSSIP_MS,
+    MIN_HISTORY_LIMIT, MIN_INTERVAL_MS, MIN_NACK_THOUSANDTHS, MIN_WIRE, is_within,
 };
 use lg_rules::MAX_LAMBDA;
 
@@ -38,11 +38,15 @@ pub enum Key {
     HistoryLimit,
     /// `wire`.
     Wire,
+    /// `gossip_ms`.
+    GossipMs,
+    /// `gossip_to`.
+    GossipTo,
 }
 
 /// All keys, in the order in which [`crate::Config::check`] judges their numbers. It is that of the numbers of their
 /// faults. The seeds are judged before [`Key::Wire`].
-pub const KEYS: [Key; 11] = [
+pub const KEYS: [Key; 13] = [
     Key::IntervalMs,
     Key::TimeoutMs,
     Key::Indirect,
@@ -54,6 +58,8 @@ pub const KEYS: [Key; 11] = [
     Key::NackThousandths,
     Key::HistoryLimit,
     Key::Wire,
+    Key::GossipMs,
+    Key::GossipTo,
 ];
 
 /// What the table says of a key's number.
@@ -68,17 +74,40 @@ pub struct KeyRow {
     pub default: u64,
     /// What is wrong with a configuration whose number is out of its range.
     pub fault: ConfigFault,
+    /// Whether 0 is allowed too, and turns off what the key is about.
+    pub off: bool,
 }
 
-/// A row of the table.
+impl KeyRow {
+    /// Whether the row allows a number: it is `least` to the greatest number that is given here, or it is 0 and turns
+    /// off what the key is about.
+    pub(crate) fn allows(self, most: u64, number: u64) -> bool
+        ensures { result ≡ is_allowed_by self most number }
+    {
+        (self.off && number == 0) || is_within(self.least, most, number)
+    }
+}
+
+/// A row of the table, by which 0 turns nothing off.
 fn row(least: u64, most: u64, default: u64, fault: ConfigFault) -> KeyRow
-    ensures { result ≡ record { least = least; most = most; default = default; fault = fault } }
+    ensures { result ≡ row least most default fault }
 {
     KeyRow {
         least,
         most,
         default,
         fault,
+        off: false,
+    }
+}
+
+/// A row of the table, by which 0 turns off what the key is about.
+fn row_or_off(least: u64, most: u64, default: u64, fault: ConfigFault) -> KeyRow
+    ensures { result ≡ row_or_off least most default fault }
+{
+    KeyRow {
+        off: true,
+        ..row(least, most, default, fault)
     }
 }
 
@@ -99,6 +128,8 @@ impl Key {
             Key::NackThousandths => "nack_thousandths",
             Key::HistoryLimit => "history_limit",
             Key::Wire => "wire",
+            Key::GossipMs => "gossip_ms",
+            Key::GossipTo => "gossip_to",
         }
     }
 
@@ -133,15 +164,18 @@ impl Key {
                 ConfigFault::History,
             ),
             Key::Wire => row(MIN_WIRE, MAX_WIRE, 1, ConfigFault::Wire),
+            Key::GossipMs => row_or_off(MIN_GOSSIP_MS, MAX_GOSSIP_MS, 200, ConfigFault::GossipMs),
+            Key::GossipTo => row(1, MAX_GOSSIP_TO, 3, ConfigFault::GossipTo),
         }
     }
 
-    /// Whether a number is in the key's range, whatever the other numbers are.
+    /// Whether a number is in the key's range, or is the 0 that turns off what the key is about, whatever the other
+    /// numbers are.
     pub fn allows(self, number: u64) -> bool
         ensures { result ≡ allows_number self number }
     {
         let row = self.row();
-        is_within(row.least, row.most, number)
+        row.allows(row.most, number)
     }
 
     /// Whether the key's number is judged before the seeds: whether its fault has a lesser number than theirs.

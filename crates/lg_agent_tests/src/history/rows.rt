@@ -1,6 +1,5 @@
 //! Made-up events and replies: each kind of event, each part of a reply, and what takes the most memory.
-use arrayvec::ArrayVec;
-use lg_detector::{Answer, Event, MAX_SENDS, Outgoing, Reply, Timer, TimerId};
+use lg_detector::{Answer, Event, MAX_SENDS, Outgoing, Reply, Sends, Timer, TimerId};
 use lg_packet::{Body, Version};
 use lg_rules::{Addr, Claim, Incarnation, Name};
 use lg_testing::{ack, alive, at, failed, letter, local, packet, said, suspect};
@@ -30,17 +29,17 @@ fn to(port: u16, body: Body, claims: &[Claim]) -> Outgoing {
 }
 
 /// One packet to be sent.
-fn one(outgoing: Outgoing) -> ArrayVec<Outgoing, MAX_SENDS> {
-    let mut sends = ArrayVec::new();
+fn one(outgoing: Outgoing) -> Sends {
+    let mut sends = Sends::new();
     sends.push(outgoing);
     sends
 }
 
 /// Eight packets of b, to the ports from 7001 on.
-fn eight(body: &Body, claims: &[Claim]) -> ArrayVec<Outgoing, MAX_SENDS> {
-    let mut sends = ArrayVec::new();
+fn eight(body: &Body, claims: &[Claim]) -> Sends {
+    let mut sends = Sends::new();
     for port in 7001..7009 {
-        if !sends.is_full() {
+        if sends.len() < MAX_SENDS {
             sends.push(to(port, *body, claims));
         }
     }
@@ -90,9 +89,9 @@ fn version_two() -> Row {
     if let Event::Heard { packet, .. } = &mut row.event {
         packet.version = Version::Two;
     }
-    for sent in row.reply.sends.iter_mut() {
-        sent.packet.version = Version::Two;
-    }
+    let mut sent = to(1, ack(7), &[alive(b'c', 0)]);
+    sent.packet.version = Version::Two;
+    row.reply.sends = one(sent);
     row
 }
 

@@ -1,10 +1,10 @@
 -- Worked checks.
-use Rattle.std.specs.Prelude.{⊤, ◌≡◌, ℕ, true, false, List, [], ◌∷◌, None, Some, codes, refl}
+use Rattle.std.specs.Prelude.{⊤, ◌≡◌, ℕ, true, false, List, [], ◌∷◌, ◌++◌, None, Some, codes, refl}
 use Rattle.std.specs.Fmt.{digits}
 use Rattle.lg_rules.specs.declared.addr.Addr.{Addr}
 use Rattle.lg_rules.specs.declared.addr.Ip.TheVariants.{V4}
 use Rattle.lg_timing.specs.declared.config.Config.{Config}
-use Rattle.lg_timing.specs.declared.keys.Key.TheVariants.{IntervalMs, TimeoutMs}
+use Rattle.lg_timing.specs.declared.keys.Key.TheVariants.{IntervalMs, TimeoutMs, GossipMs, GossipTo}
 use Rattle.lg_timing.specs.Meaning.Config.{defaults}
 use Rattle.lg_timing.specs.Meaning.Tables.{log10_of, ratio_of}
 use Rattle.lg_timing.specs.Meaning.Timeouts.{range_of, timeout_of}
@@ -89,6 +89,17 @@ default-interval = refl
 other-timeout : member_line (record b-by-default { timeout_ms = 50 }) TimeoutMs ≡ codes "timeout_ms = 50\n"
 unfolding on_checks
 other-timeout = refl
+
+-- a number that turns something off is written as any other
+no-gossip : member_line (record b-by-default { gossip_ms = 0 }) GossipMs ≡ codes "gossip_ms = 0\n"
+unfolding on_checks
+no-gossip = refl
+
+default-gossip :
+    member_line b-by-default GossipMs ++ member_line b-by-default GossipTo
+    ≡ codes "gossip_ms = 200 (default)\ngossip_to = 3 (default)\n"
+unfolding on_checks
+default-gossip = refl
 
 no-pulls : own_line (record usual { pull_ms = 0 }) PullMs ≡ codes "pull_ms = 0\n"
 unfolding on_checks

@@ -54,7 +54,8 @@ default_rule rule value = record rule { defaults = value ∷ [] }
 abbrev pub members_rule : Rule
 members_rule = required_rule (number_rule (codes "members") 1 most_members)
 
--- an option `--ID N` of a number of the configuration, which has the range and the default of its key
+-- an option `--ID N` of a number of the configuration, which has the range and the default of its key; a 0 below the
+-- range is refused, so no option is of a key whose 0 turns something off
 abbrev pub key_rule : Text → Key → Rule
 key_rule id key =
     let row = row_of key in

@@ -1,8 +1,10 @@
 -- Worked command lines.
-use Rattle.std.specs.Prelude.{◌≡◌, [], ◌∷◌, None, Some, codes, false, refl, true}
+use Rattle.std.specs.Prelude.{◌≡◌, [], ◌∷◌, None, Some, codes, false, map, refl, true}
 use Rattle.std.specs.Fmt.{digits}
 use Rattle.clap.proofs.OnLiterals.{clap_on_literals}
 use Rattle.clap.specs.declared.error.kind.ErrorKind.TheVariants as kind
+use Rattle.lg_timing.specs.declared.keys.Key.TheVariants.{Alpha, Beta, Confirmations, IntervalMs}
+use Rattle.lg_timing.specs.Meaning.Keys.{row_of}
 use Rattle.lg_command_line.specs.Meaning.Commands.{answer, ask, check, node, order, timeouts, asked, line_faults}
 use Rattle.lg_command_line.specs.declared.asked.Question.TheVariants.{Members, Status, Watch}
 
@@ -67,6 +69,18 @@ two-alphas : line_faults (codes "lg" ∷ codes "timeouts" ∷ codes "--members=4
     ≡ kind.ArgumentConflict ∷ []
 unfolding line_faults asked clap_on_literals digits
 two-alphas = refl
+
+-- no option is of a key whose 0 turns something off
+keys-of-options :
+    map (λ key. (row_of key).off) (Confirmations ∷ Alpha ∷ Beta ∷ IntervalMs ∷ [])
+    ≡ false ∷ false ∷ false ∷ false ∷ []
+keys-of-options = refl
+
+-- no timeout depends on gossip, so there is no option of its numbers
+no-gossip-option : line_faults (codes "lg" ∷ codes "timeouts" ∷ codes "--members=4" ∷ codes "--gossip-ms=0" ∷ [])
+    ≡ kind.UnknownArgument ∷ []
+unfolding line_faults asked clap_on_literals digits
+no-gossip-option = refl
 
 run-of-a-day :
     asked (codes "lg" ∷ codes "node" ∷ codes "--for-ms=86400000" ∷ codes "--config" ∷ codes "a.toml" ∷ [])

@@ -92,7 +92,7 @@ const ENDS: [(Of, u8, &str); 25] = [
 ];
 
 /// Each fault of a file with its number and its line.
-const FAULTS: [(FileFault, u8, &str); 20] = [
+const FAULTS: [(FileFault, u8, &str); 23] = [
     (
         FileFault::Config(ConfigFault::Interval),
         1,
@@ -133,6 +133,17 @@ const FAULTS: [(FileFault, u8, &str); 20] = [
     (FileFault::Status, 18, "lg: config 18\n"),
     (FileFault::StatusOpen, 19, "lg: config 19\n"),
     (FileFault::StatusNotLoopback, 20, "lg: config 20\n"),
+    (FileFault::KeyFile, 21, "lg: config 21\n"),
+    (
+        FileFault::Config(ConfigFault::GossipMs),
+        23,
+        "lg: config 23\n",
+    ),
+    (
+        FileFault::Config(ConfigFault::GossipTo),
+        24,
+        "lg: config 24\n",
+    ),
 ];
 
 /// Each end has its status and its line, and each fault of a file its number, the status 3 and its line.

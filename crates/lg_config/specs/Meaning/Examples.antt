@@ -8,6 +8,7 @@ use Rattle.lg_rules.specs.declared.addr.Addr.{Addr}
 use Rattle.lg_rules.specs.declared.addr.Ip.TheVariants.{V4}
 use Rattle.lg_timing.specs.declared.config.Config.{Config}
 use Rattle.lg_timing.specs.declared.config.ConfigFault.TheVariants.{Interval, Lambda, History, Seeds, Wire}
+use Rattle.lg_timing.specs.declared.config.ConfigFault.TheVariants.{GossipMs, GossipTo}
 use Rattle.lg_timing.specs.Meaning.Config.{check_of, defaults}
 use Rattle.lg_config.specs.declared.fault.FileFault.{FileFault}
 use Rattle.lg_config.specs.declared.fault.FileFault.TheVariants as fault
@@ -18,7 +19,7 @@ use Rattle.lg_config.specs.Meaning.Keys.{kind_of_key}
 use Rattle.lg_config.specs.Meaning.Settings.{addr_in, dice_in, name_in, settings_of, with_numbers}
 use Rattle.lg_config.specs.Meaning.Texts.{before, behind, octets_of, address_of, seed_of_text}
 
--- what the rows of texts, and those of files, have to unfold
+-- what the rows have to unfold
 unfoldable on_texts : ⊤
 unfolding is_utf8 chars before behind octets_of address_of seed_of_text
 on_texts = tt
@@ -68,6 +69,9 @@ timed = codes "interval_ms = 200\ntimeout_ms = 50\nalpha = 2\nbeta = 3\nnack_tho
 abbrev counted : List ℕ
 counted = codes "indirect = 0\nmax_score = 1\nconfirmations = 4\nlambda = 5\nhistory_limit = 7\nwire = 2\n"
 
+abbrev gossiped : List ℕ
+gossiped = codes "gossip_ms = 0\ngossip_to = 8\n"
+
 abbrev owned : List ℕ
 owned = codes "pull_ms = 0\nstall_ms = 60000\n"
 
@@ -75,7 +79,7 @@ abbrev served : List ℕ
 served = codes "status = \"10.0.0.7:8946\"\nstatus_open = true\n"
 
 all-keys :
-    answer_of (b-with (addressed ++ timed ++ counted ++ owned ++ served))
+    answer_of (b-with (addressed ++ timed ++ counted ++ gossiped ++ owned ++ served))
     ≡ Ok record {
       config =
           record (defaults (98 ∷ []) (record { ip = V4 (10 ∷ 0 ∷ 0 ∷ 7 ∷ []); port = 1 })) {
@@ -90,6 +94,8 @@ all-keys :
             nack_thousandths = 6;
             history_limit = 7;
             wire = 2;
+            gossip_ms = 0;
+            gossip_to = 8;
             seeds = record { items = record { name = 99 ∷ []; addr = local 7001 } ∷ [] };
           };
       dice = 9223372036854775807;
@@ -220,6 +226,15 @@ fourth-version : answer_of (b-with (codes "wire = 4")) ≡ Err (fault.Config Wir
 unfolding on_files
 fourth-version = refl
 
+soon-gossip : answer_of (b-with (codes "gossip_ms = 9")) ≡ Err (fault.Config GossipMs)
+unfolding on_files
+soon-gossip = refl
+
+-- the version is judged before gossip
+wire-before-gossip : answer_of (b-with (codes "gossip_to = 9\nwire = 4")) ≡ Err (fault.Config Wire)
+unfolding on_files
+wire-before-gossip = refl
+
 -- ---- files with a number of the node's own out of its range
 
 rare-pulls : answer_of (b-with (codes "pull_ms = 3600001")) ≡ Err fault.Pull
@@ -238,6 +253,10 @@ long-stall = refl
 pulls-before-stall : answer_of (b-with (codes "stall_ms = -1\npull_ms = -1")) ≡ Err fault.Pull
 unfolding on_files
 pulls-before-stall = refl
+
+gossip-before-pulls : answer_of (b-with (codes "pull_ms = -1\ngossip_to = 9")) ≡ Err (fault.Config GossipTo)
+unfolding on_files
+gossip-before-pulls = refl
 
 wire-before-pulls : answer_of (b-with (codes "pull_ms = -1\nwire = 4")) ≡ Err (fault.Config Wire)
 unfolding on_files
@@ -364,51 +383,3 @@ path-as-number = refl
 status-before-path : answer_of (b-with (codes "key_file = \"\"\nstatus = 1")) ≡ Err fault.Status
 unfolding on_files
 status-before-path = refl
-
--- ---- texts
-
-four-numbers : octets_of (codes "0.10.100.255") ≡ Some (0 ∷ 10 ∷ 100 ∷ 255 ∷ [])
-unfolding on_texts
-four-numbers = refl
-
--- some programs read 010 as eight
-zero-first : octets_of (codes "010.0.0.1") ≡ None
-unfolding on_texts
-zero-first = refl
-
-two-zeros : octets_of (codes "127.0.0.00") ≡ None
-unfolding on_texts
-two-zeros = refl
-
-octet-256 : octets_of (codes "1.2.3.256") ≡ None
-unfolding on_texts
-octet-256 = refl
-
-three-numbers : octets_of (codes "1.2.3") ≡ None
-unfolding on_texts
-three-numbers = refl
-
-five-numbers : octets_of (codes "1.2.3.4.5") ≡ None
-unfolding on_texts
-five-numbers = refl
-
-empty-number : octets_of (codes "1..3.4") ≡ None
-unfolding on_texts
-empty-number = refl
-
-c-at-65535 : seed_of_text (codes "c@1.2.3.4:65535")
-    ≡ Some record { name = 99 ∷ []; addr = record { ip = V4 (1 ∷ 2 ∷ 3 ∷ 4 ∷ []); port = 65535 } }
-unfolding on_texts
-c-at-65535 = refl
-
-port-65536 : seed_of_text (codes "c@1.2.3.4:65536") ≡ None
-unfolding on_texts
-port-65536 = refl
-
-two-at-signs : seed_of_text (codes "c@d@1.2.3.4:1") ≡ None
-unfolding on_texts
-two-at-signs = refl
-
-no-at-sign : seed_of_text (codes "1.2.3.4:1") ≡ None
-unfolding on_texts
-no-at-sign = refl

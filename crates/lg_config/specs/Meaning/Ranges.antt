@@ -1,5 +1,5 @@
 -- The reasons of numbers that are out of their ranges, in words.
-use Rattle.std.specs.Prelude.{ℕ, ℤ, ◌-◌, List, ◌++◌, codes, decimal, Option, Some, None}
+use Rattle.std.specs.Prelude.{ℕ, ℤ, ◌-◌, Bool, true, false, List, [], ◌++◌, codes, decimal, Option, Some, None}
 use Rattle.std.specs.Fmt.{signed_decimal}
 use Rattle.toml.specs.Data.{Members}
 use Rattle.lg_text.specs.Meaning.Lines.{newline}
@@ -18,12 +18,18 @@ abbrev pub given_text : Option ℤ → ℕ → List ℕ
 given_text (Some number) usual = signed_decimal number
 given_text None usual = decimal usual ++ codes " by default"
 
--- KEY is NUMBER, and has to be from LEAST to MOST
+-- the words before a range: they say that 0 is allowed too, if it turns off what the key is about
+abbrev pub zero_words : Bool → List ℕ
+zero_words true = codes "0 or "
+zero_words false = []
+
+-- KEY is NUMBER, and has to be from LEAST to MOST; if 0 is allowed too, it has to be 0 or from LEAST to MOST
 abbrev pub range_reason : List ℕ → Allowed → Members → List ℕ
 range_reason key allowed members =
     let given = given_text (integer_at key members) allowed.default in
     let range = decimal allowed.least ++ (codes " to " ++ (decimal allowed.most ++ newline)) in
-    key ++ (codes " is " ++ (given ++ (codes ", and has to be from " ++ range)))
+    let wanted = zero_words allowed.off ++ (codes "from " ++ range) in
+    key ++ (codes " is " ++ (given ++ (codes ", and has to be " ++ wanted)))
 
 -- the greatest number that a document allows for a key of the member's: a timeout is shorter than the interval
 abbrev pub most_allowed : Key → Members → ℕ
@@ -34,17 +40,21 @@ most_allowed key _ = (row_of key).most
 abbrev pub member_reason : Key → Members → List ℕ
 member_reason key members =
     let row = row_of key in
-    range_reason (key_name key) record { least = row.least; most = most_allowed key members; default = row.default }
-    members
+    let most = most_allowed key members in
+    range_reason (key_name key) record { least = row.least; most = most; default = row.default; off = row.off } members
 
 abbrev pub own_reason : NodeKey → Members → List ℕ
 own_reason key members =
     let row = node_row_of key in
-    range_reason (node_key_name key) record { least = row.least; most = row.most; default = row.default } members
+    let allowed : Allowed = record { least = row.least; most = row.most; default = row.default; off = false } in
+    range_reason (node_key_name key) allowed members
 
 abbrev pub port_reason : Members → List ℕ
 port_reason members =
-    range_reason (codes "port") record { least = least_port; most = most_port; default = default_port } members
+    let allowed : Allowed = record { least = least_port; most = most_port; default = default_port; off = false } in
+    range_reason (codes "port") allowed members
 
 abbrev pub dice_reason : Members → List ℕ
-dice_reason members = range_reason (codes "dice") record { least = 0; most = most_dice; default = default_dice } members
+dice_reason members =
+    let allowed : Allowed = record { least = 0; most = most_dice; default = default_dice; off = false } in
+    range_reason (codes "dice") allowed members

@@ -63,6 +63,16 @@ fourth-version : said (codes "wire = 4") ≡ Some (codes "wire is 4, and has to 
 unfolding on_reasons
 fourth-version = refl
 
+-- 0 turns gossip off, so it is allowed too
+soon-gossip :
+    said (codes "gossip_ms = 9") ≡ Some (codes "gossip_ms is 9, and has to be 0 or from 10 to 60000\n")
+unfolding on_reasons
+soon-gossip = refl
+
+gossip-to-nobody : said (codes "gossip_to = 0") ≡ Some (codes "gossip_to is 0, and has to be from 1 to 8\n")
+unfolding on_reasons
+gossip-to-nobody = refl
+
 rare-pulls : said (codes "pull_ms = 3600001") ≡ Some (codes "pull_ms is 3600001, and has to be from 0 to 3600000\n")
 unfolding on_reasons
 rare-pulls = refl

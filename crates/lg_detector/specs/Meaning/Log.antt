@@ -10,6 +10,7 @@ use Rattle.lg_probe.specs.declared.relays.Asker.{Asker}
 -- - Fired: this timer fired, at a tick with these random words;
 -- - AckHeard, NackHeard: an Ack, or a Nack, with this number came from the member of this name;
 -- - Relayed: a relay to the target of this name was opened for this asker;
+-- - Ended: what the event did is done;
 -- - OfGroup: a fact that concerns the group. The member was opened, a claim was applied, or a packet was sent that took
 --   claims of the queue.
 pub data Fact : Type 0 where
@@ -18,6 +19,7 @@ pub data Fact : Type 0 where
   AckHeard : ℕ → List ℕ → Fact
   NackHeard : ℕ → List ℕ → Fact
   Relayed : List ℕ → Asker → Fact
+  Ended : Fact
   OfGroup : GroupFact → Fact
 
 abbrev pub Log : Type 0

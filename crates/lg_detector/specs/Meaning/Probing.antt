@@ -93,6 +93,11 @@ abbrev pub indirect_in : Option Config → ℕ
 indirect_in None = 0
 indirect_in (Some opening) = opening.indirect
 
+-- to how many members a gossip goes
+abbrev pub gossip_to_in : Option Config → ℕ
+gossip_to_in None = 0
+gossip_to_in (Some opening) = opening.gossip_to
+
 abbrev pub helpers_of : ℕ → List ℕ → List (List ℕ) → Option (List ℕ) → List (List ℕ)
 helpers_of k words names None = []
 helpers_of k words names (Some target) = picked k words (without target names)
@@ -137,3 +142,7 @@ round_at past p = option_map (λ p. round_of p.number p.target past) p
 
 abbrev pub round : Log → Option RoundValue
 round log = round_at (since_start log) (probe log)
+
+-- Whom a gossip goes to, by these words: as many of the others as the configuration says, picked as helpers are.
+abbrev pub told_by : List ℕ → Log → List (List ℕ)
+told_by words log = picked (gossip_to_in (group.config (group_log log))) words (others log)

@@ -31,7 +31,7 @@ use Rattle.lg_detector.specs.declared.reply.Answer.{Answer}
 use Rattle.lg_detector.specs.declared.reply.Outgoing.{Outgoing}
 use Rattle.lg_detector.specs.declared.reply.Reply.{Reply}
 use Rattle.lg_detector.specs.declared.standing.Standing.{Standing}
-use Rattle.lg_detector.specs.Meaning.Log.{Log, group_log, moment}
+use Rattle.lg_detector.specs.Meaning.Log.{Log, Ended, group_log, moment}
 use Rattle.lg_detector.specs.Meaning.Timing.{due, pending, deadline_in, or_zero}
 use Rattle.lg_detector.specs.Meaning.Apply.{come}
 use Rattle.lg_detector.specs.Meaning.Open.{open_with}
@@ -40,14 +40,17 @@ use Rattle.lg_detector.specs.Meaning.Tick.{tick, sends_at}
 use Rattle.lg_detector.specs.Meaning.Ask.{ask, status, health, own_standing}
 use Rattle.lg_detector.specs.Meaning.Joining.{pull, pulls}
 
--- the log once an event has come
+-- the log once an event has come and did what it does, and once that is over
+abbrev pub happen : Event → Log → Log
+happen (Open now opening) log = open_with now opening log
+happen (Heard now source packet) log = hear now source packet log
+happen (Tick now words) log = tick now words log
+happen (Ask now name) log = ask now log
+happen (Health now) log = ask now log
+happen (Pull now peer) log = pull now log
+
 abbrev pub step : Event → Log → Log
-step (Open now opening) log = open_with now opening log
-step (Heard now source packet) log = hear now source packet log
-step (Tick now words) log = tick now words log
-step (Ask now name) log = ask now log
-step (Health now) log = ask now log
-step (Pull now peer) log = pull now log
+step e log = Ended ∷ happen e log
 
 -- the log of some events, the latest first
 abbrev pub log_of : List Event → Log

@@ -8,13 +8,16 @@ use Rattle.lg_rules.specs.declared.claim.Status.TheVariants.{Suspect, Failed, Le
 use Rattle.lg_rules.specs.Meaning.Claim.{name_of}
 use Rattle.lg_rules.specs.Meaning.Rows.{name_cmp, row_at}
 use Rattle.lg_packet.specs.declared.packet.Body.TheVariants.{Ping, PingReq}
+use Rattle.lg_packet.specs.declared.packet.Body.TheVariants as body
 use Rattle.lg_timers.specs.declared.timer.Timer.{Timer}
 use Rattle.lg_timers.specs.declared.timer.TimerId.{TimerId}
-use Rattle.lg_timers.specs.declared.timer.TimerId.TheVariants.{RoundEnd, Suspicion, Direct, RelayNack, RoundStart}
+use Rattle.lg_timers.specs.declared.timer.TimerId.TheVariants.{RoundEnd, Suspicion, Direct, RelayNack}
+use Rattle.lg_timers.specs.declared.timer.TimerId.TheVariants.{RoundStart, Gossip}
 use Rattle.lg_probe.specs.declared.relays.Asker.{Asker}
 use Rattle.lg_probe.specs.Meaning.Relays.{asker_at}
 use Rattle.lg_probe.specs.Meaning.Round.{RoundValue}
 use Rattle.lg_membership.specs.declared.origin.Origin.TheVariants.{Group}
+use Rattle.lg_membership.specs.Meaning.Gossip.{news}
 use Rattle.lg_membership.specs.Meaning.Log as group
 use Rattle.lg_membership.specs.Meaning.Log.{group_view}
 use Rattle.lg_detector.specs.declared.message.Message.{Message}
@@ -23,9 +26,9 @@ use Rattle.lg_detector.specs.Meaning.Log.{Log, group_log}
 use Rattle.lg_detector.specs.Meaning.Timing.{due}
 use Rattle.lg_detector.specs.Meaning.Apply.{come, apply_all, fire}
 use Rattle.lg_detector.specs.Meaning.Hear.{nack_of}
-use Rattle.lg_detector.specs.Meaning.Probing.{chosen, helpers, number, round}
+use Rattle.lg_detector.specs.Meaning.Probing.{chosen, helpers, number, round, told_by}
 use Rattle.lg_detector.specs.Meaning.Relaying.{relays}
-use Rattle.lg_detector.specs.Meaning.Send.{send_all, packets}
+use Rattle.lg_detector.specs.Meaning.Send.{send, send_all, packets}
 
 -- The record of a name in a table, if it has one.
 abbrev pub found : List ℕ → List Claim → Option Claim
@@ -88,10 +91,23 @@ abbrev pub nack_to : Option Asker → List Message
 nack_to None = []
 nack_to (Some asker) = nack_of asker
 
+-- A gossip goes to the members that are picked, at the addresses of their records, one after another, as long as a
+-- claim of the queue may still be sent.
+abbrev pub gossip_for : Claim → Message
+gossip_for r = record { to = r.addr; body = body.Gossip }
+
+abbrev pub gossips_for : List Claim → List (List ℕ) → List Message
+gossips_for rows names = filter_map (λ m. option_map gossip_for (found m rows)) names
+
+abbrev pub while_news : List Message → Log → List Message
+while_news [] log = []
+while_news (m ∷ ms) log = if news (group_log log) then m ∷ while_news ms (send m.body log) else []
+
 abbrev pub messages : TimerId → List ℕ → Log → List Message
 messages RoundStart words log = ping_to (number log) (group_view (group_log log)) (chosen words log)
 messages Direct words log = requests (round log) (group_view (group_log log)) (helpers words log)
 messages (RelayNack k) words log = nack_to (asker_at k (relays log))
+messages Gossip words log = while_news (gossips_for (group_view (group_log log)) (told_by words log)) log
 messages _ words log = []
 
 -- a timer fires, if one is due: its claims are applied, and its packets are sent

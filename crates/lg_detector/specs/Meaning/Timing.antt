@@ -1,25 +1,29 @@
 -- The health score (Lifeguard's local health multiplier, LHM) and the timers that are set (Lifeguard, local health
 -- aware probe; SWIM, section 3.1).
-use Rattle.std.specs.Prelude.{ℕ, ◌+◌, ◌*◌, ◌/◌, ℤ, pos, negsuc, Bool, true, false, ◌&&◌, not}
+use Rattle.std.specs.Prelude.{ℕ, ◌+◌, ◌*◌, ◌/◌, ◌==◌, length, ℤ, pos, negsuc, Bool, true, false, ◌&&◌, not}
 use Rattle.std.specs.Prelude.{List, [], ◌∷◌, ◌++◌, map, filter, Option}
 use Rattle.std.specs.Prelude.{Some, None, option_map, if◌then◌else◌}
 use Rattle.std.specs.List.{list_any}
 use Rattle.lg_rules.specs.declared.own.OwnHeard.{OwnHeard}
 use Rattle.lg_rules.specs.declared.own.OwnHeard.TheVariants.{Refuted}
 use Rattle.lg_rules.specs.Meaning.Own.{own_hearing}
+use Rattle.lg_rules.specs.declared.version.Version.{Version}
+use Rattle.lg_rules.specs.declared.version.Version.TheVariants.{One, Two, Three}
 use Rattle.lg_timing.specs.declared.config.Config.{Config}
+use Rattle.lg_timing.specs.Meaning.Config.{version_of}
 use Rattle.lg_timing.specs.Meaning.Score.{ScoreValue, score_of}
 use Rattle.lg_suspicion.specs.Meaning.Accusers.{deadline_of}
 use Rattle.lg_timers.specs.declared.timer.Timer.{Timer}
 use Rattle.lg_timers.specs.declared.timer.TimerId.{TimerId}
 use Rattle.lg_timers.specs.declared.timer.TimerId.TheVariants.{RoundEnd, Suspicion, Direct}
-use Rattle.lg_timers.specs.declared.timer.TimerId.TheVariants.{RelayNack, RelayEnd, RoundStart}
+use Rattle.lg_timers.specs.declared.timer.TimerId.TheVariants.{RelayNack, RelayEnd, RoundStart, Gossip}
 use Rattle.lg_timers.specs.Meaning.Timers.{in_turn, least_of, due_of}
 use Rattle.lg_probe.specs.Meaning.Round.{RoundFact, RoundValue, Asked, is_acked, is_first_ack, mark_of}
+use Rattle.lg_membership.specs.Meaning.Gossip.{news}
 use Rattle.lg_membership.specs.Meaning.Log as group
 use Rattle.lg_membership.specs.Meaning.Suspicions.{SuspectedValue, suspicions}
-use Rattle.lg_detector.specs.Meaning.Log.{Log, Fired, AckHeard, OfGroup, moment, group_log}
-use Rattle.lg_detector.specs.Meaning.Probing.{Probe, is_round_start, chosen, probe, since_start, round}
+use Rattle.lg_detector.specs.Meaning.Log.{Log, Fired, AckHeard, Ended, OfGroup, moment, group_log}
+use Rattle.lg_detector.specs.Meaning.Probing.{Probe, is_round_start, chosen, others, probe, since_start, round}
 use Rattle.lg_detector.specs.Meaning.Relaying.{relays, opened_at, relay_has_nacked}
 
 -- The marks that were earned since the opening, the latest first. Each refuted suspicion of this member earns 1. The
@@ -165,8 +169,48 @@ relay_timers log =
     let later = relay_time (group.config (group_log log)) in
     map (λ r. relay_timer (opened_at log r.number + later) r.number) (relays log)
 
--- The timers that are set, in the order in which they fire: those of the round, those of the relays, and the deadline
--- of each suspicion. Each accuser that counts brings that deadline nearer, as lg_suspicion says.
+-- When news is gossiped next. A gossip is set at the end of an event, unless one is: if a claim of the queue may still
+-- be sent, and some other member isn't gone. It fires `gossip_ms` later, which the score doesn't scale. A member whose
+-- `wire` isn't 3 or whose `gossip_ms` is 0 gossips nothing by packets of their own (this project's choice).
+abbrev pub gossip_delay_of : Version → ℕ → Option ℕ
+gossip_delay_of One delay = None
+gossip_delay_of Two delay = None
+gossip_delay_of Three delay = if delay == 0 then None else Some delay
+
+abbrev pub gossip_delay : Option Config → Option ℕ
+gossip_delay None = None
+gossip_delay (Some opening) = gossip_delay_of (version_of opening) opening.gossip_ms
+
+abbrev pub is_gossip : TimerId → Bool
+is_gossip Gossip = true
+is_gossip _ = false
+
+abbrev pub has_to_tell : Log → Bool
+has_to_tell log = news (group_log log) && not (length (others log) == 0)
+
+abbrev pub gossip_by : Bool → Option ℕ → ℕ → Option ℕ → Option ℕ
+gossip_by tells delay now (Some deadline) = Some deadline
+gossip_by tells None now None = None
+gossip_by tells (Some delay) now None = if tells then Some (now + delay) else None
+
+abbrev pub gossip_at : Log → Option ℕ
+gossip_at [] = None
+gossip_at (OfGroup (group.Opened opening) ∷ log) = None
+gossip_at (Fired timer words ∷ log) = if is_gossip timer.id then None else gossip_at log
+gossip_at (Ended ∷ log) =
+    gossip_by (has_to_tell log) (gossip_delay (group.config (group_log log))) (moment log) (gossip_at log)
+gossip_at (_ ∷ log) = gossip_at log
+
+abbrev pub gossip_timer : ℕ → Timer
+gossip_timer deadline = record { deadline = deadline; id = Gossip }
+
+abbrev pub gossip_timers : Option ℕ → List Timer
+gossip_timers None = []
+gossip_timers (Some deadline) = gossip_timer deadline ∷ []
+
+-- The timers that are set, in the order in which they fire: those of the round, that of the next gossip, those of the
+-- relays, and the deadline of each suspicion. Each accuser that counts brings that deadline nearer, as lg_suspicion
+-- says.
 abbrev pub suspicion_timer : SuspectedValue → Timer
 suspicion_timer r = record { deadline = deadline_of r.suspicion; id = Suspicion r.name }
 
@@ -174,7 +218,10 @@ abbrev pub suspicion_timers : Log → List Timer
 suspicion_timers log = map suspicion_timer (suspicions (group_log log))
 
 abbrev pub pending : Log → List Timer
-pending log = in_turn (round_timers log ++ (nack_timers log ++ (relay_timers log ++ suspicion_timers log)))
+pending log =
+    in_turn (
+    (round_timers log ++ gossip_timers (gossip_at log))
+    ++ (nack_timers log ++ (relay_timers log ++ suspicion_timers log)))
 
 -- the first of the timers that are due
 abbrev pub due : Log → Option Timer

@@ -22,11 +22,12 @@ abbrev opening_of : ℕ → Event
 opening_of wire = Open 0 (record (defaults (b ∷ []) (at 7000)) { wire = wire })
 
 -- RECEIVERS
--- b acks a Ping of a in version 3, and says that the Ack is for a.
+-- b acks a Ping of a in version 3, and says that the Ack is for a. It tells its own arrival too, which it queued when
+-- it was opened.
 an_ack_names_its_receiver :
     reply_after (opening_of 3 ∷ []) (says_in Three 0 (Ping 8 (b ∷ [])) (alive c 0 ∷ []))
     ≡ record (nothing 0) {
-      sends = record { items = sent_in Three 1 (Ack 8 (Some (a ∷ []))) (alive c 0 ∷ []) };
+      sends = record { items = sent_in Three 1 (Ack 8 (Some (a ∷ []))) (alive b 0 ∷ alive c 0 ∷ []) };
       changed = record { items = alive c 0 ∷ [] };
     }
 unfolding by_computing
@@ -35,7 +36,7 @@ an_ack_names_its_receiver = refl
 none_is_told_in_two : body_told Two (Nack 8 (Some (a ∷ []))) ≡ Nack 8 None
 none_is_told_in_two = refl
 
--- An Ack of c ends a relay of b if it is for b, or for nobody in particular.
+-- An Ack of c ends a relay of b if it is for b, or for nobody in particular. b's arrival was told once, with its Ping.
 abbrev relayed_to_c : List Event
 relayed_to_c = opening_of 3 ∷ says_in Three 0 (PingReq 9 (c ∷ []) (at 7003)) [] ∷ []
 
@@ -51,12 +52,12 @@ acked_for receiver =
     })
 
 for_b : (reply_after relayed_to_c (acked_for (Some (b ∷ [])))).sends.items
-    ≡ sent_in Three 1 (Ack 9 (Some (a ∷ []))) (alive d 0 ∷ [])
+    ≡ sent_in Three 1 (Ack 9 (Some (a ∷ []))) (alive d 0 ∷ alive b 0 ∷ [])
 unfolding by_computing
 for_b = refl
 
 for_nobody_in_particular : (reply_after relayed_to_c (acked_for None)).sends.items
-    ≡ sent_in Three 1 (Ack 9 (Some (a ∷ []))) (alive d 0 ∷ [])
+    ≡ sent_in Three 1 (Ack 9 (Some (a ∷ []))) (alive d 0 ∷ alive b 0 ∷ [])
 unfolding by_computing
 for_nobody_in_particular = refl
 

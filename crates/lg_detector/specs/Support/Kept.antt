@@ -11,6 +11,7 @@ state_in parts = record {
   order = parts.order;
   number = parts.number;
   round = parts.round;
+  gossip = parts.gossip;
   relays = parts.relays;
   membership = parts.membership;
 }

@@ -7,17 +7,18 @@ use Rattle.lg_membership.specs.Meaning.Gossip.{version_sent}
 use Rattle.lg_membership.specs.Support.State.{taken_in, fill_in}
 use Rattle.lg_detector.specs.declared.reply.Outgoing.{Outgoing}
 use Rattle.lg_detector.specs.declared.message.Message.{Message}
-use Rattle.lg_detector.specs.Meaning.Send.{body_told}
+use Rattle.lg_membership.specs.declared.addressee.Addressee.TheVariants.{Anybody, Pinged}
+use Rattle.lg_detector.specs.Meaning.Send.{acked_one, body_told}
 use Rattle.lg_detector.specs.Support.State.{State, send_taken}
 
 abbrev pub claims_of_state : Body → State → List Claim
-claims_of_state (Ping number target) s = fill_in (Some target) s.membership
-claims_of_state (PingReq number target addr) s = fill_in None s.membership
-claims_of_state (Ack number receiver) s = fill_in None s.membership
+claims_of_state (Ping number target) s = fill_in (Pinged target) s.membership
+claims_of_state (PingReq number target addr) s = fill_in Anybody s.membership
+claims_of_state (Ack number receiver) s = fill_in (acked_one receiver) s.membership
 claims_of_state (Nack number receiver) s = []
 claims_of_state (Pull after) s = []
 claims_of_state Page s = []
-claims_of_state Gossip s = []
+claims_of_state Gossip s = fill_in Anybody s.membership
 
 abbrev pub outgoing_state : Message → State → Outgoing
 outgoing_state message s =
@@ -36,13 +37,13 @@ outgoing_state message s =
     }
 
 abbrev pub send_state : Body → State → State
-send_state (Ping number target) s = send_taken (taken_in (Some target) s.membership) s
-send_state (PingReq number target addr) s = send_taken (taken_in None s.membership) s
-send_state (Ack number receiver) s = send_taken (taken_in None s.membership) s
+send_state (Ping number target) s = send_taken (taken_in (Pinged target) s.membership) s
+send_state (PingReq number target addr) s = send_taken (taken_in Anybody s.membership) s
+send_state (Ack number receiver) s = send_taken (taken_in (acked_one receiver) s.membership) s
 send_state (Nack number receiver) s = s
 send_state (Pull after) s = s
 send_state Page s = s
-send_state Gossip s = s
+send_state Gossip s = send_taken (taken_in Anybody s.membership) s
 
 abbrev pub send_all_state : List Message → State → State
 send_all_state [] s = s

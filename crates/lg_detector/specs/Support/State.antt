@@ -1,6 +1,6 @@
 -- The state of a detector as plain data, and what each fact does to it.
 use Rattle.std.specs.Prelude.{ℕ, ◌+◌, max, pos, negsuc, Bool, true, false, List, [], ◌∷◌}
-use Rattle.std.specs.Prelude.{Option, Some, None, option_map, is_some, if◌then◌else◌}
+use Rattle.std.specs.Prelude.{Option, Some, None, option_map, is_some, length, ◌==◌, ◌&&◌, not, if◌then◌else◌}
 use Rattle.lg_rules.specs.declared.claim.Claim.{Claim}
 use Rattle.lg_rules.specs.Meaning.Rows.{name_cmp, in_order}
 use Rattle.lg_timing.specs.declared.config.Config.{Config}
@@ -8,8 +8,10 @@ use Rattle.lg_timing.specs.Meaning.Score.{ScoreValue, marked}
 use Rattle.lg_timers.specs.declared.timer.Timer.{Timer}
 use Rattle.lg_timers.specs.declared.timer.TimerId.{TimerId}
 use Rattle.lg_timers.specs.declared.timer.TimerId.TheVariants.{RoundEnd, Suspicion, Direct}
-use Rattle.lg_timers.specs.declared.timer.TimerId.TheVariants.{RelayNack, RelayEnd, RoundStart}
+use Rattle.lg_timers.specs.declared.timer.TimerId.TheVariants.{RelayNack, RelayEnd, RoundStart, Gossip}
 use Rattle.lg_timers.specs.Meaning.Timers.{with_timer, without_timer}
+use Rattle.lg_rules.specs.Meaning.Table.{live_in}
+use Rattle.lg_gossip.specs.Meaning.Queue.{has_news}
 use Rattle.lg_probe.specs.declared.relays.Asker.{Asker}
 use Rattle.lg_probe.specs.declared.relays.Relay.{Relay}
 use Rattle.lg_probe.specs.Meaning.Order.{OrderValue, Joined, Left, Chose, choice, order_with}
@@ -23,14 +25,17 @@ use Rattle.lg_membership.specs.declared.applied.Presence.TheVariants as presence
 use Rattle.lg_membership.specs.declared.origin.Origin.{Origin}
 use Rattle.lg_membership.specs.Meaning.Gossip.{version_sent}
 use Rattle.lg_membership.specs.Support.State as group
-use Rattle.lg_membership.specs.Support.State.{GroupState, apply_to_group, group_state_of, open_group, send_from_group}
+use Rattle.lg_membership.specs.Support.State.{GroupState, apply_to_group, group_state_of, open_group}
+use Rattle.lg_membership.specs.Support.State.{send_from_group}
 use Rattle.lg_detector.specs.Meaning.Log.{Log, event_count, moment, group_log}
 use Rattle.lg_detector.specs.Meaning.Probing as probing
 use Rattle.lg_detector.specs.Meaning.Probing.{asked_about, first_number, first_word, indirect_in, helpers_of}
 use Rattle.lg_detector.specs.Meaning.Relaying as relaying
 use Rattle.lg_detector.specs.Meaning.Relaying.{new_relay}
 use Rattle.lg_detector.specs.Meaning.Timing.{score, pending, scaled_interval, scaled_timeout, nack_time, relay_time}
-use Rattle.lg_detector.specs.Meaning.Timing.{is_first, start_timer, end_timer, direct_timer, nack_timer, relay_timer}
+use Rattle.lg_detector.specs.Meaning.Timing.{gossip_at, gossip_by, gossip_delay, gossip_timer}
+use Rattle.lg_detector.specs.Meaning.Timing.{is_first, start_timer, end_timer}
+use Rattle.lg_detector.specs.Meaning.Timing.{direct_timer, nack_timer, relay_timer}
 
 pub record State : Type 0 where
   pub events : ℕ
@@ -40,6 +45,7 @@ pub record State : Type 0 where
   pub order : OrderValue
   pub number : ℕ
   pub round : Option RoundValue
+  pub gossip : Option ℕ
   pub relays : List Relay
   pub membership : GroupState
 
@@ -56,6 +62,7 @@ state_of log = record {
   order = order_of log;
   number = probing.number log;
   round = probing.round log;
+  gossip = gossip_at log;
   relays = relaying.relays log;
   membership = group_state_of (group_log log);
 }
@@ -72,6 +79,7 @@ begin opening s = record s {
   order = record { names = []; chosen = [] };
   number = first_number;
   round = None;
+  gossip = None;
   relays = [];
   membership = open_group opening s.membership;
 }
@@ -185,6 +193,10 @@ without_relay k timers = without_timer (RelayNack k) (without_timer (RelayEnd k)
 abbrev pub close_relay : ℕ → State → State
 close_relay k s = record s { relays = relays_with s.relays (Closed k); timers = without_relay k s.timers }
 
+-- news is gossiped: the timer is gone
+abbrev pub gossip_fired : State → State
+gossip_fired s = record s { gossip = None; timers = without_timer Gossip s.timers }
+
 -- a timer fires
 abbrev pub fire_id : TimerId → List ℕ → State → State
 fire_id RoundEnd words s = end_round s
@@ -193,6 +205,7 @@ fire_id Direct words s = ask_helpers words s
 fire_id (RelayNack k) words s = nack_relay k s
 fire_id (RelayEnd k) words s = close_relay k s
 fire_id RoundStart words s = start_round words s
+fire_id Gossip words s = gossip_fired s
 
 unfoldable pub fire_state : Timer → List ℕ → State → State
 fire_state timer words s = fire_id timer.id words s
@@ -250,3 +263,22 @@ open_relay target asker s = record s {
 -- a packet is sent that took these claims of the queue
 abbrev pub send_taken : List Claim → State → State
 send_taken taken s = record s { membership = send_from_group taken s.membership }
+
+-- whether a claim of the queue may still be sent
+abbrev pub has_news_in : GroupState → Bool
+has_news_in g = has_news g.queue (live_in g.members.table)
+
+-- an event ends: the next gossip is set, if one is to be and none is
+abbrev pub has_to_tell_state : State → Bool
+has_to_tell_state s = has_news_in s.membership && not (length s.order.names == 0)
+
+abbrev pub with_gossip : Option ℕ → Option ℕ → List Timer → List Timer
+with_gossip (Some deadline) next timers = timers
+with_gossip None None timers = timers
+with_gossip None (Some deadline) timers = with_timer (gossip_timer deadline) (without_timer Gossip timers)
+
+abbrev pub next_gossip : State → Option ℕ
+next_gossip s = gossip_by (has_to_tell_state s) (gossip_delay s.membership.config) s.moment s.gossip
+
+unfoldable pub end_event : State → State
+end_event s = record s { gossip = next_gossip s; timers = with_gossip s.gossip (next_gossip s) s.timers }

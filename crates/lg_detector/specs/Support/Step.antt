@@ -12,7 +12,7 @@ use Rattle.lg_detector.specs.declared.reply.Outgoing.{Outgoing}
 use Rattle.lg_detector.specs.declared.reply.Reply.{Reply}
 use Rattle.lg_detector.specs.Meaning.Timing.{deadline_in, or_zero}
 use Rattle.lg_detector.specs.Meaning.Step.{log_of, is_open_event, opens_well, most_events}
-use Rattle.lg_detector.specs.Support.State.{State, state_of, come_state}
+use Rattle.lg_detector.specs.Support.State.{State, state_of, come_state, end_event}
 use Rattle.lg_detector.specs.Support.Open.{open_with_state}
 use Rattle.lg_detector.specs.Support.Hear.{hear_claims_state, hear_state, sends_to_state}
 use Rattle.lg_detector.specs.Support.Tick.{due_state, tick_state, sends_at_state}
@@ -34,14 +34,17 @@ accepts_of s e = accepts_at s.events e
 abbrev pub view_state : State → List Claim
 view_state s = group.shown s.membership
 
--- the state after an event that is accepted
-unfoldable pub advance : State → Event → State
-advance s (Open now opening) = open_with_state now opening s
-advance s (Heard now source packet) = hear_state now source packet s
-advance s (Tick now words) = tick_state now words s
-advance s (Ask now name) = ask_state now s
-advance s (Health now) = ask_state now s
-advance s (Pull now peer) = pull_state now s
+-- the state after what an event that is accepted does, and after the event
+unfoldable pub happen_state : State → Event → State
+happen_state s (Open now opening) = open_with_state now opening s
+happen_state s (Heard now source packet) = hear_state now source packet s
+happen_state s (Tick now words) = tick_state now words s
+happen_state s (Ask now name) = ask_state now s
+happen_state s (Health now) = ask_state now s
+happen_state s (Pull now peer) = pull_state now s
+
+abbrev pub advance : State → Event → State
+advance s e = end_event (happen_state s e)
 
 -- the state after an event; one that isn't accepted changes nothing
 abbrev pub step_state : State → Event → State

@@ -1,18 +1,21 @@
 -- The event Tick, as functions of the state.
-use Rattle.std.specs.Prelude.{ℕ, List, [], Option, Some, None}
+use Rattle.std.specs.Prelude.{ℕ, List, [], ◌∷◌, Option, Some, None, if◌then◌else◌}
 use Rattle.lg_rules.specs.declared.claim.Claim.{Claim}
 use Rattle.lg_timers.specs.declared.timer.Timer.{Timer}
 use Rattle.lg_timers.specs.declared.timer.TimerId.{TimerId}
-use Rattle.lg_timers.specs.declared.timer.TimerId.TheVariants.{RelayNack, Direct, RoundStart}
+use Rattle.lg_timers.specs.declared.timer.TimerId.TheVariants.{RelayNack, Direct, RoundStart, Gossip}
 use Rattle.lg_timers.specs.Meaning.Timers.{due_of}
+use Rattle.lg_probe.specs.Meaning.Helpers.{picked}
 use Rattle.lg_probe.specs.Meaning.Relays.{asker_at}
 use Rattle.lg_membership.specs.declared.origin.Origin.TheVariants.{Group}
 use Rattle.lg_membership.specs.Support.State.{shown}
 use Rattle.lg_detector.specs.declared.reply.Outgoing.{Outgoing}
 use Rattle.lg_detector.specs.declared.message.Message.{Message}
-use Rattle.lg_detector.specs.Meaning.Tick.{fired_claims, ping_to, requests, nack_to}
-use Rattle.lg_detector.specs.Support.State.{State, come_state, apply_all_state, fire_state, chosen_state, helpers_state}
-use Rattle.lg_detector.specs.Support.Send.{send_all_state, packets_state}
+use Rattle.lg_detector.specs.Meaning.Probing.{gossip_to_in}
+use Rattle.lg_detector.specs.Meaning.Tick.{fired_claims, gossips_for, ping_to, requests, nack_to}
+use Rattle.lg_detector.specs.Support.State.{State, has_news_in, come_state, apply_all_state}
+use Rattle.lg_detector.specs.Support.State.{fire_state, chosen_state, helpers_state}
+use Rattle.lg_detector.specs.Support.Send.{send_all_state, send_state, packets_state}
 
 -- the first of the timers that are due
 abbrev pub due_state : State → Option Timer
@@ -22,10 +25,18 @@ due_state s = due_of s.moment s.timers
 abbrev pub claims_said_state : TimerId → State → List Claim
 claims_said_state id s = fired_claims id s.membership.own.name s.round (shown s.membership)
 
+abbrev pub told_state : List ℕ → State → List (List ℕ)
+told_state words s = picked (gossip_to_in s.membership.config) words s.order.names
+
+abbrev pub while_news_state : List Message → State → List Message
+while_news_state [] s = []
+while_news_state (m ∷ ms) s = if has_news_in s.membership then m ∷ while_news_state ms (send_state m.body s) else []
+
 abbrev pub messages_state : TimerId → List ℕ → State → List Message
 messages_state RoundStart words s = ping_to s.number (shown s.membership) (chosen_state words s)
 messages_state Direct words s = requests s.round (shown s.membership) (helpers_state words s)
 messages_state (RelayNack k) words s = nack_to (asker_at k s.relays)
+messages_state Gossip words s = while_news_state (gossips_for (shown s.membership) (told_state words s)) s
 messages_state _ words s = []
 
 -- it fires, if there is one

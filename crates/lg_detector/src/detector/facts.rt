@@ -124,6 +124,7 @@ impl Detector {
         parts.order = Order::new();
         parts.number = FIRST_NUMBER;
         parts.round = None;
+        parts.gossip = None;
         parts.relays = Relays::new();
         parts.membership.open_with(config);
     }

@@ -33,8 +33,8 @@ ghost use Rattle.lg_detector.specs.Support.Step.{view_state};
 
 use super::{Detector, MAX_EVENTS, relay, round};
 use crate::message::Message;
-use crate::reply::{MAX_SENDS, Outgoing, Reply};
-use arrayvec::ArrayVec;
+use crate::reply::Reply;
+use crate::sends::Sends;
 use lg_packet::{Body, Packet};
 use lg_probe::{Asker, MAX_RELAYS};
 use lg_rules::{Addr, Claim, MAX_CLAIMS, Name};
@@ -83,7 +83,7 @@ impl Detector {
     }
 
     /// Handles the body of a packet, if this member is to hear it.
-    fn answer(&mut self, source: Addr, packet: &Packet, sends: &mut ArrayVec<Outgoing, MAX_SENDS>)
+    fn answer(&mut self, source: Addr, packet: &Packet, sends: &mut Sends)
         requires { self.old.number ≤ self.old.events }
         ensures state { self.new ≡ answer_state source packet.now self.old }
         ensures sends { sends.new.items ≡ sends_to_state source packet.now self.old }
@@ -122,12 +122,7 @@ impl Detector {
     /// Handles the body of a packet. A Pull is answered by a Page, and a full Page by the next Pull. Nothing answers a
     /// Gossip. For any other body, notes what it means for the probe that runs and for the relays, and sends the
     /// packet that responds to it.
-    fn answer_body(
-        &mut self,
-        source: Addr,
-        packet: &Packet,
-        sends: &mut ArrayVec<Outgoing, MAX_SENDS>,
-    )
+    fn answer_body(&mut self, source: Addr, packet: &Packet, sends: &mut Sends)
         requires { self.old.number ≤ self.old.events }
         ensures state { self.new ≡ respond_state source packet.now.sender packet.now.body self.old }
         ensures sends { sends.new.items ≡ sends_of_state source packet.now packet.now.body self.old }

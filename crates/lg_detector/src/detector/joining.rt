@@ -11,10 +11,9 @@ ghost use Rattle.lg_detector.specs.Meaning.Joining.{last_of_full};
 ghost use Rattle.lg_detector.specs.Support.Joining.{next_pull_state, page_behind_state, pull_state, pull_after_state};
 ghost use Rattle.lg_detector.specs.Support.Joining.{pulls_state};
 
-use super::send::make_places;
 use super::{Detector, MAX_EVENTS};
-use crate::reply::{MAX_SENDS, Outgoing, Reply};
-use arrayvec::ArrayVec;
+use crate::reply::{Outgoing, Reply};
+use crate::sends::{Sends, make_slots};
 use lg_packet::Body;
 use lg_rules::{Addr, Claim, Name, Record, Version};
 use lg_timing::Moment;
@@ -35,16 +34,12 @@ impl Detector {
     }
 
     /// Answers a Pull: sends the next records after its name to where it came from.
-    pub(super) fn send_page(
-        &self,
-        to: Addr,
-        after: &Option<Name>,
-        sends: &mut ArrayVec<Outgoing, MAX_SENDS>,
-    )
+    pub(super) fn send_page(&self, to: Addr, after: &Option<Name>, sends: &mut Sends)
         ensures { sends.new.items ≡ page_behind_state to after.now self.now ∷ [] }
     {
-        make_places(sends, 1);
-        self.write_page(to, after, &mut sends[0]);
+        make_slots(&mut sends.slots, 1);
+        self.write_page(to, after, &mut sends.slots[0]);
+        sends.count = 1;
     }
 
     /// Answers a Page of a version if it is full: asks for the records after its last claim.
@@ -53,7 +48,7 @@ impl Detector {
         to: Addr,
         version: Version,
         claims: &[Claim],
-        sends: &mut ArrayVec<Outgoing, MAX_SENDS>,
+        sends: &mut Sends,
     )
         ensures { sends.new.items ≡ next_pull_state to (last_of_full version claims.now) self.now }
     {
@@ -64,11 +59,12 @@ impl Detector {
     }
 
     /// Sends one Pull, and nothing else.
-    fn send_pull(&self, to: Addr, after: Option<Name>, sends: &mut ArrayVec<Outgoing, MAX_SENDS>)
+    fn send_pull(&self, to: Addr, after: Option<Name>, sends: &mut Sends)
         ensures { sends.new.items ≡ pull_after_state to after self.now ∷ [] }
     {
-        make_places(sends, 1);
-        self.write_pull(to, after, &mut sends[0]);
+        make_slots(&mut sends.slots, 1);
+        self.write_pull(to, after, &mut sends.slots[0]);
+        sends.count = 1;
     }
 
     /// Overwrites a packet with a Page.

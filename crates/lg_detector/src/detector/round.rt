@@ -30,11 +30,10 @@ ghost use Rattle.lg_detector.specs.Support.Send.{packets_state, send_all_state};
 ghost use Rattle.lg_detector.specs.Support.Step.{view_state};
 ghost use Rattle.lg_detector.specs.Support.Tick.{messages_state};
 
-use super::send::make_places;
 use super::{Detector, MAX_EVENTS};
 use crate::message::Message;
-use crate::reply::{MAX_SENDS, Outgoing};
-use arrayvec::ArrayVec;
+use crate::reply::MAX_SENDS;
+use crate::sends::{Sends, make_slots};
 use lg_packet::Body;
 use lg_probe::{Helpers, MAX_HELPERS, Round};
 use lg_rules::{Claim, Name, Record, Status};
@@ -287,11 +286,7 @@ impl Detector {
 
     /// Picks helpers and asks them, in the order in which they were picked. After that no more are asked. Overwrites
     /// what `sends` held.
-    pub(super) fn ask_helpers(
-        &mut self,
-        words: &[u32; 8],
-        sends: &mut ArrayVec<Outgoing, MAX_SENDS>,
-    )
+    pub(super) fn ask_helpers(&mut self, words: &[u32; 8], sends: &mut Sends)
         ensures state { self.new
             ≡ send_all_state (messages_state Direct words.now self.old) (ask_helpers words.now self.old) }
         ensures sends { sends.new.items
@@ -343,7 +338,7 @@ impl Detector {
 
     /// Sends helpers the PingReqs of the round that runs. Each asks its helper to ping the target at the address of
     /// the target's record. Overwrites what `sends` held.
-    fn send_requests(&mut self, helpers: &Helpers, sends: &mut ArrayVec<Outgoing, MAX_SENDS>)
+    fn send_requests(&mut self, helpers: &Helpers, sends: &mut Sends)
         ensures state { self.new
             ≡ send_all_state (requests self.old.round (view_state self.old) helpers.now) self.old }
         ensures sends { sends.new.items
@@ -362,28 +357,23 @@ impl Detector {
 
     /// Sends the PingReqs for a target to those that have a record, with this sequence number. Overwrites what
     /// `sends` held.
-    fn request_each(
-        &mut self,
-        number: u32,
-        target: &Record,
-        names: &[Name],
-        sends: &mut ArrayVec<Outgoing, MAX_SENDS>,
-    )
+    fn request_each(&mut self, number: u32, target: &Record, names: &[Name], sends: &mut Sends)
         requires { length names.now ≤ MAX_SENDS }
         ensures state { self.new
             ≡ send_all_state (requests_of number (Some target.now) (view_state self.old) names.now) self.old }
         ensures sends { sends.new.items
             ≡ packets_state (requests_of number (Some target.now) (view_state self.old) names.now) self.old }
     {
-        make_places(sends, names.len());
+        let slots = &mut sends.slots;
+        make_slots(slots, names.len());
         let mut count = 0;
         for name in names {
             if let Some(helper) = self.record_of(name) {
-                self.put_packet(&request(number, target, &helper), &mut sends[count]);
+                self.put_packet(&request(number, target, &helper), &mut slots[count]);
                 count += 1;
             }
         }
-        sends.truncate(count);
+        sends.count = count;
     }
 
     /// Ends a round. The caller applies the claim that its target is suspected.

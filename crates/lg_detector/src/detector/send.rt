@@ -6,73 +6,65 @@
 //!
 //! Defined in: `specs/Meaning/Send.antt`, `specs/Support/Send.antt`.
 //! Tested in: `lg_detector_tests/src/detector/hear.rt`.
-ghost use Rattle.std.specs.Prelude.{◌≡◌, ◌≤◌, []};
+ghost use Rattle.std.specs.Prelude.{◌≡◌, []};
 ghost use Rattle.std.specs.Option.{option_to_list};
-ghost use Rattle.arrayvec.specs.ArrayVec.{array_vec_len};
 ghost use Rattle.lg_membership.specs.Meaning.Gossip.{version_sent};
-ghost use Rattle.lg_detector.specs.Meaning.Send.{body_told, receiver_told};
+ghost use Rattle.lg_rules.specs.declared.version.Version.TheVariants.{One, Two};
+ghost use Rattle.lg_detector.specs.Meaning.Send.{acked_one, body_told};
 ghost use Rattle.lg_detector.specs.Support.Send.{outgoing_state, packets_state, send_state, send_all_state};
 
 use super::Detector;
 use crate::message::Message;
-use crate::reply::{MAX_SENDS, Outgoing};
-use arrayvec::ArrayVec;
+use crate::reply::Outgoing;
+use crate::sends::{Sends, make_slots};
+use lg_membership::Addressee;
 use lg_packet::Body;
 use lg_rules::{Name, Version};
 
-/// Gives a row exactly this many packets: cuts off those beyond that, or appends further ones.
-pub(super) fn make_places(sends: &mut ArrayVec<Outgoing, MAX_SENDS>, count: usize)
-    requires { count ≤ MAX_SENDS }
-    ensures { array_vec_len sends.new ≡ count }
-{
-    sends.truncate(count);
-    while sends.len() < count {
-        sends.push(Outgoing::default());
-    }
-}
-
-/// The receiver that a packet of a version tells: none in versions 1 and 2.
-fn receiver_told(version: Version, receiver: Option<Name>) -> Option<Name>
-    ensures { result ≡ receiver_told version receiver }
-{
-    match version {
-        Version::One | Version::Two => None,
-        Version::Three => receiver,
-    }
-}
-
-/// The body that a packet of a version tells.
-fn body_told(version: Version, body: &Body) -> Body
-    ensures { result ≡ body_told version body.now }
+/// Leaves out the receiver of a body, if it has one.
+fn leave_out_receiver(body: &mut Body)
+    ensures one { body.new ≡ body_told One body.old }
+    ensures two { body.new ≡ body_told Two body.old }
 {
     match body {
-        Body::Ack { number, receiver } => Body::Ack {
-            number: *number,
-            receiver: receiver_told(version, *receiver),
-        },
-        Body::Nack { number, receiver } => Body::Nack {
-            number: *number,
-            receiver: receiver_told(version, *receiver),
-        },
+        Body::Ack { receiver, .. } => *receiver = None,
+        Body::Nack { receiver, .. } => *receiver = None,
         Body::Ping { .. } | Body::PingReq { .. } | Body::Pull { .. } | Body::Page | Body::Gossip =>
-            { *body }
+            {}
+    }
+}
+
+/// Brings a body to what a packet of a version tells: versions 1 and 2 tell no receiver.
+fn keep_told(version: Version, body: &mut Body)
+    ensures { body.new ≡ body_told version body.old }
+{
+    match version {
+        Version::One | Version::Two => leave_out_receiver(body),
+        Version::Three => {}
+    }
+}
+
+/// Whom an Ack goes to, as far as its buddy goes.
+fn acked_one(receiver: &Option<Name>) -> Addressee
+    ensures { result ≡ acked_one receiver.now }
+{
+    match receiver {
+        Some(receiver) => Addressee::Acked(*receiver),
+        None => Addressee::Anybody,
     }
 }
 
 impl Detector {
     /// Sends one packet, or none. Overwrites what `sends` held.
-    pub(super) fn send_one(
-        &mut self,
-        message: &Option<Message>,
-        sends: &mut ArrayVec<Outgoing, MAX_SENDS>,
-    )
+    pub(super) fn send_one(&mut self, message: &Option<Message>, sends: &mut Sends)
         ensures state { self.new ≡ send_all_state (option_to_list message.now) self.old }
         ensures sends { sends.new.items ≡ packets_state (option_to_list message.now) self.old }
     {
         match message {
             Some(message) => {
-                make_places(sends, 1);
-                self.put_packet(message, &mut sends[0]);
+                make_slots(&mut sends.slots, 1);
+                self.put_packet(message, &mut sends.slots[0]);
+                sends.count = 1;
             }
             None => sends.clear(),
         }
@@ -95,15 +87,23 @@ impl Detector {
         place.packet.version = version;
         place.packet.group = None;
         place.packet.sender = self.name();
-        place.packet.body = body_told(version, &message.body);
+        place.packet.body = message.body;
+        keep_told(version, &mut place.packet.body);
         let claims = &mut place.packet.claims;
         match &message.body {
-            Body::Ping { target, .. } => self.parts.membership.fill_into(Some(target), claims),
-            Body::PingReq { .. } | Body::Ack { .. } => self
+            Body::Ping { target, .. } => self
                 .parts
                 .membership
-                .fill_into(None, claims),
-            Body::Nack { .. } | Body::Pull { .. } | Body::Page | Body::Gossip => claims.clear(),
+                .fill_into(&Addressee::Pinged(*target), claims),
+            Body::Ack { receiver, .. } => self
+                .parts
+                .membership
+                .fill_into(&acked_one(receiver), claims),
+            Body::PingReq { .. } | Body::Gossip => self
+                .parts
+                .membership
+                .fill_into(&Addressee::Anybody, claims),
+            Body::Nack { .. } | Body::Pull { .. } | Body::Page => claims.clear(),
         }
     }
 }

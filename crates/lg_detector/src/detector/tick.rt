@@ -3,13 +3,14 @@
 //! nothing fires.
 //!
 //! The first is the one with the least deadline. Of those with the same deadline, the end of a round comes before a
-//! suspicion, then Direct, the Nack of a relay, its end, and the start of a round. Within one kind, the lesser name
-//! or number comes first. Only one fires, so that the packets always fit in the reply; the next tick fires the next
-//! one. What a timer sets counts from the detector's moment, however long the timer was due.
+//! suspicion, then Direct, the Nack of a relay, its end, the start of a round, and a gossip. Within one kind, the
+//! lesser name or number comes first. Only one fires, so that the packets always fit in the reply; the next tick fires
+//! the next one. What a timer sets counts from the detector's moment, however long the timer was due.
 //!
 //! - A round starts, its helpers are asked, or it ends: `round.rt`.
 //! - A suspicion runs out: its member has failed, at the incarnation and the address of its record.
 //! - A relay sends its Nack, or is closed: `relay.rt`.
+//! - News is gossiped: `gossip.rt`.
 //!
 //! A claim that the timer makes is applied like one of a packet, so it ends or raises a suspicion, sets its timer,
 //! and is queued. The reply has the timer that fired, the packets that are sent and the records that changed. Like
@@ -27,7 +28,8 @@ ghost use Rattle.lg_detector.specs.Support.Tick.{due_state, expire_sends_state, 
 ghost use Rattle.lg_detector.specs.Support.Tick.{tick_state};
 
 use super::{Detector, MAX_EVENTS};
-use crate::reply::{MAX_CHANGED, MAX_SENDS, Outgoing, Reply};
+use crate::reply::{MAX_CHANGED, Reply};
+use crate::sends::Sends;
 use arrayvec::ArrayVec;
 use lg_rules::{Claim, Record, Status};
 use lg_timers::{Timer, TimerId};
@@ -86,7 +88,7 @@ impl Detector {
         timer: &Timer,
         words: &[u32; 8],
         differing: &mut ArrayVec<Record, MAX_CHANGED>,
-        sends: &mut ArrayVec<Outgoing, MAX_SENDS>,
+        sends: &mut Sends,
     )
         requires { self.old.number ≤ self.old.events }
         ensures state { self.new ≡ expire_state (Some timer.now) words.now self.old }
@@ -126,6 +128,10 @@ impl Detector {
                 let ping = self.start_round(words);
                 differing.clear();
                 self.send_one(&ping, sends);
+            }
+            TimerId::Gossip => {
+                differing.clear();
+                self.gossip(words, sends);
             }
         }
     }

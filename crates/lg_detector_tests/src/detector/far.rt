@@ -1,7 +1,7 @@
 //! Addresses of sixteen bytes, which only version 3 tells. b has a `wire`, and hears packets of version 3 from port 1.
 use super::happening::Happens::{First, Health, In, Opens};
 use super::happening::Says::{Ack, Gossip, Page, Ping, PullFirst, RequestFar};
-use super::happening::Setting::{Lambda, Seed, Wire};
+use super::happening::Setting::{GossipMs, Lambda, Seed, Wire};
 use super::playing::Due::{Direct, RoundEnd, RoundStart};
 use super::playing::Step::{
     self, AnswersHealth, Changed, Fired, Next, Sends, SentFar, SentIn, Takes,
@@ -24,18 +24,23 @@ const IS_PULLED: Step<'static> = Takes(In(1000, Three, "a", PullFirst, &[]));
 const TOLD: Case = (
     "wire 3",
     &[
-        Takes(Opens(0, &[Wire(3), Seed("d", 7000)])),
+        Takes(Opens(0, &[Wire(3), GossipMs(0), Seed("d", 7000)])),
         HEARS_OF_C,
         Changed(&[AliveFar("c")]),
         Takes(First(0)),
         Fired(RoundStart(0)),
         Sends(1),
-        SentFar(Three, Ping(1, "c"), &[AliveFar("c")]),
+        SentFar(Three, Ping(1, "c"), &[Alive("b", 0), AliveFar("c")]),
         Next(500),
         Takes(First(500)),
         Fired(Direct(500)),
         Sends(1),
-        SentIn(Three, 7000, RequestFar(1, "c"), &[AliveFar("c")]),
+        SentIn(
+            Three,
+            7000,
+            RequestFar(1, "c"),
+            &[Alive("b", 0), AliveFar("c")],
+        ),
         Takes(First(1000)),
         Fired(RoundEnd(1000)),
         SUSPECTS_C,
@@ -210,7 +215,11 @@ const NO_BUDDY: &[Case] = &[
                 &[SuspectFar("c", "a"), Alive("d", 0)],
             )),
             Takes(First(0)),
-            SentFar(Three, Ping(1, "c"), &[SuspectFar("c", "a"), Alive("d", 0)]),
+            SentFar(
+                Three,
+                Ping(1, "c"),
+                &[SuspectFar("c", "a"), Alive("b", 0), Alive("d", 0)],
+            ),
         ],
     ),
 ];

@@ -2,7 +2,7 @@
 //! In each millisecond the packets arrive first, in the order in which they were sent. Then each member ticks that has
 //! a timer due. The random words come from a generator of the group's own, so a group always goes on the same way.
 use super::playing::{table_of, takes};
-use super::tables::{Known, Number, Runs, are_runs, name_of, number_at, port_of};
+use super::tables::{Known, Number, Runs, are_runs, name_of, number_at, port_of, wire_of};
 use lg_detector::{Detector, Event, NoMemory, Outgoing, Reply};
 use lg_rules::Addr;
 use lg_testing::{at, local};
@@ -45,8 +45,8 @@ pub(super) struct Opening {
     pub(super) seeds: &'static [Number],
     /// How many packets of a member carry a claim at most, for each decimal digit of the number of live members.
     pub(super) lambda: u64,
-    /// Whether every other member has another configuration.
-    pub(super) is_mixed: bool,
+    /// The versions of what the members send, in turn.
+    pub(super) wires: &'static [u64],
 }
 
 /// What a member does with time and packets.
@@ -125,9 +125,8 @@ impl Opening {
         config.interval_ms = 20;
         config.timeout_ms = 5;
         config.lambda = self.lambda;
-        if self.is_mixed && number % 2 == 1 {
-            config.wire = 2;
-        }
+        config.gossip_ms = 10;
+        config.wire = wire_of(self.wires, number);
         for seed in self.seeds {
             if *seed != number && !config.seeds.is_full() {
                 config.seeds.push(Seed {

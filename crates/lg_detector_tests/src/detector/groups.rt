@@ -1,7 +1,7 @@
 //! Packets that name a group, and Gossips. b has no group.
 use super::happening::Happens::{In, OfGroup, Opens, Tick};
 use super::happening::Says::{Ack, AckFor, Gossip, Page, Ping, PullFirst};
-use super::happening::Setting::{Seed, Wire};
+use super::happening::Setting::{GossipMs, Seed, Wire};
 use super::playing::Due::{Nothing, RoundEnd, RoundStart};
 use super::playing::Step::{Changed, Fired, Moment, Next, Ousted, Sends, Sent, Table, Takes};
 use super::playing::{Case, play, play_blank};
@@ -42,7 +42,7 @@ const DROPPED: Case = (
 const NOT_ACKED: Case = (
     "an Ack of a group",
     &[
-        Takes(Opens(0, &[Wire(3), Seed("c", 7000)])),
+        Takes(Opens(0, &[Wire(3), GossipMs(0), Seed("c", 7000)])),
         Takes(Tick(0)),
         Takes(OfGroup(100, "g", "c", AckFor(1, "b"), &[])),
         Changed(&[]),

@@ -53,6 +53,12 @@ pub(crate) enum Setting {
     Lambda(u64),
     /// The version of what b sends.
     Wire(u64),
+    /// How long news waits for its first gossip. 0 turns gossip off.
+    GossipMs(u64),
+    /// To how many members a gossip goes.
+    GossipTo(u64),
+    /// How many confirmations of a suspicion count.
+    Confirmations(u64),
 }
 
 /// What happens to the detector, at a moment.
@@ -68,6 +74,8 @@ pub(crate) enum Happens<'a> {
     TickBy(u64, [u32; 8]),
     /// A packet of a member comes from a port.
     From(u64, Member, u16, Says, &'a [Said]),
+    /// A packet of a version, of a member, comes from a port.
+    FromIn(u64, Version, Member, u16, Says, &'a [Said]),
     /// A packet of a version, of a member, comes from port 1.
     In(u64, Version, Member, Says, &'a [Said]),
     /// A packet of version three that names a group, of a member, comes from port 1.
@@ -84,6 +92,8 @@ pub(crate) enum Happens<'a> {
     Health(u64),
     /// The member at port 7002 is asked for its table.
     Pull(u64),
+    /// The member at a port is asked for its table.
+    PullAt(u64, u16),
 }
 
 /// An Ack, for a receiver if one is given.
@@ -154,6 +164,9 @@ fn set(config: &mut Config, setting: &Setting) {
         Setting::Alpha(alpha) => config.alpha = *alpha,
         Setting::Lambda(lambda) => config.lambda = *lambda,
         Setting::Wire(wire) => config.wire = *wire,
+        Setting::GossipMs(gossip) => config.gossip_ms = *gossip,
+        Setting::GossipTo(count) => config.gossip_to = *count,
+        Setting::Confirmations(count) => config.confirmations = *count,
     }
 }
 
@@ -186,6 +199,24 @@ fn heard(now: u64, sender: Member, port: u16, says: &Says, said: &[Said]) -> Eve
     }
 }
 
+/// A packet of a version, of a member, that comes from a port.
+fn heard_from(
+    now: u64,
+    version: Version,
+    sender: Member,
+    port: u16,
+    says: &Says,
+    said: &[Said],
+) -> Event {
+    let mut packet = packet_of(sender, says, said);
+    packet.version = version;
+    Event::Heard {
+        now: at(now),
+        source: local(port),
+        packet,
+    }
+}
+
 /// A packet of a version and perhaps of a group, of a member, that comes from port 1.
 fn heard_in(
     now: u64,
@@ -213,6 +244,14 @@ fn ticked(now: u64, words: [u32; 8]) -> Event {
     }
 }
 
+/// The member at a port is asked for its table.
+fn pulled(now: u64, port: u16) -> Event {
+    Event::Pull {
+        now: at(now),
+        peer: local(port),
+    }
+}
+
 /// What happens, as an event.
 pub(super) fn event_of(happens: &Happens<'_>) -> Event {
     match happens {
@@ -224,6 +263,9 @@ pub(super) fn event_of(happens: &Happens<'_>) -> Event {
         Happens::First(now) => ticked(*now, [0; 8]),
         Happens::TickBy(now, words) => ticked(*now, *words),
         Happens::From(now, sender, port, says, said) => heard(*now, sender, *port, says, said),
+        Happens::FromIn(now, version, sender, port, says, said) => {
+            heard_from(*now, *version, sender, *port, says, said)
+        }
         Happens::In(now, version, sender, says, said) => {
             heard_in(*now, *version, None, sender, says, said)
         }
@@ -240,9 +282,7 @@ pub(super) fn event_of(happens: &Happens<'_>) -> Event {
             name: named(member),
         },
         Happens::Health(now) => Event::Health { now: at(*now) },
-        Happens::Pull(now) => Event::Pull {
-            now: at(*now),
-            peer: local(7002),
-        },
+        Happens::Pull(now) => pulled(*now, 7002),
+        Happens::PullAt(now, port) => pulled(*now, *port),
     }
 }

@@ -28,7 +28,12 @@ pub(crate) enum Due {
     RelayNack(u64, u32),
     /// A relay, by its number, ends.
     RelayEnd(u64, u32),
+    /// News is gossiped.
+    Gossip(u64),
 }
+
+/// A packet that is sent: its sender, the port that it goes to, its body and its claims.
+pub(crate) type Goes<'a> = (Member, u16, Says, &'a [Said]);
 
 /// Something that happens to a detector, or that is asked afterwards: of the reply to the last event, or of the
 /// detector.
@@ -42,6 +47,9 @@ pub(crate) enum Step<'a> {
     Hears(u64, &'a [Said]),
     /// A tick, with its whole reply: its moment, the timer that fires, the records that change and the next deadline.
     Ticks(u64, Due, &'a [Said], u64),
+    /// An event is accepted, with its whole reply but for an answer: the timer that fires, the packets that are sent,
+    /// the records that change and the next deadline. The packets are of version 3.
+    Replies(Happens<'a>, Due, &'a [Goes<'a>], &'a [Said], u64),
     /// The timer that fired.
     Fired(Due),
     /// How many packets are sent.
@@ -98,23 +106,45 @@ pub(crate) fn timer_of(due: &Due) -> Option<Timer> {
         Due::Suspicion(deadline, member) => (*deadline, TimerId::Suspicion(named(member))),
         Due::RelayNack(deadline, number) => (*deadline, TimerId::RelayNack(*number)),
         Due::RelayEnd(deadline, number) => (*deadline, TimerId::RelayEnd(*number)),
+        Due::Gossip(deadline) => (*deadline, TimerId::Gossip),
     };
     Some(Timer { deadline, id })
 }
 
-/// Whether a packet is one of b to an address, in a version and without a group, with this body and these claims.
-fn is_sent(sent: &Outgoing, version: Version, to: Addr, says: &Says, said: &[Said]) -> bool {
+/// Whether a packet is one of a member to an address, in a version and without a group, with this body and these
+/// claims.
+fn is_sent_by(
+    sender: Member,
+    sent: &Outgoing,
+    version: Version,
+    to: Addr,
+    says: &Says,
+    said: &[Said],
+) -> bool {
     sent.to == to
         && sent.packet.version == version
         && sent.packet.group == None
-        && sent.packet.sender == named("b")
+        && sent.packet.sender == named(sender)
         && sent.packet.body == body_of(says)
         && are_said(sent.packet.claims.as_slice(), said)
 }
 
+/// The same for a packet of b.
+fn is_sent(sent: &Outgoing, version: Version, to: Addr, says: &Says, said: &[Said]) -> bool {
+    is_sent_by("b", sent, version, to, says, said)
+}
+
+/// Whether these packets of version 3 are sent, in this order.
+fn go_out(sends: &[Outgoing], goes: &[Goes<'_>]) -> bool {
+    sends.len() == goes.len()
+        && sends.iter().zip(goes.iter()).all(|(sent, (sender, port, says, said))| {
+            is_sent_by(sender, sent, Version::Three, local(*port), says, said)
+        })
+}
+
 /// Whether the packet at an index is what is said, in version 1.
 fn sends(reply: &Reply, index: usize, port: u16, says: &Says, said: &[Said]) -> bool {
-    match reply.sends.get(index) {
+    match reply.sends.as_slice().get(index) {
         Some(sent) => is_sent(sent, Version::One, local(port), says, said),
         None => false,
     }
@@ -122,7 +152,7 @@ fn sends(reply: &Reply, index: usize, port: u16, says: &Says, said: &[Said]) -> 
 
 /// Whether the first packet is what is said.
 fn begins(reply: &Reply, version: Version, to: Addr, says: &Says, said: &[Said]) -> bool {
-    match reply.sends.first() {
+    match reply.sends.as_slice().first() {
         Some(sent) => is_sent(sent, version, to, says, said),
         None => false,
     }
@@ -130,7 +160,7 @@ fn begins(reply: &Reply, version: Version, to: Addr, says: &Says, said: &[Said])
 
 /// Whether the first packet is a Ping of a member, with this number.
 fn pings(reply: &Reply, number: u32, member: Member) -> bool {
-    match reply.sends.first() {
+    match reply.sends.as_slice().first() {
         Some(sent) => sent.packet.body == body_of(&Says::Ping(number, member)),
         None => false,
     }
@@ -139,7 +169,7 @@ fn pings(reply: &Reply, number: u32, member: Member) -> bool {
 /// The claim about a member that the first packet of a reply sends.
 fn told_of(reply: &Reply, member: Member) -> Option<Record> {
     let member = named(member);
-    let sent = reply.sends.first()?;
+    let sent = reply.sends.as_slice().first()?;
     sent.packet
         .claims
         .iter()
@@ -187,6 +217,23 @@ fn has_ticked(detector: &Detector, reply: &Reply, due: &Due, changed: &[Said], n
         && !reply.ousted
 }
 
+/// Whether the whole reply, but for its answer, is what is said.
+fn has_replied(
+    detector: &Detector,
+    reply: &Reply,
+    due: &Due,
+    goes: &[Goes<'_>],
+    changed: &[Said],
+    next: u64,
+) -> bool {
+    reply.fired == timer_of(due)
+        && go_out(reply.sends.as_slice(), goes)
+        && are_said(reply.changed.as_slice(), changed)
+        && reply.next == next
+        && detector.next_deadline() == Some(next)
+        && !reply.ousted
+}
+
 /// Whether the last reply is what a step says.
 fn is_replied(step: &Step<'_>, reply: &Reply) -> bool {
     match step {
@@ -229,6 +276,10 @@ fn plays(step: &Step<'_>, detector: &mut Detector, reply: &mut Reply) -> bool {
         Step::Ticks(now, due, changed, next) => {
             let tick = event_of(&Happens::Tick(*now));
             takes(detector, &tick, reply) && has_ticked(detector, reply, due, changed, *next)
+        }
+        Step::Replies(happens, due, goes, changed, next) => {
+            takes(detector, &event_of(happens), reply)
+                && has_replied(detector, reply, due, goes, changed, *next)
         }
         Step::Deadline(deadline) => detector.next_deadline() == *deadline,
         Step::Known(member, said) => is_said(detector.record_of(&named(member)), said),

@@ -10,21 +10,21 @@ use super::tables::Known::{Alive, Failed};
 use super::tables::Runs;
 
 /// A play of a group: its name, how the members are opened, and what happens then.
-type Play = (&'static str, Opening, &'static [Act]);
+pub(super) type Play = (&'static str, Opening, &'static [Act]);
 
 /// Groups whose members know three seeds, and have one configuration.
 const GROUP_OF_SIXTEEN: Opening = Opening {
     members: 16,
     seeds: &[0, 1, 2],
     lambda: 4,
-    is_mixed: false,
+    wires: &[1],
 };
 
 const GROUP_OF_TEN: Opening = Opening {
     members: 10,
     seeds: &[0, 1, 2],
     lambda: 4,
-    is_mixed: false,
+    wires: &[1],
 };
 
 /// Ten that send a claim more often. With the random words of a simulated group, gossip then reaches everybody in the
@@ -33,14 +33,14 @@ const GOSSIPING_TEN: Opening = Opening {
     members: 10,
     seeds: &[0, 1, 2],
     lambda: 10,
-    is_mixed: false,
+    wires: &[1],
 };
 
-const GROUP_OF_EIGHT: Opening = Opening {
+pub(super) const GROUP_OF_EIGHT: Opening = Opening {
     members: 8,
     seeds: &[0, 1, 2],
     lambda: 4,
-    is_mixed: false,
+    wires: &[1],
 };
 
 /// The tables of sixteen, once the members 1, 6, 10 and 15 have failed, and once they have come back.
@@ -223,7 +223,7 @@ const ONE_SIDE_AGAIN: Play = (
         members: 10,
         seeds: &[0, 5],
         lambda: 4,
-        is_mixed: false,
+        wires: &[1],
     },
     &[
         Passes(1000),
@@ -244,11 +244,11 @@ const ONE_SIDE_AGAIN: Play = (
 );
 
 /// Tables of eight, of which the member 3 was away.
-const EIGHT: Runs = &[(8, Alive(0))];
+pub(super) const EIGHT: Runs = &[(8, Alive(0))];
 
-const AWAY: Runs = &[(3, Alive(0)), (1, Failed(0)), (4, Alive(0))];
+pub(super) const AWAY: Runs = &[(3, Alive(0)), (1, Failed(0)), (4, Alive(0))];
 
-const RETURNED: Runs = &[(3, Alive(0)), (1, Alive(1)), (4, Alive(0))];
+pub(super) const RETURNED: Runs = &[(3, Alive(0)), (1, Alive(1)), (4, Alive(0))];
 
 /// The packets for the member 3 wait while it pauses. Pings to a suspect say that it is suspected.
 const PAUSED: Play = (
@@ -289,78 +289,32 @@ const MISSED: Play = (
     ],
 );
 
-/// The member 3 pauses for less than a suspicion takes, and refutes that it is suspected. The member 6 dies, and is
-/// started again.
-const CHANGES: &[Act] = &[
-    Passes(1000),
-    Know(0, 7, EIGHT),
-    Pauses(3),
-    Passes(90),
-    GoesOn(3),
-    Passes(1000),
-    Know(0, 7, RETURNED),
-    Stops(6),
-    Passes(3000),
-    Know(0, 5, SIXTH_FAILED),
-    Know(7, 7, SIXTH_FAILED),
-    Restarts(6),
-    Passes(1000),
-    Know(
-        0,
-        7,
-        &[
-            (3, Alive(0)),
-            (1, Alive(1)),
-            (2, Alive(0)),
-            (1, Alive(1)),
-            (1, Alive(0)),
-        ],
-    ),
-];
+/// Plays of groups that were cut in two, and of which one or two ask.
+const FEW_ASK: &[Play] = &[ONE_OF_EACH_SIDE, LAST_FIRST, BOTH_AT_ONCE];
 
-const SIXTH_FAILED: Runs = &[
-    (3, Alive(0)),
-    (1, Alive(1)),
-    (2, Alive(0)),
-    (1, Failed(0)),
-    (1, Alive(0)),
-];
+#[test]
+fn sides_agree_again_if_few_ask(rt: HostRuntime) {
+    for (case, opening, acts) in FEW_ASK {
+        play_group(&rt, rt.alloc(), case, *opening, acts);
+    }
+}
 
-/// The same happens to a group of equal members, and to one whose members have two configurations in turn.
-const TWO_KINDS: &[Play] = &[
-    ("one configuration", GROUP_OF_EIGHT, CHANGES),
-    (
-        "two configurations",
-        Opening {
-            members: 8,
-            seeds: &[0, 1, 2],
-            lambda: 4,
-            is_mixed: true,
-        },
-        CHANGES,
-    ),
-];
+/// The same, but each member of a side asks.
+const EACH_OF_A_SIDE_ASKS: &[Play] = &[EACH_ASKS, ONE_SIDE_AGAIN];
 
-/// Each play.
-const PLAYS: &[&[Play]] = &[
-    &[
-        STARTED_AGAIN,
-        ONE_OF_EACH_SIDE,
-        LAST_FIRST,
-        BOTH_AT_ONCE,
-        EACH_ASKS,
-        ONE_SIDE_AGAIN,
-        PAUSED,
-        MISSED,
-    ],
-    TWO_KINDS,
-];
+#[test]
+fn sides_agree_again_if_each_asks(rt: HostRuntime) {
+    for (case, opening, acts) in EACH_OF_A_SIDE_ASKS {
+        play_group(&rt, rt.alloc(), case, *opening, acts);
+    }
+}
+
+/// Plays of groups of which members were away.
+const ABSENT: &[Play] = &[STARTED_AGAIN, PAUSED, MISSED];
 
 #[test]
 fn groups_agree_again(rt: HostRuntime) {
-    for plays in PLAYS {
-        for (case, opening, acts) in *plays {
-            play_group(&rt, rt.alloc(), case, *opening, acts);
-        }
+    for (case, opening, acts) in ABSENT {
+        play_group(&rt, rt.alloc(), case, *opening, acts);
     }
 }

@@ -8,12 +8,14 @@ use super::comparing::{is_same_reply, is_same_state};
 use super::happening::Happens::{self, First, Opens, Ping, Tick};
 use super::happening::{Says, event_of};
 use super::playing::Due::{Direct, RoundEnd, Suspicion};
-use super::playing::Step::{self, Acks, Changed, Fired, Hears, Next, Refuses, Sent, Takes, Ticks};
+use super::playing::Step::{
+    self, Acks, Changed, Fired, Hears, Next, Refuses, Replies, Sent, Takes, Ticks,
+};
 use super::playing::{Case, blank, play, play_blank, play_on, takes};
 use crate::says::Said::{Alive, Failed, Suspect};
 use comebacks::COMEBACKS;
 use lg_detector::{Detector, Event, NoMemory, Reply};
-use scripts::SCRIPTS;
+use scripts::{DEATH, EXAMPLES, SCRIPTS};
 use std::alloc::Global;
 use std::process::Abort;
 
@@ -58,6 +60,7 @@ fn happens_in<'a>(step: &Step<'a>) -> Option<Happens<'a>> {
     match step {
         Takes(happens) => Some(*happens),
         Refuses(happens) => Some(*happens),
+        Replies(happens, _, _, _, _) => Some(*happens),
         Hears(now, said) => Some(Ping(*now, 1, "z", said)),
         Ticks(now, _, _, _) => Some(Tick(*now)),
         _ => None,
@@ -146,11 +149,27 @@ fn goes_on_as_accusers_and_acks_come(rt: HostRuntime) {
 }
 
 #[test]
+fn goes_on_in_each_example(rt: HostRuntime) {
+    play_blank(&rt, rt.alloc(), EXAMPLES);
+    resume_each(&rt, rt.alloc(), &None, EXAMPLES);
+}
+
+#[test]
+fn goes_on_beside_a_death(rt: HostRuntime) {
+    play_blank(&rt, rt.alloc(), DEATH);
+    resume_each(&rt, rt.alloc(), &None, DEATH);
+}
+
+#[test]
 fn goes_on_in_each_script(rt: HostRuntime) {
-    for cases in [SCRIPTS, COMEBACKS] {
-        play_blank(&rt, rt.alloc(), cases);
-        resume_each(&rt, rt.alloc(), &None, cases);
-    }
+    play_blank(&rt, rt.alloc(), SCRIPTS);
+    resume_each(&rt, rt.alloc(), &None, SCRIPTS);
+}
+
+#[test]
+fn goes_on_in_each_comeback(rt: HostRuntime) {
+    play_blank(&rt, rt.alloc(), COMEBACKS);
+    resume_each(&rt, rt.alloc(), &None, COMEBACKS);
 }
 
 /// c is probed, and acks nothing.

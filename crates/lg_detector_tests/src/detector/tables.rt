@@ -31,6 +31,16 @@ pub(super) fn port_of(number: Number) -> u16 {
     FIRST_PORT.saturating_add(number)
 }
 
+/// The version of what a member sends, if the members send these in turn.
+pub(super) fn wire_of(wires: &[u64], number: Number) -> u64 {
+    let count = wires.len();
+    if count == 0 {
+        1
+    } else {
+        wires[usize::from(number) % count]
+    }
+}
+
 /// The member at a port of 127.0.0.1.
 pub(super) fn number_at(addr: &Addr) -> Number {
     addr.port.saturating_sub(FIRST_PORT)

@@ -4,8 +4,8 @@ use super::happening::Happens::{self, Opens};
 use super::happening::event_of;
 use super::playing::{blank, takes};
 use crate::says::named;
-use lg_detector::{Detector, Event, Reply};
-use lg_packet::{Body, Version};
+use lg_detector::{Detector, Event, MAX_SENDS, Reply, Sends};
+use lg_packet::{Body, Packet, Version};
 use std::alloc::Global;
 use std::process::Abort;
 
@@ -19,11 +19,14 @@ pub(super) type VersionCase = (
     Version,
 );
 
-/// What happens, with packets of a version and openings with a `wire`.
+/// What happens, with packets of a version and openings with a `wire`. b doesn't gossip.
 fn versioned(happens: &Happens<'_>, wire: u64, version: Version) -> Event {
     let mut event = event_of(happens);
     match &mut event {
-        Event::Open { config, .. } => config.wire = wire,
+        Event::Open { config, .. } => {
+            config.wire = wire;
+            config.gossip_ms = 0;
+        }
         Event::Heard { packet, .. } => packet.version = version,
         _ => {}
     }
@@ -70,21 +73,48 @@ fn without_receiver(body: Body) -> Body {
     }
 }
 
-/// Whether packets are sent, and each has this version, and is for `a` if it is an Ack or a Nack. Gives each version 1
-/// and no receiver.
+/// Whether a packet takes claims of the queue.
+fn takes_claims(body: &Body) -> bool {
+    match body {
+        Body::Ping { .. } | Body::PingReq { .. } | Body::Ack { .. } | Body::Gossip => true,
+        Body::Nack { .. } | Body::Pull { .. } | Body::Page => false,
+    }
+}
+
+/// Takes what b says of itself out of a packet that takes claims of the queue. Returns whether it was there exactly if
+/// it should be: in version 3 b queues its own arrival.
+fn takes_arrival_out(packet: &mut Packet, version: Version) -> bool {
+    if !takes_claims(&packet.body) {
+        return true;
+    }
+    let count = packet.claims.len();
+    packet.claims.retain(|claim| claim.name != named("b"));
+    let arrived = packet.claims.len() < count;
+    arrived == (version == Version::Three)
+}
+
+/// Whether packets are sent, and each has this version, and is for `a` if it is an Ack or a Nack, and tells of b in
+/// version 3 if it takes claims of the queue. Gives each version 1, no receiver, and no arrival of b.
 fn were_sent_in(reply: &mut Reply, version: Version) -> bool {
     let mut all = reply.sends.len() > 0;
-    for sent in reply.sends.iter_mut() {
+    let mut given = Sends::new();
+    for outgoing in reply.sends.as_slice() {
+        let mut sent = outgoing.copy();
         let packet = &mut sent.packet;
         all = packet.version == version && is_for_a(&packet.body, version) && all;
+        all = takes_arrival_out(packet, version) && all;
         packet.version = Version::One;
         packet.body = without_receiver(packet.body);
+        if given.len() < MAX_SENDS {
+            given.push(sent);
+        }
     }
+    reply.sends = given;
     all
 }
 
-/// Plays each case on its own b. But for the version and the receivers, the last reply is that of a b with the default
-/// `wire` which hears the same in version 1.
+/// Plays each case on its own b. But for the version, the receivers and the arrival of b, the last reply is that of a b
+/// with the default `wire` which hears the same in version 1.
 pub(super) fn play_versions(rt: &impl Abort, alloc: Global, cases: &[VersionCase]) {
     for (case, wire, heard, happens, sent) in cases {
         let (mut reply, mut plain) = (Reply::default(), Reply::default());

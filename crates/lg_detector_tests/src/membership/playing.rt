@@ -2,7 +2,7 @@
 //! because each assert is a branch that the check proves. Its message names the case and the step, counted from 0.
 use crate::says::{Member, Said, are_said, claim_of, is_said, named};
 use arrayvec::ArrayVec;
-use lg_membership::{Applied, Deadline, MAX_MEMBERS, Membership, Origin, Presence};
+use lg_membership::{Addressee, Applied, Deadline, MAX_MEMBERS, Membership, Origin, Presence};
 use lg_rules::{Claim, MAX_CLAIMS, Name, Record};
 use lg_testing::{at, failed, local, said};
 use lg_timing::Config;
@@ -24,10 +24,14 @@ pub(super) enum Step {
     Places(u64, Said, Presence, usize),
     /// The group says a claim at a moment.
     Says(u64, Said),
-    /// The claims of the next packet, which is no Ping.
+    /// The claims of the next packet, which is neither a Ping nor an Ack.
     Sends(&'static [Said]),
     /// The claims of the next packet, a Ping to a member.
     Pings(Member, &'static [Said]),
+    /// The claims of the next packet, an Ack to a member.
+    Acks(Member, &'static [Said]),
+    /// Whether a claim may still be sent.
+    News(bool),
     /// How many members aren't gone.
     Live(usize),
     /// This member's incarnation.
@@ -120,11 +124,16 @@ fn say(membership: &mut Membership, now: u64, said: &Said) -> Applied {
     membership.apply(at(now), Origin::Group, &claim_of(said))
 }
 
-/// The claims of the next packet, which is a Ping to this member, or no Ping.
-fn filled(membership: &mut Membership, target: Option<&Name>) -> ArrayVec<Claim, MAX_CLAIMS> {
+/// The claims of the next packet.
+fn filled(membership: &mut Membership, to: &Addressee) -> ArrayVec<Claim, MAX_CLAIMS> {
     let mut claims = ArrayVec::new();
-    membership.fill_into(target, &mut claims);
+    membership.fill_into(to, &mut claims);
     claims
+}
+
+/// Whether the next packet has these claims.
+fn fills(membership: &mut Membership, to: Addressee, said: &[Said]) -> bool {
+    are_said(filled(membership, &to).as_slice(), said)
 }
 
 /// All records.
@@ -158,10 +167,9 @@ fn plays(step: &Step, membership: &mut Membership) -> bool {
             say(membership, now, &said);
             true
         }
-        Step::Sends(said) => are_said(filled(membership, None).as_slice(), said),
-        Step::Pings(member, said) => {
-            are_said(filled(membership, Some(&named(member))).as_slice(), said)
-        }
+        Step::Sends(said) => fills(membership, Addressee::Anybody, said),
+        Step::Pings(member, said) => fills(membership, Addressee::Pinged(named(member)), said),
+        Step::Acks(member, said) => fills(membership, Addressee::Acked(named(member)), said),
         _ => is_met(step, membership),
     }
 }
@@ -169,6 +177,7 @@ fn plays(step: &Step, membership: &mut Membership) -> bool {
 /// Whether the membership is what a step says.
 fn is_met(step: &Step, membership: &Membership) -> bool {
     match *step {
+        Step::News(news) => membership.has_news() == news,
         Step::Live(count) => membership.live() == count,
         Step::Number(number) => membership.number().number() == number,
         Step::Ousted(ousted) => membership.is_ousted() == ousted,

@@ -1,14 +1,15 @@
 -- Worked rows: what is queued, and what packets take.
-use Rattle.std.specs.Prelude.{◌≡◌, ℕ, List, [], ◌∷◌, ◌++◌, Some, None, refl}
+use Rattle.std.specs.Prelude.{◌≡◌, ℕ, true, false, List, [], ◌∷◌, ◌++◌, Some, None, refl}
 use Rattle.lg_rules.specs.declared.addr.Addr.{Addr}
 use Rattle.lg_rules.specs.declared.addr.Ip.TheVariants.{V4, V6}
 use Rattle.lg_rules.specs.declared.claim.Claim.{Claim}
 use Rattle.lg_rules.specs.declared.claim.Status.{Status}
-use Rattle.lg_rules.specs.declared.claim.Status.TheVariants.{Alive, Suspect}
+use Rattle.lg_rules.specs.declared.claim.Status.TheVariants.{Alive, Suspect, Failed}
 use Rattle.lg_rules.specs.declared.version.Version.{Version}
 use Rattle.lg_rules.specs.declared.version.Version.TheVariants.{One, Two, Three}
 use Rattle.lg_gossip.specs.declared.queued.Queued.{Queued}
 use Rattle.lg_gossip.specs.Meaning.Queue.{QueueValue, buddy_of, put_of, taken_of, fill_of, filled}
+use Rattle.lg_gossip.specs.Meaning.Queue.{has_news, may_send_about}
 use Rattle.std.specs.Fmt.{digits}
 
 -- a claim about the member with a name of one letter
@@ -32,7 +33,7 @@ in_version v rows = record { lambda = 4; version = v; rows = rows }
 abbrev of_rows : List Queued → QueueValue
 of_rows rows = in_version One rows
 
--- Suspect(c, 2) and Alive(d, 0) are put, and a packet goes to c.
+-- Suspect(c, 2) and Alive(d, 0) are put, and Suspect(c, 2) is to stand first in a packet.
 puts : put_of (alive 100) (put_of suspect-c (of_rows [])) ≡ of_rows (row suspect-c 0 ∷ row (alive 100) 0 ∷ [])
 puts = refl
 
@@ -70,22 +71,36 @@ seven =
     let four = row (alive 100) 0 ∷ row (alive 101) 0 ∷ row (alive 102) 0 ∷ row (alive 103) 0 ∷ [] in
     four ++ row (alive 104) 0 ∷ row (alive 105) 0 ∷ row (alive 106) 0 ∷ []
 
--- and a packet to c, which is Suspect
+-- and a packet in which Suspect(c, 2) is to stand first
 five_others :
     fill_of (of_rows seven) (Some suspect-c) 9
     ≡ suspect-c ∷ alive 100 ∷ alive 101 ∷ alive 102 ∷ alive 103 ∷ alive 104 ∷ []
 unfolding taken_of digits
 five_others = refl
 
+-- any record may be the one that stands first
+five_beside_alive :
+    fill_of (of_rows seven) (Some (alive 99)) 9
+    ≡ alive 99 ∷ alive 100 ∷ alive 101 ∷ alive 102 ∷ alive 103 ∷ alive 104 ∷ []
+unfolding taken_of digits
+five_beside_alive = refl
+
+five_beside_failed :
+    let failed-c = on 99 Failed 2 in
+    fill_of (of_rows seven) (Some failed-c) 9
+    ≡ failed-c ∷ alive 100 ∷ alive 101 ∷ alive 102 ∷ alive 103 ∷ alive 104 ∷ []
+unfolding taken_of digits
+five_beside_failed = refl
+
 six_without :
-    taken_of (of_rows seven) (Some (alive 99)) 9
+    taken_of (of_rows seven) None 9
     ≡ alive 100 ∷ alive 101 ∷ alive 102 ∷ alive 103 ∷ alive 104 ∷ alive 105 ∷ []
 unfolding taken_of digits
 six_without = refl
 
 -- all seven in version 3, whose packets have 12 places
 seven_in_three :
-    taken_of (in_version Three seven) (Some (alive 99)) 9
+    taken_of (in_version Three seven) None 9
     ≡ alive 100 ∷ alive 101 ∷ alive 102 ∷ alive 103 ∷ alive 104 ∷ alive 105 ∷ alive 106 ∷ []
 unfolding taken_of digits
 seven_in_three = refl
@@ -181,3 +196,37 @@ buddy_in_three :
     ≡ six-c (Suspect (97 ∷ [])) ∷ alive 100 ∷ []
 unfolding taken_of digits
 buddy_in_three = refl
+
+-- There is news as long as a claim may still be sent, here among nine members, and then among ten.
+no_news : has_news (of_rows (row (alive 99) 4 ∷ row (alive 100) 4 ∷ [])) 9 ≡ false
+unfolding digits
+no_news = refl
+
+no_news-empty : has_news (of_rows []) 9 ≡ false
+no_news-empty = refl
+
+one_left : has_news (of_rows (row (alive 99) 4 ∷ row (alive 100) 3 ∷ [])) 9 ≡ true
+unfolding digits
+one_left = refl
+
+news_again : has_news (of_rows (row (alive 99) 4 ∷ row (alive 100) 4 ∷ [])) 10 ≡ true
+unfolding digits
+news_again = refl
+
+-- A claim that can't be told is no news.
+no_news-passed_over : has_news (put_of (six-c Alive) (of_rows [])) 9 ≡ false
+unfolding digits
+no_news-passed_over = refl
+
+-- The claim about d may still be sent, the one about c not, and there is none about e.
+about_c : may_send_about (99 ∷ []) (of_rows (row (alive 99) 4 ∷ row (alive 100) 3 ∷ [])) 9 ≡ false
+unfolding digits
+about_c = refl
+
+about_d : may_send_about (100 ∷ []) (of_rows (row (alive 99) 4 ∷ row (alive 100) 3 ∷ [])) 9 ≡ true
+unfolding digits
+about_d = refl
+
+about_e : may_send_about (101 ∷ []) (of_rows (row (alive 99) 4 ∷ row (alive 100) 3 ∷ [])) 9 ≡ false
+unfolding digits
+about_e = refl

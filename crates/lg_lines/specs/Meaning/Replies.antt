@@ -5,7 +5,7 @@ use Rattle.hex.specs.Hex.{encode_lower}
 use Rattle.lg_timers.specs.declared.timer.Timer.{Timer}
 use Rattle.lg_timers.specs.declared.timer.TimerId.{TimerId}
 use Rattle.lg_timers.specs.declared.timer.TimerId.TheVariants.{RoundEnd, Suspicion, Direct}
-use Rattle.lg_timers.specs.declared.timer.TimerId.TheVariants.{RelayNack, RelayEnd, RoundStart}
+use Rattle.lg_timers.specs.declared.timer.TimerId.TheVariants.{RelayNack, RelayEnd, RoundStart, Gossip}
 use Rattle.lg_packet.specs.Meaning.Spelling.{spelling}
 use Rattle.lg_packet.specs.declared.packet.Packet.{Packet}
 use Rattle.lg_detector.specs.declared.event.Event.{Event}
@@ -26,6 +26,7 @@ kind_text Direct = codes "direct"
 kind_text (RelayNack relay) = codes "relay-nack"
 kind_text (RelayEnd relay) = codes "relay-end"
 kind_text RoundStart = codes "round-start"
+kind_text Gossip = codes "gossip"
 
 -- the member, or the number of the relay, that a timer is about, if it is about one
 abbrev pub subject_text : TimerId → List ℕ
@@ -35,6 +36,7 @@ subject_text Direct = []
 subject_text (RelayNack relay) = blank ++ decimal relay
 subject_text (RelayEnd relay) = blank ++ decimal relay
 subject_text RoundStart = []
+subject_text Gossip = []
 
 -- the line of a tick: the timer that it fired, or that it fired none
 abbrev pub tick_text : Option Timer → List ℕ

@@ -16,13 +16,16 @@ use Rattle.lg_timing.specs.Meaning.Timeouts.{range_of, timeout_of}
 use Rattle.lg_suspicion.specs.Meaning.Accusers.{counted_accusers, deadline_of}
 use Rattle.lg_gossip.specs.declared.queued.Queued.{Queued}
 use Rattle.lg_gossip.specs.Meaning.Queue.{taken_of, fill_of}
+use Rattle.lg_membership.specs.declared.addressee.Addressee.{Addressee}
+use Rattle.lg_membership.specs.declared.addressee.Addressee.TheVariants.{Anybody, Pinged}
 use Rattle.lg_membership.specs.declared.applied.Presence.{Presence}
 use Rattle.lg_membership.specs.declared.applied.Presence.TheVariants.{Stays as Remains, Joins, Leaves}
 use Rattle.lg_membership.specs.declared.origin.Origin.TheVariants.{Seed, Group}
 use Rattle.lg_membership.specs.Meaning.Log.{GroupFact, GroupLog, Opened, Said, Sent, own, table, live, live_others}
 use Rattle.lg_membership.specs.Meaning.Log.{group_view}
 use Rattle.lg_membership.specs.Meaning.Suspicions.{SuspectedValue, suspicions, suspected}
-use Rattle.lg_membership.specs.Meaning.Gossip.{put_by, queued, queue_rows, queue, target_record, taken, fill}
+use Rattle.lg_membership.specs.Meaning.Gossip.{put_by, queued, queue_rows, queue, buddy_record}
+use Rattle.lg_membership.specs.Meaning.Gossip.{taken, fill}
 use Rattle.lg_membership.specs.Meaning.Applied.{is_live, presence_of}
 
 -- the letters that name the members
@@ -259,15 +262,15 @@ alive-d = on d Alive 0
 abbrev two_heard : GroupLog
 two_heard = says 0 alive-d ∷ says 0 suspected-c ∷ opened ∷ []
 
-ping_begins_with_buddy : fill (Some (c ∷ [])) two_heard ≡ suspected-c ∷ alive-d ∷ []
+ping_begins_with_buddy : fill (Pinged (c ∷ [])) two_heard ≡ suspected-c ∷ alive-d ∷ []
 unfolding table_of record_of roster takes put_by queued queue_rows suspicions taken_of digits
 ping_begins_with_buddy = refl
 
-ping_takes_others : taken (Some (c ∷ [])) two_heard ≡ alive-d ∷ []
+ping_takes_others : taken (Pinged (c ∷ [])) two_heard ≡ alive-d ∷ []
 unfolding table_of record_of roster takes put_by queued queue_rows suspicions taken_of digits
 ping_takes_others = refl
 
-ping_to_one_alive : fill (Some (d ∷ [])) two_heard ≡ suspected-c ∷ alive-d ∷ []
+ping_to_one_alive : fill (Pinged (d ∷ [])) two_heard ≡ suspected-c ∷ alive-d ∷ []
 unfolding table_of record_of roster takes put_by queued queue_rows suspicions taken_of digits
 ping_to_one_alive = refl
 
@@ -276,31 +279,31 @@ after_that_ping : (queue (Sent (alive-d ∷ []) ∷ two_heard)).rows
 unfolding table_of record_of roster takes put_by queued queue_rows suspicions
 after_that_ping = refl
 
--- A packet other than a Ping has no buddy. The claim that was sent least often comes first, here that about d.
+-- In version 1 no packet but a Ping has a buddy. The claim that was sent least often comes first, here that about d.
 abbrev sent_c : GroupLog
 sent_c = Sent (suspected-c ∷ []) ∷ two_heard
 
-no_ping_has_a_buddy : fill None sent_c ≡ alive-d ∷ suspected-c ∷ []
+no_ping_has_a_buddy : fill Anybody sent_c ≡ alive-d ∷ suspected-c ∷ []
 unfolding table_of record_of roster takes put_by queued queue_rows suspicions taken_of digits
 no_ping_has_a_buddy = refl
 
-ping_still_has_its_buddy : fill (Some (c ∷ [])) sent_c ≡ suspected-c ∷ alive-d ∷ []
+ping_still_has_its_buddy : fill (Pinged (c ∷ [])) sent_c ≡ suspected-c ∷ alive-d ∷ []
 unfolding table_of record_of roster takes put_by queued queue_rows suspicions taken_of digits
 ping_still_has_its_buddy = refl
 
 -- A name that isn't known has no record here, and nor has this member itself. So a Ping to either has no buddy.
-abbrev record_of_target : Option (List ℕ) → Option Claim
-record_of_target target = target_record target (table two_heard)
+abbrev buddy_to : Addressee → Option Claim
+buddy_to to = buddy_record One to (table two_heard)
 
-target_is_known : record_of_target (Some (c ∷ [])) ≡ Some suspected-c
+target_is_known : buddy_to (Pinged (c ∷ [])) ≡ Some suspected-c
 unfolding table_of record_of roster
 target_is_known = refl
 
-target_is_a_stranger : record_of_target (Some (e ∷ [])) ≡ None
+target_is_a_stranger : buddy_to (Pinged (e ∷ [])) ≡ None
 unfolding table_of record_of roster
 target_is_a_stranger = refl
 
-target_is_oneself : record_of_target (Some (b ∷ [])) ≡ None
+target_is_oneself : buddy_to (Pinged (b ∷ [])) ≡ None
 unfolding table_of record_of roster
 target_is_oneself = refl
 
@@ -319,7 +322,7 @@ unfolding table_of record_of roster takes put_by queued suspicions suspected ran
 repetition_is_not_queued = refl
 
 -- c is at 2001:db8::1, an address of IPv6, which version 1 can't tell. The claim about it is known and queued, with 200
--- sends, and no packet takes it. In version 3 it is queued with none, and taken.
+-- sends, and no packet takes it. In version 3 it is queued with none, and taken, and so is the arrival of b.
 abbrev far : Addr
 far = record { ip = V6 (0x20 ∷ 0x01 ∷ 0x0d ∷ 0xb8 ∷ replicate 11 0 ++ 1 ∷ []); port = 7000 }
 
@@ -341,24 +344,28 @@ far_has_200_sends :
 unfolding table_of record_of roster takes put_by queued queue_rows suspicions
 far_has_200_sends = refl
 
-far_is_not_taken : taken None (far_heard opened) ≡ []
+far_is_not_taken : taken Anybody (far_heard opened) ≡ []
 unfolding table_of record_of roster takes put_by queued queue_rows suspicions taken_of digits
 far_is_not_taken = refl
 
-far_is_no_buddy : fill (Some (c ∷ [])) (far_heard opened) ≡ []
+far_is_no_buddy : fill (Pinged (c ∷ [])) (far_heard opened) ≡ []
 unfolding table_of record_of roster takes put_by queued queue_rows suspicions taken_of digits
 far_is_no_buddy = refl
 
 far_has_no_sends_in_three :
     queue (far_heard opened_in_three)
-    ≡ record { lambda = 4; version = Three; rows = record { claim = far-c; sends = 0 } ∷ [] }
-unfolding table_of record_of roster takes put_by queued queue_rows suspicions
+    ≡ record {
+      lambda = 4;
+      version = Three;
+      rows = record { claim = on b Alive 0; sends = 0 } ∷ record { claim = far-c; sends = 0 } ∷ [];
+    }
+unfolding own_of table_of record_of roster takes put_by queued queue_rows suspicions
 far_has_no_sends_in_three = refl
 
-far_is_taken_in_three : taken None (far_heard opened_in_three) ≡ far-c ∷ []
-unfolding table_of record_of roster takes put_by queued queue_rows suspicions taken_of digits
+far_is_taken_in_three : taken Anybody (far_heard opened_in_three) ≡ on b Alive 0 ∷ far-c ∷ []
+unfolding own_of table_of record_of roster takes put_by queued queue_rows suspicions taken_of digits
 far_is_taken_in_three = refl
 
-far_is_a_buddy_in_three : fill (Some (c ∷ [])) (far_heard opened_in_three) ≡ far-c ∷ []
-unfolding table_of record_of roster takes put_by queued queue_rows suspicions taken_of digits
+far_is_a_buddy_in_three : fill (Pinged (c ∷ [])) (far_heard opened_in_three) ≡ far-c ∷ on b Alive 0 ∷ []
+unfolding own_of table_of record_of roster takes put_by queued queue_rows suspicions taken_of digits
 far_is_a_buddy_in_three = refl

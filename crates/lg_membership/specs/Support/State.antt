@@ -10,14 +10,16 @@ use Rattle.lg_rules.specs.Meaning.Table.{MembersValue, known_of, takes, heard, n
 use Rattle.lg_rules.specs.Support.Standing.{Standing}
 use Rattle.lg_timing.specs.declared.config.Config.{Config}
 use Rattle.lg_timing.specs.Meaning.Config.{version_of}
-use Rattle.lg_gossip.specs.Meaning.Queue.{QueueValue, put_of, sent_once, taken_of, fill_of}
+use Rattle.lg_gossip.specs.Meaning.Queue.{QueueValue, put_of, may_send_about, sent_once, taken_of, fill_of}
+use Rattle.lg_membership.specs.declared.addressee.Addressee.{Addressee}
 use Rattle.lg_membership.specs.declared.applied.Applied.{Applied}
 use Rattle.lg_membership.specs.declared.applied.Deadline.TheVariants.{Stays}
 use Rattle.lg_membership.specs.declared.applied.Presence.TheVariants.{Stays as Remains}
 use Rattle.lg_membership.specs.declared.origin.Origin.{Origin}
 use Rattle.lg_membership.specs.Meaning.Log.{GroupLog, config, me, said, own, live_names, view_in}
 use Rattle.lg_membership.specs.Meaning.Suspicions.{SuspectedValue, suspicions}
-use Rattle.lg_membership.specs.Meaning.Gossip.{queue, put_of_own, put_of_other, target_record}
+use Rattle.lg_membership.specs.Meaning.Gossip.{version_sent, own_arrival, answers_doubt, put_of_own, put_of_oneself}
+use Rattle.lg_membership.specs.Meaning.Gossip.{put_of_other, queue, buddy_record}
 use Rattle.lg_membership.specs.Meaning.Applied.{is_refuted}
 use Rattle.lg_membership.specs.Meaning.Pages.{is_in_page}
 use Rattle.lg_membership.specs.Support.Changes.{Change, change_of, suspicions_after, deadline_of_change, presence_heard}
@@ -39,6 +41,18 @@ group_state_of log = record {
   queue = queue log;
 }
 
+-- the queue once a claim is put, or none
+abbrev pub queue_with : Option Claim → QueueValue → QueueValue
+queue_with None waiting = waiting
+queue_with (Some c) waiting = put_of c waiting
+
+-- the queue once the member was opened: an empty one, with one's own arrival
+abbrev pub blank_queue : Config → QueueValue
+blank_queue opening = record { lambda = opening.lambda; version = version_of opening; rows = [] }
+
+abbrev pub opened_queue : Config → OwnValue → QueueValue
+opened_queue opening oneself = queue_with (own_arrival (version_of opening) oneself) (blank_queue opening)
+
 -- the state once the member was opened
 abbrev pub open_group : Config → GroupState → GroupState
 open_group opening s = record {
@@ -46,7 +60,7 @@ open_group opening s = record {
   own = own_of opening.name opening.addr [];
   members = known_of opening.name [];
   suspicions = [];
-  queue = record { lambda = opening.lambda; version = version_of opening; rows = [] };
+  queue = opened_queue opening (own_of opening.name opening.addr []);
 }
 
 -- what this member knows of itself, and the records of the others
@@ -78,22 +92,28 @@ change_in now c s = change_of s.config now s.members.table s.suspicions c
 abbrev pub own_hearing_in : Claim → GroupState → OwnHeard
 own_hearing_in c s = own_hearing s.own c
 
--- what a claim puts into the queue, and the queue then
+-- whether the queue still has this member's own record to send, and whether a claim is a doubt that is answered
+abbrev pub own_waits_in : GroupState → Bool
+own_waits_in s = may_send_about s.own.name s.queue (live_in s.members.table)
+
+abbrev pub is_answered : Claim → GroupState → Bool
+is_answered c s = answers_doubt (version_sent s.config) (own_waits_in s) s.own c
+
+-- what a claim about this member puts into the queue, and what any claim does
+abbrev pub own_put_in : Claim → GroupState → Option Claim
+own_put_in c s = put_of_oneself (version_sent s.config) (own_waits_in s) s.own c
+
 abbrev pub put_in : Origin → Claim → GroupState → Option Claim
 put_in origin c s =
     if is_same name_cmp c.name s.own.name
-    then put_of_own (own_hearing_in c s) (own_heard s.own c)
+    then own_put_in c s
     else put_of_other origin s.members.table s.suspicions c
-
-abbrev pub queue_with : Option Claim → QueueValue → QueueValue
-queue_with None waiting = waiting
-queue_with (Some c) waiting = put_of c waiting
 
 -- the state once a claim was applied
 abbrev pub apply_own : Claim → GroupState → GroupState
 apply_own c s = record s {
   own = own_heard s.own c;
-  queue = queue_with (put_of_own (own_hearing_in c s) (own_heard s.own c)) s.queue;
+  queue = queue_with (own_put_in c s) s.queue;
 }
 
 abbrev pub apply_other : ℕ → Origin → Claim → GroupState → GroupState
@@ -141,12 +161,15 @@ abbrev pub apply_all_to_group : ℕ → Origin → List Claim → GroupState →
 apply_all_to_group now origin [] s = s
 apply_all_to_group now origin (c ∷ cs) s = apply_all_to_group now origin cs (apply_to_group now origin c s)
 
--- the claims that a packet to this target takes from the queue, and all its claims
-abbrev pub taken_in : Option (List ℕ) → GroupState → List Claim
-taken_in target s = taken_of s.queue (target_record target s.members.table) (live_in s.members.table)
+-- the record that a packet to this addressee begins with, the claims that it takes from the queue, and all its claims
+abbrev pub buddy_in : Addressee → GroupState → Option Claim
+buddy_in to s = buddy_record (version_sent s.config) to s.members.table
 
-abbrev pub fill_in : Option (List ℕ) → GroupState → List Claim
-fill_in target s = fill_of s.queue (target_record target s.members.table) (live_in s.members.table)
+abbrev pub taken_in : Addressee → GroupState → List Claim
+taken_in to s = taken_of s.queue (buddy_in to s) (live_in s.members.table)
+
+abbrev pub fill_in : Addressee → GroupState → List Claim
+fill_in to s = fill_of s.queue (buddy_in to s) (live_in s.members.table)
 
 -- the state once a packet was sent that took these claims from the queue
 abbrev pub send_from_group : List Claim → GroupState → GroupState

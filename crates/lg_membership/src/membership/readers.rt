@@ -8,7 +8,8 @@ ghost use Rattle.lg_rules.specs.Meaning.Claim.{name_of};
 ghost use Rattle.lg_rules.specs.Meaning.Own.{own_record};
 ghost use Rattle.lg_rules.specs.Meaning.Rows.{name_cmp, row_at};
 ghost use Rattle.lg_rules.specs.Meaning.Table.{live_in};
-ghost use Rattle.lg_membership.specs.Meaning.Gossip.{version_sent};
+ghost use Rattle.lg_gossip.specs.Meaning.Queue.{has_news};
+ghost use Rattle.lg_membership.specs.Meaning.Gossip.{news, version_sent};
 ghost use Rattle.lg_membership.specs.Meaning.Log.{GroupLog, config, own, group_view, live};
 ghost use Rattle.lg_membership.specs.Support.State.{group_state_of, shown};
 
@@ -75,6 +76,14 @@ impl Membership {
         ensures log { (log : GroupLog) → self.now ≡ group_state_of log → result ≡ live log }
     {
         self.members.live()
+    }
+
+    /// Whether a claim of the queue may still be sent.
+    pub fn has_news(&self) -> bool
+        ensures state { result ≡ has_news self.now.queue (live_in self.now.members.table) }
+        ensures log { (log : GroupLog) → self.now ≡ group_state_of log → result ≡ news log }
+    {
+        self.queue.has_news(self.members.live())
     }
 
     /// The record of the member with this name, which may be this member itself, or `None` if it isn't known.

@@ -26,6 +26,7 @@ use Rattle.lg_timers.specs.declared.timer.TimerId.TheVariants.{
   RelayNack,
   RelayEnd,
   RoundStart,
+  Gossip,
 }
 
 -- the kind of a timer as a number
@@ -36,8 +37,10 @@ kind_number Direct = 3
 kind_number (RelayNack number) = 4
 kind_number (RelayEnd number) = 5
 kind_number RoundStart = 6
+kind_number Gossip = 7
 
--- whom a timer is about: the bytes of its member's name, or its relay's number; nothing for the timers of a round
+-- whom a timer is about: the bytes of its member's name, or its relay's number; nothing for the timers of a round and
+-- for that of gossip
 abbrev pub subject_of : TimerId → List ℕ
 subject_of RoundEnd = []
 subject_of (Suspicion member) = member
@@ -45,6 +48,7 @@ subject_of Direct = []
 subject_of (RelayNack number) = number ∷ []
 subject_of (RelayEnd number) = number ∷ []
 subject_of RoundStart = []
+subject_of Gossip = []
 
 -- an id as a list of numbers
 abbrev pub id_key : TimerId → List ℕ

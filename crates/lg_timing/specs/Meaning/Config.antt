@@ -1,5 +1,6 @@
 -- Which configurations are good, and what is wrong with the others (this project's choice). If there are several
--- faults, the first of these counts: of the numbers from `interval_ms` to `history_limit`, of the seeds, of `wire`.
+-- faults, the first of these counts: of the numbers from `interval_ms` to `history_limit`, of the seeds, and of the
+-- numbers from `wire` to `gossip_to`.
 use Rattle.std.specs.Prelude.{
   ◌≡◌,
   ℕ,
@@ -59,7 +60,7 @@ abbrev pub first_broken : Config → Option Key
 first_broken c = find (λ key. not (is_in_range c key)) keys
 
 -- What a check returns for that key, and for whether the seeds are good: the fault of the key if the seeds are good or
--- judged behind it, as they are behind all keys but `wire`; or else the fault of the seeds, if they aren't good.
+-- judged behind it, as they are behind all keys before `wire`; or else the fault of the seeds, if they aren't good.
 abbrev pub fault_checked : Option Key → Bool → Result (Unit {0}) ConfigFault
 fault_checked None true = Ok tt
 fault_checked None false = Err Seeds

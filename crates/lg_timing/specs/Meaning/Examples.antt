@@ -3,7 +3,7 @@ use Rattle.std.specs.Prelude.{◌≡◌, ℕ, pos, negsuc, List, [], ◌∷◌, 
 use Rattle.lg_rules.specs.declared.addr.Ip.TheVariants.{V4}
 use Rattle.lg_timing.specs.declared.config.Config.{Config}
 use Rattle.lg_timing.specs.declared.config.ConfigFault.{ConfigFault}
-use Rattle.lg_timing.specs.declared.config.ConfigFault.TheVariants.{History, Seeds, Wire}
+use Rattle.lg_timing.specs.declared.config.ConfigFault.TheVariants.{History, Seeds, Wire, GossipMs, GossipTo}
 use Rattle.lg_timing.specs.Meaning.Config.{check_of, defaults}
 use Rattle.lg_timing.specs.Meaning.Score.{score_of}
 use Rattle.lg_timing.specs.Meaning.Tables.{log10_of, ratio_of}
@@ -86,3 +86,42 @@ limit_before_version = refl
 limit_before_seeds : checked 0 1 (98 ∷ []) ≡ Err History
 unfolding check_of
 limit_before_seeds = refl
+
+-- what a check returns for the member b with a version of packets, a time before the first gossip, a number of members
+-- that a gossip goes to, and a seed of this name
+abbrev gossip_checked : ℕ → ℕ → ℕ → List ℕ → Result (Unit {0}) ConfigFault
+gossip_checked wire wait members seed =
+    let usual = defaults (98 ∷ []) (record { ip = V4 (127 ∷ 0 ∷ 0 ∷ 1 ∷ []); port = 7946 }) in
+    check_of (record usual {
+      wire = wire;
+      gossip_ms = wait;
+      gossip_to = members;
+      seeds = record { items = record { name = seed; addr = usual.addr } ∷ [] };
+    })
+
+-- 0 turns gossip off, and the least other time is 10
+gossip_times :
+    map (λ wait. gossip_checked 1 wait 3 (99 ∷ [])) (0 ∷ 1 ∷ 9 ∷ 10 ∷ 60000 ∷ 60001 ∷ [])
+    ≡ Ok tt ∷ Err GossipMs ∷ Err GossipMs ∷ Ok tt ∷ Ok tt ∷ Err GossipMs ∷ []
+unfolding check_of
+gossip_times = refl
+
+-- a gossip goes to a member at least
+gossip_members :
+    map (λ members. gossip_checked 1 200 members (99 ∷ [])) (0 ∷ 1 ∷ 8 ∷ 9 ∷ [])
+    ≡ Err GossipTo ∷ Ok tt ∷ Ok tt ∷ Err GossipTo ∷ []
+unfolding check_of
+gossip_members = refl
+
+-- the seeds are judged before the version, the version before the time, and the time before the number of members
+seeds_before_gossip : gossip_checked 1 1 0 (98 ∷ []) ≡ Err Seeds
+unfolding check_of
+seeds_before_gossip = refl
+
+version_before_gossip : gossip_checked 0 1 0 (99 ∷ []) ≡ Err Wire
+unfolding check_of
+version_before_gossip = refl
+
+time_before_members : gossip_checked 1 1 0 (99 ∷ []) ≡ Err GossipMs
+unfolding check_of
+time_before_members = refl

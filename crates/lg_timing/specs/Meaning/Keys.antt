@@ -1,6 +1,7 @@
 -- The keys of a configuration's numbers: their names, ranges, defaults and faults, and the default configuration (this
 -- project's choice).
-use Rattle.std.specs.Prelude.{ℕ, ◌-◌, Bool, ◌&&◌, nat_le, nat_lt, List, [], ◌∷◌, codes, Option, find}
+use Rattle.std.specs.Prelude.{ℕ, ◌-◌, Bool, true, false, ◌&&◌, ◌||◌, ◌==◌, nat_le, nat_lt}
+use Rattle.std.specs.Prelude.{List, [], ◌∷◌, codes, Option, find}
 use Rattle.std.specs.Str.{bytes_eq}
 use Rattle.lg_rules.specs.declared.addr.Addr.{Addr}
 use Rattle.lg_timing.specs.declared.config.Config.{Config}
@@ -9,7 +10,7 @@ use Rattle.lg_timing.specs.declared.config.ConfigFault.TheVariants as fault
 use Rattle.lg_timing.specs.declared.keys.Key.{Key}
 use Rattle.lg_timing.specs.declared.keys.Key.TheVariants.{IntervalMs, TimeoutMs, Indirect, MaxScore, Alpha}
 use Rattle.lg_timing.specs.declared.keys.Key.TheVariants.{Beta, Confirmations, Lambda, NackThousandths, HistoryLimit}
-use Rattle.lg_timing.specs.declared.keys.Key.TheVariants.{Wire}
+use Rattle.lg_timing.specs.declared.keys.Key.TheVariants.{Wire, GossipMs, GossipTo}
 use Rattle.lg_timing.specs.declared.keys.KeyRow.{KeyRow}
 use Rattle.lg_timing.specs.Meaning.Bounds.{least_interval_ms, most_interval_ms, most_confirmations, most_factor}
 
@@ -21,7 +22,8 @@ is_within least most n = nat_le least n && nat_le n most
 abbrev pub keys : List Key
 keys =
     IntervalMs ∷ TimeoutMs ∷ Indirect ∷ MaxScore ∷ Alpha
-    ∷ Beta ∷ Confirmations ∷ Lambda ∷ NackThousandths ∷ HistoryLimit ∷ Wire ∷ []
+    ∷ Beta ∷ Confirmations ∷ Lambda ∷ NackThousandths ∷ HistoryLimit
+    ∷ Wire ∷ GossipMs ∷ GossipTo ∷ []
 
 -- a key's name
 abbrev pub key_name : Key → List ℕ
@@ -36,6 +38,8 @@ key_name Lambda = codes "lambda"
 key_name NackThousandths = codes "nack_thousandths"
 key_name HistoryLimit = codes "history_limit"
 key_name Wire = codes "wire"
+key_name GossipMs = codes "gossip_ms"
+key_name GossipTo = codes "gossip_to"
 
 -- a fault's number; a check looks for the faults in the order of their numbers
 abbrev pub config_fault_number : ConfigFault → ℕ
@@ -51,10 +55,16 @@ config_fault_number fault.Nack = 9
 config_fault_number fault.History = 10
 config_fault_number fault.Seeds = 11
 config_fault_number fault.Wire = 15
+config_fault_number fault.GossipMs = 23
+config_fault_number fault.GossipTo = 24
 
--- a least and a greatest number, a default, and the fault of a number out of its range
+-- a least and a greatest number, a default, and the fault of a number out of its range; 0 turns nothing off
 abbrev pub row : ℕ → ℕ → ℕ → ConfigFault → KeyRow
-row least most usual broken = record { least = least; most = most; default = usual; fault = broken }
+row least most usual broken = record { least = least; most = most; default = usual; fault = broken; off = false }
+
+-- the same, but 0 is allowed too, and turns off what the key is about
+abbrev pub row_or_off : ℕ → ℕ → ℕ → ConfigFault → KeyRow
+row_or_off least most usual broken = record (row least most usual broken) { off = true }
 
 -- a key's row
 abbrev pub row_of : Key → KeyRow
@@ -69,6 +79,8 @@ row_of Lambda = row 1 10 4 fault.Lambda
 row_of NackThousandths = row 1 999 800 fault.Nack
 row_of HistoryLimit = row 2 1000000 20000 fault.History
 row_of Wire = row 1 3 1 fault.Wire
+row_of GossipMs = row_or_off 10 60000 200 fault.GossipMs
+row_of GossipTo = row 1 8 3 fault.GossipTo
 
 -- the number of a key
 abbrev pub number_of_key : Key → Config → ℕ
@@ -83,6 +95,8 @@ number_of_key Lambda c = c.lambda
 number_of_key NackThousandths c = c.nack_thousandths
 number_of_key HistoryLimit c = c.history_limit
 number_of_key Wire c = c.wire
+number_of_key GossipMs c = c.gossip_ms
+number_of_key GossipTo c = c.gossip_to
 
 -- a configuration with the number of one key changed
 abbrev pub with_number : Key → ℕ → Config → Config
@@ -97,6 +111,8 @@ with_number Lambda n c = record c { lambda = n }
 with_number NackThousandths n c = record c { nack_thousandths = n }
 with_number HistoryLimit n c = record c { history_limit = n }
 with_number Wire n c = record c { wire = n }
+with_number GossipMs n c = record c { gossip_ms = n }
+with_number GossipTo n c = record c { gossip_to = n }
 
 -- the default configuration of a member, which knows no other member from the start
 abbrev pub defaults : List ℕ → Addr → Config
@@ -113,23 +129,30 @@ defaults name addr =
       nack_thousandths = (row_of NackThousandths).default;
       history_limit = (row_of HistoryLimit).default;
       wire = (row_of Wire).default;
+      gossip_ms = (row_of GossipMs).default;
+      gossip_to = (row_of GossipTo).default;
       seeds = record { items = [] };
       name = name;
       addr = addr;
     }
 
--- whether a number is in a key's range, whatever the other numbers are
+-- whether a row allows a number, if the greatest is the one that is given here
+abbrev pub is_allowed_by : KeyRow → ℕ → ℕ → Bool
+is_allowed_by row most n = (row.off && (n == 0)) || is_within row.least most n
+
+-- whether a number is in a key's range, or is the 0 that turns off what the key is about, whatever the other numbers
+-- are
 abbrev pub allows_number : Key → ℕ → Bool
-allows_number key n = is_within (row_of key).least (row_of key).most n
+allows_number key n = is_allowed_by (row_of key) (row_of key).most n
 
 -- the greatest number of a key in a configuration: a timeout is shorter than the interval
 abbrev pub greatest : Config → Key → ℕ
 greatest c TimeoutMs = c.interval_ms - 1
 greatest c key = (row_of key).most
 
--- whether the number of a key is in its range
+-- whether the number of a key is in its range, or is the 0 that turns off what the key is about
 abbrev pub is_in_range : Config → Key → Bool
-is_in_range c key = is_within (row_of key).least (greatest c key) (number_of_key key c)
+is_in_range c key = is_allowed_by (row_of key) (greatest c key) (number_of_key key c)
 
 -- whether the number of a key is judged before the seeds: whether its fault has a lesser number than theirs
 abbrev pub is_before_seeds : Key → Bool

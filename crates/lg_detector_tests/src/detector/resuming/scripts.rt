@@ -8,8 +8,8 @@ use crate::detector::playing::Case;
 use crate::detector::playing::Step::Takes;
 use crate::says::Said::{Alive, AliveAt, FailedAt, SuspectAt};
 
-/// Members to which something happens after they were opened. Each list begins with the opening.
-pub(super) const SCRIPTS: &[Case] = &[
+/// Members of `examples` to which something happens after they were opened. Each list begins with the opening.
+pub(super) const EXAMPLES: &[Case] = &[
     (
         "probe.sim, a",
         &[
@@ -156,6 +156,10 @@ pub(super) const SCRIPTS: &[Case] = &[
             Takes(From(40, "b", 7002, Page, &[AliveAt("g", 7007)])),
         ],
     ),
+];
+
+/// The members of the example in which one dies.
+pub(super) const DEATH: &[Case] = &[
     (
         "death.sim, a",
         &[
@@ -246,6 +250,10 @@ pub(super) const SCRIPTS: &[Case] = &[
             )),
         ],
     ),
+];
+
+/// Members of scripts in `cases`.
+pub(super) const SCRIPTS: &[Case] = &[
     (
         "a relay and its Nack, a",
         &[

@@ -29,5 +29,5 @@ invariant_of-self c =
     let timers = c.follow.ensures ∙ ap (λ (a : Applied). follow c.args.claim.now.name a.deadline parts.timers) applied in
     let order = c.reorder.ensures ∙ ap (λ (a : Applied). reorder c.args.claim.now.name a.presence parts.order) applied in
     reached-apply (state_in parts) _ c.args.origin c.args.claim.now
-    (λ i. record { events = parts.events; moment = parts.moment; score = score i; timers = timers i; order = order i; number = parts.number; round = parts.round; relays = parts.relays; membership = c.apply-applied.ensures.state i })
+    (λ i. record { events = parts.events; moment = parts.moment; score = score i; timers = timers i; order = order i; number = parts.number; round = parts.round; gossip = parts.gossip; relays = parts.relays; membership = c.apply-applied.ensures.state i })
     before

@@ -24,6 +24,7 @@ invariant_of-self c =
       order = c.new-parts-2.ensures i;
       number = 1;
       round = None;
+      gossip = None;
       relays = c.new-parts-3.ensures i;
       membership = c.open_with.ensures.state i;
     })

@@ -22,6 +22,7 @@ invariant_of-self c =
       order = parts.order;
       number = parts.number;
       round = round i;
+      gossip = parts.gossip;
       relays = parts.relays;
       membership = parts.membership;
     })

@@ -22,6 +22,7 @@ returns c =
       order = order i;
       number = 1;
       round = None;
+      gossip = None;
       relays = c.new-4.ensures i;
       membership = c.blank.ensures i;
     })
@@ -40,6 +41,7 @@ invariant_of-result c =
       order = order i;
       number = 1;
       round = None;
+      gossip = None;
       relays = c.new-4.ensures i;
       membership = c.blank.ensures i;
     }) in

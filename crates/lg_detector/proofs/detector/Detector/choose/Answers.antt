@@ -44,6 +44,7 @@ invariant_of-self c =
       order = c.choose-chosen.ensures.order i;
       number = number i;
       round = round i;
+      gossip = parts.gossip;
       relays = parts.relays;
       membership = parts.membership;
     })

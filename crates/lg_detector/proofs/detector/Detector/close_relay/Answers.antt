@@ -17,6 +17,7 @@ invariant_of-self c =
       order = parts.order;
       number = parts.number;
       round = parts.round;
+      gossip = parts.gossip;
       relays = c.close.ensures.relays i;
       membership = parts.membership;
     })

@@ -26,6 +26,7 @@ invariant_of-self c =
       order = parts.order;
       number = parts.number;
       round = c.take.ensures.after i;
+      gossip = parts.gossip;
       relays = parts.relays;
       membership = parts.membership;
     })

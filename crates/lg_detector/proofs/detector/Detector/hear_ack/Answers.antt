@@ -23,6 +23,7 @@ invariant_of-self c =
       order = parts.order;
       number = parts.number;
       round = c.take_ack.ensures.round i;
+      gossip = parts.gossip;
       relays = c.take_ack-2.ensures.relays i;
       membership = parts.membership;
     })

@@ -19,6 +19,7 @@ invariant_of-self c =
       order = parts.order;
       number = parts.number;
       round = c.take_nack.ensures i;
+      gossip = parts.gossip;
       relays = parts.relays;
       membership = parts.membership;
     })

@@ -48,6 +48,7 @@ invariant_of-self c =
       order = parts.order;
       number = parts.number + 1;
       round = parts.round;
+      gossip = parts.gossip;
       relays = c.add.ensures.relays i;
       membership = parts.membership;
     })

@@ -1,5 +1,5 @@
 use Rattle.std.proofs.Common.{ap, ◌∙◌, sym, subst, IsTrue}
-use Rattle.lg_detector.specs.Support.Step.{accepts_of, advance}
+use Rattle.lg_detector.specs.Support.Step.{accepts_of, happen_state}
 use Rattle.lg_detector.proofs.Accepting.{opened_checked}
 use Rattle.lg_detector.proofs.detector.Detector.react.Goals as goal
 
@@ -8,25 +8,25 @@ open_with-requires-clause-good c =
     opened_checked c.args.self.now c.in-Open.now c.in-Open.config (subst (λ e. IsTrue (accepts_of c.args.self.now e)) c.in-Open.is c.requires)
 
 pub returns-in-Open-clause-state : goal.returns-in-Open-clause-state
-unfolding advance
-returns-in-Open-clause-state c = c.open_with.ensures.state ∙ ap (advance c.args.self.now) (sym c.in-Open.is)
+unfolding happen_state
+returns-in-Open-clause-state c = c.open_with.ensures.state ∙ ap (happen_state c.args.self.now) (sym c.in-Open.is)
 
 pub returns-in-Tick-clause-state : goal.returns-in-Tick-clause-state
-unfolding advance
-returns-in-Tick-clause-state c = c.tick.ensures.state ∙ ap (advance c.args.self.now) (sym c.in-Tick.is)
+unfolding happen_state
+returns-in-Tick-clause-state c = c.tick.ensures.state ∙ ap (happen_state c.args.self.now) (sym c.in-Tick.is)
 
 pub returns-in-Heard-clause-state : goal.returns-in-Heard-clause-state
-unfolding advance
-returns-in-Heard-clause-state c = c.hear.ensures.state ∙ ap (advance c.args.self.now) (sym c.in-Heard.is)
+unfolding happen_state
+returns-in-Heard-clause-state c = c.hear.ensures.state ∙ ap (happen_state c.args.self.now) (sym c.in-Heard.is)
 
 pub returns-in-Ask-clause-state : goal.returns-in-Ask-clause-state
-unfolding advance
-returns-in-Ask-clause-state c = c.ask.ensures.state ∙ ap (advance c.args.self.now) (sym c.in-Ask.is)
+unfolding happen_state
+returns-in-Ask-clause-state c = c.ask.ensures.state ∙ ap (happen_state c.args.self.now) (sym c.in-Ask.is)
 
 pub returns-in-Health-clause-state : goal.returns-in-Health-clause-state
-unfolding advance
-returns-in-Health-clause-state c = c.ask_health.ensures.state ∙ ap (advance c.args.self.now) (sym c.in-Health.is)
+unfolding happen_state
+returns-in-Health-clause-state c = c.ask_health.ensures.state ∙ ap (happen_state c.args.self.now) (sym c.in-Health.is)
 
 pub returns-in-Pull-clause-state : goal.returns-in-Pull-clause-state
-unfolding advance
-returns-in-Pull-clause-state c = c.pull.ensures.state ∙ ap (advance c.args.self.now) (sym c.in-Pull.is)
+unfolding happen_state
+returns-in-Pull-clause-state c = c.pull.ensures.state ∙ ap (happen_state c.args.self.now) (sym c.in-Pull.is)

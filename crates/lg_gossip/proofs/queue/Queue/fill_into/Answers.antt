@@ -56,7 +56,7 @@ pub returns-clause-claims : goal.returns-clause-claims
 returns-clause-claims c =
     let queue : QueueValue =
     record { lambda = c.self.inside.lambda; version = c.self.inside.version; rows = c.self.inside.rows.items } in
-    let to = option_copied c.args.to in
+    let to = option_copied c.args.buddy in
     let v = c.self.inside.version in
     let buddy = c.buddy_of-buddy.result in
     let limit = c.send_limit-limit.result in
@@ -73,7 +73,7 @@ pub returns-clause-queue : goal.returns-clause-queue
 returns-clause-queue c =
     let queue : QueueValue =
     record { lambda = c.self.inside.lambda; version = c.self.inside.version; rows = c.self.inside.rows.items } in
-    let to = option_copied c.args.to in
+    let to = option_copied c.args.buddy in
     let v = c.self.inside.version in
     let buddy = c.buddy_of-buddy.result in
     let limit = c.send_limit-limit.result in

@@ -1,6 +1,6 @@
-use Rattle.std.proofs.Common.{ap, ◌∙◌}
-use Rattle.std.specs.Prelude.{option_copied}
+use Rattle.std.proofs.Common.{ap, sym, ◌∙◌}
 use Rattle.lg_gossip.specs.Meaning.Queue.{filled}
+use Rattle.lg_membership.specs.Meaning.Gossip.{version_sent, buddy_record}
 use Rattle.lg_membership.specs.Support.Rows.{rows_by}
 use Rattle.lg_membership.specs.Support.State.{GroupState, send_from_group, taken_in}
 use Rattle.lg_membership.proofs.FactLaws.{send-state}
@@ -10,11 +10,13 @@ use Rattle.lg_membership.proofs.membership.Membership.fill_into.Goals as goal
 pub invariant_of-self : goal.invariant_of-self
 invariant_of-self c =
     let inside = c.self.inside in
-    let to = c.target_record-to.ensures in
-    let queue = c.fill_into.ensures.queue ∙ (λ i. filled inside.queue (to i) (c.live.ensures.count i)) in
+    let version = c.version.ensures ∙ ap (λ (s : GroupState). version_sent s.config) (sym c.self.view_is) in
+    let buddy =
+    c.buddy_record-buddy.ensures ∙ ap (λ v. buddy_record v c.args.to.now inside.members.table) version in
+    let queue = c.fill_into.ensures.queue ∙ (λ i. filled inside.queue (buddy i) (c.live.ensures.count i)) in
     record {
       reached =
-          reached-send _ _ (taken_in (option_copied c.args.target))
+          reached-send _ _ (taken_in c.args.to.now)
           (λ i. record {
             config = inside.config;
             own = inside.own;
@@ -29,9 +31,11 @@ invariant_of-self c =
 pub returns-clause-log : goal.returns-clause-log
 returns-clause-log c = λ log is.
     let inside = c.self.inside in
-    let to = c.target_record-to.ensures in
-    let queue = c.fill_into.ensures.queue ∙ (λ i. filled inside.queue (to i) (c.live.ensures.count i)) in
-    let sent : GroupState → GroupState = λ s. send_from_group (taken_in (option_copied c.args.target) s) s in
+    let version = c.version.ensures ∙ ap (λ (s : GroupState). version_sent s.config) (sym c.self.view_is) in
+    let buddy =
+    c.buddy_record-buddy.ensures ∙ ap (λ v. buddy_record v c.args.to.now inside.members.table) version in
+    let queue = c.fill_into.ensures.queue ∙ (λ i. filled inside.queue (buddy i) (c.live.ensures.count i)) in
+    let sent : GroupState → GroupState = λ s. send_from_group (taken_in c.args.to.now s) s in
     (λ i. record {
       config = inside.config;
       own = inside.own;

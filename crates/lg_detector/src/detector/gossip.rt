@@ -1,0 +1,181 @@
+//! Gossips: packets that carry news alone, beside those of the probes (this project's choice). An event that leaves a
+//! claim in the queue that may still be sent sets the timer `Gossip`, unless it is set or nobody else is there to tell.
+//! When it fires, some members are picked as helpers are, and each is sent a Gossip with claims of the queue, one
+//! after another, as long as one may still be sent. A member gossips only if its `wire` is 3 and its `gossip_ms` isn't
+//! 0. The score scales none of this.
+//!
+//! Defined in: `specs/Meaning/Timing.antt`, `specs/Meaning/Tick.antt`, `specs/Support/State.antt`.
+//! Tested in: `lg_detector_tests/src/detector/gossiping.rt`.
+ghost use Rattle.std.specs.Prelude.{◌≡◌, ◌<◌, ◌≤◌, ◌+◌, [], length, option_copied, IfSome};
+ghost use Rattle.lg_timers.specs.declared.timer.TimerId.TheVariants.{Gossip};
+ghost use Rattle.lg_membership.specs.Support.Reached.{IsGood};
+ghost use Rattle.lg_detector.specs.Meaning.Probing.{gossip_to_in};
+ghost use Rattle.lg_detector.specs.Meaning.Tick.{gossip_for, gossips_for};
+ghost use Rattle.lg_timing.specs.Meaning.Config.{IsChecked, version_of};
+ghost use Rattle.lg_detector.specs.Meaning.Timing.{gossip_delay_of, gossip_by, gossip_delay};
+ghost use Rattle.lg_detector.specs.Support.Send.{packets_state, send_all_state};
+ghost use Rattle.lg_detector.specs.Support.State.{end_event, gossip_fired, has_to_tell_state, with_gossip};
+ghost use Rattle.lg_detector.specs.Support.Step.{view_state};
+ghost use Rattle.lg_detector.specs.Support.Tick.{messages_state, told_state, while_news_state};
+
+use super::Detector;
+use crate::message::Message;
+use crate::reply::MAX_SENDS;
+use crate::sends::{Sends, make_slots};
+use lg_packet::Body;
+use lg_probe::{Helpers, MAX_HELPERS};
+use lg_rules::{Name, Record, Version};
+use lg_timers::{MAX_TIMERS, Timer, TimerId, Timers};
+use lg_timing::{Config, MAX_GOSSIP_MS, Moment};
+
+/// How long news waits for its first gossip with a configuration, in milliseconds, if it is gossiped at all.
+fn delay_in(config: &Config) -> Option<u64>
+    requires { IsChecked config.now }
+    ensures delay { result ≡ gossip_delay_of (version_of config.now) config.now.gossip_ms }
+    ensures within { IfSome result (λ delay. delay ≤ MAX_GOSSIP_MS) }
+{
+    match config.version() {
+        Version::Three if config.gossip_ms != 0 => Some(config.gossip_ms),
+        _ => None,
+    }
+}
+
+/// The same of a member, which has no configuration before its opening.
+fn gossip_delay(config: Option<&Config>) -> Option<u64>
+    requires { IsGood (option_copied config) }
+    ensures delay { result ≡ gossip_delay (option_copied config.entry) }
+    ensures within { IfSome result (λ delay. delay ≤ MAX_GOSSIP_MS) }
+{
+    match config {
+        Some(config) => delay_in(config),
+        None => None,
+    }
+}
+
+/// To how many members a gossip goes.
+fn gossip_to(config: Option<&Config>) -> usize
+    requires { IsGood (option_copied config) }
+    ensures count { result ≡ gossip_to_in (option_copied config.entry) }
+    ensures few { result ≤ MAX_HELPERS }
+{
+    match config {
+        Some(config) => config.gossip_to as usize,
+        None => 0,
+    }
+}
+
+/// When news is gossiped next: at the deadline that is set, or a delay after this moment if there is something to tell.
+fn next_gossip(tells: bool, delay: Option<u64>, now: Moment, set: Option<u64>) -> Option<u64>
+    requires { IfSome delay (λ delay. delay ≤ MAX_GOSSIP_MS) }
+    ensures { result ≡ gossip_by tells delay now set }
+{
+    if let Some(deadline) = set {
+        return Some(deadline);
+    }
+    match delay {
+        Some(delay) if tells => Some(now.milliseconds() + delay),
+        _ => None,
+    }
+}
+
+/// Sets the timer of the next gossip, unless it is set already or none is due.
+fn set_gossip(timers: &mut Timers, set: Option<u64>, next: Option<u64>)
+    requires { length timers.old < MAX_TIMERS }
+    ensures { timers.new ≡ with_gossip set next timers.old }
+{
+    if set.is_some() {
+        return;
+    }
+    if let Some(deadline) = next {
+        timers.reset(Timer {
+            deadline,
+            id: TimerId::Gossip,
+        });
+    }
+}
+
+/// The Gossip for a member, at the address of its record.
+fn gossip_for(current: &Record) -> Message
+    ensures { result ≡ gossip_for current.now }
+{
+    Message {
+        to: current.addr,
+        body: Body::Gossip,
+    }
+}
+
+impl Detector {
+    /// Whether there is news, and somebody to tell it to.
+    fn has_to_tell(&self) -> bool
+        ensures { result ≡ has_to_tell_state self.now }
+    {
+        self.parts.membership.has_news() && !self.parts.order.is_empty()
+    }
+
+    /// Ends an event: sets the next gossip, if one is to be set.
+    #[tactic(auto, unfolding(crate::specs::Support::State::end_event))]
+    pub(super) fn end_event(&mut self)
+        ensures { self.new ≡ end_event self.old }
+    {
+        let delay = gossip_delay(self.parts.membership.config());
+        let tells = self.has_to_tell();
+        let parts = &mut *self.parts;
+        let next = next_gossip(tells, delay, parts.moment, parts.gossip);
+        set_gossip(&mut parts.timers, parts.gossip, next);
+        parts.gossip = next;
+    }
+
+    /// Gossips: tells the news to the members that the words pick. Overwrites what `sends` held.
+    pub(super) fn gossip(&mut self, words: &[u32; 8], sends: &mut Sends)
+        ensures state { self.new
+            ≡ send_all_state (messages_state Gossip words.now self.old) (gossip_fired self.old) }
+        ensures sends { sends.new.items
+            ≡ packets_state (messages_state Gossip words.now self.old) (gossip_fired self.old) }
+    {
+        let told = self.pick_told(words);
+        self.cancel_gossip();
+        self.tell_each(told.names(), sends);
+    }
+
+    /// Whom the words pick.
+    fn pick_told(&self, words: &[u32; 8]) -> Helpers
+        ensures { result ≡ told_state words.now self.now }
+    {
+        let mut told = Helpers::new();
+        let count = gossip_to(self.parts.membership.config());
+        told.pick_any(&self.parts.order, count, words);
+        told
+    }
+
+    /// The timer of the gossip has fired.
+    fn cancel_gossip(&mut self)
+        ensures { self.new ≡ gossip_fired self.old }
+    {
+        let parts = &mut *self.parts;
+        parts.timers.cancel(&TimerId::Gossip);
+        parts.gossip = None;
+    }
+
+    /// Sends a Gossip to each of these that has a record, as long as there is news. Overwrites what `sends` held.
+    fn tell_each(&mut self, names: &[Name], sends: &mut Sends)
+        requires { length names.now ≤ MAX_SENDS }
+        ensures state { self.new
+            ≡ send_all_state (while_news_state (gossips_for (view_state self.old) names.now) self.old) self.old }
+        ensures sends { sends.new.items
+            ≡ packets_state (while_news_state (gossips_for (view_state self.old) names.now) self.old) self.old }
+    {
+        let slots = &mut sends.slots;
+        make_slots(slots, names.len());
+        let mut count = 0;
+        for name in names {
+            if !self.parts.membership.has_news() {
+                break;
+            }
+            if let Some(current) = self.record_of(name) {
+                self.put_packet(&gossip_for(&current), &mut slots[count]);
+                count += 1;
+            }
+        }
+        sends.count = count;
+    }
+}

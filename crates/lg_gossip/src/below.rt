@@ -1,0 +1,46 @@
+//! Whether rows of the queue are below the retransmit limit.
+//!
+//! Defined in: `specs/Meaning/Queue.antt`.
+//! Tested in: `lg_detector_tests/src/gossip.rt`.
+ghost use Rattle.std.specs.Prelude.{◌≡◌, ◌≤◌, List, nat_lt};
+ghost use Rattle.std.specs.List.{list_any};
+ghost use Rattle.lg_gossip.specs.declared.queued.Queued.{Queued as Row};
+ghost use Rattle.lg_gossip.specs.Support.Sets.{AreSets};
+ghost use Rattle.lg_gossip.specs.Support.Sound.{AreSent};
+
+use crate::queued::Queued;
+use crate::sets::SETS;
+use lg_bit_set::BitSet;
+
+/// Whether one of the rows was sent fewer times than the limit, by the sets of rows. None was sent less often than
+/// `fewest`.
+fn is_in_sets(sent: &[BitSet; SETS], limit: u64, fewest: u64) -> bool
+    requires rises { fewest ≤ limit }
+    requires few { limit ≤ SETS }
+    ensures { (rows : List Row) → AreSets sent.now rows → AreSent fewest rows
+        → result ≡ list_any (λ q. nat_lt q.sends limit) rows }
+{
+    for sends in fewest as usize..limit as usize {
+        if !sent[sends].is_empty() {
+            return true;
+        }
+    }
+    false
+}
+
+/// Whether one of the rows was sent fewer times than the limit. None was sent less often than `fewest`.
+pub(crate) fn is_any_below(rows: &[Queued], sent: &[BitSet; SETS], limit: u64, fewest: u64) -> bool
+    requires least { AreSent fewest rows.now }
+    requires sets { AreSets sent.now rows.now }
+    ensures { result ≡ list_any (λ q. nat_lt q.sends limit) rows.now }
+{
+    if limit <= fewest {
+        // Mostly no row may be sent any more, and then none is looked at.
+        false
+    } else if limit <= SETS as u64 {
+        is_in_sets(sent, limit, fewest)
+    } else {
+        // No group of up to 256 members has such a limit, but a caller may count more.
+        rows.iter().any(|row| u64::from(row.sends) < limit)
+    }
+}
